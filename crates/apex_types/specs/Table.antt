@@ -1,0 +1,96 @@
+-- A partition table as every contract sees it, and what holds of each accepted one.
+use Rattle.std.specs.Prelude.{ℕ, ◌<◌, ◌≤◌, Bool, false, List, [], length, slice_index_or, map, IsTrue}
+use Rattle.std.specs.List.{IsDistinct}
+use Rattle.std.specs.Str.{bytes_eq}
+use Rattle.apex_types.specs.declared.calls.Call.{Call}
+use Rattle.apex_types.specs.declared.calls.Call.TheVariants.{Partition, Process, Semaphore}
+use Rattle.apex_types.specs.declared.calls.ProcessCall.{ProcessCall}
+use Rattle.apex_types.specs.declared.calls.ProcessCall.TheVariants.{CreateProcess, InitializeProcessCoreAffinity, Start, StopSelf}
+use Rattle.apex_types.specs.declared.calls.SemaphoreCall.{SemaphoreCall}
+use Rattle.apex_types.specs.declared.calls.SemaphoreCall.TheVariants.{CreateSemaphore, WaitSemaphore, SignalSemaphore}
+use Rattle.apex_types.specs.Name.{is_name}
+
+-- a process as the table gives it
+pub record ProcessEntry : Type 0 where
+  pub name : List ℕ
+  pub priority : ℕ
+  pub core : ℕ
+  pub start : Bool
+  pub script : List Call
+
+-- a semaphore as the table gives it
+pub record SemaphoreEntry : Type 0 where
+  pub name : List ℕ
+  pub maximum : ℕ
+  pub initial : ℕ
+
+-- a partition table; the limit is how many entries its history may have
+pub record Table : Type 0 where
+  pub cores : ℕ
+  pub limit : ℕ
+  pub processes : List ProcessEntry
+  pub semaphores : List SemaphoreEntry
+  pub init : List Call
+
+-- an entry that no table has, for a place past the end
+abbrev pub no_process : ProcessEntry
+no_process = record { name = []; priority = 0; core = 0; start = false; script = [] }
+
+abbrev pub no_semaphore : SemaphoreEntry
+no_semaphore = record { name = []; maximum = 0; initial = 0 }
+
+-- the entry at a place, counted from 0
+abbrev pub process_entry : Table → ℕ → ProcessEntry
+process_entry table p = slice_index_or table.processes p no_process
+
+abbrev pub semaphore_entry : Table → ℕ → SemaphoreEntry
+semaphore_entry table s = slice_index_or table.semaphores s no_semaphore
+
+-- the step at a place of a script or of an init list, counted from 0; past the end STOP_SELF, the
+-- end of every script
+abbrev pub call_at : List Call → ℕ → Call
+call_at steps k = slice_index_or steps k (Process StopSelf)
+
+-- every id that the call names is an entry's
+abbrev pub IsKnownToProcesses : ℕ → ProcessCall → Type 0
+IsKnownToProcesses many (CreateProcess p) = p < many
+IsKnownToProcesses many (InitializeProcessCoreAffinity p core) = p < many
+IsKnownToProcesses many (Start p) = p < many
+IsKnownToProcesses many StopSelf = Unit {0}
+
+abbrev pub IsKnownToSemaphores : ℕ → SemaphoreCall → Type 0
+IsKnownToSemaphores many (CreateSemaphore s) = s < many
+IsKnownToSemaphores many (WaitSemaphore s timeout) = s < many
+IsKnownToSemaphores many (SignalSemaphore s) = s < many
+
+abbrev pub IsKnown : Table → Call → Type 0
+IsKnown table (Partition call) = Unit {0}
+IsKnown table (Process call) = IsKnownToProcesses (length table.processes) call
+IsKnown table (Semaphore call) = IsKnownToSemaphores (length table.semaphores) call
+
+-- what holds of a process of an accepted table
+pub record IsLawfulProcess (table : Table) (entry : ProcessEntry) : Type 0 where
+  pub name : IsTrue (is_name entry.name)
+  pub priority : (1 ≤ entry.priority) × (entry.priority ≤ 239)
+  pub core : entry.core < table.cores
+  pub steps : length entry.script ≤ 64
+  pub known : (k : ℕ) → k < length entry.script → IsKnown table (call_at entry.script k)
+
+-- what holds of a semaphore of an accepted table
+pub record IsLawfulSemaphore (entry : SemaphoreEntry) : Type 0 where
+  pub name : IsTrue (is_name entry.name)
+  pub maximum : (1 ≤ entry.maximum) × (entry.maximum ≤ 32767)
+  pub initial : entry.initial ≤ entry.maximum
+
+-- what holds of an accepted table: ranges and references
+pub record IsLawful (table : Table) : Type 0 where
+  pub cores : (1 ≤ table.cores) × (table.cores ≤ 8)
+  pub limit : (1 ≤ table.limit) × (table.limit ≤ 65536)
+  pub process_count : (1 ≤ length table.processes) × (length table.processes ≤ 32)
+  pub semaphore_count : length table.semaphores ≤ 16
+  pub init_count : length table.init ≤ 512
+  pub processes : (p : ℕ) → p < length table.processes → IsLawfulProcess table (process_entry table p)
+  pub semaphores : (s : ℕ) → s < length table.semaphores → IsLawfulSemaphore (semaphore_entry table s)
+  pub init : (k : ℕ) → k < length table.init → IsKnown table (call_at table.init k)
+  pub process_names : IsDistinct bytes_eq (map (λ (e : ProcessEntry). e.name) table.processes)
+  pub semaphore_names : IsDistinct bytes_eq (map (λ (e : SemaphoreEntry). e.name) table.semaphores)

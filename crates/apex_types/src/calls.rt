@@ -1,0 +1,48 @@
+use crate::identifiers::{ProcessId, SemaphoreId};
+
+/// How long a call may wait.
+#[derive(Clone, Copy, Debug, PartialEq, Eq)]
+pub enum Timeout {
+    /// Not at all: `0`.
+    Poll,
+    /// For ever: `infinite`.
+    Infinite,
+}
+
+/// The mode that SET_PARTITION_MODE asks for.
+#[derive(Clone, Copy, Debug, PartialEq, Eq)]
+pub enum RequestedMode {
+    Normal,
+}
+
+/// A call of a service of partition management.
+#[derive(Clone, Copy, Debug, PartialEq, Eq)]
+pub enum PartitionCall {
+    SetPartitionMode(RequestedMode),
+}
+
+/// A call of a service of process management.
+#[derive(Clone, Copy, Debug, PartialEq, Eq)]
+pub enum ProcessCall {
+    CreateProcess(ProcessId),
+    /// The core is any number from 0 to 255: the service tests it.
+    InitializeProcessCoreAffinity(ProcessId, u8),
+    Start(ProcessId),
+    StopSelf,
+}
+
+/// A call of a service of semaphores.
+#[derive(Clone, Copy, Debug, PartialEq, Eq)]
+pub enum SemaphoreCall {
+    CreateSemaphore(SemaphoreId),
+    WaitSemaphore(SemaphoreId, Timeout),
+    SignalSemaphore(SemaphoreId),
+}
+
+/// A service with its literal arguments, as a step of a script or of the init list asks for it.
+#[derive(Clone, Copy, Debug, PartialEq, Eq)]
+pub enum Call {
+    Partition(PartitionCall),
+    Process(ProcessCall),
+    Semaphore(SemaphoreCall),
+}

@@ -1,0 +1,130 @@
+ghost use Rattle.std.specs.Prelude.{◌≡◌, ◌<◌, ◌≤◌, [], ◌∷◌, ◌++◌, length};
+
+use arrayvec::ArrayVec;
+use std::marker::Model;
+use thiserror::Error;
+
+use crate::calls::Call;
+use crate::identifiers::{CoreId, ProcessId};
+
+/// The return codes of APEX (ARINC 653 Part 1), in the order of their numbers.
+#[derive(Clone, Copy, Debug, PartialEq, Eq)]
+pub enum ReturnCode {
+    NoError,
+    NoAction,
+    NotAvailable,
+    InvalidParam,
+    InvalidConfig,
+    InvalidMode,
+    TimedOut,
+}
+
+/// What happens to a partition: one event is one atomic step.
+#[derive(Clone, Copy, Debug, PartialEq, Eq)]
+pub enum Event {
+    Turn(CoreId),
+}
+
+/// Who made an event.
+#[derive(Clone, Copy, Debug, PartialEq, Eq)]
+pub enum Who {
+    Core(CoreId),
+}
+
+/// Who asked for an entry's call.
+#[derive(Clone, Copy, Debug, PartialEq, Eq)]
+pub enum Caller {
+    Process(ProcessId),
+    /// The init list.
+    Init,
+    /// Nobody: an idle turn.
+    Nobody,
+}
+
+/// What a call was answered.
+#[derive(Clone, Copy, Debug, PartialEq, Eq)]
+pub enum Reply {
+    Code(ReturnCode),
+    /// The caller waits; a later `woken` notice has its code.
+    Blocked,
+    /// The caller is no longer started.
+    Gone,
+    /// The core had nothing to do.
+    Idle,
+}
+
+/// What an event did to a process other than its caller.
+#[derive(Clone, Copy, Debug, PartialEq, Eq)]
+pub enum Notice {
+    /// The process's wait ended with this code.
+    Woken(ProcessId, ReturnCode),
+    /// The process was released to run.
+    Released(ProcessId),
+}
+
+impl Default for Notice {
+    fn default() -> Notice {
+        Notice::Released(ProcessId::at(0))
+    }
+}
+
+/// The notices of one event, in order: 64 at the most, kept inline.
+#[derive(Debug, Drop)]
+pub struct Notices {
+    notices: ArrayVec<Notice, 64>,
+}
+
+impl Model for Notices {
+    ghost use Rattle.std.specs.Prelude.{List};
+    ghost use Rattle.apex_types.specs.declared.entries.Notice.{Notice};
+
+    ghost Value = { List Notice };
+
+    ghost view = { λ a. a.notices.items };
+}
+
+impl Notices {
+    pub fn new() -> Notices
+        ensures { result ≡ [] }
+    {
+        Notices {
+            notices: ArrayVec::new(),
+        }
+    }
+
+    pub fn push(&mut self, notice: Notice)
+        requires { length self.old < 64 }
+        ensures { self.new ≡ self.old ++ notice ∷ [] }
+    {
+        self.notices.push(notice);
+    }
+
+    pub fn as_slice(&self) -> &[Notice]
+        ensures value { result.now ≡ self.now }
+        ensures few { length result.now ≤ 64 }
+    {
+        self.notices.as_slice()
+    }
+}
+
+/// One event of a history, with all that it did.
+#[derive(Debug, Drop)]
+pub struct Entry {
+    /// The entry's place in the history, counted from 1.
+    pub number: u32,
+    /// The time after the event, in ticks.
+    pub now: u64,
+    pub who: Who,
+    pub process: Caller,
+    /// The call that was carried out, or none at an idle turn.
+    pub call: Option<Call>,
+    pub reply: Reply,
+    pub notices: Notices,
+}
+
+/// The history holds as many entries as its limit allows, and refused an event.
+#[derive(Clone, Copy, Debug, PartialEq, Eq, Error)]
+#[error("history full after {entries} entries")]
+pub struct Full {
+    pub entries: u32,
+}

@@ -1,0 +1,18 @@
+//! The values of one avionics partition in the terms of ARINC 653 Part 1, APEX: identifiers, calls,
+//! process records, and the entries of a history.
+//!
+//! `specs/` holds the machine that every other crate is proved against: records and a history,
+//! with no ready order, no wait queue and no object value.
+#![tactic(auto)]
+
+mod calls;
+mod entries;
+mod identifiers;
+mod names;
+mod records;
+
+pub use calls::{Call, PartitionCall, ProcessCall, RequestedMode, SemaphoreCall, Timeout};
+pub use entries::{Caller, Entry, Event, Full, Notice, Notices, Reply, ReturnCode, Who};
+pub use identifiers::{CoreId, ProcessId, SemaphoreId};
+pub use names::Name;
+pub use records::{Mode, Record, State, Wait};

@@ -1,0 +1,42 @@
+use crate::identifiers::{CoreId, SemaphoreId};
+
+/// The partition's operating mode (ARINC 653 Part 1, partition management).
+#[derive(Clone, Copy, Debug, PartialEq, Eq)]
+pub enum Mode {
+    Idle,
+    ColdStart,
+    Normal,
+}
+
+/// A process's state (ARINC 653 Part 1, process management).
+#[derive(Clone, Copy, Debug, PartialEq, Eq)]
+pub enum State {
+    Dormant,
+    Ready,
+    Running,
+    Waiting,
+}
+
+/// What a process waits for.
+#[derive(Clone, Copy, Debug, PartialEq, Eq)]
+pub enum Wait {
+    /// The partition's entry into NORMAL, after a START.
+    Normal,
+    Semaphore(SemaphoreId),
+}
+
+/// What the partition keeps of a process.
+#[derive(Clone, Copy, Debug)]
+pub struct Record {
+    pub core: CoreId,
+    /// The base priority that the table gives, to which a START goes back.
+    pub priority: u8,
+    /// The base priority, 1 to 239; a greater one is more urgent.
+    pub base: u8,
+    pub started: bool,
+    pub wait: Option<Wait>,
+    /// The stamp of its last coming into a ready or a wait queue: the smaller, the longer it is there.
+    pub since: i64,
+    /// How many steps of its script it has asked for since its start.
+    pub step: u8,
+}
