@@ -1,2 +1,13 @@
 pub mod Name
 pub mod Table
+pub mod Places
+pub mod Roster
+pub mod Choice
+pub mod Running
+pub mod Waiters
+pub mod Stamps
+pub mod History
+pub mod SemaphoreServices
+pub mod ProcessServices
+pub mod PartitionServices
+pub mod Machine

@@ -1,11 +1,10 @@
 ghost use Rattle.std.specs.Prelude.{◌≡◌, ◌<◌, ◌≤◌, [], ◌∷◌, ◌++◌, length};
 
+use crate::calls::Call;
+use crate::identifiers::{CoreId, ProcessId};
 use arrayvec::ArrayVec;
 use std::marker::Model;
 use thiserror::Error;
-
-use crate::calls::Call;
-use crate::identifiers::{CoreId, ProcessId};
 
 /// The return codes of APEX (ARINC 653 Part 1), in the order of their numbers.
 #[derive(Clone, Copy, Debug, PartialEq, Eq)]

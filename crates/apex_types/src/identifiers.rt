@@ -2,7 +2,6 @@ ghost use Rattle.std.specs.Prelude.{◌≡◌, ◌+◌, ◌<◌};
 
 use std::marker::Model;
 
-
 /// A core of the partition, by its number from 0 to 7.
 #[derive(Clone, Copy, Debug, PartialEq, Eq)]
 pub struct CoreId {

@@ -1,0 +1,167 @@
+-- What a history says: what was created, which calls were satisfied, and the values that follow from it.
+use Rattle.std.specs.Prelude.{ℕ, ◌+◌, ◌-◌, Bool, true, false, List, [], ◌∷◌, Option, Some, ◌==◌, ◌&&◌, ◌||◌, not, count_by, slice_get, if◌then◌else◌}
+use Rattle.std.specs.List.{list_any}
+use Rattle.apex_types.specs.declared.calls.Call.{Call}
+use Rattle.apex_types.specs.declared.calls.Call.TheVariants.{Process as ToProcess, Semaphore}
+use Rattle.apex_types.specs.declared.calls.ProcessCall.{ProcessCall}
+use Rattle.apex_types.specs.declared.calls.ProcessCall.TheVariants.{CreateProcess}
+use Rattle.apex_types.specs.declared.calls.SemaphoreCall.{SemaphoreCall}
+use Rattle.apex_types.specs.declared.calls.SemaphoreCall.TheVariants.{CreateSemaphore, WaitSemaphore, SignalSemaphore}
+use Rattle.apex_types.specs.declared.entries.Caller.{Caller}
+use Rattle.apex_types.specs.declared.entries.Caller.TheVariants.{Process, Init, Nobody}
+use Rattle.apex_types.specs.declared.entries.Entry.{Entry}
+use Rattle.apex_types.specs.declared.entries.Notice.{Notice}
+use Rattle.apex_types.specs.declared.entries.Notice.TheVariants.{Woken, Released}
+use Rattle.apex_types.specs.declared.entries.Reply.{Reply}
+use Rattle.apex_types.specs.declared.entries.Reply.TheVariants.{Code}
+use Rattle.apex_types.specs.declared.entries.ReturnCode.{ReturnCode}
+use Rattle.apex_types.specs.declared.entries.ReturnCode.TheVariants.{NoError}
+use Rattle.apex_types.specs.Places.{map_places}
+use Rattle.apex_types.specs.Table.{Table, ProcessEntry, SemaphoreEntry}
+
+-- the code is NO_ERROR
+abbrev pub is_no_error : ReturnCode → Bool
+is_no_error NoError = true
+is_no_error _ = false
+
+-- the reply is NO_ERROR
+abbrev pub is_accepted : Reply → Bool
+is_accepted (Code code) = is_no_error code
+is_accepted _ = false
+
+-- process p asked for the call
+abbrev pub is_by_process : ℕ → Caller → Bool
+is_by_process p (Process q) = p == q
+is_by_process p Init = false
+is_by_process p Nobody = false
+
+-- the init list asked for the call
+abbrev pub is_by_init : Caller → Bool
+is_by_init (Process q) = false
+is_by_init Init = true
+is_by_init Nobody = false
+
+-- the notice wakes process p with NO_ERROR
+abbrev pub is_waking : ℕ → Notice → Bool
+is_waking p (Woken q code) = p == q && is_no_error code
+is_waking p (Released q) = false
+
+-- answered wait: after the latest entry of its process, a notice woke that process with NO_ERROR
+abbrev pub is_process_answered : ℕ → List Entry → Bool
+is_process_answered p [] = false
+is_process_answered p (e ∷ later) =
+    list_any (is_waking p) e.notices || (not (is_by_process p e.process) && is_process_answered p later)
+
+abbrev pub is_answered : Caller → List Entry → Bool
+is_answered (Process p) later = is_process_answered p later
+is_answered Init later = false
+is_answered Nobody later = false
+
+-- a call is satisfied when its entry replies NO_ERROR, or a later notice answers it with NO_ERROR
+abbrev pub is_satisfied : Entry → List Entry → Bool
+is_satisfied e later = is_accepted e.reply || is_answered e.process later
+
+-- the call is WAIT_SEMAPHORE of semaphore s
+abbrev pub is_semaphore_wait : ℕ → SemaphoreCall → Bool
+is_semaphore_wait s (CreateSemaphore t) = false
+is_semaphore_wait s (WaitSemaphore t timeout) = s == t
+is_semaphore_wait s (SignalSemaphore t) = false
+
+abbrev pub is_wait_on : ℕ → Option Call → Bool
+is_wait_on s (Some (Semaphore call)) = is_semaphore_wait s call
+is_wait_on s _ = false
+
+-- the call is SIGNAL_SEMAPHORE of semaphore s
+abbrev pub is_semaphore_signal : ℕ → SemaphoreCall → Bool
+is_semaphore_signal s (CreateSemaphore t) = false
+is_semaphore_signal s (WaitSemaphore t timeout) = false
+is_semaphore_signal s (SignalSemaphore t) = s == t
+
+abbrev pub is_signal_of : ℕ → Option Call → Bool
+is_signal_of s (Some (Semaphore call)) = is_semaphore_signal s call
+is_signal_of s _ = false
+
+-- how many waits on semaphore s were satisfied
+abbrev pub satisfied_waits : ℕ → List Entry → ℕ
+satisfied_waits s [] = 0
+satisfied_waits s (e ∷ later) =
+    (if is_wait_on s e.call && is_satisfied e later then 1 else 0) + satisfied_waits s later
+
+-- the entry is an accepted signal of semaphore s
+abbrev pub is_accepted_signal : ℕ → Entry → Bool
+is_accepted_signal s e = is_signal_of s e.call && is_accepted e.reply
+
+-- semaphore value: the initial one, plus the accepted signals, less the satisfied waits
+-- (ARINC 653 Part 1, semaphores)
+abbrev pub semaphore_value : ℕ → ℕ → List Entry → ℕ
+semaphore_value initial s history = initial + count_by (is_accepted_signal s) history - satisfied_waits s history
+
+-- the entry created process p
+abbrev pub is_process_create : ℕ → ProcessCall → Bool
+is_process_create p (CreateProcess q) = p == q
+is_process_create p _ = false
+
+abbrev pub is_creation_of_process : ℕ → Option Call → Bool
+is_creation_of_process p (Some (ToProcess call)) = is_process_create p call
+is_creation_of_process p _ = false
+
+abbrev pub creates_process : ℕ → Entry → Bool
+creates_process p e = is_creation_of_process p e.call && is_accepted e.reply
+
+-- the entry created semaphore s
+abbrev pub is_semaphore_create : ℕ → SemaphoreCall → Bool
+is_semaphore_create s (CreateSemaphore t) = s == t
+is_semaphore_create s (WaitSemaphore t timeout) = false
+is_semaphore_create s (SignalSemaphore t) = false
+
+abbrev pub is_creation_of_semaphore : ℕ → Option Call → Bool
+is_creation_of_semaphore s (Some (Semaphore call)) = is_semaphore_create s call
+is_creation_of_semaphore s _ = false
+
+abbrev pub creates_semaphore : ℕ → Entry → Bool
+creates_semaphore s e = is_creation_of_semaphore s e.call && is_accepted e.reply
+
+-- a thing is created when the history holds its CREATE answered NO_ERROR
+abbrev pub is_process_created : ℕ → List Entry → Bool
+is_process_created p history = list_any (creates_process p) history
+
+abbrev pub is_semaphore_created : ℕ → List Entry → Bool
+is_semaphore_created s history = list_any (creates_semaphore s) history
+
+-- a semaphore as its services see it
+pub record SemaphoreObject : Type 0 where
+  pub maximum : ℕ
+  pub created : Bool
+  pub value : ℕ
+
+-- what the services see besides the processes' records: which processes are created, and the semaphores
+pub record Objects : Type 0 where
+  pub processes : List Bool
+  pub semaphores : List SemaphoreObject
+
+-- semaphore s of this entry after the history
+abbrev pub semaphore_after : List Entry → ℕ → SemaphoreEntry → SemaphoreObject
+semaphore_after history s entry = record {
+  maximum = entry.maximum;
+  created = is_semaphore_created s history;
+  value = semaphore_value entry.initial s history;
+}
+
+-- process p of this entry is created after the history
+abbrev pub process_after : List Entry → ℕ → ProcessEntry → Bool
+process_after history p entry = is_process_created p history
+
+-- all objects, read off the whole history
+abbrev pub objects_after : Table → List Entry → Objects
+objects_after table history = record {
+  processes = map_places (process_after history) 0 table.processes;
+  semaphores = map_places (semaphore_after history) 0 table.semaphores;
+}
+
+-- how many entries the init list made
+abbrev pub init_count : List Entry → ℕ
+init_count history = count_by (λ (e : Entry). is_by_init e.process) history
+
+-- the next init step: the one after as many as there are entries of the init list
+abbrev pub next_init_call : Table → List Entry → Option Call
+next_init_call table history = slice_get table.init (init_count history)

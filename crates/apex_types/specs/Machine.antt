@@ -1,0 +1,173 @@
+-- The machine: what each event does to a partition. It has records and a history, and no more.
+use Rattle.std.specs.Prelude.{ℕ, ◌+◌, false, List, [], ◌∷◌, ◌++◌, length, map, Option, None, Some, ◌==◌, nat_lt, ◌&&◌, slice_get, slice_set, slice_index_or, if◌then◌else◌}
+use Rattle.apex_types.specs.declared.calls.Call.{Call}
+use Rattle.apex_types.specs.declared.calls.Call.TheVariants.{Partition, Process as ToProcess, Semaphore}
+use Rattle.apex_types.specs.declared.calls.ProcessCall.TheVariants.{StopSelf}
+use Rattle.apex_types.specs.declared.entries.Caller.{Caller}
+use Rattle.apex_types.specs.declared.entries.Caller.TheVariants.{Process, Init, Nobody}
+use Rattle.apex_types.specs.declared.entries.Entry.{Entry}
+use Rattle.apex_types.specs.declared.entries.Event.{Event}
+use Rattle.apex_types.specs.declared.entries.Event.TheVariants.{Turn}
+use Rattle.apex_types.specs.declared.entries.Notice.{Notice}
+use Rattle.apex_types.specs.declared.entries.Reply.{Reply}
+use Rattle.apex_types.specs.declared.entries.Reply.TheVariants.{Idle}
+use Rattle.apex_types.specs.declared.entries.Who.{Who}
+use Rattle.apex_types.specs.declared.entries.Who.TheVariants.{Core}
+use Rattle.apex_types.specs.Table.{Table, process_entry}
+use Rattle.apex_types.specs.Roster.{Roster, record_at, is_cold_start, opening_roster}
+use Rattle.apex_types.specs.Running.{chosen}
+use Rattle.apex_types.specs.Stamps.{set_step}
+use Rattle.apex_types.specs.History.{Objects, SemaphoreObject, objects_after, next_init_call}
+use Rattle.apex_types.specs.SemaphoreServices.{SemaphoreOutcome, semaphore_service, semaphore_of}
+use Rattle.apex_types.specs.ProcessServices.{ProcessOutcome, process_service}
+use Rattle.apex_types.specs.PartitionServices.{PartitionOutcome, partition_service}
+
+-- the state of the machine
+pub record Machine : Type 0 where
+  pub roster : Roster
+  pub history : List Entry
+
+-- what a service leaves and answers
+pub record Outcome : Type 0 where
+  pub roster : Roster
+  pub objects : Objects
+  pub reply : Reply
+  pub notices : List Notice
+
+-- a semaphore that no table has, for a place past the end
+abbrev pub no_object : SemaphoreObject
+no_object = record { maximum = 0; created = false; value = 0 }
+
+-- semaphore s
+abbrev pub semaphore_at : Objects → ℕ → SemaphoreObject
+semaphore_at objects s = slice_index_or objects.semaphores s no_object
+
+-- semaphore s is as its service left it, and the other objects stay
+abbrev pub after_semaphore : Objects → ℕ → SemaphoreOutcome → Outcome
+after_semaphore objects s outcome = record {
+  roster = outcome.roster;
+  objects = record objects { semaphores = slice_set objects.semaphores s outcome.semaphore };
+  reply = outcome.reply;
+  notices = outcome.notices;
+}
+
+abbrev pub after_process : Objects → ProcessOutcome → Outcome
+after_process objects outcome = record {
+  roster = outcome.roster;
+  objects = record objects { processes = outcome.created };
+  reply = outcome.reply;
+  notices = outcome.notices;
+}
+
+abbrev pub after_partition : Objects → PartitionOutcome → Outcome
+after_partition objects outcome = record {
+  roster = outcome.roster;
+  objects = objects;
+  reply = outcome.reply;
+  notices = outcome.notices;
+}
+
+-- service: what the caller's call does in a partition of this many cores
+abbrev pub service : ℕ → Roster → Objects → Caller → Call → Outcome
+service cores roster objects caller (Partition call) = after_partition objects (partition_service roster call)
+service cores roster objects caller (ToProcess call) =
+    after_process objects (process_service cores roster objects.processes caller call)
+service cores roster objects caller (Semaphore call) =
+    after_semaphore objects (semaphore_of call)
+    (semaphore_service roster (semaphore_at objects (semaphore_of call)) caller call)
+
+-- a call that was carried out, or none at an idle turn
+pub record Deed : Type 0 where
+  pub caller : Caller
+  pub call : Option Call
+  pub outcome : Outcome
+
+-- the caller's call is carried out
+abbrev pub served : ℕ → Roster → Objects → Caller → Call → Deed
+served cores roster objects caller call =
+    record { caller = caller; call = Some call; outcome = service cores roster objects caller call }
+
+-- process p carries out its step: every step moves the place by one first; the end of a script is
+-- STOP_SELF
+abbrev pub script_deed : Table → Roster → Objects → ℕ → Option Call → Deed
+script_deed table roster objects p None = served table.cores roster objects (Process p) (ToProcess StopSelf)
+script_deed table roster objects p (Some call) =
+    served table.cores (set_step roster p ((record_at roster p).step + 1)) objects (Process p) call
+
+-- the step of process p
+abbrev pub step_of : Table → Roster → ℕ → Option Call
+step_of table roster p = slice_get (process_entry table p).script (record_at roster p).step
+
+-- the chosen process carries out its step; where there is none the turn is idle
+abbrev pub chosen_deed : Table → Roster → Objects → Option ℕ → Deed
+chosen_deed table roster objects None = record {
+  caller = Nobody;
+  call = None;
+  outcome = record { roster = roster; objects = objects; reply = Idle; notices = [] };
+}
+chosen_deed table roster objects (Some p) = script_deed table roster objects p (step_of table roster p)
+
+-- an init step that is due comes before all else
+abbrev pub turn_deed : Table → Roster → Objects → ℕ → Option Call → Deed
+turn_deed table roster objects core (Some call) = served table.cores roster objects Init call
+turn_deed table roster objects core None = chosen_deed table roster objects (chosen roster core)
+
+-- the init step that is due in a turn of the core: before NORMAL core 0 carries out the next one
+abbrev pub due_init_call : Table → Machine → ℕ → Option Call
+due_init_call table machine core =
+    if is_cold_start machine.roster.mode && core == 0 then next_init_call table machine.history else None
+
+-- what a turn of the core does
+abbrev pub deed_of : Table → Machine → ℕ → Deed
+deed_of table machine core =
+    turn_deed table machine.roster (objects_after table machine.history) core (due_init_call table machine core)
+
+-- the entry that tells of a deed of the core, as the history's number-th
+abbrev pub entry_of : ℕ → ℕ → Deed → Entry
+entry_of number core deed = record {
+  number = number;
+  now = deed.outcome.roster.now;
+  who = Core core;
+  process = deed.caller;
+  call = deed.call;
+  reply = deed.outcome.reply;
+  notices = deed.outcome.notices;
+}
+
+-- the machine after a deed of the core, which adds its one entry
+abbrev pub after_deed : Machine → ℕ → Deed → Machine
+after_deed machine core deed = record {
+  roster = deed.outcome.roster;
+  history = machine.history ++ entry_of (length machine.history + 1) core deed ∷ [];
+}
+
+-- turn of a core
+unfoldable pub turn : Table → Machine → ℕ → Machine
+turn table machine core = after_deed machine core (deed_of table machine core)
+
+-- an event
+abbrev pub happen : Table → Machine → Event → Machine
+happen table machine (Turn core) = turn table machine core
+
+-- an event, where the history has room for its entry; else nothing
+abbrev pub accept : Table → Machine → Event → Machine
+accept table machine event = if nat_lt (length machine.history) table.limit then happen table machine event else machine
+
+-- run: one event after the other
+abbrev pub run : Table → Machine → List Event → Machine
+run table machine [] = machine
+run table machine (event ∷ events) = run table (accept table machine event) events
+
+-- the machine before any event
+abbrev pub opening : Table → Machine
+opening table = record { roster = opening_roster table; history = [] }
+
+-- the event that an entry tells of
+abbrev pub event_of_who : Who → Event
+event_of_who (Core core) = Turn core
+
+abbrev pub event_of : Entry → Event
+event_of e = event_of_who e.who
+
+abbrev pub events_of : List Entry → List Event
+events_of history = map event_of history

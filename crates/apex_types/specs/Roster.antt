@@ -1,0 +1,61 @@
+-- What a contract sees of the processes: mode, time, one record each, and the two counters of stamps.
+use Rattle.std.specs.Prelude.{ℕ, ◌+◌, Bool, true, false, List, length, slice_index_or, slice_set, ℤ, pos, None}
+use Rattle.apex_types.specs.declared.records.Mode.{Mode}
+use Rattle.apex_types.specs.declared.records.Mode.TheVariants.{Idle, ColdStart, Normal}
+use Rattle.apex_types.specs.declared.records.Record.{Record}
+use Rattle.apex_types.specs.Places.{map_places}
+use Rattle.apex_types.specs.Table.{Table, ProcessEntry}
+
+-- the processes of a partition at one moment
+pub record Roster : Type 0 where
+  pub mode : Mode
+  pub now : ℕ
+  pub records : List Record
+  pub young : ℤ
+  pub old : ℤ
+
+-- a record that no process has, for a place past the end
+abbrev pub nobody : Record
+nobody = record { core = 0; priority = 0; base = 0; started = false; wait = None; since = pos 0; step = 0 }
+
+-- the record of process p
+abbrev pub record_at : Roster → ℕ → Record
+record_at roster p = slice_index_or roster.records p nobody
+
+-- process p has this record from now on, and the others keep theirs
+abbrev pub with_record : Roster → ℕ → Record → Roster
+with_record roster p r = record roster { records = slice_set roster.records p r }
+
+-- the mode is NORMAL
+abbrev pub is_normal : Mode → Bool
+is_normal Idle = false
+is_normal ColdStart = false
+is_normal Normal = true
+
+-- the mode is COLD_START
+abbrev pub is_cold_start : Mode → Bool
+is_cold_start Idle = false
+is_cold_start ColdStart = true
+is_cold_start Normal = false
+
+-- the record with which the process of a table's entry opens, dormant on core 0 (this profile)
+abbrev pub opening_record : ℕ → ProcessEntry → Record
+opening_record p entry = record {
+  core = 0;
+  priority = entry.priority;
+  base = entry.priority;
+  started = false;
+  wait = None;
+  since = pos (p + 1);
+  step = 0;
+}
+
+-- the roster before any event
+abbrev pub opening_roster : Table → Roster
+opening_roster table = record {
+  mode = ColdStart;
+  now = 0;
+  records = map_places opening_record 0 table.processes;
+  young = pos (length table.processes + 1);
+  old = pos 0;
+}

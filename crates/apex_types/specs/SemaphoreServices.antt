@@ -1,0 +1,90 @@
+-- The services of semaphores, row by row: the first guard that holds answers and changes nothing
+-- (ARINC 653 Part 1, semaphores; the guards are this profile's).
+use Rattle.std.specs.Prelude.{ℕ, ◌+◌, ◌-◌, true, List, [], ◌∷◌, Option, None, Some, nat_lt, not, if◌then◌else◌}
+use Rattle.apex_types.specs.declared.calls.SemaphoreCall.{SemaphoreCall}
+use Rattle.apex_types.specs.declared.calls.SemaphoreCall.TheVariants.{CreateSemaphore, WaitSemaphore, SignalSemaphore}
+use Rattle.apex_types.specs.declared.calls.Timeout.{Timeout}
+use Rattle.apex_types.specs.declared.calls.Timeout.TheVariants.{Poll, Infinite}
+use Rattle.apex_types.specs.declared.entries.Caller.{Caller}
+use Rattle.apex_types.specs.declared.entries.Caller.TheVariants.{Process, Init, Nobody}
+use Rattle.apex_types.specs.declared.entries.Notice.{Notice}
+use Rattle.apex_types.specs.declared.entries.Notice.TheVariants.{Woken}
+use Rattle.apex_types.specs.declared.entries.Reply.{Reply}
+use Rattle.apex_types.specs.declared.entries.Reply.TheVariants.{Code, Blocked}
+use Rattle.apex_types.specs.declared.entries.ReturnCode.{ReturnCode}
+use Rattle.apex_types.specs.declared.entries.ReturnCode.TheVariants.{NoError, NoAction, NotAvailable, InvalidParam, InvalidMode}
+use Rattle.apex_types.specs.declared.records.Wait.TheVariants.{Semaphore}
+use Rattle.apex_types.specs.Roster.{Roster, is_normal}
+use Rattle.apex_types.specs.History.{SemaphoreObject}
+use Rattle.apex_types.specs.Stamps.{block, unblock}
+use Rattle.apex_types.specs.Waiters.{first_waiter}
+
+-- what a service of a semaphore leaves and answers
+pub record SemaphoreOutcome : Type 0 where
+  pub roster : Roster
+  pub semaphore : SemaphoreObject
+  pub reply : Reply
+  pub notices : List Notice
+
+-- refused with this code: nothing changes
+abbrev pub refused_semaphore : Roster → SemaphoreObject → ReturnCode → SemaphoreOutcome
+refused_semaphore roster semaphore code =
+    record { roster = roster; semaphore = semaphore; reply = Code code; notices = [] }
+
+-- CREATE_SEMAPHORE
+abbrev pub create_semaphore : Roster → SemaphoreObject → SemaphoreOutcome
+create_semaphore roster semaphore =
+    if is_normal roster.mode then refused_semaphore roster semaphore InvalidMode
+    else if semaphore.created then refused_semaphore roster semaphore NoAction
+    else record { roster = roster; semaphore = record semaphore { created = true }; reply = Code NoError; notices = [] }
+
+-- a wait on a semaphore of value 0, by process p
+abbrev pub wait_at_zero : Roster → SemaphoreObject → ℕ → ℕ → Timeout → SemaphoreOutcome
+wait_at_zero roster semaphore s p Poll = refused_semaphore roster semaphore NotAvailable
+wait_at_zero roster semaphore s p Infinite =
+    record { roster = block roster p (Semaphore s); semaphore = semaphore; reply = Blocked; notices = [] }
+
+-- WAIT_SEMAPHORE by process p
+abbrev pub wait_semaphore : Roster → SemaphoreObject → ℕ → ℕ → Timeout → SemaphoreOutcome
+wait_semaphore roster semaphore s p timeout =
+    if not semaphore.created then refused_semaphore roster semaphore InvalidParam
+    else if nat_lt 0 semaphore.value then
+    record { roster = roster; semaphore = record semaphore { value = semaphore.value - 1 }; reply = Code NoError; notices = [] }
+    else wait_at_zero roster semaphore s p timeout
+
+-- a signal with nobody waiting
+abbrev pub raise_semaphore : Roster → SemaphoreObject → SemaphoreOutcome
+raise_semaphore roster semaphore =
+    if nat_lt semaphore.value semaphore.maximum then
+    record { roster = roster; semaphore = record semaphore { value = semaphore.value + 1 }; reply = Code NoError; notices = [] }
+    else refused_semaphore roster semaphore NoAction
+
+-- a signal, where this is the first waiter
+abbrev pub signal_to : Roster → SemaphoreObject → Option ℕ → SemaphoreOutcome
+signal_to roster semaphore None = raise_semaphore roster semaphore
+signal_to roster semaphore (Some p) =
+    record { roster = unblock roster p; semaphore = semaphore; reply = Code NoError; notices = Woken p NoError ∷ [] }
+
+-- SIGNAL_SEMAPHORE
+abbrev pub signal_semaphore : Roster → SemaphoreObject → ℕ → SemaphoreOutcome
+signal_semaphore roster semaphore s =
+    if not semaphore.created then refused_semaphore roster semaphore InvalidParam
+    else signal_to roster semaphore (first_waiter roster (Semaphore s))
+
+-- WAIT_SEMAPHORE; it needs a process that calls, and no init step asks for it
+abbrev pub wait_by : Roster → SemaphoreObject → ℕ → Caller → Timeout → SemaphoreOutcome
+wait_by roster semaphore s (Process p) timeout = wait_semaphore roster semaphore s p timeout
+wait_by roster semaphore s Init timeout = refused_semaphore roster semaphore InvalidMode
+wait_by roster semaphore s Nobody timeout = refused_semaphore roster semaphore InvalidMode
+
+-- any service of a semaphore
+abbrev pub semaphore_service : Roster → SemaphoreObject → Caller → SemaphoreCall → SemaphoreOutcome
+semaphore_service roster semaphore caller (CreateSemaphore s) = create_semaphore roster semaphore
+semaphore_service roster semaphore caller (WaitSemaphore s timeout) = wait_by roster semaphore s caller timeout
+semaphore_service roster semaphore caller (SignalSemaphore s) = signal_semaphore roster semaphore s
+
+-- the semaphore that the call names
+abbrev pub semaphore_of : SemaphoreCall → ℕ
+semaphore_of (CreateSemaphore s) = s
+semaphore_of (WaitSemaphore s timeout) = s
+semaphore_of (SignalSemaphore s) = s
