@@ -1,5 +1,5 @@
 -- How records change and when a process takes a new stamp (this profile).
-use Rattle.std.specs.Prelude.{ℕ, true, false, None, Some, pos, ◌+ℤ◌, slice_set, if◌then◌else◌}
+use Rattle.std.specs.Prelude.{ℕ, true, false, None, Some, pos, ◌+ℤ◌, ◌<ℤ◌, ◌^◌, slice_set, if◌then◌else◌}
 use Rattle.apex_types.specs.declared.records.Mode.{Mode}
 use Rattle.apex_types.specs.declared.records.Record.{Record}
 use Rattle.apex_types.specs.declared.records.Wait.{Wait}

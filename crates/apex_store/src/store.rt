@@ -1,0 +1,94 @@
+ghost use Rattle.std.specs.Prelude.{◌≡◌, ◌+◌, ◌<◌, ◌≤◌, length, IfSome};
+ghost use Rattle.apex_types.specs.Roster.{Roster, record_at};
+ghost use Rattle.apex_types.specs.Running.{chosen, process_state};
+ghost use Rattle.apex_types.specs.Waiters.{first_waiter, next_waiter, waiter_count};
+ghost use Rattle.apex_types.specs.Stamps as stamps;
+
+use apex_types::{CoreId, Mode, ProcessId, Record, State, Wait};
+
+/// The processes of a partition: their records, the mode and the time.
+///
+/// A contract sees a store as its roster alone: one record a process, and the two counters of
+/// stamps. No call fails, and none takes memory. The rules are those of ARINC 653 Part 1, process
+/// management, and of this profile.
+pub trait Store: Drop {
+    ghost roster: { Self → Roster };
+
+    fn mode(&self) -> Mode
+        ensures { result ≡ (roster self.now).mode };
+
+    /// The time in ticks.
+    fn now(&self) -> u64
+        ensures { result ≡ (roster self.now).now };
+
+    fn process_count(&self) -> usize
+        ensures { result ≡ length (roster self.now).records };
+
+    fn record(&self, process: ProcessId) -> Record
+        requires known { process < length (roster self.now).records }
+        ensures { result ≡ record_at (roster self.now) process };
+
+    /// The process that the core runs.
+    fn chosen(&self, core: CoreId) -> Option<ProcessId>
+        ensures value { result ≡ chosen (roster self.now) core }
+        ensures known { IfSome result (λ p. p < length (roster self.now).records) };
+
+    fn state(&self, process: ProcessId) -> State
+        requires known { process < length (roster self.now).records }
+        ensures { result ≡ process_state (roster self.now) process };
+
+    /// Who has been in the queue for the longest time.
+    fn first(&self, queue: Wait) -> Option<ProcessId>
+        ensures value { result ≡ first_waiter (roster self.now) queue }
+        ensures known { IfSome result (λ p. p < length (roster self.now).records) };
+
+    /// Who is next in the queue behind this process.
+    fn next_after(&self, queue: Wait, process: ProcessId) -> Option<ProcessId>
+        requires known { process < length (roster self.now).records }
+        ensures value { result ≡ next_waiter (roster self.now) queue process }
+        ensures known { IfSome result (λ p. p < length (roster self.now).records) };
+
+    /// How many wait in the queue.
+    fn waiting(&self, queue: Wait) -> usize
+        ensures { result ≡ waiter_count (roster self.now) queue };
+
+    /// Starts a dormant process: at once in NORMAL, else with the entry into NORMAL.
+    fn start(&mut self, process: ProcessId)
+        requires known { process < length (roster self.old).records }
+        requires stamps { stamps.HasStamps (roster self.old) }
+        ensures { roster self.new ≡ stamps.start (roster self.old) process };
+
+    fn stop(&mut self, process: ProcessId)
+        requires known { process < length (roster self.old).records }
+        ensures { roster self.new ≡ stamps.stop (roster self.old) process };
+
+    /// The process begins to wait.
+    fn block(&mut self, process: ProcessId, wait: Wait)
+        requires known { process < length (roster self.old).records }
+        requires stamps { stamps.HasStamps (roster self.old) }
+        ensures { roster self.new ≡ stamps.block (roster self.old) process wait };
+
+    /// The process's wait ends.
+    fn unblock(&mut self, process: ProcessId)
+        requires known { process < length (roster self.old).records }
+        requires stamps { stamps.HasStamps (roster self.old) }
+        ensures { roster self.new ≡ stamps.unblock (roster self.old) process };
+
+    /// Releases a process that waits for its start.
+    fn release(&mut self, process: ProcessId)
+        requires known { process < length (roster self.old).records }
+        requires stamps { stamps.HasStamps (roster self.old) }
+        ensures { roster self.new ≡ stamps.release (roster self.old) process };
+
+    fn set_mode(&mut self, mode: Mode)
+        ensures { roster self.new ≡ stamps.set_mode (roster self.old) mode };
+
+    fn set_core(&mut self, process: ProcessId, core: CoreId)
+        requires known { process < length (roster self.old).records }
+        ensures { roster self.new ≡ stamps.set_core (roster self.old) process core };
+
+    /// Sets how many steps of its script the process has asked for.
+    fn set_step(&mut self, process: ProcessId, step: u8)
+        requires known { process < length (roster self.old).records }
+        ensures { roster self.new ≡ stamps.set_step (roster self.old) process step };
+}
