@@ -22,30 +22,39 @@ pub record PartitionOutcome : Type 0 where
   pub reply : Reply
   pub notices : List Notice
 
+-- the processes after their releases, which these notices tell
+pub record Releases : Type 0 where
+  pub roster : Roster
+  pub notices : List Notice
+
 -- nobody waits for NORMAL any more
-abbrev pub all_released : Roster → List Notice → PartitionOutcome
-all_released roster notices = record { roster = roster; reply = Code NoError; notices = notices }
+abbrev pub all_released : Roster → List Notice → Releases
+all_released roster notices = record { roster = roster; notices = notices }
 
 -- where somebody waits for NORMAL, his release, and then the others'
-abbrev pub release_and : (Roster → List Notice → PartitionOutcome) → Roster → List Notice → Option ℕ → PartitionOutcome
+abbrev pub release_and : (Roster → List Notice → Releases) → Roster → List Notice → Option ℕ → Releases
 release_and others roster notices None = all_released roster notices
 release_and others roster notices (Some p) = others (release roster p) (notices ++ Released p ∷ [])
 
 -- releases those who wait for NORMAL, who waits longest first, n of them at the most
-abbrev pub release_waiting : ℕ → Roster → List Notice → PartitionOutcome
+abbrev pub release_waiting : ℕ → Roster → List Notice → Releases
 release_waiting zero roster notices = all_released roster notices
 release_waiting (suc n) roster notices =
     release_and (release_waiting n) roster notices (first_waiter roster wait.Normal)
 
 -- the entry into NORMAL: the mode is set, and all who wait for it are released in order of since
-unfoldable pub enter_normal : Roster → PartitionOutcome
+unfoldable pub enter_normal : Roster → Releases
 enter_normal roster = release_waiting (length roster.records) (set_mode roster mode.Normal) []
+
+-- accepted, with these releases
+abbrev pub entered_normal : Releases → PartitionOutcome
+entered_normal releases = record { roster = releases.roster; reply = Code NoError; notices = releases.notices }
 
 -- SET_PARTITION_MODE
 abbrev pub set_partition_mode : Roster → RequestedMode → PartitionOutcome
 set_partition_mode roster requested.Normal =
     if is_normal roster.mode then record { roster = roster; reply = Code NoAction; notices = [] }
-    else enter_normal roster
+    else entered_normal (enter_normal roster)
 
 -- any service of partition management
 abbrev pub partition_service : Roster → PartitionCall → PartitionOutcome

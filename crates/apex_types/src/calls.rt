@@ -1,3 +1,6 @@
+ghost use Rattle.std.specs.Prelude.{◌≡◌};
+ghost use Rattle.apex_types.specs.SemaphoreServices.{semaphore_of};
+
 use crate::identifiers::{ProcessId, SemaphoreId};
 
 /// How long a call may wait.
@@ -37,6 +40,19 @@ pub enum SemaphoreCall {
     CreateSemaphore(SemaphoreId),
     WaitSemaphore(SemaphoreId, Timeout),
     SignalSemaphore(SemaphoreId),
+}
+
+impl SemaphoreCall {
+    /// The semaphore that the call names.
+    pub fn semaphore(&self) -> SemaphoreId
+        ensures { result ≡ semaphore_of self.now }
+    {
+        match self {
+            SemaphoreCall::CreateSemaphore(semaphore)
+            | SemaphoreCall::WaitSemaphore(semaphore, _)
+            | SemaphoreCall::SignalSemaphore(semaphore) => *semaphore,
+        }
+    }
 }
 
 /// A service with its literal arguments, as a step of a script or of the init list asks for it.

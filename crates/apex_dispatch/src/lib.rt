@@ -1,0 +1,8 @@
+//! The partition's kernel: what each event does, over any store.
+#![tactic(auto)]
+
+mod objects;
+mod partitions;
+mod processes;
+mod semaphores;
+mod services;

@@ -1,0 +1,51 @@
+ghost use Rattle.std.specs.Prelude.{◌≡◌, ◌≤◌, [], length};
+ghost use Rattle.apex_types.specs.PartitionServices as services;
+ghost use Rattle.apex_dispatch.specs.Callers.{HasManyStamps};
+
+use apex_store::Store;
+use apex_types::{Mode, Notice, Notices, PartitionCall, Reply, RequestedMode, ReturnCode, Wait};
+
+/// The entry into NORMAL: releases all who wait for it, who waits longest first.
+#[tactic(auto, unfolding(apex_types::specs::PartitionServices::enter_normal))]
+fn enter_normal<S: Store>(store: &mut S, notices: &mut Notices)
+    requires few { length (S.roster store.old).records ≤ 32 }
+    requires stamps { HasManyStamps (S.roster store.old) }
+    requires quiet { notices.old ≡ [] }
+    ensures roster { S.roster store.new ≡ (services.enter_normal (S.roster store.old)).roster }
+    ensures notices { notices.new ≡ (services.enter_normal (S.roster store.old)).notices }
+{
+    store.set_mode(Mode::Normal);
+    for turn in 0..store.process_count() {
+        match store.first(Wait::Normal) {
+            Some(process) => {
+                store.release(process);
+                notices.push(Notice::Released(process));
+            }
+            None => return,
+        }
+    }
+}
+
+/// Carries out a call of a service of partition management.
+pub(crate) fn serve_partition<S: Store>(
+    store: &mut S,
+    call: &PartitionCall,
+    notices: &mut Notices,
+) -> Reply
+    requires few { length (S.roster store.old).records ≤ 32 }
+    requires stamps { HasManyStamps (S.roster store.old) }
+    requires quiet { notices.old ≡ [] }
+    ensures roster { S.roster store.new ≡ (services.partition_service (S.roster store.old) call.now).roster }
+    ensures reply { result ≡ (services.partition_service (S.roster store.old) call.now).reply }
+    ensures notices { notices.new ≡ (services.partition_service (S.roster store.old) call.now).notices }
+{
+    match call {
+        PartitionCall::SetPartitionMode(RequestedMode::Normal) => {
+            if store.mode() == Mode::Normal {
+                return Reply::Code(ReturnCode::NoAction);
+            }
+            enter_normal(store, notices);
+            Reply::Code(ReturnCode::NoError)
+        }
+    }
+}
