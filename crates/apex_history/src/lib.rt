@@ -5,6 +5,7 @@
 mod counting;
 mod devices;
 mod histories;
+mod puts;
 mod reading;
 
 pub use counting::Counted;

@@ -1,2 +1,3 @@
 pub mod Name
 pub mod Table
+pub mod Lines
