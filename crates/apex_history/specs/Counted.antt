@@ -1,0 +1,44 @@
+-- What a counted reader or writer is in contracts: what it asks, how many of its calls failed, and how many reads it still lets through.
+use Rattle.std.specs.Prelude.{◌≡◌, ℕ, ◌+◌, ◌-◌, ◌^◌, min, List, ◌++◌, Option, Result, MatchResult}
+use Rattle.std.specs.Io.KnownBytes.{Appends, Consumes}
+use Rattle.apex_history.specs.declared.counting.Counted.{Counted}
+use Rattle.apex_history.specs.declared.reading.ReadFault.{ReadFault}
+use Rattle.apex_history.specs.declared.reading.ReadFault.TheVariants.{Memory, Read}
+
+-- the reader or writer that it asks
+abbrev pub inner_of : {T : Type 0} → Counted T → T
+inner_of c = c.inner
+
+-- how many calls failed so far
+abbrev pub failures_of : {T : Type 0} → Counted T → ℕ
+failures_of c = c.failures
+
+-- how many reads it still lets through
+abbrev pub reads_left_of : {T : Type 0} → Counted T → ℕ
+reads_left_of c = c.reads_left
+
+-- one failure more; the count stays at its greatest number
+abbrev pub one_more : ℕ → ℕ
+one_more n = min (n + 1) (2 ^ 64 - 1)
+
+-- the count stays at an Ok, and grows by one at an Err
+abbrev pub CountsFailure : {T E : Type 0} → Result T E → ℕ → ℕ → Type 0
+CountsFailure result old new = MatchResult result (λ _. new ≡ old) (λ _. new ≡ one_more old)
+
+-- a fault of reading is counted where a read failed, and not where memory was wanting
+abbrev pub CountsFault : ReadFault → ℕ → ℕ → Type 0
+CountsFault Memory old new = new ≡ old
+CountsFault Read old new = new ≡ one_more old
+
+-- the same of a reading's answer
+abbrev pub CountsReadFault : {T : Type 0} → Result T ReadFault → ℕ → ℕ → Type 0
+CountsReadFault result old new = MatchResult result (λ _. new ≡ old) (λ fault. CountsFault fault old new)
+
+-- known bytes grow by a beginning of the text
+abbrev pub AppendsBeginning : Option (List ℕ) → Option (List ℕ) → List ℕ → Type 0
+AppendsBeginning old new text =
+    (done : List ℕ) × (rest : List ℕ) × (text ≡ done ++ rest) × Appends old new done
+
+-- known bytes lose a beginning
+abbrev pub ConsumesSome : Option (List ℕ) → Option (List ℕ) → Type 0
+ConsumesSome old new = (done : List ℕ) × Consumes old new done

@@ -1,0 +1,3 @@
+pub mod Counted
+pub mod FailAt
+pub mod Log

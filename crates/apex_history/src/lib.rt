@@ -1,0 +1,14 @@
+//! The history of one avionics partition: the log of its entries, their printed lines, and the
+//! readers and writers that count what failed.
+#![tactic(auto)]
+
+mod counting;
+mod devices;
+mod histories;
+mod puts;
+mod reading;
+
+pub use counting::Counted;
+pub use devices::FailAt;
+pub use histories::Log;
+pub use reading::{ReadFault, read_all};

@@ -1,0 +1,302 @@
+ghost use Rattle.std.specs.Prelude.{◌≡◌, ◌+◌, ◌<◌, ◌≤◌, ◌++◌, length, flat_map, decimal, IfSome};
+ghost use Rattle.arrayvec.specs.ArrayVec.{array_vec_len};
+ghost use Rattle.apex_types.specs.Table.{IsKnown, IsKnownToProcesses, IsKnownToSemaphores};
+ghost use Rattle.apex_types.specs.Lines.{id_text, code_text, timeout_text, mode_text, process_name, semaphore_name, partition_call_text, process_call_text, semaphore_call_text, call_text, asked_text, who_text, caller_text, reply_text, notice_text, noticed_text, line_of, IsPrintable};
+
+use apex_table::Table;
+use apex_types::{
+    Call, Caller, Entry, Notice, PartitionCall, ProcessCall, ProcessId, Reply, RequestedMode,
+    ReturnCode, SemaphoreCall, SemaphoreId, Timeout, Who,
+};
+use arrayvec::ArrayVec;
+use itoa::Buffer;
+
+/// A line of a history: at most 4,096 bytes.
+pub(crate) type Line = ArrayVec<u8, 4096>;
+
+fn put(line: &mut Line, text: &str)
+    requires { array_vec_len line.old + length text.now ≤ 4096 }
+    ensures text { line.new.items ≡ line.old.items ++ text.now }
+    ensures len { array_vec_len line.new ≡ array_vec_len line.old + length text.now }
+{
+    put_bytes(line, text.as_bytes());
+}
+
+fn put_bytes(line: &mut Line, text: &[u8])
+    requires { array_vec_len line.old + length text.now ≤ 4096 }
+    ensures text { line.new.items ≡ line.old.items ++ text.now }
+    ensures len { array_vec_len line.new ≡ array_vec_len line.old + length text.now }
+{
+    let taken = line.try_extend_from_slice(text);
+    let fits = taken.is_ok();
+    prove!(fits);
+}
+
+fn put_number(line: &mut Line, number: u32)
+    requires { array_vec_len line.old + 10 ≤ 4096 }
+    ensures text { line.new.items ≡ line.old.items ++ decimal number }
+    ensures short { array_vec_len line.new ≤ array_vec_len line.old + 10 }
+{
+    let mut buffer = Buffer::new();
+    put(line, buffer.format(number));
+}
+
+fn put_time(line: &mut Line, time: u64)
+    requires { array_vec_len line.old + 20 ≤ 4096 }
+    ensures text { line.new.items ≡ line.old.items ++ decimal time }
+    ensures short { array_vec_len line.new ≤ array_vec_len line.old + 20 }
+{
+    let mut buffer = Buffer::new();
+    put(line, buffer.format(time));
+}
+
+fn put_id(line: &mut Line, process: ProcessId)
+    requires { array_vec_len line.old + 10 ≤ 4096 }
+    ensures text { line.new.items ≡ line.old.items ++ id_text process }
+    ensures short { array_vec_len line.new ≤ array_vec_len line.old + 10 }
+{
+    put_number(line, process.number());
+}
+
+fn code_name(code: &ReturnCode) -> &'static str
+    ensures value { result.now ≡ code_text code.now }
+    ensures short { length result.now ≤ 14 }
+{
+    match code {
+        ReturnCode::NoError => "NO_ERROR",
+        ReturnCode::NoAction => "NO_ACTION",
+        ReturnCode::NotAvailable => "NOT_AVAILABLE",
+        ReturnCode::InvalidParam => "INVALID_PARAM",
+        ReturnCode::InvalidConfig => "INVALID_CONFIG",
+        ReturnCode::InvalidMode => "INVALID_MODE",
+        ReturnCode::TimedOut => "TIMED_OUT",
+    }
+}
+
+fn timeout_word(timeout: &Timeout) -> &'static str
+    ensures value { result.now ≡ timeout_text timeout.now }
+    ensures short { length result.now ≤ 8 }
+{
+    match timeout {
+        Timeout::Poll => "0",
+        Timeout::Infinite => "infinite",
+    }
+}
+
+fn mode_word(mode: &RequestedMode) -> &'static str
+    ensures value { result.now ≡ mode_text mode.now }
+    ensures short { length result.now ≤ 6 }
+{
+    match mode {
+        RequestedMode::Normal => "NORMAL",
+    }
+}
+
+fn put_process(line: &mut Line, table: &Table, process: ProcessId)
+    requires known { process < length table.now.processes }
+    requires room { array_vec_len line.old + 30 ≤ 4096 }
+    ensures text { line.new.items ≡ line.old.items ++ process_name table.now process }
+    ensures short { array_vec_len line.new ≤ array_vec_len line.old + 30 }
+{
+    put_bytes(line, table.process(process).name().as_bytes());
+}
+
+fn put_semaphore(line: &mut Line, table: &Table, semaphore: SemaphoreId)
+    requires known { semaphore < length table.now.semaphores }
+    requires room { array_vec_len line.old + 30 ≤ 4096 }
+    ensures text { line.new.items ≡ line.old.items ++ semaphore_name table.now semaphore }
+    ensures short { array_vec_len line.new ≤ array_vec_len line.old + 30 }
+{
+    put_bytes(line, table.semaphore(semaphore).name().as_bytes());
+}
+
+#[tactic(auto, using(std::proofs::Common::append_assoc))]
+fn put_partition_call(line: &mut Line, call: &PartitionCall)
+    requires { array_vec_len line.old + 80 ≤ 4096 }
+    ensures text { line.new.items ≡ line.old.items ++ partition_call_text call.now }
+    ensures short { array_vec_len line.new ≤ array_vec_len line.old + 80 }
+{
+    match call {
+        PartitionCall::SetPartitionMode(mode) => {
+            put(line, "SET_PARTITION_MODE ");
+            put(line, mode_word(mode));
+        }
+    }
+}
+
+#[tactic(auto, using(std::proofs::Common::append_assoc))]
+fn put_process_call(line: &mut Line, table: &Table, call: &ProcessCall)
+    requires known { IsKnownToProcesses (length table.now.processes) call.now }
+    requires room { array_vec_len line.old + 80 ≤ 4096 }
+    ensures text { line.new.items ≡ line.old.items ++ process_call_text table.now call.now }
+    ensures short { array_vec_len line.new ≤ array_vec_len line.old + 80 }
+{
+    match call {
+        ProcessCall::CreateProcess(process) => {
+            put(line, "CREATE_PROCESS ");
+            put_process(line, table, *process);
+        }
+        ProcessCall::InitializeProcessCoreAffinity(process, core) => {
+            put(line, "INITIALIZE_PROCESS_CORE_AFFINITY ");
+            put_process(line, table, *process);
+            put(line, " ");
+            put_number(line, u32::from(*core));
+        }
+        ProcessCall::Start(process) => {
+            put(line, "START ");
+            put_process(line, table, *process);
+        }
+        ProcessCall::StopSelf => put(line, "STOP_SELF"),
+    }
+}
+
+#[tactic(auto, using(std::proofs::Common::append_assoc))]
+fn put_semaphore_call(line: &mut Line, table: &Table, call: &SemaphoreCall)
+    requires known { IsKnownToSemaphores (length table.now.semaphores) call.now }
+    requires room { array_vec_len line.old + 80 ≤ 4096 }
+    ensures text { line.new.items ≡ line.old.items ++ semaphore_call_text table.now call.now }
+    ensures short { array_vec_len line.new ≤ array_vec_len line.old + 80 }
+{
+    match call {
+        SemaphoreCall::CreateSemaphore(semaphore) => {
+            put(line, "CREATE_SEMAPHORE ");
+            put_semaphore(line, table, *semaphore);
+        }
+        SemaphoreCall::WaitSemaphore(semaphore, timeout) => {
+            put(line, "WAIT_SEMAPHORE ");
+            put_semaphore(line, table, *semaphore);
+            put(line, " ");
+            put(line, timeout_word(timeout));
+        }
+        SemaphoreCall::SignalSemaphore(semaphore) => {
+            put(line, "SIGNAL_SEMAPHORE ");
+            put_semaphore(line, table, *semaphore);
+        }
+    }
+}
+
+fn put_call(line: &mut Line, table: &Table, call: &Call)
+    requires known { IsKnown table.now call.now }
+    requires room { array_vec_len line.old + 80 ≤ 4096 }
+    ensures text { line.new.items ≡ line.old.items ++ call_text table.now call.now }
+    ensures short { array_vec_len line.new ≤ array_vec_len line.old + 80 }
+{
+    match call {
+        Call::Partition(call) => put_partition_call(line, call),
+        Call::Process(call) => put_process_call(line, table, call),
+        Call::Semaphore(call) => put_semaphore_call(line, table, call),
+    }
+}
+
+fn put_asked(line: &mut Line, table: &Table, asked: &Option<Call>)
+    requires known { IfSome asked.now (IsKnown table.now) }
+    requires room { array_vec_len line.old + 80 ≤ 4096 }
+    ensures text { line.new.items ≡ line.old.items ++ asked_text table.now asked.now }
+    ensures short { array_vec_len line.new ≤ array_vec_len line.old + 80 }
+{
+    match asked {
+        Some(call) => put_call(line, table, call),
+        None => put(line, "idle"),
+    }
+}
+
+#[tactic(auto, using(std::proofs::Common::append_assoc))]
+fn put_who(line: &mut Line, who: &Who)
+    requires { array_vec_len line.old + 14 ≤ 4096 }
+    ensures text { line.new.items ≡ line.old.items ++ who_text who.now }
+    ensures short { array_vec_len line.new ≤ array_vec_len line.old + 14 }
+{
+    match who {
+        Who::Core(core) => {
+            put(line, "core");
+            put_number(line, u32::from(core.number()));
+        }
+    }
+}
+
+fn put_caller(line: &mut Line, caller: &Caller)
+    requires { array_vec_len line.old + 10 ≤ 4096 }
+    ensures text { line.new.items ≡ line.old.items ++ caller_text caller.now }
+    ensures short { array_vec_len line.new ≤ array_vec_len line.old + 10 }
+{
+    match caller {
+        Caller::Process(process) => put_id(line, *process),
+        Caller::Init => put(line, "init"),
+        Caller::Nobody => put(line, "-"),
+    }
+}
+
+fn put_reply(line: &mut Line, reply: &Reply)
+    requires { array_vec_len line.old + 14 ≤ 4096 }
+    ensures text { line.new.items ≡ line.old.items ++ reply_text reply.now }
+    ensures short { array_vec_len line.new ≤ array_vec_len line.old + 14 }
+{
+    match reply {
+        Reply::Code(code) => put(line, code_name(code)),
+        Reply::Blocked => put(line, "BLOCKED"),
+        Reply::Gone => put(line, "GONE"),
+        Reply::Idle => put(line, "IDLE"),
+    }
+}
+
+#[tactic(auto, using(std::proofs::Common::append_assoc))]
+fn put_notice(line: &mut Line, notice: &Notice)
+    requires { array_vec_len line.old + 34 ≤ 4096 }
+    ensures text { line.new.items ≡ line.old.items ++ notice_text notice.now }
+    ensures short { array_vec_len line.new ≤ array_vec_len line.old + 34 }
+{
+    match notice {
+        Notice::Woken(process, code) => {
+            put(line, "woken ");
+            put_id(line, *process);
+            put(line, " ");
+            put(line, code_name(code));
+        }
+        Notice::Released(process) => {
+            put(line, "released ");
+            put_id(line, *process);
+        }
+    }
+}
+
+#[tactic(auto, using(std::proofs::Common::append_assoc))]
+fn put_noticed(line: &mut Line, notice: &Notice)
+    requires { array_vec_len line.old + 40 ≤ 4096 }
+    ensures text { line.new.items ≡ line.old.items ++ noticed_text notice.now }
+    ensures short { array_vec_len line.new ≤ array_vec_len line.old + 40 }
+{
+    put(line, " | ");
+    put_notice(line, notice);
+}
+
+fn put_notices(line: &mut Line, notices: &[Notice])
+    requires few { length notices.now ≤ 64 }
+    requires room { array_vec_len line.old + 2560 ≤ 4096 }
+    ensures text { line.new.items ≡ line.old.items ++ flat_map noticed_text notices.now }
+    ensures short { array_vec_len line.new ≤ array_vec_len line.old + 2560 }
+{
+    for notice in notices {
+        put_noticed(line, notice);
+    }
+}
+
+/// Makes the line that of the entry.
+pub(crate) fn set_line(line: &mut Line, table: &Table, entry: &Entry)
+    requires { IsPrintable table.now entry.now }
+    ensures { line.new.items ≡ line_of table.now entry.entry.now }
+{
+    line.clear();
+    put_number(line, entry.number);
+    put(line, " ");
+    put_time(line, entry.now);
+    put(line, " ");
+    put_who(line, &entry.who);
+    put(line, " ");
+    put_caller(line, &entry.process);
+    put(line, " ");
+    put_asked(line, table, &entry.call);
+    put(line, " -> ");
+    put_reply(line, &entry.reply);
+    put_notices(line, entry.notices.as_slice());
+    put(line, "\n");
+}
