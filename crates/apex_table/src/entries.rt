@@ -1,0 +1,131 @@
+ghost use Rattle.std.specs.Prelude.{◌≡◌, ◌<◌, length, slice_get};
+
+use apex_types::{Call, CoreId, Name};
+use std::marker::Model;
+
+/// A process as the table gives it (ARINC 653 Part 1, process management).
+#[derive(Debug, Drop)]
+pub struct Process {
+    name: Name,
+    priority: u8,
+    core: CoreId,
+    starts: bool,
+    script: Vec<Call>,
+}
+
+impl Model for Process {
+    ghost use Rattle.apex_types.specs.Table.{ProcessEntry};
+
+    ghost Value = { ProcessEntry };
+
+    ghost view = { λ p. record { name = p.name; priority = p.priority; core = p.core; start = p.starts; script = p.script.items } };
+}
+
+impl Process {
+    pub(crate) fn new(
+        name: Name,
+        priority: u8,
+        core: CoreId,
+        starts: bool,
+        script: Vec<Call>,
+    ) -> Process
+        ensures { result ≡ record { name = name; priority = priority; core = core; start = starts; script = script.items } }
+    {
+        Process {
+            name,
+            priority,
+            core,
+            starts,
+            script,
+        }
+    }
+
+    pub fn name(&self) -> &Name
+        ensures { result.now ≡ self.now.name }
+    {
+        &self.name
+    }
+
+    /// The base priority; a greater one is more urgent.
+    pub fn priority(&self) -> u8
+        ensures { result ≡ self.now.priority }
+    {
+        self.priority
+    }
+
+    /// The core on which the process runs.
+    pub fn core(&self) -> CoreId
+        ensures { result ≡ self.now.core }
+    {
+        self.core
+    }
+
+    /// Whether the default init list starts the process.
+    pub fn starts(&self) -> bool
+        ensures { result ≡ self.now.start }
+    {
+        self.starts
+    }
+
+    /// How many steps the script has.
+    pub fn step_count(&self) -> usize
+        ensures { result ≡ length self.now.script }
+    {
+        self.script.len()
+    }
+
+    /// The step at this place of the script, counted from 0, or none past its end.
+    pub fn step(&self, place: usize) -> Option<Call>
+        ensures { result ≡ slice_get self.now.script place }
+    {
+        self.script.get(place).copied()
+    }
+}
+
+/// A semaphore as the table gives it (ARINC 653 Part 1, semaphores).
+#[derive(Debug, Drop)]
+pub struct Semaphore {
+    name: Name,
+    maximum: u16,
+    initial: u16,
+}
+
+impl Model for Semaphore {
+    ghost use Rattle.apex_types.specs.Table.{SemaphoreEntry};
+
+    ghost Value = { SemaphoreEntry };
+
+    ghost view = { λ s. record { name = s.name; maximum = s.maximum; initial = s.initial } };
+}
+
+impl Semaphore {
+    pub(crate) fn new(name: Name, maximum: u16, initial: u16) -> Semaphore
+        ensures { result ≡ record { name = name; maximum = maximum; initial = initial } }
+    {
+        Semaphore {
+            name,
+            maximum,
+            initial,
+        }
+    }
+
+    pub fn name(&self) -> &Name
+        ensures { result.now ≡ self.now.name }
+    {
+        &self.name
+    }
+
+    /// The greatest value.
+    pub fn maximum(&self) -> u16
+        ensures { result ≡ self.now.maximum }
+    {
+        self.maximum
+    }
+
+    /// The value with which the semaphore is created.
+    pub fn initial(&self) -> u16
+        ensures { result ≡ self.now.initial }
+    {
+        self.initial
+    }
+}

@@ -1,0 +1,13 @@
+//! The partition table: what is read of a table's text, or the first fault that it has.
+#![tactic(auto)]
+
+mod entries;
+mod fault;
+mod keys;
+mod named;
+mod steps;
+mod table;
+
+pub use entries::{Process, Semaphore};
+pub use fault::{Place, Section, TableFault};
+pub use table::Table;

@@ -1,0 +1,109 @@
+ghost use Rattle.std.specs.Prelude.{◌≡◌, ◌<◌, ◌≤◌, length, slice_get};
+ghost use Rattle.apex_types.specs.Table.{IsLawful, process_entry, semaphore_entry};
+
+use crate::entries::{Process, Semaphore};
+use apex_types::{Call, ProcessId, SemaphoreId};
+use std::marker::Model;
+
+/// A partition's table. By its type every range and every reference in it holds.
+#[derive(Debug, Drop)]
+pub struct Table {
+    cores: u8,
+    limit: u32,
+    processes: Vec<Process>,
+    semaphores: Vec<Semaphore>,
+    init: Vec<Call>,
+}
+
+impl Model for Table {
+    ghost use Rattle.apex_types.specs.Table.{Table, IsLawful};
+
+    ghost Value = { Table };
+
+    ghost view = { λ t. record { cores = t.cores; limit = t.limit; processes = t.processes.items; semaphores = t.semaphores.items; init = t.init.items } };
+
+    ghost invariant = { λ t. IsLawful (record { cores = t.cores; limit = t.limit; processes = t.processes.items; semaphores = t.semaphores.items; init = t.init.items }) };
+}
+
+impl Table {
+    pub(crate) fn new(
+        cores: u8,
+        limit: u32,
+        processes: Vec<Process>,
+        semaphores: Vec<Semaphore>,
+        init: Vec<Call>,
+    ) -> Table
+        requires { IsLawful (record { cores = cores; limit = limit; processes = processes.items; semaphores = semaphores.items; init = init.items }) }
+        ensures { result ≡ record { cores = cores; limit = limit; processes = processes.items; semaphores = semaphores.items; init = init.items } }
+    {
+        Table {
+            cores,
+            limit,
+            processes,
+            semaphores,
+            init,
+        }
+    }
+
+    /// How many cores the partition has.
+    pub fn cores(&self) -> u8
+        ensures value { result ≡ self.now.cores }
+        ensures range { (1 ≤ result) × (result ≤ 8) }
+    {
+        self.cores
+    }
+
+    /// How many entries the history may have.
+    pub fn limit(&self) -> u32
+        ensures value { result ≡ self.now.limit }
+        ensures range { (1 ≤ result) × (result ≤ 65536) }
+    {
+        self.limit
+    }
+
+    pub fn process_count(&self) -> usize
+        ensures value { result ≡ length self.now.processes }
+        ensures range { (1 ≤ result) × (result ≤ 32) }
+    {
+        self.processes.len()
+    }
+
+    /// The process of this id.
+    pub fn process(&self, id: ProcessId) -> &Process
+        requires { id < length self.now.processes }
+        ensures place { slice_get self.now.processes id ≡ Some result.now }
+        ensures entry { result.now ≡ process_entry self.now id }
+    {
+        &self.processes[id.place()]
+    }
+
+    pub fn semaphore_count(&self) -> usize
+        ensures value { result ≡ length self.now.semaphores }
+        ensures range { result ≤ 16 }
+    {
+        self.semaphores.len()
+    }
+
+    /// The semaphore of this id.
+    pub fn semaphore(&self, id: SemaphoreId) -> &Semaphore
+        requires { id < length self.now.semaphores }
+        ensures place { slice_get self.now.semaphores id ≡ Some result.now }
+        ensures entry { result.now ≡ semaphore_entry self.now id }
+    {
+        &self.semaphores[id.place()]
+    }
+
+    /// The step at this place of the init list, counted from 0, or none past its end.
+    pub fn init_call(&self, place: usize) -> Option<Call>
+        ensures { result ≡ slice_get self.now.init place }
+    {
+        self.init.get(place).copied()
+    }
+
+    /// Hands to the caller what holds of every accepted table.
+    pub fn lawful(&self)
+        ensures { IsLawful self.now }
+    {
+        let _cores = &self.cores;
+    }
+}
