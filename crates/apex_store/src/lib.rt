@@ -2,6 +2,10 @@
 //! words, and [`PlainStore`], which answers by scans.
 #![tactic(auto)]
 
+mod orders;
+mod plain_store;
+mod scan;
 mod store;
 
+pub use plain_store::PlainStore;
 pub use store::Store;

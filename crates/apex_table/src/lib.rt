@@ -2,7 +2,12 @@
 #![tactic(auto)]
 
 mod entries;
+mod fault;
+mod keys;
+mod named;
+mod steps;
 mod table;
 
 pub use entries::{Process, Semaphore};
+pub use fault::{Place, Section, TableFault};
 pub use table::Table;

@@ -1,3 +1,4 @@
 pub mod Places
 pub mod Rosters
 pub mod Releases
+pub mod Choice

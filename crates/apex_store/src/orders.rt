@@ -1,0 +1,74 @@
+ghost use Rattle.std.specs.Prelude.{◌≡◌};
+ghost use Rattle.apex_types.specs.Roster.{is_normal};
+ghost use Rattle.apex_types.specs.Running.{current_priority, is_before, is_eligible, is_older, runs_on};
+ghost use Rattle.apex_types.specs.Waiters.{is_same_wait, is_wait_for, waits_behind, waits_in};
+
+use apex_types::{CoreId, Mode, Record, Wait};
+
+/// The mode is NORMAL.
+pub fn is_normal(mode: Mode) -> bool
+    ensures { result ≡ is_normal mode }
+{
+    mode == Mode::Normal
+}
+
+/// The mode is NORMAL, and the process is started and waits for nothing.
+pub fn is_eligible(mode: Mode, row: &Record) -> bool
+    ensures { result ≡ is_eligible mode row.now }
+{
+    is_normal(mode) && row.started && row.wait.is_none()
+}
+
+/// The process is eligible and bound to the core.
+#[tactic(auto, unfolding(apex_types::specs::Running::runs_on))]
+pub fn runs_on(mode: Mode, core: CoreId, row: &Record) -> bool
+    ensures { result ≡ runs_on mode core row.now }
+{
+    is_eligible(mode, row) && row.core == core
+}
+
+fn current_priority(row: &Record) -> u8
+    ensures { result ≡ current_priority row.now }
+{
+    row.base
+}
+
+/// The first has been in its queue for longer.
+pub fn is_older(first: &Record, second: &Record) -> bool
+    ensures { result ≡ is_older first.now second.now }
+{
+    first.since < second.since
+}
+
+/// The first has the greater current priority, or an equal one and has been ready for longer.
+pub fn is_before(first: &Record, second: &Record) -> bool
+    ensures { result ≡ is_before first.now second.now }
+{
+    let (mine, other) = (current_priority(first), current_priority(second));
+    other < mine || (mine == other && is_older(first, second))
+}
+
+fn is_same_wait(one: Wait, other: Wait) -> bool
+    ensures { result ≡ is_same_wait one other }
+{
+    one == other
+}
+
+/// The process waits in the queue.
+#[tactic(auto, unfolding(apex_types::specs::Waiters::waits_in))]
+pub fn waits_in(queue: Wait, row: &Record) -> bool
+    ensures { result ≡ waits_in queue row.now }
+{
+    match row.wait {
+        Some(wait) => is_same_wait(queue, wait),
+        None => false,
+    }
+}
+
+/// The process waits in the queue, behind that one.
+#[tactic(auto, unfolding(apex_types::specs::Waiters::waits_behind))]
+pub fn waits_behind(queue: Wait, ahead: &Record, row: &Record) -> bool
+    ensures { result ≡ waits_behind queue ahead.now row.now }
+{
+    waits_in(queue, row) && is_older(ahead, row)
+}

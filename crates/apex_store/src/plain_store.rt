@@ -1,0 +1,198 @@
+ghost use Rattle.std.specs.Prelude.{◌≡◌, ◌<◌, length};
+ghost use Rattle.apex_types.specs.Roster.{with_record};
+ghost use Rattle.apex_types.specs.Running.{is_process};
+ghost use Rattle.apex_types.specs.Stamps as stamps;
+
+use crate::orders::{is_eligible, is_normal, waits_in};
+use crate::scan::{Behind, Runnable, Waiting, first_of};
+use crate::store::Store;
+use apex_types::{CoreId, Mode, ProcessId, Record, State, Wait};
+use std::marker::Model;
+
+/// A store that keeps one list of records, and answers each question by a scan of it.
+#[derive(Drop)]
+pub struct PlainStore {
+    mode: Mode,
+    time: u64,
+    records: Vec<Record>,
+    next_young: i64,
+    next_old: i64,
+}
+
+impl Model for PlainStore {
+    ghost use Rattle.std.specs.Prelude.{◌≤◌, length};
+    ghost use Rattle.apex_types.specs.Roster.{Roster};
+
+    ghost Value = { Roster };
+
+    ghost view = { λ a. record { mode = a.mode; now = a.time; records = a.records.items; young = a.next_young; old = a.next_old } };
+
+    ghost invariant = { λ a. length a.records.items ≤ 64 };
+}
+
+/// The process is this one.
+fn is_process(process: ProcessId, other: Option<ProcessId>) -> bool
+    ensures { result ≡ is_process process other }
+{
+    match other {
+        Some(other) => process == other,
+        None => false,
+    }
+}
+
+impl PlainStore {
+    /// The process has this record from now on.
+    fn put(&mut self, process: ProcessId, row: Record)
+        requires { process < length self.old.records }
+        ensures { self.new ≡ with_record self.old process row }
+    {
+        self.records[process.place()] = row;
+    }
+
+    /// The process has this record with the next stamp upwards.
+    fn put_newest(&mut self, process: ProcessId, row: Record)
+        requires known { process < length self.old.records }
+        requires stamps { stamps.HasStamps self.old }
+        ensures { self.new ≡ stamps.newest self.old process row }
+    {
+        let stamp = self.next_young;
+        self.next_young += 1;
+        self.records[process.place()] = Record {
+            since: stamp,
+            ..row
+        };
+    }
+
+    /// The process has this record, and is the newest where that makes it eligible.
+    fn put_readied(&mut self, process: ProcessId, row: Record)
+        requires known { process < length self.old.records }
+        requires stamps { stamps.HasStamps self.old }
+        ensures { self.new ≡ stamps.readied self.old process row }
+    {
+        if is_eligible(self.mode, &row) {
+            self.put_newest(process, row);
+        } else {
+            self.put(process, row);
+        }
+    }
+}
+
+impl Store for PlainStore {
+    ghost roster = { λ s. s };
+
+    fn mode(&self) -> Mode {
+        self.mode
+    }
+
+    fn now(&self) -> u64 {
+        self.time
+    }
+
+    fn process_count(&self) -> usize {
+        self.records.len()
+    }
+
+    fn record(&self, process: ProcessId) -> Record {
+        self.records[process.place()]
+    }
+
+    fn chosen(&self, core: CoreId) -> Option<ProcessId> {
+        let order = Runnable {
+            mode: self.mode,
+            core,
+        };
+        first_of(&order, &self.records)
+    }
+
+    fn state(&self, process: ProcessId) -> State {
+        let row = self.record(process);
+        if !row.started {
+            State::Dormant
+        } else if !is_eligible(self.mode, &row) {
+            State::Waiting
+        } else if is_process(process, self.chosen(row.core)) {
+            State::Running
+        } else {
+            State::Ready
+        }
+    }
+
+    fn first(&self, queue: Wait) -> Option<ProcessId> {
+        first_of(&Waiting { queue }, &self.records)
+    }
+
+    fn next_after(&self, queue: Wait, process: ProcessId) -> Option<ProcessId> {
+        let ahead = self.record(process);
+        first_of(&Behind { queue, ahead }, &self.records)
+    }
+
+    fn waiting(&self, queue: Wait) -> usize {
+        self.records
+            .iter()
+            .filter(|row| waits_in(queue, row))
+            .count()
+    }
+
+    fn start(&mut self, process: ProcessId) {
+        let row = self.record(process);
+        let wait = if is_normal(self.mode) {
+            None
+        } else {
+            Some(Wait::Normal)
+        };
+        let started = Record {
+            base: row.priority,
+            started: true,
+            step: 0,
+            wait,
+            ..row
+        };
+        self.put_newest(process, started);
+    }
+
+    fn stop(&mut self, process: ProcessId) {
+        let row = self.record(process);
+        let stopped = Record {
+            started: false,
+            wait: None,
+            step: 0,
+            ..row
+        };
+        self.put(process, stopped);
+    }
+
+    fn block(&mut self, process: ProcessId, wait: Wait) {
+        let row = self.record(process);
+        let blocked = Record {
+            wait: Some(wait),
+            ..row
+        };
+        self.put_newest(process, blocked);
+    }
+
+    fn unblock(&mut self, process: ProcessId) {
+        let row = self.record(process);
+        let woken = Record { wait: None, ..row };
+        self.put_readied(process, woken);
+    }
+
+    fn release(&mut self, process: ProcessId) {
+        let row = self.record(process);
+        let released = Record { wait: None, ..row };
+        self.put_readied(process, released);
+    }
+
+    fn set_mode(&mut self, mode: Mode) {
+        self.mode = mode;
+    }
+
+    fn set_core(&mut self, process: ProcessId, core: CoreId) {
+        let row = self.record(process);
+        self.put(process, Record { core, ..row });
+    }
+
+    fn set_step(&mut self, process: ProcessId, step: u8) {
+        let row = self.record(process);
+        self.put(process, Record { step, ..row });
+    }
+}
