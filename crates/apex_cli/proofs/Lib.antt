@@ -1,0 +1,3 @@
+pub mod Parts
+pub mod CommandLemmas
+pub mod Items

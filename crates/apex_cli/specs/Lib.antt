@@ -1,0 +1,4 @@
+pub mod Faults
+pub mod Numbers
+pub mod Schedule
+pub mod Words

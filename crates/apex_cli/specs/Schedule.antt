@@ -1,0 +1,65 @@
+-- What the text of a schedule asks for.
+use Rattle.std.specs.Prelude.{ℕ, ◌-◌, Bool, List, [], ◌∷◌, Option, Some, None, map, option_map, option_and_then}
+use Rattle.std.specs.Prelude.{◌==◌, ◌&&◌, nat_lt, nat_le, if◌then◌else◌, replicate}
+use Rattle.std.specs.List.{slice_split, list_all, flat_map}
+use Rattle.apex_types.specs.declared.Event.{Event}
+use Rattle.apex_types.specs.declared.Event.TheVariants.{Turn}
+use Rattle.apex_cli.specs.declared.schedule.Item.{Item}
+use Rattle.apex_cli.specs.Numbers.{number_of, at_least, at_most}
+
+-- the parts of a text between a separator, which may be empty
+abbrev pub parts : ℕ → List ℕ → List (List ℕ)
+parts separator = slice_split (λ byte. byte == separator)
+
+-- the parts of what stands after a separator, where there is one
+abbrev pub parts_after : ℕ → Option (List ℕ) → List (List ℕ)
+parts_after separator None = []
+parts_after separator (Some rest) = parts separator rest
+
+-- the values, where each is there
+abbrev pub all_some : {X : Type 0} → List (Option X) → Option (List X)
+all_some [] = Some []
+all_some (value ∷ rest) =
+    option_and_then (λ x. option_map (λ xs. x ∷ xs) (all_some rest)) value
+
+-- a core's number, one digit from 0 to 7
+abbrev pub core_of : List ℕ → Option ℕ
+core_of [] = None
+core_of (digit ∷ []) = if nat_le 48 digit && nat_le digit 55 then Some (digit - 48) else None
+core_of (digit ∷ next ∷ rest) = None
+
+-- how often an item is repeated, 1 to 65,536
+abbrev pub times_of : List ℕ → Option ℕ
+times_of word = at_least 1 (at_most 65536 (number_of word))
+
+-- how often, by the parts after the core: once where there are none
+abbrev pub times_after : List (List ℕ) → Option ℕ
+times_after [] = Some 1
+times_after (times ∷ []) = times_of times
+times_after (times ∷ next ∷ rest) = None
+
+-- so many turns of a core
+abbrev pub turns_of : ℕ → ℕ → Item
+turns_of core times = record { core = core; times = times }
+
+-- `c`, one turn of a core, or `c*k`, so many
+abbrev pub item_of_parts : List (List ℕ) → Option Item
+item_of_parts [] = None
+item_of_parts (core ∷ after) =
+    option_and_then (λ c. option_map (turns_of c) (times_after after)) (core_of core)
+
+-- an item's word, in which `*` (42) stands before the repetition
+abbrev pub item_of : List ℕ → Option Item
+item_of word = item_of_parts (parts 42 word)
+
+-- the items of a schedule's text, with one space (32) between two; none where one is ill-formed
+abbrev pub items_of : List ℕ → Option (List Item)
+items_of text = all_some (map item_of (parts 32 text))
+
+-- the events that the items ask for, in order
+abbrev pub events_of : List Item → List Event
+events_of items = flat_map (λ (item : Item). replicate item.times (Turn item.core)) items
+
+-- every item is of a core below `cores`
+abbrev pub are_cores_below : ℕ → List Item → Bool
+are_cores_below cores items = list_all (λ (item : Item). nat_lt item.core cores) items
