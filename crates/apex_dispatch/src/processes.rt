@@ -90,20 +90,20 @@ pub(crate) fn serve_process<S: Store>(
     cores: u8,
     store: &mut S,
     created: &mut [bool],
-    caller: Caller,
+    caller: &Caller,
     call: &ProcessCall,
     notices: &mut Notices,
 ) -> Reply
     requires few { cores ≤ 8 }
     requires call { IsKnownToProcesses (length created.old) call.now }
     requires many { length (S.roster store.old).records ≡ length created.old }
-    requires known { IsKnownCaller (length (S.roster store.old).records) caller }
+    requires known { IsKnownCaller (length (S.roster store.old).records) caller.now }
     requires stamps { HasStamps (S.roster store.old) }
     requires quiet { notices.old ≡ [] }
-    ensures roster { S.roster store.new ≡ (services.process_service cores (S.roster store.old) created.old caller call.now).roster }
-    ensures created { created.new ≡ (services.process_service cores (S.roster store.old) created.old caller call.now).created }
-    ensures reply { result ≡ (services.process_service cores (S.roster store.old) created.old caller call.now).reply }
-    ensures notices { notices.new ≡ (services.process_service cores (S.roster store.old) created.old caller call.now).notices }
+    ensures roster { S.roster store.new ≡ (services.process_service cores (S.roster store.old) created.old caller.now call.now).roster }
+    ensures created { created.new ≡ (services.process_service cores (S.roster store.old) created.old caller.now call.now).created }
+    ensures reply { result ≡ (services.process_service cores (S.roster store.old) created.old caller.now call.now).reply }
+    ensures notices { notices.new ≡ (services.process_service cores (S.roster store.old) created.old caller.now call.now).notices }
 {
     match call {
         ProcessCall::CreateProcess(process) => create(store, created, *process),
@@ -113,7 +113,7 @@ pub(crate) fn serve_process<S: Store>(
         ProcessCall::Start(process) => start(store, created, *process, notices),
         ProcessCall::StopSelf => match caller {
             Caller::Process(process) => {
-                store.stop(process);
+                store.stop(*process);
                 Reply::Gone
             }
             Caller::Init | Caller::Nobody => Reply::Code(ReturnCode::InvalidMode),

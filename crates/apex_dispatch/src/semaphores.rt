@@ -136,22 +136,22 @@ fn raise(semaphore: &mut Semaphore) -> Reply
 pub(crate) fn serve_semaphore<S: Store>(
     store: &mut S,
     semaphore: &mut Semaphore,
-    caller: Caller,
+    caller: &Caller,
     call: &SemaphoreCall,
     notices: &mut Notices,
 ) -> Reply
-    requires known { IsKnownCaller (length (S.roster store.old).records) caller }
+    requires known { IsKnownCaller (length (S.roster store.old).records) caller.now }
     requires stamps { HasStamps (S.roster store.old) }
     requires quiet { notices.old ≡ [] }
-    ensures roster { S.roster store.new ≡ (services.semaphore_service (S.roster store.old) semaphore.old caller call.now).roster }
-    ensures semaphore { semaphore.new ≡ (services.semaphore_service (S.roster store.old) semaphore.old caller call.now).semaphore }
-    ensures reply { result ≡ (services.semaphore_service (S.roster store.old) semaphore.old caller call.now).reply }
-    ensures notices { notices.new ≡ (services.semaphore_service (S.roster store.old) semaphore.old caller call.now).notices }
+    ensures roster { S.roster store.new ≡ (services.semaphore_service (S.roster store.old) semaphore.old caller.now call.now).roster }
+    ensures semaphore { semaphore.new ≡ (services.semaphore_service (S.roster store.old) semaphore.old caller.now call.now).semaphore }
+    ensures reply { result ≡ (services.semaphore_service (S.roster store.old) semaphore.old caller.now call.now).reply }
+    ensures notices { notices.new ≡ (services.semaphore_service (S.roster store.old) semaphore.old caller.now call.now).notices }
 {
     match call {
         SemaphoreCall::CreateSemaphore(_) => create(store, semaphore),
         SemaphoreCall::WaitSemaphore(id, timeout) => match caller {
-            Caller::Process(process) => wait(store, semaphore, *id, process, *timeout),
+            Caller::Process(process) => wait(store, semaphore, *id, *process, *timeout),
             Caller::Init | Caller::Nobody => Reply::Code(ReturnCode::InvalidMode),
         },
         SemaphoreCall::SignalSemaphore(id) => signal(store, semaphore, *id, notices),

@@ -14,21 +14,21 @@ pub(crate) fn serve<S: Store>(
     cores: u8,
     store: &mut S,
     objects: &mut Objects,
-    caller: Caller,
+    caller: &Caller,
     call: &Call,
     notices: &mut Notices,
 ) -> Reply
     requires few_cores { cores ≤ 8 }
     requires few { length (S.roster store.old).records ≤ 32 }
     requires many { length (S.roster store.old).records ≡ length objects.old.processes }
-    requires caller { IsKnownCaller (length (S.roster store.old).records) caller }
+    requires caller { IsKnownCaller (length (S.roster store.old).records) caller.now }
     requires known { IsKnownTo objects.old call.now }
     requires stamps { HasManyStamps (S.roster store.old) }
     requires quiet { notices.old ≡ [] }
-    ensures roster { S.roster store.new ≡ (service cores (S.roster store.old) objects.old caller call.now).roster }
-    ensures objects { objects.new ≡ (service cores (S.roster store.old) objects.old caller call.now).objects }
-    ensures reply { result ≡ (service cores (S.roster store.old) objects.old caller call.now).reply }
-    ensures notices { notices.new ≡ (service cores (S.roster store.old) objects.old caller call.now).notices }
+    ensures roster { S.roster store.new ≡ (service cores (S.roster store.old) objects.old caller.now call.now).roster }
+    ensures objects { objects.new ≡ (service cores (S.roster store.old) objects.old caller.now call.now).objects }
+    ensures reply { result ≡ (service cores (S.roster store.old) objects.old caller.now call.now).reply }
+    ensures notices { notices.new ≡ (service cores (S.roster store.old) objects.old caller.now call.now).notices }
 {
     match call {
         Call::Partition(call) => serve_partition(store, call, notices),

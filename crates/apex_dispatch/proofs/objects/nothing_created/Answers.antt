@@ -1,4 +1,4 @@
-use Rattle.std.proofs.Common.{◌≡◌, [], ◌∙◌, sym, ◌<◌, length, arith, append_assoc, ◌∷◌}
+use Rattle.std.proofs.Common.{[], ◌<◌, length, arith, append_assoc}
 use Rattle.apex_types.specs.History.{process_after}
 use Rattle.apex_types.specs.Table.{no_process}
 use Rattle.apex_types.proofs.Places.{map_places-drop}

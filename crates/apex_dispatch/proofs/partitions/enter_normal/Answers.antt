@@ -1,4 +1,4 @@
-use Rattle.std.proofs.Common.{◌≡◌, ℕ, ◌+◌, ◌-◌, ◌∙◌, ◌≤◌, length, arith, add-one, sym, ap, None, length-append}
+use Rattle.std.proofs.Common.{ℕ, ◌+◌, ◌-◌, ◌∙◌, arith, add-one, sym, ap, None, length-append}
 use Rattle.std.proofs.lemmas.Int.{ints}
 use Rattle.apex_types.specs.Stamps as stamps
 use Rattle.apex_types.specs.Roster.{record_at}

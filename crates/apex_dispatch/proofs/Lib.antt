@@ -1,0 +1,3 @@
+pub mod Sizes
+pub mod Known
+pub mod Kept

@@ -1,0 +1,136 @@
+ghost use Rattle.std.specs.Prelude.{◌≡◌, ◌<◌, ◌≤◌, ◌↔◌, ◌+◌, [], ◌∷◌, ◌++◌, length, slice_get, ◌&&◌, ◌==◌, if◌then◌else◌, None, is_some, IfOk, IfErr, OnOk, OnErr, IsOk};
+ghost use Rattle.apex_types.specs.Roster.{opening_roster, is_cold_start};
+ghost use Rattle.apex_types.specs.History.{objects_after};
+ghost use Rattle.apex_types.specs.Machine.{opening, happen};
+ghost use Rattle.apex_dispatch.specs.Kernel.{Running, turned};
+
+use crate::deeds::carry_out;
+use crate::objects::Objects;
+use apex_history::Log;
+use apex_store::Store;
+use apex_table::Table;
+use apex_types::{Call, Caller, CoreId, Entry, Event, Full, Mode, Notices, Who};
+use std::alloc::{AllocError, Global};
+use std::marker::Model;
+
+/// The kernel of one partition, over any store of its processes.
+#[derive(Drop)]
+pub struct Kernel<S: Store> {
+    table: Table,
+    store: S,
+    objects: Objects,
+    /// How many init steps were carried out.
+    init_made: usize,
+    log: Log,
+}
+
+impl<S: Store> Model for Kernel<S> {
+    ghost use Rattle.apex_dispatch.specs.Kernel.{Running, IsKept};
+
+    ghost Value = { Running };
+
+    ghost view = { λ k. record { table = k.table; machine = record { roster = S.roster k.store; history = k.log.entries }; objects = k.objects } };
+
+    ghost invariant = { λ k. IsKept (record { table = k.table; machine = record { roster = S.roster k.store; history = k.log.entries }; objects = k.objects }) k.init_made k.log.limit };
+}
+
+/// The init step that is due in a turn of the core, where so many were carried out.
+fn due_call<S: Store>(table: &Table, store: &S, init_made: usize, core: CoreId) -> Option<Call>
+    ensures { result ≡ (if is_cold_start (S.roster store.now).mode && core == 0 then slice_get table.now.init init_made else None) }
+{
+    if store.mode() == Mode::ColdStart && core.number() == 0 {
+        table.init_call(init_made)
+    } else {
+        None
+    }
+}
+
+/// How many init steps a turn carries out, where this one is due.
+fn steps_in(due: &Option<Call>) -> usize
+    ensures { result ≡ (if is_some due.now then 1 else 0) }
+{
+    if due.is_some() { 1 } else { 0 }
+}
+
+impl<S: Store> Kernel<S> {
+    /// The kernel before any event, which takes all the memory that events will fill. It fails
+    /// only for want of memory.
+    pub fn boot(alloc: Global, table: Table, store: S) -> Result<Kernel<S>, AllocError>
+        requires { S.roster store ≡ opening_roster table }
+        ensures { IfOk result (λ kernel. kernel ≡ record { table = table; machine = opening table; objects = objects_after table [] }) }
+    {
+        table.lawful();
+        let objects = Objects::new(alloc, &table)?;
+        let log = Log::new(alloc, table.limit())?;
+        Ok(Kernel {
+            table,
+            store,
+            objects,
+            init_made: 0,
+            log,
+        })
+    }
+
+    /// One turn of the core, whole.
+    pub fn turn(&mut self, core: CoreId) -> Result<(), Full>
+        requires { core < self.old.table.cores }
+        ensures accepted { IsOk result ↔ (length self.old.machine.history < self.old.table.limit) }
+        ensures done { OnOk result (self.new ≡ turned self.old core) }
+        ensures refused { OnErr result (self.new ≡ self.old) }
+        ensures full { IfErr result (λ e. (e.entries ≡ length self.old.machine.history) × (e.entries ≡ self.old.table.limit)) }
+    {
+        if self.log.is_full() {
+            return Err(Full {
+                entries: self.log.limit(),
+            });
+        }
+        let due = due_call(&self.table, &self.store, self.init_made, core);
+        let mut notices = Notices::new();
+        let deed = carry_out(
+            &self.table,
+            &mut self.store,
+            &mut self.objects,
+            core,
+            due,
+            &mut notices,
+        );
+        self.init_made += steps_in(&due);
+        let number = self.log.len() as u32 + 1;
+        self.log.push(Entry {
+            number,
+            now: self.store.now(),
+            who: Who::Core(core),
+            process: deed.caller,
+            call: deed.call,
+            reply: deed.reply,
+            notices,
+        });
+        Ok(())
+    }
+
+    /// The history so far, the oldest entry first.
+    pub fn entries(&self) -> &[Entry]
+        ensures { result.now ≡ self.now.machine.history }
+    {
+        self.log.entries()
+    }
+
+    /// The time in ticks.
+    pub fn now(&self) -> u64
+        ensures { result ≡ self.now.machine.roster.now }
+    {
+        self.store.now()
+    }
+
+    pub fn store(&self) -> &S
+        ensures { S.roster result.now ≡ self.now.machine.roster }
+    {
+        &self.store
+    }
+
+    pub fn table(&self) -> &Table
+        ensures { result.now ≡ self.now.table }
+    {
+        &self.table
+    }
+}
