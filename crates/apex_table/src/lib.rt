@@ -14,3 +14,6 @@ pub use entries::{Process, Semaphore};
 pub use fault::{Place, Section, TableFault};
 pub use reading::read_table;
 pub use table::Table;
+
+#[cfg(test)]
+mod tests;
