@@ -16,3 +16,6 @@ pub use histories::Log;
 pub use pages::Page;
 pub use printing::{print_entry, print_history};
 pub use reading::{ReadFault, read_all};
+
+#[cfg(test)]
+mod tests;

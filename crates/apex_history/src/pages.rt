@@ -50,7 +50,8 @@ impl Page {
     /// Writes the text out where a line may not fit behind it.
     pub(crate) fn make_room<W: Write>(&mut self, writer: &mut Counted<W>) -> io::Result<()>
         ensures ok { OnOk result (Passes (W.contents (inner_of writer.old)) (W.contents (inner_of writer.new)) self.old self.new) }
-        ensures room { OnOk result (length self.new + 4096 ≤ 65536) }
+        ensures room { length self.new + 4096 ≤ 65536 }
+        ensures empty { OnErr result (self.new ≡ []) }
         ensures err { OnErr result (AppendsBeginning (W.contents (inner_of writer.old)) (W.contents (inner_of writer.new)) self.old) }
         ensures counted { CountsFailure result (failures_of writer.old) (failures_of writer.new) }
     {
@@ -70,15 +71,15 @@ impl Page {
         prove!(fits);
     }
 
-    /// Writes the text out, and forgets it.
+    /// Writes the text out, and forgets it also where a write failed.
     pub(crate) fn hand_on<W: Write>(&mut self, writer: &mut Counted<W>) -> io::Result<()>
         ensures ok { OnOk result (Appends (W.contents (inner_of writer.old)) (W.contents (inner_of writer.new)) self.old) }
-        ensures empty { OnOk result (self.new ≡ []) }
+        ensures empty { self.new ≡ [] }
         ensures err { OnErr result (AppendsBeginning (W.contents (inner_of writer.old)) (W.contents (inner_of writer.new)) self.old) }
         ensures counted { CountsFailure result (failures_of writer.old) (failures_of writer.new) }
     {
-        writer.write_all(self.text.as_slice())?;
+        let written = writer.write_all(self.text.as_slice());
         self.text.clear();
-        Ok(())
+        written
     }
 }

@@ -1,4 +1,4 @@
-ghost use Rattle.std.specs.Prelude.{◌≡◌, ◌++◌, All, OnOk, OnErr};
+ghost use Rattle.std.specs.Prelude.{◌≡◌, [], ◌++◌, All, OnOk, OnErr};
 ghost use Rattle.std.specs.Io.KnownBytes.{Appends};
 ghost use Rattle.apex_types.specs.Lines.{line_of, lines_of, IsPrintable};
 ghost use Rattle.apex_history.specs.Counted.{inner_of, failures_of, CountsFailure, AppendsBeginning};
@@ -27,7 +27,7 @@ pub fn print_entry<W: Write>(table: &Table, entry: &Entry, writer: &mut Counted<
 /// Writes the lines of the entries, many of them with one write. Takes no memory: the lines are
 /// gathered in the page.
 ///
-/// Where a write failed, a beginning of the lines was written.
+/// Where a write failed, a beginning of the lines was written. What the page held is forgotten.
 pub fn print_history<W: Write>(
     table: &Table,
     entries: &[Entry],
@@ -37,6 +37,7 @@ pub fn print_history<W: Write>(
     requires { All (IsPrintable table.now) entries.now }
     ensures ok { OnOk result (Appends (W.contents (inner_of writer.old)) (W.contents (inner_of writer.new)) (lines_of table.now entries.now)) }
     ensures err { OnErr result (AppendsBeginning (W.contents (inner_of writer.old)) (W.contents (inner_of writer.new)) (lines_of table.now entries.now)) }
+    ensures empty { page.new ≡ [] }
     ensures counted { CountsFailure result (failures_of writer.old) (failures_of writer.new) }
 {
     let mut line = Line::new();

@@ -11,7 +11,7 @@ loop-entry-preserved g c =
     let entry = c.entry-item.result in
     record {
       lines = rw (c.put.ensures, c.as_slice.ensures.value, c.set_line.ensures, lines_more c.args.table.now c.args.entries.now c.loop-entry.entry-index entry c.loop-entry-test.true c.entry-item.is)
-        (passes_more _ _ _ _ _ _ _ c.loop-entry.invariant.lines c.in_ok-make_room.ensures.ok);
+          (passes_more _ _ _ _ _ _ _ c.loop-entry.invariant.lines c.in_ok-make_room.ensures.ok);
       failures = grind arith;
     }
 
