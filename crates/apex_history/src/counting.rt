@@ -1,7 +1,7 @@
 ghost use Rattle.std.specs.Prelude.{◌≡◌, ℕ, ◌-◌, ◌^◌, ◌<◌, List, Option, length, IfOk, IsErr, OnOk, OnErr};
 ghost use Rattle.std.specs.Io.{ReadsAtMost, WritesAtMost};
 ghost use Rattle.std.specs.Io.KnownBytes.{Appends, Keeps, ReadConsumes, WriteAppends};
-ghost use Rattle.apex_history.specs.Counted.{inner_of, failures_of, reads_left_of, CountsFailure, AppendsBeginning};
+ghost use Rattle.apex_history.specs.Counted.{inner_of, failures_of, reads_left_of, one_more, CountsFailure, AppendsBeginning};
 
 use std::io::{Error, ErrorKind, Read, Result, Write};
 
@@ -40,6 +40,14 @@ impl<T> Counted<T> {
     {
         self.failures
     }
+
+    fn count_failure(&mut self)
+        ensures inner { inner_of self.new ≡ inner_of self.old }
+        ensures failures { failures_of self.new ≡ one_more (failures_of self.old) }
+        ensures reads { reads_left_of self.new ≡ reads_left_of self.old }
+    {
+        self.failures = self.failures.saturating_add(1);
+    }
 }
 
 impl<R: Read> Read for Counted<R> {
@@ -56,13 +64,13 @@ impl<R: Read> Read for Counted<R> {
         ensures unasked { reads_left_of self.old ≡ 0 → inner_of self.new ≡ inner_of self.old }
     {
         if self.reads_left == 0 {
-            self.failures = self.failures.saturating_add(1);
+            self.count_failure();
             return Err(Error::new(ErrorKind::Other, "too many reads"));
         }
         self.reads_left -= 1;
         let answer = self.inner.read(buf);
         if answer.is_err() {
-            self.failures = self.failures.saturating_add(1);
+            self.count_failure();
         }
         answer
     }
@@ -86,7 +94,7 @@ impl<W: Write> Write for Counted<W> {
             answer => answer,
         };
         if answer.is_err() {
-            self.failures = self.failures.saturating_add(1);
+            self.count_failure();
         }
         answer
     }
@@ -98,7 +106,7 @@ impl<W: Write> Write for Counted<W> {
     {
         let answer = self.inner.flush();
         if answer.is_err() {
-            self.failures = self.failures.saturating_add(1);
+            self.count_failure();
         }
         answer
     }

@@ -49,7 +49,7 @@ impl FailAt {
     }
 
     /// All the bytes that it holds, those that were read too.
-    pub fn bytes(&self) -> &[u8]
+    pub fn held(&self) -> &[u8]
         ensures { result.now ≡ self.now.bytes }
     {
         self.bytes.as_slice()

@@ -80,6 +80,6 @@ impl Log {
         ensures full { IsTrue result ↔ (length self.now.entries ≡ self.now.limit) }
         ensures room { result ≡ false → length self.now.entries < self.now.limit }
     {
-        self.entries.len() == self.limit as usize
+        self.len() == self.limit() as usize
     }
 }

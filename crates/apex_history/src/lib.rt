@@ -5,10 +5,17 @@
 mod counting;
 mod devices;
 mod histories;
+mod pages;
+mod printing;
 mod puts;
 mod reading;
 
 pub use counting::Counted;
 pub use devices::FailAt;
 pub use histories::Log;
+pub use pages::Page;
+pub use printing::{print_entry, print_history};
 pub use reading::{ReadFault, read_all};
+
+#[cfg(test)]
+mod tests;

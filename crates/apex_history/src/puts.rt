@@ -11,7 +11,10 @@ use apex_types::{
 use arrayvec::ArrayVec;
 use itoa::Buffer;
 
-/// A line of a history: at most 4,096 bytes.
+/// How many bytes a line of a history has at the most.
+pub(crate) const LINE_ROOM: usize = 4096;
+
+/// A line of a history.
 pub(crate) type Line = ArrayVec<u8, 4096>;
 
 fn put(line: &mut Line, text: &str)

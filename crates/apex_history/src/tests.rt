@@ -1,0 +1,103 @@
+use crate::{Counted, FailAt, Log, Page, ReadFault, read_all};
+use apex_types::{Caller, CoreId, Entry, Notices, Reply, Who};
+use std::io::{ErrorKind, Read, Write};
+use std::test::Fail;
+
+// A device that holds this text, with no room for more.
+fn device(rt: HostRuntime, text: &str, call: u64) -> Result<FailAt, Fail> {
+    let mut bytes = Vec::with_capacity(rt.alloc(), text.len())?;
+    bytes.extend_from_slice(text.as_bytes())?;
+    Ok(FailAt::new(bytes, call))
+}
+
+// An empty device with room for so many bytes.
+fn paper(rt: HostRuntime, room: usize, call: u64) -> Result<FailAt, Fail> {
+    Ok(FailAt::new(Vec::with_capacity(rt.alloc(), room)?, call))
+}
+
+fn idle(number: u32) -> Entry {
+    Entry {
+        number,
+        now: 0,
+        who: Who::Core(CoreId::new(0)),
+        process: Caller::Nobody,
+        call: None,
+        reply: Reply::Idle,
+        notices: Notices::new(),
+    }
+}
+
+#[test]
+fn a_device_fails_at_its_call_alone(rt: HostRuntime) -> Result<(), Fail> {
+    let mut device = device(rt, "abcdef", 2)?;
+    let mut chunk = [0; 4];
+    assert_eq!(rt; device.read(&mut chunk)?, 4);
+    assert_eq!(rt; chunk.as_slice(), b"abcd".as_slice());
+    assert!(rt; device.read(&mut chunk).is_err());
+    assert_eq!(rt; device.read(&mut chunk)?, 2);
+    assert_eq!(rt; device.read(&mut chunk)?, 0);
+    assert_eq!(rt; device.held(), b"abcdef".as_slice());
+
+    let mut paper = paper(rt, 3, 2)?;
+    assert_eq!(rt; paper.write(b"ab")?, 2);
+    assert!(rt; paper.flush().is_err());
+    assert_eq!(rt; paper.write(b"cd")?, 1);
+    assert_eq!(rt; paper.write(b"d")?, 0);
+    assert_eq!(rt; paper.held(), b"abc".as_slice());
+    Ok(())
+}
+
+#[test]
+fn failed_reads_are_counted(rt: HostRuntime) -> Result<(), Fail> {
+    for (call, failures) in [(0, 0), (1, 1), (2, 1), (3, 0)] {
+        let mut reader = Counted::new(device(rt, "abc", call)?);
+        match read_all(rt.alloc(), &mut reader) {
+            Ok(all) => assert_eq!(rt; all.as_slice(), b"abc".as_slice(), "at {call}"),
+            Err(fault) => assert_eq!(rt; fault, ReadFault::Read, "at {call}"),
+        }
+        assert_eq!(rt; reader.failures(), failures, "at {call}");
+    }
+    Ok(())
+}
+
+#[test]
+fn failed_writes_are_counted(rt: HostRuntime) -> Result<(), Fail> {
+    let mut paper = paper(rt, 5, 2)?;
+    let mut writer = Counted::new(&mut paper);
+    writer.write_all(b"ab")?;
+    assert!(rt; writer.flush().is_err());
+    assert_eq!(rt; writer.failures(), 1);
+    writer.flush()?;
+    writer.write_all(b"")?;
+    let Err(error) = writer.write_all(b"cdef") else {
+        return Err(Fail::from("there is room for one byte more"));
+    };
+    assert_eq!(rt; error.kind(), ErrorKind::WriteZero);
+    assert_eq!(rt; writer.failures(), 2);
+    assert_eq!(rt; paper.held(), b"abcde".as_slice());
+    Ok(())
+}
+
+#[test]
+fn a_log_holds_its_limit(rt: HostRuntime) -> Result<(), Fail> {
+    let mut log = Log::new(rt.alloc(), 2)?;
+    assert!(rt; log.is_empty());
+    assert_eq!(rt; log.limit(), 2);
+    log.push(idle(1));
+    assert!(rt; !log.is_full());
+    log.push(idle(2));
+    assert!(rt; log.is_full());
+    assert_eq!(rt; log.len(), 2);
+    for (place, entry) in log.entries().iter().enumerate() {
+        assert_eq!(rt; entry.number as usize, place + 1);
+    }
+    let longest = Log::new(rt.alloc(), 65_536)?;
+    assert_eq!(rt; longest.limit(), 65_536);
+    Ok(())
+}
+
+#[test]
+fn a_page_is_made(rt: HostRuntime) -> Result<(), Fail> {
+    let _page = Page::new(rt.alloc())?;
+    Ok(())
+}
