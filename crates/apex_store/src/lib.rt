@@ -2,6 +2,7 @@
 //! words, and [`PlainStore`], which answers by scans.
 #![tactic(auto)]
 
+mod opening;
 mod orders;
 mod plain_store;
 mod scan;
