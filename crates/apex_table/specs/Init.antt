@@ -1,5 +1,5 @@
 -- The init list of a table that gives none.
-use Rattle.std.specs.Prelude.{ℕ, ◌+◌, Bool, if◌then◌else◌, List, [], ◌∷◌, ◌++◌}
+use Rattle.std.specs.Prelude.{ℕ, ◌+◌, if◌then◌else◌, List, [], ◌∷◌, ◌++◌}
 use Rattle.apex_types.specs.Table.{ProcessEntry, SemaphoreEntry}
 use Rattle.apex_types.specs.declared.calls.Call.{Call}
 use Rattle.apex_types.specs.declared.calls.Call.TheVariants.{Partition, Process, Semaphore}

@@ -1,5 +1,5 @@
 -- How a key of TOML's tree is read, and the faults where it is absent, of another type or out of range.
-use Rattle.std.specs.Prelude.{codes, ℕ, ℤ, pos, negsuc, Bool, true, false, ◌&&◌, if◌then◌else◌, nat_le, List, [], ◌∷◌, length, Option, Some, None, Result, Ok, Err}
+use Rattle.std.specs.Prelude.{codes, ℕ, ℤ, pos, negsuc, Bool, true, ◌&&◌, if◌then◌else◌, nat_le, List, [], ◌∷◌, length, Option, Some, None, Result, Ok, Err}
 use Rattle.std.specs.List.{list_any}
 use Rattle.std.specs.Str.{bytes_eq}
 use Rattle.toml.specs.Data.{Data, Items, no_items, item, Members, no_members, member, get_member, as_str, as_integer, as_bool, as_array, as_table}
@@ -7,7 +7,7 @@ use Rattle.apex_types.specs.Name.{is_name}
 use Rattle.apex_table.specs.declared.fault.Place.{Place}
 use Rattle.apex_table.specs.declared.fault.TableFault.{TableFault}
 use Rattle.apex_table.specs.declared.fault.TableFault.TheVariants.{MissingKey, WrongType, OutOfRange, BadName, DoubleName, UnknownKey, TooMany}
-use Rattle.apex_table.specs.Outcome.{◌>>=◌, some_or, each}
+use Rattle.apex_table.specs.Outcome.{◌>>=◌, some_or}
 
 -- TOML's items as a list
 abbrev pub list_of : Items → List Data

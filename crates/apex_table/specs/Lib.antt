@@ -5,3 +5,4 @@ pub mod Seen
 pub mod Steps
 pub mod Init
 pub mod Reading
+pub mod Drafts

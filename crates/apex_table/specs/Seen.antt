@@ -1,5 +1,4 @@
 -- What the reader's own types stand for in the definitions.
-use Rattle.std.specs.Prelude.{ℕ, List}
 use Rattle.apex_table.specs.declared.steps.WrittenProcess.{WrittenProcess}
 use Rattle.apex_table.specs.declared.steps.WrittenProcess.TheVariants.{Start, StopSelf}
 use Rattle.apex_table.specs.declared.steps.WrittenSemaphore.{WrittenSemaphore}

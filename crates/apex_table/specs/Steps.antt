@@ -1,5 +1,5 @@
 -- What a step's text means: first the form of the whole step, then its words from left to right.
-use Rattle.std.specs.Prelude.{codes, ℕ, ◌==◌, Bool, true, false, if◌then◌else◌, List, [], ◌∷◌, Option, Some, None, Result, Ok, Err, option_map}
+use Rattle.std.specs.Prelude.{codes, ℕ, ◌==◌, Bool, true, false, if◌then◌else◌, List, [], ◌∷◌, Option, Some, None, Result, Ok, option_map}
 use Rattle.std.specs.List.{list_any, slice_split, position_from}
 use Rattle.std.specs.Str.{bytes_eq}
 use Rattle.apex_types.specs.declared.calls.Call.{Call}

@@ -3,11 +3,14 @@
 
 mod entries;
 mod fault;
+mod init;
 mod keys;
 mod named;
+mod reading;
 mod steps;
 mod table;
 
 pub use entries::{Process, Semaphore};
 pub use fault::{Place, Section, TableFault};
+pub use reading::read_table;
 pub use table::Table;

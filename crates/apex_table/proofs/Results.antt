@@ -1,0 +1,68 @@
+-- What holds of the value of a reading that gives one.
+use Rattle.std.proofs.Common.{◌≡◌, ◌+◌, Bool, true, false, List, [], ◌∷◌, ◌++◌, length, map, Result, Ok, Err, IfOk, refl, ap, ◌∙◌, if◌then◌else◌, arith, length-append}
+use Rattle.std.specs.List.{AllByRecursion}
+use Rattle.std.proofs.lemmas.Result.{IfOk-at_ok, IfOk-weaker}
+use Rattle.apex_table.specs.declared.fault.TableFault.{TableFault}
+use Rattle.apex_table.specs.Outcome.{◌>>=◌, each}
+
+-- after a reading that gave x
+pub ok_then : {A B : Type 0} (r : Result A TableFault) (f : A → Result B TableFault) (P : B → Type 0) → ((x : A) → r ≡ Ok x → IfOk (f x) P) → IfOk (r >>= f) P
+ok_then (Ok x) f P h = h x refl
+ok_then (Err e) f P h = tt
+
+pub ok_if : {A : Type 0} (b : Bool) (fault : TableFault) (x : A) (P : A → Type 0) → (b ≡ true → P x) → IfOk (if b then Ok x else Err fault) P
+ok_if true fault x P h = h refl
+ok_if false fault x P h = tt
+
+pub ok_unless : {A : Type 0} (b : Bool) (fault : TableFault) (x : A) (P : A → Type 0) → (b ≡ false → P x) → IfOk (if b then Err fault else Ok x) P
+ok_unless true fault x P h = tt
+ok_unless false fault x P h = h refl
+
+-- what each reading keeps holds of all that was read
+pub each_keeps : {A B : Type 0} (read : List A → B → Result A TableFault) (P : List A → Type 0) → ((done : List A) (y : B) → P done → IfOk (read done y) (λ x. P (done ++ x ∷ []))) → (done : List A) (ys : List B) → P done → IfOk (each read done ys) P
+each_keeps read P keeps done [] h = h
+each_keeps read P keeps done (y ∷ ys) h =
+    ok_then (read done y) _ P (λ x e. each_keeps read P keeps (done ++ x ∷ []) ys (IfOk-at_ok (λ x. P (done ++ x ∷ [])) e (keeps done y h)))
+
+pub each_length : {A B : Type 0} (read : List A → B → Result A TableFault) (done : List A) (ys : List B) → IfOk (each read done ys) (λ xs. length xs ≡ length done + length ys)
+each_length read done [] = omega arith
+each_length read done (y ∷ ys) =
+    ok_then (read done y) _ (λ xs. length xs ≡ length done + length (y ∷ ys)) (λ x e.
+    IfOk-weaker (each read (done ++ x ∷ []) ys) _ _ (λ xs h. omega (arith, length-append done (x ∷ []))) (each_length read (done ++ x ∷ []) ys))
+
+pub all_push : {A : Type 0} (P : A → Type 0) (xs : List A) (x : A) → AllByRecursion P xs → P x → AllByRecursion P (xs ++ x ∷ [])
+all_push P [] x all here = (here, tt)
+all_push P (y ∷ ys) x all here = (all.0, all_push P ys x all.1 here)
+
+pub all_append : {A : Type 0} (P : A → Type 0) (xs ys : List A) → AllByRecursion P xs → AllByRecursion P ys → AllByRecursion P (xs ++ ys)
+all_append P [] ys left right = right
+all_append P (x ∷ xs) ys left right = (left.0, all_append P xs ys left.1 right)
+
+-- a fact of each element that is read of an element of which Q holds
+pub each_all : {A B : Type 0} (read : List A → B → Result A TableFault) (P : A → Type 0) (Q : B → Type 0) → ((done : List A) (y : B) → Q y → IfOk (read done y) P) → (done : List A) (ys : List B) → AllByRecursion P done → AllByRecursion Q ys → IfOk (each read done ys) (AllByRecursion P)
+each_all read P Q gives done [] all sound = all
+each_all read P Q gives done (y ∷ ys) all sound =
+    ok_then (read done y) _ (AllByRecursion P) (λ x e.
+    each_all read P Q gives (done ++ x ∷ []) ys (all_push P done x all (IfOk-at_ok P e (gives done y sound.0))) sound.1)
+
+map_push : {A B : Type 0} (f : A → B) (xs : List A) (x : A) → map f (xs ++ x ∷ []) ≡ map f xs ++ f x ∷ []
+map_push f [] x = refl
+map_push f (y ∷ ys) x = ap (λ zs. f y ∷ zs) (map_push f ys x)
+
+push_append : {A : Type 0} (xs : List A) (x : A) (ys : List A) → (xs ++ x ∷ []) ++ ys ≡ xs ++ x ∷ ys
+push_append [] x ys = refl
+push_append (z ∷ zs) x ys = ap (λ l. z ∷ l) (push_append zs x ys)
+
+append_none : {A : Type 0} (xs : List A) → xs ≡ xs ++ []
+append_none [] = refl
+append_none (x ∷ xs) = ap (λ l. x ∷ l) (append_none xs)
+
+-- a part of each element that its reading leaves as it was
+pub each_map : {A B C : Type 0} (read : List A → B → Result A TableFault) (f : A → C) (g : B → C) → ((done : List A) (y : B) → IfOk (read done y) (λ x. f x ≡ g y)) → (done : List A) (ys : List B) → IfOk (each read done ys) (λ xs. map f xs ≡ map f done ++ map g ys)
+each_map read f g same done [] = append_none (map f done)
+each_map read f g same done (y ∷ ys) =
+    ok_then (read done y) _ (λ xs. map f xs ≡ map f done ++ map g (y ∷ ys)) (λ x e.
+    IfOk-weaker (each read (done ++ x ∷ []) ys) _ _ (λ xs h.
+    h ∙ ap (λ l. l ++ map g ys) (map_push f done x) ∙ push_append (map f done) (f x) (map g ys)
+    ∙ ap (λ z. map f done ++ z ∷ map g ys) (IfOk-at_ok (λ x. f x ≡ g y) e (same done y)))
+    (each_map read f g same (done ++ x ∷ []) ys))
