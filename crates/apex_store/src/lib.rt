@@ -2,10 +2,16 @@
 //! words, and [`PlainStore`], which answers by scans.
 #![tactic(auto)]
 
+mod laws;
+mod opening;
 mod orders;
 mod plain_store;
 mod scan;
 mod store;
 
+pub use laws::{
+    chosen_is_first, first_waiter_is_longest, most_urgent_runs, next_waiter_is_next, one_process_runs,
+    waits_in_one_queue,
+};
 pub use plain_store::PlainStore;
 pub use store::Store;

@@ -1,12 +1,15 @@
-ghost use Rattle.std.specs.Prelude.{◌≡◌, ◌<◌, length};
-ghost use Rattle.apex_types.specs.Roster.{with_record};
+ghost use Rattle.std.specs.Prelude.{◌≡◌, ◌<◌, length, IfOk};
+ghost use Rattle.apex_types.specs.Roster.{opening_roster, with_record};
 ghost use Rattle.apex_types.specs.Running.{is_process};
 ghost use Rattle.apex_types.specs.Stamps as stamps;
 
+use crate::opening::opening_records;
 use crate::orders::{is_eligible, is_normal, waits_in};
 use crate::scan::{Behind, Runnable, Waiting, first_of};
 use crate::store::Store;
+use apex_table::Table;
 use apex_types::{CoreId, Mode, ProcessId, Record, State, Wait};
+use std::alloc::{AllocError, Global};
 use std::marker::Model;
 
 /// A store that keeps one list of records, and answers each question by a scan of it.
@@ -41,6 +44,21 @@ fn is_process(process: ProcessId, other: Option<ProcessId>) -> bool
 }
 
 impl PlainStore {
+    /// The processes of the table before any event, in COLD_START. Fails only for want of memory.
+    pub fn new(alloc: Global, table: &Table) -> Result<PlainStore, AllocError>
+        ensures { IfOk result (λ store. store ≡ opening_roster table.now) }
+    {
+        let records = opening_records(alloc, table)?;
+        let next_young = records.len() as i64 + 1;
+        Ok(PlainStore {
+            mode: Mode::ColdStart,
+            time: 0,
+            records,
+            next_young,
+            next_old: 0,
+        })
+    }
+
     /// The process has this record from now on.
     fn put(&mut self, process: ProcessId, row: Record)
         requires { process < length self.old.records }

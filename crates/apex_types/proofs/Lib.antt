@@ -2,3 +2,5 @@ pub mod Places
 pub mod Rosters
 pub mod Releases
 pub mod Choice
+pub mod Places
+pub mod Orders

@@ -1,9 +1,10 @@
 -- Lists whose elements know their places.
-use Rattle.std.proofs.Common.{◌≡◌, ◌≢◌, ℕ, zero, suc, ◌+◌, ◌<◌, List, [], ◌∷◌, length, drop, set, get_or, refl, ap, sym, ◌∙◌, arith, add-one, inl, inr}
+use Rattle.std.proofs.Common.{◌≡◌, ◌≢◌, ℕ, zero, suc, ◌+◌, ◌<◌, List, [], ◌∷◌, length, drop, set, get_or, refl, ap, sym, ◌∙◌, arith, add-one, add-zero, add-suc, inl, inr, ◌++◌, take, slice_get, Some}
 use Rattle.std.proofs.Math.Seq.{drop-cons}
 use Rattle.std.proofs.lemmas.List.{ext_get_or, length-set, get_or-set_other}
 use Rattle.std.proofs.lemmas.Grind.{get_or-set_at}
 use Rattle.std.proofs.lemmas.Bool.{cases_eq}
+use Rattle.std.proofs.lemmas.Option.{same_Some}
 use Rattle.apex_types.specs.Places.{map_places}
 
 pub length-map_places : {A B : Type 0} (f : ℕ → A → B) (p : ℕ) (xs : List A) → length (map_places f p xs) ≡ length xs
@@ -50,3 +51,15 @@ set-map_places f g xs i y d e here is_y agree = ext_get_or e _ _
           let old : get_or (map_places f 0 xs) k e ≡ f k (get_or xs k d) = rw (get_or-map_places f 0 xs k d e within, z) refl in
           get_or-set_other (map_places f 0 xs) i k y e differs ∙ old ∙ agree k within differs ∙ sym new
     ])
+
+module _ {A B : Type 0} (f : ℕ → A → B) where
+  -- one element more, where the first one is at place q
+  places_more : (q p : ℕ) (xs : List A) (x : A) → slice_get xs p ≡ Some x → map_places f q (take (suc p) xs) ≡ map_places f q (take p xs) ++ f (q + p) x ∷ []
+  places_more q p [] x here = cc
+  places_more q zero (y ∷ xs) x here = rw (add-zero q, same_Some y x here)
+  places_more q (suc p) (y ∷ xs) x here =
+      let e : q + 1 + p ≡ q + suc p = omega arith in rw (places_more (q + 1) p xs x here, e)
+
+  pub map_places_more : (p : ℕ) (xs : List A) (x : A) → slice_get xs p ≡ Some x → map_places f 0 (take (p + 1) xs) ≡ map_places f 0 (take p xs) ++ f p x ∷ []
+  map_places_more p xs x here =
+      let e : p + 1 ≡ suc p = omega arith in let z : 0 + p ≡ p = omega arith in rw (e, places_more 0 p xs x here, z)

@@ -1,0 +1,3 @@
+pub mod TheLeast
+pub mod Queues
+pub mod Urgency

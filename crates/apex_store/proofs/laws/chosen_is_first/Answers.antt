@@ -1,0 +1,6 @@
+use Rattle.apex_types.proofs.Orders.{before_strict}
+use Rattle.apex_store.proofs.TheLeast.{the_least, before_on}
+use Rattle.apex_store.proofs.laws.chosen_is_first.Goals as goal
+
+pub returns : goal.returns
+returns g c = the_least _ _ before_strict _ (before_on (g.S.Store.roster c.args.store.now) c.requires)

@@ -1,0 +1,64 @@
+-- What the choices of a store mean, in the standard's own words.
+use Rattle.std.specs.Prelude.{◌≡◌, ◌≢◌, ℕ, ◌<◌, ◌<ℤ◌, ◌⊎◌, Bool, true, false, List, length, Option, None, Some, slice_get}
+use Rattle.apex_types.specs.declared.records.Record.{Record}
+use Rattle.apex_types.specs.declared.records.State.TheVariants.{Running}
+use Rattle.apex_types.specs.declared.records.Wait.{Wait}
+use Rattle.apex_types.specs.Roster.{Roster, record_at}
+use Rattle.apex_types.specs.Choice.{IsLeast}
+use Rattle.apex_types.specs.Running.{chosen, current_priority, is_before, is_eligible, is_older, process_state, runs_on}
+use Rattle.apex_types.specs.Waiters.{first_waiter, next_waiter, waits_behind, waits_in}
+
+-- no two processes have the same stamp
+pub record HasDistinctStamps (roster : Roster) : Type 0 where
+  pub distinct : (p q : ℕ) (r s : Record) → slice_get roster.records p ≡ Some r → slice_get roster.records q ≡ Some s → r.since ≡ s.since → p ≡ q
+
+-- who is found passes and is before every other that does; no second one is; and none is found only
+-- where none passes
+pub record IsTheLeast (passes : Record → Bool) (before : Record → Record → Bool) (rs : List Record) (found : Option ℕ) : Type 0 where
+  pub least : (p : ℕ) → found ≡ Some p → (r : Record) × IsLeast passes before rs p r
+  pub only : (p : ℕ) (r : Record) → IsLeast passes before rs p r → found ≡ Some p
+  pub none : found ≡ None → (p : ℕ) (r : Record) → slice_get rs p ≡ Some r → passes r ≡ false
+
+-- the chosen process of a core is eligible, bound to the core, and before every other such process
+abbrev pub ChosenIsFirst : Roster → ℕ → Type 0
+ChosenIsFirst roster core =
+    IsTheLeast (runs_on roster.mode core) is_before roster.records (chosen roster core)
+
+-- the first waiter is in the queue, for longer than every other one there
+abbrev pub FirstWaiterIsLongest : Roster → Wait → Type 0
+FirstWaiterIsLongest roster queue =
+    IsTheLeast (waits_in queue) is_older roster.records (first_waiter roster queue)
+
+-- the next waiter is behind process p in the queue, and in front of every other one who is
+abbrev pub NextWaiterIsNext : Roster → Wait → ℕ → Type 0
+NextWaiterIsNext roster queue p =
+    IsTheLeast (waits_behind queue (record_at roster p)) is_older roster.records (next_waiter roster queue p)
+
+-- process p is eligible and bound to the core
+pub record MayRun (roster : Roster) (core p : ℕ) : Type 0 where
+  pub known : p < length roster.records
+  pub eligible : is_eligible roster.mode (record_at roster p) ≡ true
+  pub bound : (record_at roster p).core ≡ core
+
+-- r has the greater current priority, or an equal one and has been ready for longer
+abbrev pub IsMoreUrgent : Record → Record → Type 0
+IsMoreUrgent r s =
+    (current_priority s < current_priority r) ⊎ ((current_priority r ≡ current_priority s) × (r.since <ℤ s.since))
+
+-- each core's running process is the highest-priority, longest-ready one bound to it
+pub record RunsMostUrgent (roster : Roster) (core : ℕ) : Type 0 where
+  pub running : (p : ℕ) → chosen roster core ≡ Some p → MayRun roster core p
+  pub first : (p q : ℕ) → chosen roster core ≡ Some p → MayRun roster core q → q ≢ p → IsMoreUrgent (record_at roster p) (record_at roster q)
+  pub idle : chosen roster core ≡ None → (p : ℕ) → ¬ (MayRun roster core p)
+
+-- a process that waits is in the queue that it waits for, and in no other
+pub record WaitsInOneQueue (r : Record) : Type 0 where
+  pub own : (w : Wait) → r.wait ≡ Some w → waits_in w r ≡ true
+  pub only : (v w : Wait) → waits_in v r ≡ true → waits_in w r ≡ true → v ≡ w
+
+-- a core runs one process at the most
+abbrev pub RunsOneProcess : Roster → Type 0
+RunsOneProcess roster =
+    (p q : ℕ) →
+    process_state roster p ≡ Running →
+    process_state roster q ≡ Running → (record_at roster p).core ≡ (record_at roster q).core → p ≡ q

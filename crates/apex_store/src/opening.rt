@@ -1,0 +1,42 @@
+ghost use Rattle.std.specs.Prelude.{◌≡◌, ◌+◌, ◌<◌, ◌≤◌, [], ◌∷◌, ◌++◌, length, vec_capacity, vec_len, IfOk};
+ghost use Rattle.apex_types.specs.Places.{map_places};
+ghost use Rattle.apex_types.specs.Roster.{opening_record};
+
+use apex_table::{Process, Table};
+use apex_types::{CoreId, ProcessId, Record};
+use std::alloc::{AllocError, Global};
+
+/// Adds the record of a process before any event: dormant on core 0, and as old as its place says.
+fn push_opening(records: &mut Vec<Record>, place: usize, process: &Process)
+    requires few { place < 64 }
+    requires room { vec_len records.old < vec_capacity records.old }
+    ensures records { records.new.items ≡ records.old.items ++ opening_record place process.now ∷ [] }
+    ensures many { vec_len records.new ≡ vec_len records.old + 1 }
+    ensures room { vec_capacity records.new ≡ vec_capacity records.old }
+{
+    let priority = process.priority();
+    records.push_reserved(Record {
+        core: CoreId::new(0),
+        priority,
+        base: priority,
+        started: false,
+        wait: None,
+        since: place as i64 + 1,
+        step: 0,
+    });
+}
+
+/// The records before any event.
+pub fn opening_records(alloc: Global, table: &Table) -> Result<Vec<Record>, AllocError>
+    ensures records { IfOk result (λ records. records.items ≡ map_places opening_record 0 table.now.processes) }
+    ensures many { IfOk result (λ records. vec_len records ≡ length table.now.processes) }
+    ensures few { IfOk result (λ records. vec_len records ≤ 64) }
+{
+    let count = table.process_count();
+    let mut records = Vec::with_capacity(alloc, count)?;
+    for place in 0..count {
+        let process = table.process(ProcessId::at(place as u8));
+        push_opening(&mut records, place, process);
+    }
+    Ok(records)
+}

@@ -1,0 +1,26 @@
+-- The two orders of records are strict, and total where no two stamps are the same.
+use Rattle.std.proofs.Common.{◌≡◌, ◌≢◌, ℕ, Bool, true, false, List, slice_get, Some, arith}
+use Rattle.std.specs.Prelude.{ℤ, int_lt}
+use Rattle.std.proofs.lemmas.Bool.Decides.{nat_tests}
+use Rattle.std.proofs.lemmas.Int.{ints}
+use Rattle.apex_types.specs.declared.records.Record.{Record}
+use Rattle.apex_types.specs.Running.{is_before, is_older}
+use Rattle.apex_types.proofs.Choice.{IsStrict, IsTotalOn}
+
+pub older_strict : IsStrict is_older
+older_strict = record {
+  asymmetric = λ r s e. grind (arith, ints);
+  transitive = λ r s t e f. grind (arith, ints);
+}
+
+pub before_strict : IsStrict is_before
+before_strict = record {
+  asymmetric = λ r s e. grind (arith, ints, nat_tests);
+  transitive = λ r s t e f. grind (arith, ints, nat_tests);
+}
+
+pub older_total : (r s : Record) → r.since ≢ s.since → is_older r s ≡ false → is_older s r ≡ true
+older_total r s apart e = grind (arith, ints)
+
+pub before_total : (r s : Record) → r.since ≢ s.since → is_before r s ≡ false → is_before s r ≡ true
+before_total r s apart e = grind (arith, ints, nat_tests)
