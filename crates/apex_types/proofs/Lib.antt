@@ -2,5 +2,4 @@ pub mod Places
 pub mod Rosters
 pub mod Releases
 pub mod Choice
-pub mod Places
 pub mod Orders
