@@ -1,3 +1,10 @@
 pub mod Sizes
 pub mod Known
+pub mod Waits
+pub mod Values
+pub mod Effects
+pub mod SemaphoreTold
+pub mod OtherTold
+pub mod Exact
+pub mod Turns
 pub mod Kept

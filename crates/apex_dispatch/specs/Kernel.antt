@@ -1,8 +1,10 @@
 -- What every contract sees of a kernel, and what each kernel keeps.
-use Rattle.std.specs.Prelude.{◌≡◌, ℕ, ◌+◌, ◌*◌, length, pos, ◌≤ℤ◌}
+use Rattle.std.specs.Prelude.{◌≡◌, ℕ, ◌+◌, ◌*◌, List, length, pos, ◌≤ℤ◌}
+use Rattle.apex_types.specs.declared.Event.{Event}
 use Rattle.apex_types.specs.Table.{Table, IsLawful}
-use Rattle.apex_types.specs.History.{Objects, init_count}
-use Rattle.apex_types.specs.Machine.{Machine, Deed, turn_deed, due_init_call, after_deed}
+use Rattle.apex_types.specs.History.{Objects, objects_after, init_count}
+use Rattle.apex_types.specs.Machine.{Machine}
+use Rattle.apex_dispatch.specs.OpenWaits.{AreEnough, AreOpen}
 
 -- a kernel: its table, the machine's state, and the running values of its objects
 pub record Running : Type 0 where
@@ -10,30 +12,22 @@ pub record Running : Type 0 where
   pub machine : Machine
   pub objects : Objects
 
--- the kernel after a deed of the core
-abbrev pub with_deed : Running → ℕ → Deed → Running
-with_deed running core deed = record running {
-  machine = after_deed running.machine core deed;
-  objects = deed.outcome.objects;
+-- the kernel in this state: its running values are those that the history gives
+abbrev pub running : Table → Machine → Running
+running table machine = record {
+  table = table;
+  machine = machine;
+  objects = objects_after table machine.history;
 }
 
--- what a turn of the core does, by the running values
-abbrev pub running_deed : Running → ℕ → Deed
-running_deed running core =
-    turn_deed running.table running.machine.roster running.objects core
-    (due_init_call running.table running.machine core)
-
--- the kernel after a turn of the core
-abbrev pub turned : Running → ℕ → Running
-turned running core = with_deed running core (running_deed running core)
-
--- what each kernel keeps: sizes are the table's, and stamps are left for all that the history's
--- limit still admits
-pub record IsKept (running : Running) (init_made room : ℕ) : Type 0 where
-  pub lawful : IsLawful running.table
-  pub limit : room ≡ running.table.limit
-  pub init : init_made ≡ init_count running.machine.history
-  pub records : length running.machine.roster.records ≡ length running.table.processes
-  pub processes : length running.objects.processes ≡ length running.table.processes
-  pub semaphores : length running.objects.semaphores ≡ length running.table.semaphores
-  pub stamps : running.machine.roster.young ≤ℤ pos (64 + 64 * length running.machine.history)
+-- what each kernel keeps: the running values are the history's, and stamps are left for all that the
+-- history's limit still admits
+pub record IsKept (kernel : Running) (init_made room : ℕ) : Type 0 where
+  pub lawful : IsLawful kernel.table
+  pub limit : room ≡ kernel.table.limit
+  pub init : init_made ≡ init_count kernel.machine.history
+  pub records : length kernel.machine.roster.records ≡ length kernel.table.processes
+  pub objects : kernel.objects ≡ objects_after kernel.table kernel.machine.history
+  pub stamps : kernel.machine.roster.young ≤ℤ pos (64 + 64 * length kernel.machine.history)
+  pub enough : AreEnough kernel.table kernel.machine.history
+  pub waiting : AreOpen kernel.machine.roster kernel.machine.history

@@ -1,8 +1,7 @@
 ghost use Rattle.std.specs.Prelude.{◌≡◌, ◌<◌, ◌≤◌, ◌↔◌, ◌+◌, [], ◌∷◌, ◌++◌, length, slice_get, ◌&&◌, ◌==◌, if◌then◌else◌, None, is_some, IfOk, IfErr, OnOk, OnErr, IsOk};
 ghost use Rattle.apex_types.specs.Roster.{opening_roster, is_cold_start};
-ghost use Rattle.apex_types.specs.History.{objects_after};
-ghost use Rattle.apex_types.specs.Machine.{opening, happen};
-ghost use Rattle.apex_dispatch.specs.Kernel.{Running, turned};
+ghost use Rattle.apex_types.specs.Machine.{opening, turn};
+ghost use Rattle.apex_dispatch.specs.Kernel.{running};
 
 use crate::deeds::carry_out;
 use crate::objects::Objects;
@@ -57,7 +56,7 @@ impl<S: Store> Kernel<S> {
     /// only for want of memory.
     pub fn boot(alloc: Global, table: Table, store: S) -> Result<Kernel<S>, AllocError>
         requires { S.roster store ≡ opening_roster table }
-        ensures { IfOk result (λ kernel. kernel ≡ record { table = table; machine = opening table; objects = objects_after table [] }) }
+        ensures { IfOk result (λ kernel. kernel ≡ running table (opening table)) }
     {
         table.lawful();
         let objects = Objects::new(alloc, &table)?;
@@ -75,7 +74,7 @@ impl<S: Store> Kernel<S> {
     pub fn turn(&mut self, core: CoreId) -> Result<(), Full>
         requires { core < self.old.table.cores }
         ensures accepted { IsOk result ↔ (length self.old.machine.history < self.old.table.limit) }
-        ensures done { OnOk result (self.new ≡ turned self.old core) }
+        ensures done { OnOk result (self.new ≡ running self.old.table (turn self.old.table self.old.machine core)) }
         ensures refused { OnErr result (self.new ≡ self.old) }
         ensures full { IfErr result (λ e. (e.entries ≡ length self.old.machine.history) × (e.entries ≡ self.old.table.limit)) }
     {

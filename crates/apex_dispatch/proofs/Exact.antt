@@ -1,0 +1,229 @@
+-- The objects that a service leaves are those that the history then gives.
+use Rattle.std.proofs.Common.{◌≡◌, ◌≢◌, ℕ, ◌+◌, ◌≤◌, ◌<◌, Bool, true, false, cond, ◌&&◌, ◌||◌, not, ◌==◌, List, [], ◌∷◌, ◌++◌, length, Option, None, Some, nat_lt, if◌then◌else◌, refl, sym, ◌∙◌, ap, arith, set, get_or, inl, inr}
+use Rattle.std.proofs.lemmas.Bool.{cond_both, eq-eqb, cases_eq, cases_Bool, both_ways}
+use Rattle.apex_types.specs.declared.Call.{Call}
+use Rattle.apex_types.specs.declared.Call.TheVariants.{Partition, Process as ToProcess, Semaphore as ToSemaphore}
+use Rattle.apex_types.specs.declared.ProcessCall.{ProcessCall}
+use Rattle.apex_types.specs.declared.ProcessCall.TheVariants.{CreateProcess, InitializeProcessCoreAffinity, Start, StopSelf}
+use Rattle.apex_types.specs.declared.SemaphoreCall.{SemaphoreCall}
+use Rattle.apex_types.specs.declared.SemaphoreCall.TheVariants.{CreateSemaphore, WaitSemaphore, SignalSemaphore}
+use Rattle.apex_types.specs.declared.Caller.{Caller}
+use Rattle.apex_types.specs.declared.Caller.TheVariants.{Process, Init, Nobody}
+use Rattle.apex_types.specs.declared.Entry.{Entry}
+use Rattle.apex_types.specs.declared.Notice.{Notice}
+use Rattle.apex_types.specs.declared.Reply.{Reply}
+use Rattle.apex_types.specs.declared.Reply.TheVariants.{Code}
+use Rattle.apex_types.specs.declared.ReturnCode.{ReturnCode}
+use Rattle.apex_types.specs.declared.ReturnCode.TheVariants.{NoError, NoAction, InvalidParam, InvalidConfig, InvalidMode}
+use Rattle.apex_types.specs.declared.Wait.TheVariants.{Semaphore}
+use Rattle.apex_types.specs.declared.Who.{Who}
+use Rattle.apex_types.specs.Places.{map_places}
+use Rattle.apex_types.specs.Roster.{Roster, record_at, is_normal}
+use Rattle.apex_types.specs.Table.{Table, ProcessEntry, SemaphoreEntry, no_process, no_semaphore, semaphore_entry, IsKnown, IsKnownToProcesses, IsKnownToSemaphores}
+use Rattle.apex_types.specs.History.{is_no_error, is_accepted, is_by_process, is_wait_on, creates_process, creates_semaphore, is_process_created, is_accepted_signal, process_after, semaphore_after, satisfied_waits, objects_after, Objects, SemaphoreObject}
+use Rattle.apex_types.specs.SemaphoreServices.{SemaphoreOutcome, semaphore_service, semaphore_of}
+use Rattle.apex_types.specs.ProcessServices.{ProcessOutcome, process_service, refused_process, create_process, initialize_core_affinity, start_process, stop_self, is_created}
+use Rattle.apex_types.specs.PartitionServices.{partition_service}
+use Rattle.apex_types.specs.Machine.{Outcome, service, after_semaphore, semaphore_at, no_object}
+use Rattle.apex_types.proofs.Places.{map_places_same, set-map_places, get_or-map_places}
+use Rattle.apex_dispatch.proofs.Waits.{newly-none, open-push, other}
+use Rattle.apex_dispatch.specs.OpenWaits.{wakes, has_open, signals, AreEnough, AreOpen}
+use Rattle.apex_dispatch.proofs.Values.{IsQuiet, IsAfter, quiet_same, after_quiet, process_created-push}
+use Rattle.apex_dispatch.proofs.Effects.{AreQuiet, WaitsKept, IsIdle, kept_freed}
+use Rattle.apex_dispatch.proofs.SemaphoreTold.{told_service}
+use Rattle.apex_dispatch.proofs.OtherTold.{partition_spares, process_spares}
+
+or_false : (b : Bool) → (b || false) ≡ b
+or_false true = refl
+or_false false = refl
+
+or_true : (b : Bool) → (b || true) ≡ true
+or_true true = refl
+or_true false = refl
+
+and_false : (b : Bool) → (b && false) ≡ false
+and_false true = refl
+and_false false = refl
+
+-- an entry that creates no process leaves which ones are created
+flags_same : (entries : List ProcessEntry) (history : List Entry) (e : Entry) → ((p : ℕ) → creates_process p e ≡ false)
+    → map_places (process_after (history ++ e ∷ [])) 0 entries ≡ map_places (process_after history) 0 entries
+flags_same entries history e none =
+    map_places_same (process_after (history ++ e ∷ [])) (process_after history) entries no_process false
+    (λ k h. process_created-push k history e ∙ rw (none k) (or_false (is_process_created k history)))
+
+-- an entry that creates process p alone
+flags_set : (entries : List ProcessEntry) (history : List Entry) (e : Entry) (p : ℕ) → p < length entries
+    → ((q : ℕ) → creates_process q e ≡ (q == p))
+    → map_places (process_after (history ++ e ∷ [])) 0 entries ≡ set (map_places (process_after history) 0 entries) p true
+flags_set entries history e p within one =
+    sym (set-map_places (process_after history) (process_after (history ++ e ∷ [])) entries p true no_process false within
+    (sym (process_created-push p history e ∙ rw (one p, eq-eqb p p refl) (or_true (is_process_created p history))))
+    (λ k h differs. sym (process_created-push k history e ∙ rw (one k, other k p differs) (or_false (is_process_created k history)))))
+
+-- an entry that says nothing of any semaphore leaves them all
+semaphores_same : (entries : List SemaphoreEntry) (history : List Entry) (e : Entry) → ((s : ℕ) → IsQuiet s history e)
+    → map_places (semaphore_after (history ++ e ∷ [])) 0 entries ≡ map_places (semaphore_after history) 0 entries
+semaphores_same entries history e quiet =
+    map_places_same (semaphore_after (history ++ e ∷ [])) (semaphore_after history) entries no_semaphore no_object
+    (λ k h. quiet_same k (get_or entries k no_semaphore) history e (quiet k))
+
+objects_by : (a b : List Bool) (x y : List SemaphoreObject) → a ≡ b → x ≡ y
+    → let o : Objects = record { processes = a; semaphores = x } in let n : Objects = record { processes = b; semaphores = y } in o ≡ n
+objects_by a b x y e f = rw (e, f) refl
+
+module _ (number now : ℕ) (who : Who) (caller : Caller) (history : List Entry) where
+  abbrev pub entry_with : Call → Reply → List Notice → Entry
+  entry_with call reply notices = record {
+    number = number;
+    now = now;
+    who = who;
+    process = caller;
+    call = Some call;
+    reply = reply;
+    notices = notices;
+  }
+
+  -- a call of process management tells which processes are created afterwards
+  module _ (entries : List ProcessEntry) (cores : ℕ) (roster : Roster) where
+    abbrev flags : List Bool
+    flags = map_places (process_after history) 0 entries
+
+    record IsFlagged (call : ProcessCall) (o : ProcessOutcome) : Type 0 where
+      pub is : map_places (process_after (history ++ entry_with (ToProcess call) o.reply o.notices ∷ [])) 0 entries ≡ o.created
+
+    flagged_if : (call : ProcessCall) (b : Bool) (x y : ProcessOutcome) → IsFlagged call x → IsFlagged call y → IsFlagged call (cond b x y)
+    flagged_if call true x y p q = p
+    flagged_if call false x y p q = q
+
+    flagged_refused : (call : ProcessCall) (code : ReturnCode) → is_no_error code ≡ false → IsFlagged call (refused_process roster flags code)
+    flagged_refused call code refused = record {
+      is = flags_same entries history (entry_with (ToProcess call) (Code code) []) (λ p. rw refused (and_false _));
+    }
+
+    flagged_create : (p : ℕ) → p < length entries → IsFlagged (CreateProcess p) (create_process roster flags p)
+    flagged_create p within =
+        flagged_if (CreateProcess p) (is_normal roster.mode) _ _ (flagged_refused (CreateProcess p) InvalidMode refl)
+        (flagged_if (CreateProcess p) (is_created flags p) _ _ (flagged_refused (CreateProcess p) NoAction refl)
+        (record { is = flags_set entries history (entry_with (ToProcess (CreateProcess p)) (Code NoError) []) p within (λ q. and_true (q == p)) })) where
+          and_true : (b : Bool) → (b && true) ≡ b
+          and_true true = refl
+          and_true false = refl
+
+    flagged_affinity : (p core : ℕ) → IsFlagged (InitializeProcessCoreAffinity p core) (initialize_core_affinity cores roster flags p core)
+    flagged_affinity p core =
+        let call = InitializeProcessCoreAffinity p core in
+        flagged_if call (is_normal roster.mode) _ _ (flagged_refused call InvalidMode refl)
+        (flagged_if call (not (is_created flags p)) _ _ (flagged_refused call InvalidParam refl)
+        (flagged_if call (not (nat_lt core cores)) _ _ (flagged_refused call InvalidConfig refl)
+        (record { is = flags_same entries history _ (λ q. refl) })))
+
+    flagged_start : (p : ℕ) → IsFlagged (Start p) (start_process roster flags p)
+    flagged_start p =
+        flagged_if (Start p) (not (is_created flags p)) _ _ (flagged_refused (Start p) InvalidParam refl)
+        (flagged_if (Start p) ((record_at roster p).started) _ _ (flagged_refused (Start p) NoAction refl)
+        (record { is = flags_same entries history _ (λ q. refl) }))
+
+    flagged_stop : (by : Caller) → IsFlagged StopSelf (stop_self roster flags by)
+    flagged_stop (Process p) = record { is = flags_same entries history _ (λ q. refl) }
+    flagged_stop Init = flagged_refused StopSelf InvalidMode refl
+    flagged_stop Nobody = flagged_refused StopSelf InvalidMode refl
+
+    flagged_service : (call : ProcessCall) → IsKnownToProcesses (length entries) call
+        → IsFlagged call (process_service cores roster flags caller call)
+    flagged_service (CreateProcess p) known = flagged_create p known
+    flagged_service (InitializeProcessCoreAffinity p core) known = flagged_affinity p core
+    flagged_service (Start p) known = flagged_start p
+    flagged_service StopSelf known = flagged_stop caller
+
+-- an entry whose call is of no semaphore, and that wakes nobody
+quiet_everywhere : (history : List Entry) (e : Entry) → AreQuiet e.notices
+    → ((s : ℕ) → is_accepted_signal s e ≡ false) → ((s : ℕ) → is_wait_on s e.call ≡ false) → ((s : ℕ) → creates_semaphore s e ≡ false)
+    → (s : ℕ) → IsQuiet s history e
+quiet_everywhere history e quiet signal wait create s = record {
+  signal = signal s;
+  satisfied = rw (newly-none s history e quiet, wait s) refl;
+  create = create s;
+}
+
+enough_quiet : (table : Table) (history : List Entry) (e : Entry) → AreEnough table history → ((s : ℕ) → IsQuiet s history e)
+    → AreEnough table (history ++ e ∷ [])
+enough_quiet table history e enough quiet s within =
+    (after_quiet s (semaphore_entry table s) history e (enough s within) (quiet s)).enough
+
+module _ (number now : ℕ) (who : Who) (table : Table) (history : List Entry) (roster : Roster) (enough : AreEnough table history) (open_waits : AreOpen roster history) where
+  -- after a service the objects, and who waits, are as the history then says
+  pub record IsExact (caller : Caller) (call : Call) (o : Outcome) : Type 0 where
+    pub objects : objects_after table (history ++ entry_with number now who caller history call o.reply o.notices ∷ []) ≡ o.objects
+    pub waits : WaitsKept caller call roster o.roster o.reply o.notices
+    pub enough_after : AreEnough table (history ++ entry_with number now who caller history call o.reply o.notices ∷ [])
+
+  abbrev objects : Objects
+  objects = objects_after table history
+
+  exact_semaphore : (caller : Caller) (idle : IsIdle caller roster) (call : SemaphoreCall) → semaphore_of call < length table.semaphores
+      → IsExact caller (ToSemaphore call)
+      (after_semaphore objects (semaphore_of call)
+      (semaphore_service roster (semaphore_after history (semaphore_of call) (semaphore_entry table (semaphore_of call))) caller call))
+  exact_semaphore caller idle call within =
+      let s = semaphore_of call in
+      let entry = semaphore_entry table s in
+      let o = semaphore_service roster (semaphore_after history s entry) caller call in
+      let e = entry_with number now who caller history (ToSemaphore call) o.reply o.notices in
+      let told = told_service number now who history roster open_waits entry caller idle call (enough s within) in
+      record {
+        objects = objects_by _ _ _ _ (flags_same table.processes history e (λ p. refl))
+            (sym (set-map_places (semaphore_after history) (semaphore_after (history ++ e ∷ [])) table.semaphores s o.semaphore no_semaphore no_object within
+            (sym told.own.is)
+            (λ k h differs. sym (quiet_same k (get_or table.semaphores k no_semaphore) history e (told.others k differs)))));
+        waits = told.waits;
+        enough_after = λ t inside. elim (cases_eq t s) [
+          | inl same ↦ rw same told.own.enough
+          | inr differs ↦ (after_quiet t (semaphore_entry table t) history e (enough t inside) (told.others t differs)).enough
+        ];
+      }
+
+  pub exact_service : (caller : Caller) (idle : IsIdle caller roster) (call : Call) → IsKnown table call
+      → IsExact caller call (service table.cores roster objects caller call)
+  exact_service caller idle (Partition call) known =
+      let o = partition_service roster call in
+      let e = entry_with number now who caller history (Partition call) o.reply o.notices in
+      let spares = partition_spares roster call in
+      let quiet = quiet_everywhere history e spares.quiet (λ s. refl) (λ s. refl) (λ s. refl) in
+      record {
+        objects = objects_by _ _ _ _ (flags_same table.processes history e (λ p. refl)) (semaphores_same table.semaphores history e quiet);
+        waits = kept_freed caller (Partition call) roster o.roster idle o.reply o.notices spares.quiet spares.frees;
+        enough_after = enough_quiet table history e enough quiet;
+      }
+  exact_service caller idle (ToProcess call) known =
+      let o = process_service table.cores roster objects.processes caller call in
+      let e = entry_with number now who caller history (ToProcess call) o.reply o.notices in
+      let spares = process_spares table.cores roster objects.processes caller call in
+      let quiet = quiet_everywhere history e spares.quiet (λ s. refl) (λ s. refl) (λ s. refl) in
+      let flagged = flagged_service number now who caller history table.processes table.cores roster call known in
+      record {
+        objects = objects_by _ _ _ _ flagged.is (semaphores_same table.semaphores history e quiet);
+        waits = kept_freed caller (ToProcess call) roster o.roster idle o.reply o.notices spares.quiet spares.frees;
+        enough_after = enough_quiet table history e enough quiet;
+      }
+  exact_service caller idle (ToSemaphore call) known =
+      let s = semaphore_of call in
+      let entry = semaphore_entry table s in
+      let within = within_table call known in
+      let z : 0 + s ≡ s = omega arith in
+      let object : semaphore_at objects s ≡ semaphore_after history s entry =
+      rw (get_or-map_places (semaphore_after history) 0 table.semaphores s no_semaphore no_object within, z) refl in
+      rw object (exact_semaphore caller idle call within) where
+        within_table : (call : SemaphoreCall) → IsKnownToSemaphores (length table.semaphores) call → semaphore_of call < length table.semaphores
+        within_table (CreateSemaphore s) h = h
+        within_table (WaitSemaphore s timeout) h = h
+        within_table (SignalSemaphore s) h = h
+
+-- an idle turn changes nothing
+pub idle_exact : (table : Table) (history : List Entry) (e : Entry) → e.call ≡ None → e.notices ≡ [] → AreEnough table history
+    → (objects_after table (history ++ e ∷ []) ≡ objects_after table history) × AreEnough table (history ++ e ∷ [])
+idle_exact table history e no_call no_notices enough =
+    let quiet = quiet_everywhere history e (λ p. rw no_notices refl) (λ s. rw no_call refl) (λ s. rw no_call refl) (λ s. rw no_call refl) in (
+      objects_by _ _ _ _ (flags_same table.processes history e (λ p. rw no_call refl)) (semaphores_same table.semaphores history e quiet),
+      enough_quiet table history e enough quiet,
+    )

@@ -1,0 +1,182 @@
+-- Each service of a semaphore leaves the value that the history then gives.
+use Rattle.std.proofs.Common.{◌≡◌, ◌≢◌, ℕ, ◌+◌, ◌-◌, ◌≤◌, ◌<◌, Bool, true, false, cond, ◌&&◌, ◌||◌, not, ◌==◌, List, [], ◌∷◌, ◌++◌, Option, None, Some, nat_lt, if◌then◌else◌, refl, sym, ◌∙◌, ap, arith, set}
+use Rattle.std.specs.List.{list_any, count_by}
+use Rattle.std.proofs.lemmas.Option.{none-some}
+use Rattle.std.proofs.lemmas.Bool.{cond_both, eq-eqb, ltb-true}
+use Rattle.apex_types.specs.declared.Call.{Call}
+use Rattle.apex_types.specs.declared.Call.TheVariants.{Semaphore as ToSemaphore}
+use Rattle.apex_types.specs.declared.SemaphoreCall.{SemaphoreCall}
+use Rattle.apex_types.specs.declared.SemaphoreCall.TheVariants.{CreateSemaphore, WaitSemaphore, SignalSemaphore}
+use Rattle.apex_types.specs.declared.Timeout.{Timeout}
+use Rattle.apex_types.specs.declared.Timeout.TheVariants.{Poll, Infinite}
+use Rattle.apex_types.specs.declared.Caller.{Caller}
+use Rattle.apex_types.specs.declared.Caller.TheVariants.{Process, Init, Nobody}
+use Rattle.apex_types.specs.declared.Entry.{Entry}
+use Rattle.apex_types.specs.declared.Notice.{Notice}
+use Rattle.apex_types.specs.declared.Notice.TheVariants.{Woken}
+use Rattle.apex_types.specs.declared.Record.{Record}
+use Rattle.apex_types.specs.declared.Reply.{Reply}
+use Rattle.apex_types.specs.declared.Reply.TheVariants.{Code, Blocked}
+use Rattle.apex_types.specs.declared.ReturnCode.{ReturnCode}
+use Rattle.apex_types.specs.declared.ReturnCode.TheVariants.{NoError, NoAction, NotAvailable, InvalidParam, InvalidMode}
+use Rattle.apex_types.specs.declared.Wait.TheVariants.{Semaphore}
+use Rattle.apex_types.specs.declared.Who.{Who}
+use Rattle.apex_types.specs.Roster.{Roster, record_at, with_record, is_normal}
+use Rattle.apex_types.specs.Running.{is_eligible}
+use Rattle.apex_types.specs.Stamps.{unblock, newest}
+use Rattle.apex_types.specs.Table.{SemaphoreEntry}
+use Rattle.apex_types.specs.Waiters.{first_waiter}
+use Rattle.apex_types.specs.History.{is_no_error, is_accepted, satisfied_waits, semaphore_after, semaphore_value, SemaphoreObject}
+use Rattle.apex_types.specs.SemaphoreServices.{SemaphoreOutcome, refused_semaphore, create_semaphore, wait_at_zero, wait_semaphore, raise_semaphore, signal_to, signal_semaphore, wait_by, semaphore_service, semaphore_of}
+use Rattle.apex_dispatch.proofs.Waits.{newly-none, newly-one, open_once, other}
+use Rattle.apex_dispatch.specs.OpenWaits.{wakes, has_open, signals}
+use Rattle.apex_dispatch.proofs.Values.{IsQuiet, IsAfter, quiet_refused, quiet_elsewhere, after_quiet, after_wait, after_raise, after_hand, after_create}
+use Rattle.apex_dispatch.proofs.Effects.{WaitsKept, IsIdle, kept_same, kept_woken, kept_blocked, first_waits}
+
+module _ (number now : ℕ) (who : Who) (caller : Caller) (history : List Entry) (roster : Roster) (idle : IsIdle caller roster)
+    (open_waits : (p s : ℕ) → (record_at roster p).wait ≡ Some (Semaphore s) → has_open s p history ≡ true)
+    (s : ℕ) (entry : SemaphoreEntry) (enough : satisfied_waits s history ≤ entry.initial + signals s history) where
+  -- the entry of a call of the semaphore
+  abbrev pub told : SemaphoreCall → Reply → List Notice → Entry
+  told call reply notices = record {
+    number = number;
+    now = now;
+    who = who;
+    process = caller;
+    call = Some (ToSemaphore call);
+    reply = reply;
+    notices = notices;
+  }
+
+  -- what the history gives after the call is what the service left
+  pub record IsTold (call : SemaphoreCall) (o : SemaphoreOutcome) : Type 0 where
+    pub own : IsAfter s entry history (told call o.reply o.notices) o.semaphore
+    pub others : (t : ℕ) → t ≢ s → IsQuiet t history (told call o.reply o.notices)
+    pub waits : WaitsKept caller (ToSemaphore call) roster o.roster o.reply o.notices
+
+  told_refused : (call : SemaphoreCall) (code : ReturnCode) → is_no_error code ≡ false
+      → IsTold call (refused_semaphore roster (semaphore_after history s entry) code)
+  told_refused call code refused =
+      let quiet = λ (t : ℕ). quiet_refused t history (told call (Code code) []) refused (λ p. refl) in
+      record {
+        own = after_quiet s entry history (told call (Code code) []) enough (quiet s);
+        others = λ t differs. quiet t;
+        waits = kept_same caller (ToSemaphore call) roster idle (Code code) [] (λ p. refl);
+      }
+
+  told_if : (call : SemaphoreCall) (b : Bool) (x y : SemaphoreOutcome) → (b ≡ true → IsTold call x) → (b ≡ false → IsTold call y)
+      → IsTold call (cond b x y)
+  told_if call b x y = cond_both {A = SemaphoreOutcome} b x y (IsTold call)
+
+  told_create : IsTold (CreateSemaphore s) (create_semaphore roster (semaphore_after history s entry))
+  told_create =
+      let call = CreateSemaphore s in
+      let e = told call (Code NoError) [] in
+      let same : (s == s) ≡ true = eq-eqb s s refl in
+      told_if call (is_normal roster.mode) _ _ (λ _. told_refused call InvalidMode refl) (λ _.
+      told_if call ((semaphore_after history s entry).created) _ _ (λ _. told_refused call NoAction refl) (λ _. record {
+        own = after_create s entry history e enough refl (rw same refl) (rw (newly-none s history e (λ p. refl)) refl);
+        others = λ t differs. quiet_elsewhere t history e call refl differs (newly-none t history e (λ p. refl));
+        waits = kept_same caller (ToSemaphore call) roster idle (Code NoError) [] (λ p. refl);
+      }))
+
+  told_raise : IsTold (SignalSemaphore s) (raise_semaphore roster (semaphore_after history s entry))
+  told_raise =
+      let call = SignalSemaphore s in
+      let e = told call (Code NoError) [] in
+      let same : (s == s) ≡ true = eq-eqb s s refl in
+      told_if call (nat_lt (semaphore_value entry.initial s history) entry.maximum) _ _ (λ _. record {
+        own = after_raise s entry history e enough (rw same refl) refl (rw (newly-none s history e (λ p. refl)) refl);
+        others = λ t differs. quiet_elsewhere t history e call refl differs (newly-none t history e (λ p. refl));
+        waits = kept_same caller (ToSemaphore call) roster idle (Code NoError) [] (λ p. refl);
+      })
+      (λ _. told_refused call NoAction refl)
+
+  unblock_kept : (p : ℕ) → WaitsKept caller (ToSemaphore (SignalSemaphore s)) roster (unblock roster p) (Code NoError) (Woken p NoError ∷ [])
+  unblock_kept p =
+      let r : Record = record (record_at roster p) { wait = None } in
+      let call = ToSemaphore (SignalSemaphore s) in
+      cond_both {A = Roster} (is_eligible roster.mode r) (newest roster p r) (with_record roster p r)
+      (λ (new : Roster). WaitsKept caller call roster new (Code NoError) (Woken p NoError ∷ []))
+      (λ _. kept_woken caller call roster idle (Code NoError) p (record r { since = roster.young }) (newest roster p r) refl (λ t e. none-some (Semaphore t) e))
+      (λ _. kept_woken caller call roster idle (Code NoError) p r (with_record roster p r) refl (λ t e. none-some (Semaphore t) e))
+
+  told_signal_to : (first : Option ℕ) → first_waiter roster (Semaphore s) ≡ first
+      → IsTold (SignalSemaphore s) (signal_to roster (semaphore_after history s entry) first)
+  told_signal_to None is = told_raise
+  told_signal_to (Some p) is =
+      let call = SignalSemaphore s in
+      let e = told call (Code NoError) (Woken p NoError ∷ []) in
+      let same : (s == s) ≡ true = eq-eqb s s refl in
+      let waking : (q : ℕ) → wakes q e ≡ (q == p) = λ q. only (q == p) in
+      let waited = open_waits p s (first_waits roster s p is) in
+      record {
+        own = after_hand s entry history e enough (rw same refl) refl (rw (newly-one s p history e waking, waited) refl);
+        others = λ t differs. quiet_elsewhere t history e call refl differs
+            (rw (newly-one t p history e waking, open_once s t p history (λ eq. differs (sym eq)) waited) refl);
+        waits = unblock_kept p;
+      } where
+        only : (b : Bool) → ((b && true) || false) ≡ b
+        only true = refl
+        only false = refl
+
+  told_signal : IsTold (SignalSemaphore s) (signal_semaphore roster (semaphore_after history s entry) s)
+  told_signal =
+      told_if (SignalSemaphore s) (not (semaphore_after history s entry).created) _ _ (λ _. told_refused (SignalSemaphore s) InvalidParam refl)
+      (λ _. told_signal_to (first_waiter roster (Semaphore s)) refl)
+
+-- a wait, by its process
+module _ (number now : ℕ) (who : Who) (p : ℕ) (history : List Entry) (roster : Roster) (idle : IsIdle (Process p) roster)
+    (open_waits : (q t : ℕ) → (record_at roster q).wait ≡ Some (Semaphore t) → has_open t q history ≡ true)
+    (s : ℕ) (entry : SemaphoreEntry) (enough : satisfied_waits s history ≤ entry.initial + signals s history) where
+  abbrev IsToldHere : SemaphoreCall → SemaphoreOutcome → Type 0
+  IsToldHere call o = IsTold number now who (Process p) history roster idle open_waits s entry enough call o
+
+  abbrev refused_here : (call : SemaphoreCall) (code : ReturnCode) → is_no_error code ≡ false
+      → IsToldHere call (refused_semaphore roster (semaphore_after history s entry) code)
+  refused_here = told_refused number now who (Process p) history roster idle open_waits s entry enough
+
+  told_at_zero : (timeout : Timeout) → IsToldHere (WaitSemaphore s timeout) (wait_at_zero roster (semaphore_after history s entry) s p timeout)
+  told_at_zero Poll = refused_here (WaitSemaphore s Poll) NotAvailable refl
+  told_at_zero Infinite =
+      let call = WaitSemaphore s Infinite in
+      let e = told number now who (Process p) history roster idle open_waits s entry enough call Blocked [] in
+      let quiet = λ (t : ℕ). quiet_refused t history e refl (λ q. refl) in
+      record {
+        own = after_quiet s entry history e enough (quiet s);
+        others = λ t differs. quiet t;
+        waits = kept_blocked p s Infinite roster;
+      }
+
+  told_wait : (timeout : Timeout) → IsToldHere (WaitSemaphore s timeout) (wait_semaphore roster (semaphore_after history s entry) s p timeout)
+  told_wait timeout =
+      let call = WaitSemaphore s timeout in
+      let e = told number now who (Process p) history roster idle open_waits s entry enough call (Code NoError) [] in
+      let same : (s == s) ≡ true = eq-eqb s s refl in
+      let choose = told_if number now who (Process p) history roster idle open_waits s entry enough call in
+      choose (not (semaphore_after history s entry).created) _ _ (λ _. refused_here call InvalidParam refl)
+      (λ _. choose (nat_lt 0 (semaphore_value entry.initial s history)) _ _ (λ positive. record {
+        own = after_wait s entry history e enough refl refl (rw (newly-none s history e (λ q. refl), same) refl) (ltb-true 0 _ positive);
+        others = λ t differs. quiet_elsewhere t history e call refl differs (newly-none t history e (λ q. refl));
+        waits = kept_same (Process p) (ToSemaphore call) roster idle (Code NoError) [] (λ q. refl);
+      })
+      (λ _. told_at_zero timeout))
+
+-- any service of semaphore s
+module _ (number now : ℕ) (who : Who) (history : List Entry) (roster : Roster)
+    (open_waits : (q t : ℕ) → (record_at roster q).wait ≡ Some (Semaphore t) → has_open t q history ≡ true)
+    (entry : SemaphoreEntry) where
+  told_wait_by : (caller : Caller) (idle : IsIdle caller roster) (s : ℕ) (enough : satisfied_waits s history ≤ entry.initial + signals s history) (timeout : Timeout)
+      → IsTold number now who caller history roster idle open_waits s entry enough (WaitSemaphore s timeout)
+      (wait_by roster (semaphore_after history s entry) s caller timeout)
+  told_wait_by (Process p) idle s enough timeout = told_wait number now who p history roster idle open_waits s entry enough timeout
+  told_wait_by Init idle s enough timeout = told_refused number now who Init history roster idle open_waits s entry enough (WaitSemaphore s timeout) InvalidMode refl
+  told_wait_by Nobody idle s enough timeout = told_refused number now who Nobody history roster idle open_waits s entry enough (WaitSemaphore s timeout) InvalidMode refl
+
+  pub told_service : (caller : Caller) (idle : IsIdle caller roster) (call : SemaphoreCall)
+      (enough : satisfied_waits (semaphore_of call) history ≤ entry.initial + signals (semaphore_of call) history)
+      → IsTold number now who caller history roster idle open_waits (semaphore_of call) entry enough call
+      (semaphore_service roster (semaphore_after history (semaphore_of call) entry) caller call)
+  told_service caller idle (CreateSemaphore s) enough = told_create number now who caller history roster idle open_waits s entry enough
+  told_service caller idle (WaitSemaphore s timeout) enough = told_wait_by caller idle s enough timeout
+  told_service caller idle (SignalSemaphore s) enough = told_signal number now who caller history roster idle open_waits s entry enough
