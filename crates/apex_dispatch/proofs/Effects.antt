@@ -1,40 +1,32 @@
 -- What each service does to who waits, and to the objects that are read off the history.
-use Rattle.std.proofs.Common.{◌≡◌, ◌≢◌, ℕ, zero, suc, ◌+◌, ◌-◌, ◌≤◌, ◌<◌, Bool, true, false, cond, ◌&&◌, ◌||◌, not, ◌==◌, List, [], ◌∷◌, ◌++◌, length, Option, None, Some, nat_lt, if◌then◌else◌, ◌⊎◌, MatchOption, refl, sym, ◌∙◌, ap, subst, arith, inl, inr, set, get_or, pos, ◌+ℤ◌}
+use Rattle.std.proofs.Common.{◌≡◌, ◌≢◌, ℕ, ◌<◌, Bool, true, false, List, [], ◌∷◌, length, Option, None, Some, nat_lt, ◌⊎◌, MatchOption, refl, sym, ◌∙◌, ap, arith, inl, inr, set, get_or}
 use Rattle.std.specs.List.{list_any}
 use Rattle.std.specs.Option.{option_map}
 use Rattle.std.proofs.lemmas.List.{get_or-set_other, get_or_past, length-set}
 use Rattle.std.proofs.lemmas.Option.{none-some, same_Some, get_or_from_slice_get}
 use Rattle.std.proofs.lemmas.Grind.{get_or-set_at}
 use Rattle.std.proofs.lemmas.Bool.{cases_eq, cases_Bool, eq-eqb, eqb-true, ltb-true, ltb-false, both_ways}
-use Rattle.std.proofs.lemmas.Bool.Decides.{eqb_tells}
 use Rattle.apex_types.specs.declared.Call.{Call}
-use Rattle.apex_types.specs.declared.Call.TheVariants.{Partition, Process as ToProcess, Semaphore as ToSemaphore}
-use Rattle.apex_types.specs.declared.SemaphoreCall.{SemaphoreCall}
-use Rattle.apex_types.specs.declared.SemaphoreCall.TheVariants.{CreateSemaphore, WaitSemaphore, SignalSemaphore}
+use Rattle.apex_types.specs.declared.Call.TheVariants.{Semaphore as ToSemaphore}
+use Rattle.apex_types.specs.declared.SemaphoreCall.TheVariants.{WaitSemaphore}
 use Rattle.apex_types.specs.declared.Timeout.{Timeout}
-use Rattle.apex_types.specs.declared.Timeout.TheVariants.{Poll, Infinite}
 use Rattle.apex_types.specs.declared.Caller.{Caller}
-use Rattle.apex_types.specs.declared.Caller.TheVariants.{Process, Init, Nobody}
-use Rattle.apex_types.specs.declared.Entry.{Entry}
+use Rattle.apex_types.specs.declared.Caller.TheVariants.{Process}
 use Rattle.apex_types.specs.declared.Notice.{Notice}
-use Rattle.apex_types.specs.declared.Notice.TheVariants.{Woken, Released}
+use Rattle.apex_types.specs.declared.Notice.TheVariants.{Woken}
 use Rattle.apex_types.specs.declared.Record.{Record}
 use Rattle.apex_types.specs.declared.Reply.{Reply}
-use Rattle.apex_types.specs.declared.Reply.TheVariants.{Code, Blocked}
-use Rattle.apex_types.specs.declared.ReturnCode.{ReturnCode}
-use Rattle.apex_types.specs.declared.ReturnCode.TheVariants.{NoError, NoAction, NotAvailable, InvalidParam, InvalidConfig, InvalidMode}
+use Rattle.apex_types.specs.declared.Reply.TheVariants.{Blocked}
+use Rattle.apex_types.specs.declared.ReturnCode.TheVariants.{NoError}
 use Rattle.apex_types.specs.declared.Wait.{Wait}
 use Rattle.apex_types.specs.declared.Wait.TheVariants.{Normal, Semaphore}
-use Rattle.apex_types.specs.declared.Who.{Who}
-use Rattle.apex_types.specs.Roster.{Roster, nobody, record_at, with_record, is_normal}
-use Rattle.apex_types.specs.Running.{is_eligible}
-use Rattle.apex_types.specs.Stamps.{newest, readied, block, unblock}
+use Rattle.apex_types.specs.Roster.{Roster, nobody, record_at}
+use Rattle.apex_types.specs.Stamps.{block}
 use Rattle.apex_types.specs.Waiters.{waits_in, is_wait_for, first_waiter}
 use Rattle.apex_types.specs.Running.{is_older}
 use Rattle.apex_types.proofs.Choice.{NonePasses, IsAmong, least_among}
 use Rattle.apex_dispatch.proofs.Waits.{other}
-use Rattle.apex_types.specs.Table.{SemaphoreEntry}
-use Rattle.apex_types.specs.History.{SemaphoreObject, semaphore_after, semaphore_value, is_accepted, is_by_process, is_waking, is_wait_on, satisfied_waits}
+use Rattle.apex_types.specs.History.{is_accepted, is_by_process, is_waking, is_wait_on}
 
 -- nobody is woken by these notices
 abbrev pub AreQuiet : List Notice → Type 0

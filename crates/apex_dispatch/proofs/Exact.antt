@@ -1,6 +1,6 @@
 -- The objects that a service leaves are those that the history then gives.
-use Rattle.std.proofs.Common.{◌≡◌, ◌≢◌, ℕ, ◌+◌, ◌≤◌, ◌<◌, Bool, true, false, cond, ◌&&◌, ◌||◌, not, ◌==◌, List, [], ◌∷◌, ◌++◌, length, Option, None, Some, nat_lt, if◌then◌else◌, refl, sym, ◌∙◌, ap, arith, set, get_or, inl, inr}
-use Rattle.std.proofs.lemmas.Bool.{cond_both, eq-eqb, cases_eq, cases_Bool, both_ways}
+use Rattle.std.proofs.Common.{◌≡◌, ℕ, ◌+◌, ◌<◌, Bool, true, false, cond, ◌&&◌, ◌||◌, not, ◌==◌, List, [], ◌∷◌, ◌++◌, length, None, Some, nat_lt, refl, sym, ◌∙◌, arith, set, get_or, inl, inr}
+use Rattle.std.proofs.lemmas.Bool.{eq-eqb, cases_eq}
 use Rattle.apex_types.specs.declared.Call.{Call}
 use Rattle.apex_types.specs.declared.Call.TheVariants.{Partition, Process as ToProcess, Semaphore as ToSemaphore}
 use Rattle.apex_types.specs.declared.ProcessCall.{ProcessCall}
@@ -15,20 +15,19 @@ use Rattle.apex_types.specs.declared.Reply.{Reply}
 use Rattle.apex_types.specs.declared.Reply.TheVariants.{Code}
 use Rattle.apex_types.specs.declared.ReturnCode.{ReturnCode}
 use Rattle.apex_types.specs.declared.ReturnCode.TheVariants.{NoError, NoAction, InvalidParam, InvalidConfig, InvalidMode}
-use Rattle.apex_types.specs.declared.Wait.TheVariants.{Semaphore}
 use Rattle.apex_types.specs.declared.Who.{Who}
 use Rattle.apex_types.specs.Places.{map_places}
 use Rattle.apex_types.specs.Roster.{Roster, record_at, is_normal}
 use Rattle.apex_types.specs.Table.{Table, ProcessEntry, SemaphoreEntry, no_process, no_semaphore, semaphore_entry, IsKnown, IsKnownToProcesses, IsKnownToSemaphores}
-use Rattle.apex_types.specs.History.{is_no_error, is_accepted, is_by_process, is_wait_on, creates_process, creates_semaphore, is_process_created, is_accepted_signal, process_after, semaphore_after, satisfied_waits, objects_after, Objects, SemaphoreObject}
-use Rattle.apex_types.specs.SemaphoreServices.{SemaphoreOutcome, semaphore_service, semaphore_of}
+use Rattle.apex_types.specs.History.{is_no_error, is_wait_on, creates_process, creates_semaphore, is_process_created, is_accepted_signal, process_after, semaphore_after, objects_after, Objects, SemaphoreObject}
+use Rattle.apex_types.specs.SemaphoreServices.{semaphore_service, semaphore_of}
 use Rattle.apex_types.specs.ProcessServices.{ProcessOutcome, process_service, refused_process, create_process, initialize_core_affinity, start_process, stop_self, is_created}
 use Rattle.apex_types.specs.PartitionServices.{partition_service}
 use Rattle.apex_types.specs.Machine.{Outcome, service, after_semaphore, semaphore_at, no_object}
 use Rattle.apex_types.proofs.Places.{map_places_same, set-map_places, get_or-map_places}
-use Rattle.apex_dispatch.proofs.Waits.{newly-none, open-push, other}
-use Rattle.apex_dispatch.specs.OpenWaits.{wakes, has_open, signals, AreEnough, AreOpen}
-use Rattle.apex_dispatch.proofs.Values.{IsQuiet, IsAfter, quiet_same, after_quiet, process_created-push}
+use Rattle.apex_dispatch.proofs.Waits.{newly-none, other}
+use Rattle.apex_dispatch.specs.OpenWaits.{AreEnough, AreOpen}
+use Rattle.apex_dispatch.proofs.Values.{IsQuiet, quiet_same, after_quiet, process_created-push}
 use Rattle.apex_dispatch.proofs.Effects.{AreQuiet, WaitsKept, IsIdle, kept_freed}
 use Rattle.apex_dispatch.proofs.SemaphoreTold.{told_service}
 use Rattle.apex_dispatch.proofs.OtherTold.{partition_spares, process_spares}

@@ -1,5 +1,5 @@
 -- Each kernel keeps what it keeps: at its opening, and at each turn.
-use Rattle.std.proofs.Common.{◌≡◌, ℕ, zero, suc, ◌+◌, ◌*◌, ◌≤◌, ◌<◌, Bool, true, false, List, [], ◌∷◌, ◌++◌, length, slice_get, get_or, Option, None, Some, is_some, pos, ◌+ℤ◌, ◌≤ℤ◌, refl, sym, ◌∙◌, ap, arith, length-append, if◌then◌else◌}
+use Rattle.std.proofs.Common.{◌≡◌, ℕ, zero, suc, ◌+◌, ◌≤◌, Bool, false, List, [], ◌∷◌, ◌++◌, length, get_or, Option, None, Some, is_some, refl, sym, ◌∙◌, ap, arith, length-append, if◌then◌else◌}
 use Rattle.std.proofs.lemmas.List.{length-set}
 use Rattle.std.proofs.lemmas.Int.{ints}
 use Rattle.std.proofs.lemmas.Option.{none-some}
@@ -16,7 +16,7 @@ use Rattle.apex_types.specs.Table.{Table, ProcessEntry, IsLawful}
 use Rattle.apex_types.specs.Roster.{Roster, nobody, record_at, opening_record}
 use Rattle.apex_types.specs.Running.{chosen}
 use Rattle.apex_types.specs.Stamps.{set_step}
-use Rattle.apex_types.specs.History.{Objects, objects_after, process_after, semaphore_after, init_count, is_by_init}
+use Rattle.apex_types.specs.History.{Objects, objects_after, init_count, is_by_init}
 use Rattle.apex_types.specs.Machine.{script_deed, chosen_deed, step_of, turn_deed, due_init_call, opening, deed_of, after_deed, turn, entry_of, Machine}
 use Rattle.apex_types.proofs.Places.{length-map_places}
 use Rattle.apex_dispatch.specs.Kernel.{Running, IsKept, running}

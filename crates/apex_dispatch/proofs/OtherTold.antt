@@ -1,45 +1,31 @@
 -- The services of processes and of the partition leave the semaphores alone, and who waits for them.
-use Rattle.std.proofs.Common.{◌≡◌, ◌≢◌, ℕ, zero, suc, ◌+◌, ◌≤◌, ◌<◌, Bool, true, false, cond, ◌&&◌, ◌||◌, not, ◌==◌, List, [], ◌∷◌, ◌++◌, length, Option, None, Some, nat_lt, if◌then◌else◌, refl, sym, ◌∙◌, ap, arith, set, get_or, slice_index_or}
-use Rattle.std.specs.List.{list_any}
+use Rattle.std.proofs.Common.{◌≡◌, ℕ, zero, suc, Bool, true, false, cond, ◌&&◌, ◌||◌, not, List, [], ◌∷◌, ◌++◌, length, Option, None, Some, nat_lt, if◌then◌else◌, refl, sym, ◌∙◌}
 use Rattle.std.proofs.lemmas.Option.{none-some}
-use Rattle.std.proofs.lemmas.Bool.{cond_both, eq-eqb}
+use Rattle.std.proofs.lemmas.Bool.{cond_both}
 use Rattle.std.proofs.lemmas.List.Folds.{list_any-append}
-use Rattle.apex_types.specs.declared.Call.{Call}
-use Rattle.apex_types.specs.declared.Call.TheVariants.{Partition, Process as ToProcess, Semaphore as ToSemaphore}
 use Rattle.apex_types.specs.declared.PartitionCall.{PartitionCall}
 use Rattle.apex_types.specs.declared.PartitionCall.TheVariants.{SetPartitionMode}
-use Rattle.apex_types.specs.declared.RequestedMode.{RequestedMode}
 use Rattle.apex_types.specs.declared.RequestedMode.TheVariants as requested
 use Rattle.apex_types.specs.declared.ProcessCall.{ProcessCall}
 use Rattle.apex_types.specs.declared.ProcessCall.TheVariants.{CreateProcess, InitializeProcessCoreAffinity, Start, StopSelf}
 use Rattle.apex_types.specs.declared.Caller.{Caller}
 use Rattle.apex_types.specs.declared.Caller.TheVariants.{Process, Init, Nobody}
-use Rattle.apex_types.specs.declared.Entry.{Entry}
-use Rattle.apex_types.specs.declared.Mode.{Mode}
 use Rattle.apex_types.specs.declared.Mode.TheVariants as mode
 use Rattle.apex_types.specs.declared.Notice.{Notice}
 use Rattle.apex_types.specs.declared.Notice.TheVariants.{Released}
 use Rattle.apex_types.specs.declared.Record.{Record}
-use Rattle.apex_types.specs.declared.Reply.{Reply}
-use Rattle.apex_types.specs.declared.Reply.TheVariants.{Code, Gone}
+use Rattle.apex_types.specs.declared.Reply.TheVariants.{Code}
 use Rattle.apex_types.specs.declared.ReturnCode.{ReturnCode}
-use Rattle.apex_types.specs.declared.ReturnCode.TheVariants.{NoError, NoAction, InvalidParam, InvalidConfig, InvalidMode}
-use Rattle.apex_types.specs.declared.Wait.{Wait}
+use Rattle.apex_types.specs.declared.ReturnCode.TheVariants.{NoAction, InvalidParam, InvalidConfig, InvalidMode}
 use Rattle.apex_types.specs.declared.Wait.TheVariants.{Normal, Semaphore}
-use Rattle.apex_types.specs.declared.Who.{Who}
-use Rattle.apex_types.specs.Places.{map_places}
 use Rattle.apex_types.specs.Roster.{Roster, record_at, with_record, is_normal}
 use Rattle.apex_types.specs.Running.{is_eligible}
 use Rattle.apex_types.specs.Stamps as stamps
-use Rattle.apex_types.specs.Table.{Table, ProcessEntry, no_process, IsKnownToProcesses}
 use Rattle.apex_types.specs.Waiters.{first_waiter}
-use Rattle.apex_types.specs.History.{is_no_error, is_accepted, is_waking, creates_process, is_process_created, process_after, is_creation_of_process}
+use Rattle.apex_types.specs.History.{is_waking}
 use Rattle.apex_types.specs.ProcessServices as processes
 use Rattle.apex_types.specs.PartitionServices as partitions
-use Rattle.apex_types.proofs.Places.{map_places_same, set-map_places, get_or-map_places}
-use Rattle.apex_dispatch.proofs.Waits.{newly-none, other}
-use Rattle.apex_dispatch.proofs.Values.{IsQuiet, process_created-push}
-use Rattle.apex_dispatch.proofs.Effects.{AreQuiet, WaitsKept, IsIdle, Frees, Frees-none, Frees-then, Frees-changed, Frees-moved, kept_freed}
+use Rattle.apex_dispatch.proofs.Effects.{AreQuiet, Frees, Frees-none, Frees-then, Frees-changed, Frees-moved}
 
 or_false : (b : Bool) → (b || false) ≡ b
 or_false true = refl

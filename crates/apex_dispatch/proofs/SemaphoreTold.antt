@@ -1,9 +1,7 @@
 -- Each service of a semaphore leaves the value that the history then gives.
-use Rattle.std.proofs.Common.{◌≡◌, ◌≢◌, ℕ, ◌+◌, ◌-◌, ◌≤◌, ◌<◌, Bool, true, false, cond, ◌&&◌, ◌||◌, not, ◌==◌, List, [], ◌∷◌, ◌++◌, Option, None, Some, nat_lt, if◌then◌else◌, refl, sym, ◌∙◌, ap, arith, set}
-use Rattle.std.specs.List.{list_any, count_by}
+use Rattle.std.proofs.Common.{◌≡◌, ◌≢◌, ℕ, ◌+◌, ◌≤◌, Bool, true, false, cond, ◌&&◌, ◌||◌, not, ◌==◌, List, [], ◌∷◌, Option, None, Some, nat_lt, refl, sym}
 use Rattle.std.proofs.lemmas.Option.{none-some}
 use Rattle.std.proofs.lemmas.Bool.{cond_both, eq-eqb, ltb-true}
-use Rattle.apex_types.specs.declared.Call.{Call}
 use Rattle.apex_types.specs.declared.Call.TheVariants.{Semaphore as ToSemaphore}
 use Rattle.apex_types.specs.declared.SemaphoreCall.{SemaphoreCall}
 use Rattle.apex_types.specs.declared.SemaphoreCall.TheVariants.{CreateSemaphore, WaitSemaphore, SignalSemaphore}
@@ -26,9 +24,9 @@ use Rattle.apex_types.specs.Running.{is_eligible}
 use Rattle.apex_types.specs.Stamps.{unblock, newest}
 use Rattle.apex_types.specs.Table.{SemaphoreEntry}
 use Rattle.apex_types.specs.Waiters.{first_waiter}
-use Rattle.apex_types.specs.History.{is_no_error, is_accepted, satisfied_waits, semaphore_after, semaphore_value, SemaphoreObject}
+use Rattle.apex_types.specs.History.{is_no_error, satisfied_waits, semaphore_after, semaphore_value}
 use Rattle.apex_types.specs.SemaphoreServices.{SemaphoreOutcome, refused_semaphore, create_semaphore, wait_at_zero, wait_semaphore, raise_semaphore, signal_to, signal_semaphore, wait_by, semaphore_service, semaphore_of}
-use Rattle.apex_dispatch.proofs.Waits.{newly-none, newly-one, open_once, other}
+use Rattle.apex_dispatch.proofs.Waits.{newly-none, newly-one, open_once}
 use Rattle.apex_dispatch.specs.OpenWaits.{wakes, has_open, signals}
 use Rattle.apex_dispatch.proofs.Values.{IsQuiet, IsAfter, quiet_refused, quiet_elsewhere, after_quiet, after_wait, after_raise, after_hand, after_create}
 use Rattle.apex_dispatch.proofs.Effects.{WaitsKept, IsIdle, kept_same, kept_woken, kept_blocked, first_waits}

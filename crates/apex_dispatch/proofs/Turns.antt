@@ -1,5 +1,5 @@
 -- After each turn the running objects are those that the history gives.
-use Rattle.std.proofs.Common.{◌≡◌, ◌≢◌, ℕ, ◌+◌, ◌≤◌, ◌<◌, Bool, true, false, cond, ◌&&◌, ◌||◌, not, ◌==◌, List, [], ◌∷◌, ◌++◌, length, slice_get, Option, None, Some, is_none, MatchOption, refl, sym, ◌∙◌, ap, arith, inl, inr}
+use Rattle.std.proofs.Common.{◌≡◌, ℕ, ◌+◌, ◌<◌, true, ◌&&◌, ◌==◌, List, [], ◌∷◌, ◌++◌, length, Option, None, Some, is_none, MatchOption, refl, sym, ◌∙◌, arith, inl, inr}
 use Rattle.std.specs.Option.{option_map}
 use Rattle.std.proofs.lemmas.Option.{none-some, same_Some, slice_get_within}
 use Rattle.std.proofs.lemmas.Bool.{cond_both, cases_Bool, and_parts, eqb-true}
@@ -7,7 +7,7 @@ use Rattle.apex_types.specs.declared.Call.{Call}
 use Rattle.apex_types.specs.declared.Call.TheVariants.{Process as ToProcess}
 use Rattle.apex_types.specs.declared.ProcessCall.TheVariants.{StopSelf}
 use Rattle.apex_types.specs.declared.Caller.{Caller}
-use Rattle.apex_types.specs.declared.Caller.TheVariants.{Process, Init, Nobody}
+use Rattle.apex_types.specs.declared.Caller.TheVariants.{Process, Init}
 use Rattle.apex_types.specs.declared.Entry.{Entry}
 use Rattle.apex_types.specs.declared.Notice.{Notice}
 use Rattle.apex_types.specs.declared.Record.{Record}
@@ -16,16 +16,16 @@ use Rattle.apex_types.specs.declared.Wait.{Wait}
 use Rattle.apex_types.specs.declared.Wait.TheVariants.{Semaphore}
 use Rattle.apex_types.specs.declared.Who.{Who}
 use Rattle.apex_types.specs.declared.Who.TheVariants.{Core}
-use Rattle.apex_types.specs.Roster.{Roster, nobody, record_at, is_normal, is_cold_start}
+use Rattle.apex_types.specs.Roster.{Roster, record_at, is_cold_start}
 use Rattle.apex_types.specs.Running.{runs_on, is_before, chosen}
 use Rattle.apex_types.specs.Stamps.{set_step}
-use Rattle.apex_types.specs.Table.{Table, IsLawful, IsKnown, process_entry}
-use Rattle.apex_types.specs.History.{Objects, objects_after, is_by_process, next_init_call}
-use Rattle.apex_types.specs.Machine.{Machine, Outcome, Deed, service, served, script_deed, chosen_deed, turn_deed, step_of, due_init_call, deed_of, entry_of}
+use Rattle.apex_types.specs.Table.{Table, IsLawful, IsKnown}
+use Rattle.apex_types.specs.History.{objects_after, is_by_process, next_init_call}
+use Rattle.apex_types.specs.Machine.{Machine, Deed, service, served, script_deed, chosen_deed, turn_deed, step_of, due_init_call, deed_of, entry_of}
 use Rattle.apex_types.proofs.Choice.{NonePasses, IsAmong, least_among}
 use Rattle.apex_dispatch.proofs.Known.{known_step, known_script_step}
 use Rattle.apex_dispatch.proofs.Waits.{open-push}
-use Rattle.apex_dispatch.specs.OpenWaits.{has_open, AreEnough, AreOpen}
+use Rattle.apex_dispatch.specs.OpenWaits.{AreEnough, AreOpen}
 use Rattle.apex_dispatch.proofs.Effects.{WaitsKept, IsIdle, Frees-moved, found_passes}
 use Rattle.apex_dispatch.proofs.Exact.{entry_with, exact_service, idle_exact}
 

@@ -1,18 +1,16 @@
 -- What one entry more does to the objects that are read off the history.
-use Rattle.std.proofs.Common.{◌≡◌, ◌≢◌, ℕ, ◌+◌, ◌-◌, ◌≤◌, ◌<◌, Bool, true, false, ◌&&◌, ◌||◌, not, ◌==◌, List, [], ◌∷◌, ◌++◌, Option, None, Some, if◌then◌else◌, refl, sym, ◌∙◌, ap, arith, inl, inr}
-use Rattle.std.specs.List.{list_any, count_by}
+use Rattle.std.proofs.Common.{◌≡◌, ◌≢◌, ℕ, ◌+◌, ◌-◌, ◌≤◌, ◌<◌, Bool, true, false, ◌&&◌, ◌||◌, List, [], ◌∷◌, ◌++◌, Some, if◌then◌else◌, refl, ◌∙◌, ap, arith}
 use Rattle.std.proofs.lemmas.List.Sums.{sum_by-append}
 use Rattle.std.proofs.lemmas.List.Folds.{list_any-append}
-use Rattle.apex_types.specs.declared.Call.{Call}
-use Rattle.apex_types.specs.declared.Call.TheVariants.{Partition, Process as ToProcess, Semaphore}
+use Rattle.apex_types.specs.declared.Call.TheVariants.{Semaphore}
 use Rattle.apex_types.specs.declared.SemaphoreCall.{SemaphoreCall}
 use Rattle.apex_types.specs.declared.SemaphoreCall.TheVariants.{CreateSemaphore, WaitSemaphore, SignalSemaphore}
 use Rattle.apex_types.specs.declared.Entry.{Entry}
-use Rattle.apex_types.specs.Table.{SemaphoreEntry, ProcessEntry}
+use Rattle.apex_types.specs.Table.{SemaphoreEntry}
 use Rattle.apex_types.specs.SemaphoreServices.{semaphore_of}
-use Rattle.apex_types.specs.History.{is_accepted, is_wait_on, is_accepted_signal, is_signal_of, satisfied_waits, semaphore_value, creates_semaphore, creates_process, is_creation_of_semaphore, is_process_created, is_semaphore_created, semaphore_after, process_after, SemaphoreObject}
-use Rattle.apex_dispatch.proofs.Waits.{newly, newly-none, newly-one, satisfied-push, other}
-use Rattle.apex_dispatch.specs.OpenWaits.{wakes, has_open, signals}
+use Rattle.apex_types.specs.History.{is_accepted, is_wait_on, is_accepted_signal, is_signal_of, satisfied_waits, semaphore_value, creates_semaphore, creates_process, is_creation_of_semaphore, is_process_created, is_semaphore_created, semaphore_after, SemaphoreObject}
+use Rattle.apex_dispatch.proofs.Waits.{newly, newly-none, satisfied-push, other}
+use Rattle.apex_dispatch.specs.OpenWaits.{wakes, signals}
 
 -- 1 where the test holds, else 0
 abbrev pub one_if : Bool → ℕ

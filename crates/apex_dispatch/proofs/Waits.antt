@@ -1,18 +1,15 @@
 -- Which waits on a semaphore are still open, and which an entry more satisfies.
-use Rattle.std.proofs.Common.{◌≡◌, ◌≢◌, ℕ, ◌+◌, Bool, true, false, cond, ◌&&◌, ◌||◌, not, ◌==◌, List, [], ◌∷◌, ◌++◌, Option, None, Some, if◌then◌else◌, refl, sym, ◌∙◌, ap, arith, inl, inr}
-use Rattle.std.specs.List.{list_any}
+use Rattle.std.proofs.Common.{◌≡◌, ◌≢◌, ℕ, ◌+◌, Bool, true, false, ◌&&◌, ◌||◌, not, ◌==◌, List, [], ◌∷◌, ◌++◌, Option, None, Some, if◌then◌else◌, refl, sym, ◌∙◌, ap, arith, inl, inr}
 use Rattle.std.proofs.lemmas.Bool.Decides.{eqb_tells}
 use Rattle.std.proofs.lemmas.Bool.{eq-eqb, eqb-true, both_ways}
 use Rattle.apex_types.specs.declared.Call.{Call}
 use Rattle.apex_types.specs.declared.Call.TheVariants.{Partition, Process as ToProcess, Semaphore}
-use Rattle.apex_types.specs.declared.SemaphoreCall.{SemaphoreCall}
 use Rattle.apex_types.specs.declared.SemaphoreCall.TheVariants.{CreateSemaphore, WaitSemaphore, SignalSemaphore}
 use Rattle.apex_types.specs.declared.Caller.{Caller}
 use Rattle.apex_types.specs.declared.Caller.TheVariants.{Process, Init, Nobody}
 use Rattle.apex_types.specs.declared.Entry.{Entry}
-use Rattle.apex_types.specs.declared.Notice.{Notice}
 use Rattle.apex_dispatch.specs.OpenWaits.{wakes, is_unanswered, has_open}
-use Rattle.apex_types.specs.History.{is_accepted, is_by_process, is_waking, is_process_answered, is_answered, is_satisfied, is_wait_on, is_semaphore_wait, satisfied_waits}
+use Rattle.apex_types.specs.History.{is_accepted, is_by_process, is_process_answered, is_answered, is_wait_on, satisfied_waits}
 
 -- the same of whoever asked
 abbrev pub is_caller_unanswered : Caller → List Entry → Bool

@@ -1,6 +1,5 @@
 -- What every contract sees of a kernel, and what each kernel keeps.
-use Rattle.std.specs.Prelude.{◌≡◌, ℕ, ◌+◌, ◌*◌, List, length, pos, ◌≤ℤ◌}
-use Rattle.apex_types.specs.declared.Event.{Event}
+use Rattle.std.specs.Prelude.{◌≡◌, ℕ, ◌+◌, ◌*◌, length, pos, ◌≤ℤ◌}
 use Rattle.apex_types.specs.Table.{Table, IsLawful}
 use Rattle.apex_types.specs.History.{Objects, objects_after, init_count}
 use Rattle.apex_types.specs.Machine.{Machine}

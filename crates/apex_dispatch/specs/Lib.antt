@@ -1,3 +1,4 @@
 pub mod Callers
 pub mod OpenWaits
 pub mod Kernel
+pub mod Events

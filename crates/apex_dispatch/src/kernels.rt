@@ -1,6 +1,8 @@
-ghost use Rattle.std.specs.Prelude.{◌≡◌, ◌<◌, ◌≤◌, ◌↔◌, ◌+◌, [], ◌∷◌, ◌++◌, length, slice_get, ◌&&◌, ◌==◌, if◌then◌else◌, None, is_some, IfOk, IfErr, OnOk, OnErr, IsOk};
+ghost use Rattle.std.specs.Prelude.{◌≡◌, ◌<◌, ◌≤◌, ◌↔◌, ◌+◌, [], ◌∷◌, ◌++◌, length, slice_get, ◌&&◌, ◌==◌, if◌then◌else◌, None, is_some, All, IfOk, IfErr, OnOk, OnErr, IsOk};
 ghost use Rattle.apex_types.specs.Roster.{opening_roster, is_cold_start};
-ghost use Rattle.apex_types.specs.Machine.{opening, turn};
+ghost use Rattle.apex_types.specs.Machine.{opening, turn, happen, run};
+ghost use Rattle.apex_types.specs.Table.{IsLawful};
+ghost use Rattle.apex_dispatch.specs.Events.{IsWithin};
 ghost use Rattle.apex_dispatch.specs.Kernel.{running};
 
 use crate::deeds::carry_out;
@@ -105,6 +107,44 @@ impl<S: Store> Kernel<S> {
             notices,
         });
         Ok(())
+    }
+
+    /// One event, whole.
+    fn accept(&mut self, event: Event) -> Result<(), Full>
+        requires { IsWithin self.old.table.cores event }
+        ensures accepted { IsOk result ↔ (length self.old.machine.history < self.old.table.limit) }
+        ensures done { OnOk result (self.new ≡ running self.old.table (happen self.old.table self.old.machine event)) }
+        ensures refused { OnErr result (self.new ≡ self.old) }
+        ensures full { IfErr result (λ e. (e.entries ≡ length self.old.machine.history) × (e.entries ≡ self.old.table.limit)) }
+    {
+        match event {
+            Event::Turn(core) => self.turn(core),
+        }
+    }
+
+    /// The events, one after the other, up to the first for which the history has no room; those
+    /// before it stand.
+    pub fn run(&mut self, events: &[Event]) -> Result<(), Full>
+        requires { All (IsWithin self.old.table.cores) events.now }
+        ensures done { self.new ≡ running self.old.table (run self.old.table self.old.machine events.now) }
+        ensures accepted { IsOk result ↔ (length self.old.machine.history + length events.now ≤ self.old.table.limit) }
+        ensures full { IfErr result (λ e. e.entries ≡ self.old.table.limit) }
+    {
+        self.holds();
+        for event in events {
+            self.accept(*event)?;
+        }
+        Ok(())
+    }
+
+    /// What holds of every kernel: its running values are those that its history gives, and its
+    /// history is within the table's limit.
+    pub fn holds(&self)
+        ensures values { self.now ≡ running self.now.table self.now.machine }
+        ensures within { length self.now.machine.history ≤ self.now.table.limit }
+        ensures lawful { IsLawful self.now.table }
+    {
+        let _entries = self.log.len();
     }
 
     /// The history so far, the oldest entry first.

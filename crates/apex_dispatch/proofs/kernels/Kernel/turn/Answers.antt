@@ -1,8 +1,8 @@
-use Rattle.std.proofs.Common.{◌≡◌, ℕ, ◌+◌, is_some, if◌then◌else◌, rules, refl, ◌∙◌}
+use Rattle.std.proofs.Common.{◌≡◌, ◌+◌, is_some, if◌then◌else◌, rules, refl, ◌∙◌}
 use Rattle.apex_types.specs.History.{process_after, semaphore_after}
-use Rattle.apex_types.specs.Machine.{Machine, due_init_call, turn_deed, after_deed, turn}
+use Rattle.apex_types.specs.Machine.{Machine, due_init_call, turn_deed, after_deed}
 use Rattle.apex_types.proofs.Places.{length-map_places}
-use Rattle.apex_dispatch.specs.Kernel.{Running, running}
+use Rattle.apex_dispatch.specs.Kernel.{Running}
 use Rattle.apex_dispatch.proofs.Kept.{kept_by, turn_is}
 use Rattle.apex_dispatch.proofs.kernels.Kernel.turn.Goals as goal
 
