@@ -1,3 +1,7 @@
+mod lines;
+
+ghost use Rattle.std.specs.Prelude.{◌≡◌, None};
+
 use crate::{Counted, FailAt, Log, Page, ReadFault, read_all};
 use apex_types::{Caller, CoreId, Entry, Notices, Reply, Who};
 use std::io::{ErrorKind, Read, Write};
@@ -15,7 +19,10 @@ fn paper(rt: HostRuntime, room: usize, call: u64) -> Result<FailAt, Fail> {
     Ok(FailAt::new(Vec::with_capacity(rt.alloc(), room)?, call))
 }
 
-fn idle(number: u32) -> Entry {
+// The entry of an idle turn of core 0.
+fn idle(number: u32) -> Entry
+    ensures { result.call ≡ None }
+{
     Entry {
         number,
         now: 0,
