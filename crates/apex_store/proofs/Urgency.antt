@@ -21,9 +21,9 @@ runs_from mode core r e f = and_from _ _ e (eq-eqb r.core core f)
 more_urgent : (r s : Record) → is_before r s ≡ true → IsMoreUrgent r s
 more_urgent r s e =
     elim (or_cases _ _ e) [
-      inl greater ↦ inl (ltb-true _ _ greater)
-    | inr equal ↦ let both = and_parts _ _ equal in let longer = both.1 in
-      inr (eqb-true _ _ both.0, omega (arith, ints))
+      | inl greater ↦ inl (ltb-true _ _ greater)
+      | inr equal ↦ let both = and_parts _ _ equal in let longer = both.1 in
+          inr (eqb-true _ _ both.0, omega (arith, ints))
     ]
 
 may_run : (roster : Roster) (core p : ℕ) (r : Record) → slice_get roster.records p ≡ Some r → runs_on roster.mode core r ≡ true → MayRun roster core p

@@ -11,41 +11,35 @@ use apex_types::{CoreId, ProcessId, Wait};
 pub fn chosen_is_first<S: Store>(store: &S, core: CoreId)
     requires { laws.HasDistinctStamps (S.roster store.now) }
     ensures { laws.ChosenIsFirst (S.roster store.now) core }
-{
-}
+{}
 
 /// Where no two stamps are the same, each core's running process is the highest-priority,
 /// longest-ready one bound to it.
 pub fn most_urgent_runs<S: Store>(store: &S, core: CoreId)
     requires { laws.HasDistinctStamps (S.roster store.now) }
     ensures { laws.RunsMostUrgent (S.roster store.now) core }
-{
-}
+{}
 
 /// A core runs one process at the most.
 pub fn one_process_runs<S: Store>(store: &S)
     ensures { laws.RunsOneProcess (S.roster store.now) }
-{
-}
+{}
 
 /// Where no two stamps are the same, the first waiter of a queue waits in it for longer than every
 /// other one.
 pub fn first_waiter_is_longest<S: Store>(store: &S, queue: Wait)
     requires { laws.HasDistinctStamps (S.roster store.now) }
     ensures { laws.FirstWaiterIsLongest (S.roster store.now) queue }
-{
-}
+{}
 
 /// Where no two stamps are the same, the next waiter behind a process is the first of those behind it.
 pub fn next_waiter_is_next<S: Store>(store: &S, queue: Wait, process: ProcessId)
     requires { laws.HasDistinctStamps (S.roster store.now) }
     ensures { laws.NextWaiterIsNext (S.roster store.now) queue process }
-{
-}
+{}
 
 /// A process that waits is in the queue that it waits for, and in no other.
 pub fn waits_in_one_queue<S: Store>(store: &S, process: ProcessId)
     requires { process < length (S.roster store.now).records }
     ensures { laws.WaitsInOneQueue (record_at (S.roster store.now) process) }
-{
-}
+{}

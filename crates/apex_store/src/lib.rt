@@ -8,10 +8,12 @@ mod orders;
 mod plain_store;
 mod scan;
 mod store;
+#[cfg(test)]
+mod tests;
 
 pub use laws::{
-    chosen_is_first, first_waiter_is_longest, most_urgent_runs, next_waiter_is_next, one_process_runs,
-    waits_in_one_queue,
+    chosen_is_first, first_waiter_is_longest, most_urgent_runs, next_waiter_is_next,
+    one_process_runs, waits_in_one_queue,
 };
 pub use plain_store::PlainStore;
 pub use store::Store;
