@@ -8,7 +8,7 @@ use Rattle.apex_types.specs.declared.records.Record.{Record}
 use Rattle.apex_types.specs.Roster.{Roster, nobody, record_at}
 use Rattle.apex_types.specs.Choice.{IsLeast}
 use Rattle.apex_types.specs.Running.{chosen, is_before, is_eligible, runs_on}
-use Rattle.apex_store.specs.Laws.{HasDistinctStamps, IsMoreUrgent, IsTheLeast, MayRun, RunsMostUrgent}
+use Rattle.apex_store.specs.Laws.{IsMoreUrgent, IsTheLeast, MayRun, RunsMostUrgent}
 
 runs_parts : (mode : Mode) (core : ℕ) (r : Record) → runs_on mode core r ≡ true → (is_eligible mode r ≡ true) × (r.core ≡ core)
 unfolding runs_on

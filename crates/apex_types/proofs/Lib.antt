@@ -1,3 +1,5 @@
 pub mod Choice
 pub mod Places
 pub mod Orders
+pub mod Rosters
+pub mod DistinctStamps

@@ -11,3 +11,4 @@ pub mod SemaphoreServices
 pub mod ProcessServices
 pub mod PartitionServices
 pub mod Machine
+pub mod Distinct
