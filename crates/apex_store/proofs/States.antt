@@ -7,7 +7,7 @@ use Rattle.apex_types.specs.declared.records.Record.{Record}
 use Rattle.apex_types.specs.declared.records.State.{State}
 use Rattle.apex_types.specs.declared.records.State.TheVariants.{Dormant, Ready, Running, Waiting}
 use Rattle.apex_types.specs.Roster.{Roster, nobody, record_at, is_normal}
-use Rattle.apex_types.specs.Running.{chosen, is_before, is_eligible, is_process, process_state, runs_on}
+use Rattle.apex_types.specs.Running.{chosen, is_before, is_eligible, is_process, runs_on}
 use Rattle.apex_types.proofs.Choice.{place_among}
 use Rattle.apex_store.specs.Laws.{RunningIsChosen}
 

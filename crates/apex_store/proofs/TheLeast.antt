@@ -2,10 +2,9 @@
 use Rattle.std.proofs.Common.{◌≡◌, ℕ, Bool, List, Some, slice_get}
 use Rattle.std.proofs.lemmas.Option.{get_or_from_slice_get, slice_get_within}
 use Rattle.apex_types.specs.declared.records.Record.{Record}
-use Rattle.apex_types.specs.declared.records.Wait.{Wait}
 use Rattle.apex_types.specs.Roster.{Roster, nobody}
 use Rattle.apex_types.specs.Distinct.{HasDistinctStamps}
-use Rattle.apex_types.specs.Choice.{place_of_least, IsLeast}
+use Rattle.apex_types.specs.Choice.{place_of_least}
 use Rattle.apex_types.specs.Running.{is_before, is_older}
 use Rattle.apex_types.proofs.Choice.{IsStrict, IsTotalOn, place_is, place_least, place_none}
 use Rattle.apex_types.proofs.Orders.{older_total, before_total}

@@ -1,11 +1,11 @@
 -- Laws of the least record: a scan of one record more, and that what is found is the least.
-use Rattle.std.proofs.Common.{◌≡◌, ◌≢◌, ℕ, zero, suc, ◌+◌, ◌<◌, Bool, true, false, not, ◌&&◌, List, [], ◌∷◌, length, get_or, drop, slice_get, Option, None, Some, IfSome, refl, sym, ◌∙◌, ap, inl, inr, arith, ◌⊎◌, add-zero, cond}
+use Rattle.std.proofs.Common.{◌≡◌, ◌≢◌, ℕ, zero, suc, ◌+◌, ◌<◌, Bool, true, false, not, ◌&&◌, List, [], ◌∷◌, length, get_or, drop, slice_get, Option, None, Some, refl, sym, ◌∙◌, ap, inl, inr, arith, add-zero}
 use Rattle.std.specs.Option.{MatchOption, option_map}
-use Rattle.std.proofs.lemmas.Bool.{cond_both, cond-true, cond-false, and_parts, and_cases, not-true, not-false, true_from_ne_false, cases_eq, both_ways}
+use Rattle.std.proofs.lemmas.Bool.{cond_both, and_parts, not-true, cases_eq, both_ways}
 use Rattle.std.proofs.lemmas.List.{at_drop_more}
-use Rattle.std.proofs.lemmas.Option.{same_Some, none-some, IfSome_then}
+use Rattle.std.proofs.lemmas.Option.{same_Some, none-some}
 use Rattle.apex_types.specs.declared.records.Record.{Record}
-use Rattle.apex_types.specs.Choice.{stands_before, better, least, place_of_least, IsLeast}
+use Rattle.apex_types.specs.Choice.{better, least, place_of_least, IsLeast}
 
 -- an order in which no two records come before each other
 pub record IsStrict (before : Record → Record → Bool) : Type 0 where

@@ -1,5 +1,5 @@
 -- Each change of a roster leaves it with distinct stamps, all given before the next one.
-use Rattle.std.proofs.Common.{◌≡◌, ◌≢◌, ℕ, ◌+◌, ◌<◌, ◌<ℤ◌, ◌≤ℤ◌, pos, ◌+ℤ◌, Bool, true, false, length, refl, sym, ◌∙◌, ap, inl, inr, arith}
+use Rattle.std.proofs.Common.{◌≡◌, ◌≢◌, ℕ, ◌+◌, ◌<◌, ◌<ℤ◌, pos, length, refl, sym, ◌∙◌, ap, inl, inr, arith}
 use Rattle.std.proofs.lemmas.Bool.{cases_eq, cond_both}
 use Rattle.std.proofs.lemmas.Int.{ints}
 use Rattle.std.proofs.lemmas.List.{length-set}
@@ -10,9 +10,9 @@ use Rattle.apex_types.specs.Roster.{Roster, record_at, with_record, nobody, open
 use Rattle.apex_types.specs.Table.{Table, no_process}
 use Rattle.apex_types.specs.Running.{is_eligible}
 use Rattle.apex_types.specs.Stamps.{newest, readied, start, stop, block, unblock, release, set_mode, set_core, set_step}
-use Rattle.apex_types.specs.Distinct.{HasDistinctStamps, IsStamped}
+use Rattle.apex_types.specs.Distinct.{IsStamped}
 use Rattle.apex_types.proofs.Places.{length-map_places, at_map_places}
-use Rattle.apex_types.proofs.Rosters.{ChangesOne, changes_record, changes_newest, at_record, at_newest, started, awake, waiting}
+use Rattle.apex_types.proofs.Rosters.{changes_record, changes_newest, at_record, at_newest, started, awake, waiting}
 
 module _ (roster : Roster) (p : ℕ) (known : p < length roster.records) (stamped : IsStamped roster) where
   -- a change that gives no stamp

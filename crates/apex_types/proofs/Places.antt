@@ -1,5 +1,5 @@
 -- Laws of lists whose elements know their places.
-use Rattle.std.proofs.Common.{◌≡◌, ℕ, zero, suc, ◌+◌, ◌<◌, List, [], ◌∷◌, ◌++◌, length, take, get_or, slice_get, slice_set, Some, ◌≢◌, refl, ap, arith, add-zero, add-suc, add-one}
+use Rattle.std.proofs.Common.{◌≡◌, ℕ, zero, suc, ◌+◌, ◌<◌, List, [], ◌∷◌, ◌++◌, length, take, get_or, slice_get, slice_set, Some, ◌≢◌, refl, ap, arith, add-zero}
 use Rattle.std.proofs.lemmas.Option.{same_Some}
 use Rattle.apex_types.specs.Places.{map_places}
 

@@ -1,15 +1,14 @@
 -- How each change of a roster changes it: one record, and at most one stamp.
-use Rattle.std.proofs.Common.{◌≡◌, ◌≢◌, ℕ, ◌+◌, ◌<◌, ◌<ℤ◌, ◌≤ℤ◌, ℤ, pos, ◌+ℤ◌, Bool, true, false, cond, Option, None, Some, length, slice_index_or, slice_set, if◌then◌else◌, refl, sym, ◌∙◌, ap, inl, inr, arith}
-use Rattle.std.proofs.lemmas.Bool.{cases_eq, cond_both}
+use Rattle.std.proofs.Common.{◌≡◌, ◌≢◌, ℕ, ◌<◌, ◌≤ℤ◌, pos, ◌+ℤ◌, true, false, None, Some, length, if◌then◌else◌, refl, arith}
+use Rattle.std.proofs.lemmas.Bool.{cond_both}
 use Rattle.std.proofs.lemmas.Int.{ints}
 use Rattle.std.proofs.lemmas.List.{get_or-set_other, get_or-set_same, length-set}
-use Rattle.apex_types.specs.declared.records.Mode.{Mode}
 use Rattle.apex_types.specs.declared.records.Record.{Record}
 use Rattle.apex_types.specs.declared.records.Wait.{Wait}
 use Rattle.apex_types.specs.declared.records.Wait.TheVariants.{Normal}
 use Rattle.apex_types.specs.Roster.{Roster, nobody, record_at, with_record, is_normal}
 use Rattle.apex_types.specs.Running.{is_eligible}
-use Rattle.apex_types.specs.Stamps.{newest, readied, start, stop, block, unblock, release, set_mode, set_core, set_step}
+use Rattle.apex_types.specs.Stamps.{newest, readied, start, stop, block, unblock, release, set_core, set_step}
 
 -- process p may have another record, and the next stamp may be one greater; all else stays
 pub record ChangesOne (before after : Roster) (p : ℕ) : Type 0 where
