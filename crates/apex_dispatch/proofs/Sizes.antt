@@ -32,7 +32,7 @@ use Rattle.apex_types.specs.ProcessServices as processes
 use Rattle.apex_types.specs.PartitionServices as partitions
 use Rattle.apex_types.specs.Machine.{Outcome, service, semaphore_at}
 use Rattle.apex_types.specs.Stamps as stamps
-use Rattle.apex_types.proofs.Rosters.{ChangesOnly, ChangesOnly-with_record, ChangesOnly-newest, ChangesOnly-readied}
+use Rattle.apex_types.proofs.Rosters.{ChangesOne, changes_record, changes_newest, changes_readied}
 
 -- as many records as before, and at most so many stamps given
 pub record Grows (most : ℕ) (old new : Roster) : Type 0 where
@@ -42,8 +42,8 @@ pub record Grows (most : ℕ) (old new : Roster) : Type 0 where
 pub Grows-none : (most : ℕ) (roster : Roster) → Grows most roster roster
 Grows-none most roster = record { many = refl; stamps = omega (arith, ints) }
 
-pub Grows-one : {p : ℕ} {old new : Roster} (most : ℕ) → 1 ≤ most → ChangesOnly p old new → Grows most old new
-Grows-one most h changes = record { many = changes.many; stamps = omega (arith, ints, changes.stamps) }
+pub Grows-one : {p : ℕ} {old new : Roster} (most : ℕ) → 1 ≤ most → ChangesOne old new p → Grows most old new
+Grows-one most h changes = record { many = changes.count; stamps = omega (arith, ints, changes.one_more) }
 
 pub Grows-then : {first second third : Roster} (n m : ℕ) → Grows n first second → Grows m second third → Grows (n + m) first third
 Grows-then n m g h = record { many = h.many ∙ g.many; stamps = omega (arith, ints, g.stamps, h.stamps) }
@@ -76,7 +76,7 @@ module _ (roster : Roster) (semaphore : SemaphoreObject) where
 
   signal_to_grows : (first : Option ℕ) → Grows 64 roster (semaphores.signal_to roster semaphore first).roster
   signal_to_grows None = record { many = raise_many; stamps = raise_stamps }
-  signal_to_grows (Some p) = Grows-one 64 (lit≤ tt) (ChangesOnly-readied roster p (record (record_at roster p) { wait = None }))
+  signal_to_grows (Some p) = Grows-one 64 (lit≤ tt) (changes_readied roster p (record (record_at roster p) { wait = None }))
 
   signal_grows : (created : Bool) (first : Option ℕ)
       → Grows 64 roster (cond (not created) (semaphores.refused_semaphore roster semaphore InvalidParam) (semaphores.signal_to roster semaphore first)).roster
@@ -121,7 +121,7 @@ module _ (cores : ℕ) (roster : Roster) (created : List Bool) where
       small_if (is_normal roster.mode) _ _ (small_refused InvalidMode)
       (small_if (not (processes.is_created created p)) _ _ (small_refused InvalidParam)
       (small_if (not (nat_lt core cores)) _ _ (small_refused InvalidConfig)
-      (record { grows = Grows-one 64 (lit≤ tt) (ChangesOnly-with_record roster p (record (record_at roster p) { core = core })); flags = refl })))
+      (record { grows = Grows-one 64 (lit≤ tt) (changes_record roster p (record (record_at roster p) { core = core })); flags = refl })))
 
   started : ℕ → Record
   started p = record (record_at roster p) {
@@ -136,11 +136,11 @@ module _ (cores : ℕ) (roster : Roster) (created : List Bool) where
   small_start p =
       small_if (not (processes.is_created created p)) _ _ (small_refused InvalidParam)
       (small_if ((record_at roster p).started) _ _ (small_refused NoAction)
-      (record { grows = Grows-one 64 (lit≤ tt) (ChangesOnly-newest roster p (started p)); flags = refl }))
+      (record { grows = Grows-one 64 (lit≤ tt) (changes_newest roster p (started p)); flags = refl }))
 
   small_stop_self : (caller : Caller) → SmallProcess (processes.stop_self roster created caller)
   small_stop_self (Process p) = record {
-    grows = Grows-one 64 (lit≤ tt) (ChangesOnly-with_record roster p (record (record_at roster p) { started = false; wait = None; step = 0 }));
+    grows = Grows-one 64 (lit≤ tt) (changes_record roster p (record (record_at roster p) { started = false; wait = None; step = 0 }));
     flags = refl;
   }
   small_stop_self Init = small_refused InvalidMode
@@ -160,7 +160,7 @@ small_release_and : (n : ℕ) (others : Roster → List Notice → partitions.Re
 small_release_and n others roster notices None h = Grows-none (1 + n) roster
 small_release_and n others roster notices (Some p) h =
     let r = record (record_at roster p) { wait = None } in
-    Grows-then 1 n (Grows-one 1 (lit≤ tt) (ChangesOnly-readied roster p r)) (h (stamps.release roster p) (notices ++ Released p ∷ []))
+    Grows-then 1 n (Grows-one 1 (lit≤ tt) (changes_readied roster p r)) (h (stamps.release roster p) (notices ++ Released p ∷ []))
 
 small_release_waiting : (n : ℕ) (roster : Roster) (notices : List Notice) → Grows n roster (partitions.release_waiting n roster notices).roster
 small_release_waiting zero roster notices = Grows-none 0 roster

@@ -1,3 +1,4 @@
 pub mod TheLeast
 pub mod Queues
 pub mod Urgency
+pub mod States

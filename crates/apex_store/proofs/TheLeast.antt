@@ -1,13 +1,14 @@
 -- What the laws of a store's choices share: the place of the least, under distinct stamps.
-use Rattle.std.proofs.Common.{◌≡◌, ℕ, Bool, List}
+use Rattle.std.proofs.Common.{◌≡◌, ℕ, Bool, List, Some, slice_get}
+use Rattle.std.proofs.lemmas.Option.{get_or_from_slice_get, slice_get_within}
 use Rattle.apex_types.specs.declared.records.Record.{Record}
-use Rattle.apex_types.specs.declared.records.Wait.{Wait}
-use Rattle.apex_types.specs.Roster.{Roster, record_at}
-use Rattle.apex_types.specs.Choice.{place_of_least, IsLeast}
-use Rattle.apex_types.specs.Running.{is_before, is_older, runs_on}
+use Rattle.apex_types.specs.Roster.{Roster, nobody}
+use Rattle.apex_types.specs.Distinct.{HasDistinctStamps}
+use Rattle.apex_types.specs.Choice.{place_of_least}
+use Rattle.apex_types.specs.Running.{is_before, is_older}
 use Rattle.apex_types.proofs.Choice.{IsStrict, IsTotalOn, place_is, place_least, place_none}
 use Rattle.apex_types.proofs.Orders.{older_total, before_total}
-use Rattle.apex_store.specs.Laws.{HasDistinctStamps, IsTheLeast}
+use Rattle.apex_store.specs.Laws.{IsTheLeast}
 
 pub the_least : (passes : Record → Bool) (before : Record → Record → Bool) → IsStrict before → (rs : List Record) → IsTotalOn before rs → IsTheLeast passes before rs (place_of_least passes before rs)
 the_least passes before strict rs all = record {
@@ -16,12 +17,17 @@ the_least passes before strict rs all = record {
   none = λ e. (place_none passes before rs e).none;
 }
 
+distinct_at : (roster : Roster) → HasDistinctStamps roster → (p q : ℕ) (r s : Record) → slice_get roster.records p ≡ Some r → slice_get roster.records q ≡ Some s → r.since ≡ s.since → p ≡ q
+distinct_at roster distinct p q r s here there same =
+    distinct.distinct p q (slice_get_within roster.records p r here) (slice_get_within roster.records q s there)
+    (rw (get_or_from_slice_get roster.records p r nobody here, get_or_from_slice_get roster.records q s nobody there) same)
+
 pub older_on : (roster : Roster) → HasDistinctStamps roster → IsTotalOn is_older roster.records
 older_on roster distinct = record {
-  total = λ p q r s here there apart e. older_total r s (λ same. apart (distinct.distinct p q r s here there same)) e;
+  total = λ p q r s here there apart. older_total r s (λ same. apart (distinct_at roster distinct p q r s here there same));
 }
 
 pub before_on : (roster : Roster) → HasDistinctStamps roster → IsTotalOn is_before roster.records
 before_on roster distinct = record {
-  total = λ p q r s here there apart e. before_total r s (λ same. apart (distinct.distinct p q r s here there same)) e;
+  total = λ p q r s here there apart. before_total r s (λ same. apart (distinct_at roster distinct p q r s here there same));
 }

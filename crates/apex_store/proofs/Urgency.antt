@@ -1,14 +1,13 @@
 -- The chosen process in words: eligible, bound to the core, and more urgent than every other.
-use Rattle.std.proofs.Common.{◌≡◌, ◌≢◌, ℕ, ◌<◌, ◌<ℤ◌, ◌⊎◌, inl, inr, true, Option, None, Some, length, slice_get, slice_index_or, arith}
+use Rattle.std.proofs.Common.{◌≡◌, ℕ, inl, inr, true, Some, slice_get, arith}
 use Rattle.std.proofs.lemmas.Bool.{eqb-true, eq-eqb, ltb-true, and_parts, and_from, or_cases, both_ways}
 use Rattle.std.proofs.lemmas.Int.{ints}
 use Rattle.std.proofs.lemmas.Option.{get_or_from_slice_get, slice_get-get_or, slice_get_within}
 use Rattle.apex_types.specs.declared.records.Mode.{Mode}
 use Rattle.apex_types.specs.declared.records.Record.{Record}
 use Rattle.apex_types.specs.Roster.{Roster, nobody, record_at}
-use Rattle.apex_types.specs.Choice.{IsLeast}
 use Rattle.apex_types.specs.Running.{chosen, is_before, is_eligible, runs_on}
-use Rattle.apex_store.specs.Laws.{HasDistinctStamps, IsMoreUrgent, IsTheLeast, MayRun, RunsMostUrgent}
+use Rattle.apex_store.specs.Laws.{IsMoreUrgent, IsTheLeast, MayRun, RunsMostUrgent}
 
 runs_parts : (mode : Mode) (core : ℕ) (r : Record) → runs_on mode core r ≡ true → (is_eligible mode r ≡ true) × (r.core ≡ core)
 unfolding runs_on
@@ -21,9 +20,9 @@ runs_from mode core r e f = and_from _ _ e (eq-eqb r.core core f)
 more_urgent : (r s : Record) → is_before r s ≡ true → IsMoreUrgent r s
 more_urgent r s e =
     elim (or_cases _ _ e) [
-      inl greater ↦ inl (ltb-true _ _ greater)
-    | inr equal ↦ let both = and_parts _ _ equal in let longer = both.1 in
-      inr (eqb-true _ _ both.0, omega (arith, ints))
+      | inl greater ↦ inl (ltb-true _ _ greater)
+      | inr equal ↦ let both = and_parts _ _ equal in let longer = both.1 in
+          inr (eqb-true _ _ both.0, omega (arith, ints))
     ]
 
 may_run : (roster : Roster) (core p : ℕ) (r : Record) → slice_get roster.records p ≡ Some r → runs_on roster.mode core r ≡ true → MayRun roster core p

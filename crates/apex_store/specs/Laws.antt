@@ -1,16 +1,15 @@
 -- What the choices of a store mean, in the standard's own words.
 use Rattle.std.specs.Prelude.{◌≡◌, ◌≢◌, ℕ, ◌<◌, ◌<ℤ◌, ◌⊎◌, Bool, true, false, List, length, Option, None, Some, slice_get}
+use Rattle.apex_types.specs.declared.records.Mode.{Mode}
 use Rattle.apex_types.specs.declared.records.Record.{Record}
 use Rattle.apex_types.specs.declared.records.State.TheVariants.{Running}
 use Rattle.apex_types.specs.declared.records.Wait.{Wait}
 use Rattle.apex_types.specs.Roster.{Roster, record_at}
 use Rattle.apex_types.specs.Choice.{IsLeast}
+use Rattle.apex_types.specs.Distinct.{IsStamped}
 use Rattle.apex_types.specs.Running.{chosen, current_priority, is_before, is_eligible, is_older, process_state, runs_on}
+use Rattle.apex_types.specs.Stamps as stamps
 use Rattle.apex_types.specs.Waiters.{first_waiter, next_waiter, waits_behind, waits_in}
-
--- no two processes have the same stamp
-pub record HasDistinctStamps (roster : Roster) : Type 0 where
-  pub distinct : (p q : ℕ) (r s : Record) → slice_get roster.records p ≡ Some r → slice_get roster.records q ≡ Some s → r.since ≡ s.since → p ≡ q
 
 -- who is found passes and is before every other that does; no second one is; and none is found only
 -- where none passes
@@ -62,3 +61,20 @@ RunsOneProcess roster =
     (p q : ℕ) →
     process_state roster p ≡ Running →
     process_state roster q ≡ Running → (record_at roster p).core ≡ (record_at roster q).core → p ≡ q
+
+-- a process is running exactly where it is the chosen one of its core
+pub record RunningIsChosen (roster : Roster) (p : ℕ) : Type 0 where
+  pub found : process_state roster p ≡ Running → chosen roster (record_at roster p).core ≡ Some p
+  pub running : (core : ℕ) → chosen roster core ≡ Some p → process_state roster p ≡ Running
+  pub bound : (core : ℕ) → chosen roster core ≡ Some p → (record_at roster p).core ≡ core
+
+-- whatever is asked of a store, no two of its processes come to have the same stamp
+pub record StampsStayDistinct (roster : Roster) : Type 0 where
+  pub start : (p : ℕ) → p < length roster.records → IsStamped (stamps.start roster p)
+  pub stop : (p : ℕ) → p < length roster.records → IsStamped (stamps.stop roster p)
+  pub block : (p : ℕ) (wait : Wait) → p < length roster.records → IsStamped (stamps.block roster p wait)
+  pub unblock : (p : ℕ) → p < length roster.records → IsStamped (stamps.unblock roster p)
+  pub release : (p : ℕ) → p < length roster.records → IsStamped (stamps.release roster p)
+  pub set_mode : (mode : Mode) → IsStamped (stamps.set_mode roster mode)
+  pub set_core : (p core : ℕ) → p < length roster.records → IsStamped (stamps.set_core roster p core)
+  pub set_step : (p step : ℕ) → p < length roster.records → IsStamped (stamps.set_step roster p step)

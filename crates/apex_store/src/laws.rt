@@ -1,51 +1,63 @@
 //! What the choices of every store mean.
 ghost use Rattle.std.specs.Prelude.{◌<◌, length};
-ghost use Rattle.apex_types.specs.Roster.{record_at};
+ghost use Rattle.apex_types.specs.Distinct.{HasDistinctStamps, IsStamped};
+ghost use Rattle.apex_types.specs.Roster.{opening_roster, record_at};
 ghost use Rattle.apex_store.specs.Laws as laws;
 
 use crate::store::Store;
+use apex_table::Table;
 use apex_types::{CoreId, ProcessId, Wait};
 
 /// Where no two stamps are the same, the chosen process of a core is eligible, bound to the core and
 /// before every other such process (ARINC 653 Part 1, process management).
 pub fn chosen_is_first<S: Store>(store: &S, core: CoreId)
-    requires { laws.HasDistinctStamps (S.roster store.now) }
+    requires { HasDistinctStamps (S.roster store.now) }
     ensures { laws.ChosenIsFirst (S.roster store.now) core }
-{
-}
+{}
 
 /// Where no two stamps are the same, each core's running process is the highest-priority,
 /// longest-ready one bound to it.
 pub fn most_urgent_runs<S: Store>(store: &S, core: CoreId)
-    requires { laws.HasDistinctStamps (S.roster store.now) }
+    requires { HasDistinctStamps (S.roster store.now) }
     ensures { laws.RunsMostUrgent (S.roster store.now) core }
-{
-}
+{}
+
+/// A process is running exactly where it is the chosen one of its core.
+pub fn running_is_chosen<S: Store>(store: &S, process: ProcessId)
+    ensures { laws.RunningIsChosen (S.roster store.now) process }
+{}
 
 /// A core runs one process at the most.
 pub fn one_process_runs<S: Store>(store: &S)
     ensures { laws.RunsOneProcess (S.roster store.now) }
-{
-}
+{}
 
 /// Where no two stamps are the same, the first waiter of a queue waits in it for longer than every
 /// other one.
 pub fn first_waiter_is_longest<S: Store>(store: &S, queue: Wait)
-    requires { laws.HasDistinctStamps (S.roster store.now) }
+    requires { HasDistinctStamps (S.roster store.now) }
     ensures { laws.FirstWaiterIsLongest (S.roster store.now) queue }
-{
-}
+{}
 
 /// Where no two stamps are the same, the next waiter behind a process is the first of those behind it.
 pub fn next_waiter_is_next<S: Store>(store: &S, queue: Wait, process: ProcessId)
-    requires { laws.HasDistinctStamps (S.roster store.now) }
+    requires { HasDistinctStamps (S.roster store.now) }
     ensures { laws.NextWaiterIsNext (S.roster store.now) queue process }
-{
-}
+{}
 
 /// A process that waits is in the queue that it waits for, and in no other.
 pub fn waits_in_one_queue<S: Store>(store: &S, process: ProcessId)
     requires { process < length (S.roster store.now).records }
     ensures { laws.WaitsInOneQueue (record_at (S.roster store.now) process) }
-{
-}
+{}
+
+/// The processes of a table open with distinct stamps.
+pub fn opens_with_distinct_stamps(table: &Table)
+    ensures { IsStamped (opening_roster table.now) }
+{}
+
+/// Whatever is asked of a store, no two of its processes come to have the same stamp.
+pub fn stamps_stay_distinct<S: Store>(store: &S)
+    requires { IsStamped (S.roster store.now) }
+    ensures { laws.StampsStayDistinct (S.roster store.now) }
+{}

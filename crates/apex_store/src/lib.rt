@@ -8,9 +8,12 @@ mod orders;
 mod plain_store;
 mod scan;
 mod store;
+#[cfg(test)]
+mod tests;
 
 pub use laws::{
-    chosen_is_first, first_waiter_is_longest, most_urgent_runs, next_waiter_is_next, one_process_runs,
+    chosen_is_first, first_waiter_is_longest, most_urgent_runs, next_waiter_is_next,
+    one_process_runs, opens_with_distinct_stamps, running_is_chosen, stamps_stay_distinct,
     waits_in_one_queue,
 };
 pub use plain_store::PlainStore;

@@ -1,11 +1,11 @@
 -- Laws of the least record: a scan of one record more, and that what is found is the least.
-use Rattle.std.proofs.Common.{◌≡◌, ◌≢◌, ℕ, zero, suc, ◌+◌, ◌<◌, Bool, true, false, not, ◌&&◌, List, [], ◌∷◌, length, get_or, drop, slice_get, Option, None, Some, IfSome, refl, sym, ◌∙◌, ap, inl, inr, arith, ◌⊎◌, add-zero, cond}
+use Rattle.std.proofs.Common.{◌≡◌, ◌≢◌, ℕ, zero, suc, ◌+◌, ◌<◌, Bool, true, false, not, ◌&&◌, List, [], ◌∷◌, length, get_or, drop, slice_get, Option, None, Some, refl, sym, ◌∙◌, ap, inl, inr, arith, add-zero}
 use Rattle.std.specs.Option.{MatchOption, option_map}
-use Rattle.std.proofs.lemmas.Bool.{cond_both, cond-true, cond-false, and_parts, and_cases, not-true, not-false, true_from_ne_false, cases_eq, both_ways}
+use Rattle.std.proofs.lemmas.Bool.{cond_both, and_parts, not-true, cases_eq, both_ways}
 use Rattle.std.proofs.lemmas.List.{at_drop_more}
-use Rattle.std.proofs.lemmas.Option.{same_Some, none-some, IfSome_then}
+use Rattle.std.proofs.lemmas.Option.{same_Some, none-some}
 use Rattle.apex_types.specs.declared.records.Record.{Record}
-use Rattle.apex_types.specs.Choice.{stands_before, better, least, place_of_least, IsLeast}
+use Rattle.apex_types.specs.Choice.{better, least, place_of_least, IsLeast}
 
 -- an order in which no two records come before each other
 pub record IsStrict (before : Record → Record → Bool) : Type 0 where
@@ -42,7 +42,6 @@ module _ (passes : Record → Bool) (before : Record → Record → Bool) where
   -- one record more, at the front of those that were looked at
   pub least_more : (rs : List Record) (p : ℕ) (r : Record) → p < length rs → r ≡ get_or rs p r → least passes before p (drop p rs) ≡ better passes before p r (least passes before (p + 1) (drop (p + 1) rs))
   least_more rs p r within here = rw (at_drop_more (least passes before p) rs p r within, ← here)
-
 
 -- what is among the records, or none where none passes
 abbrev Among : (Record → Bool) → ℕ → List Record → Option (ℕ × Record) → Type 0
@@ -87,12 +86,13 @@ module _ (passes : Record → Bool) (before : Record → Record → Bool) (x : R
     taken_least passing behind = record { here = refl; passing = passing; first = others_after } where
       x_first : before x f ≡ true
       x_first = all.total (suc offset) 0 f x found.here refl (λ e. absurd (omega arith)) behind
+
       others_after : (p : ℕ) (r : Record) → slice_get (x ∷ rs) p ≡ Some r → passes r ≡ true → p ≢ 0 → before x r ≡ true
       others_after zero r here passed apart = absurd (apart refl)
       others_after (suc p) r here passed apart =
           elim (cases_eq p offset) [
-            inl e ↦ rw (same_Some _ _ (sym found.here ∙ ap (slice_get rs) (sym e) ∙ here)) at x_first
-          | inr other ↦ strict.transitive x f r x_first (found.first p r here passed other)
+            | inl e ↦ rw (same_Some _ _ (sym found.here ∙ ap (slice_get rs) (sym e) ∙ here)) at x_first
+            | inr other ↦ strict.transitive x f r x_first (found.first p r here passed other)
           ]
 
     -- x does not pass, or what was found is before it: the least stays
@@ -192,3 +192,12 @@ module _ (passes : Record → Bool) (before : Record → Record → Bool) where
   -- none is found only where none passes
   pub place_none : (rs : List Record) → place_of_least passes before rs ≡ None → NonePasses passes rs
   place_none rs = none_at rs _ (least_among 0 rs)
+
+  among_at : (rs : List Record) (found : Option (ℕ × Record)) → Among passes 0 rs found → (p : ℕ) → option_map (λ (f : ℕ × Record). f.0) found ≡ Some p → (r : Record) × (slice_get rs p ≡ Some r) × (passes r ≡ true)
+  among_at rs None none p e = absurd (none-some p e)
+  among_at rs (Some f) among p e =
+      let z : among.offset ≡ p = omega (arith, same_Some f.0 p e) in (f.1, rw z at among.here, among.passing)
+
+  -- the place that is found has a record, and it passes
+  pub place_among : (rs : List Record) (p : ℕ) → place_of_least passes before rs ≡ Some p → (r : Record) × (slice_get rs p ≡ Some r) × (passes r ≡ true)
+  place_among rs = among_at rs _ (least_among 0 rs)

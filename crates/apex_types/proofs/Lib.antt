@@ -3,3 +3,4 @@ pub mod Rosters
 pub mod Releases
 pub mod Choice
 pub mod Orders
+pub mod DistinctStamps

@@ -1,11 +1,10 @@
 -- The two orders of records are strict, and total where no two stamps are the same.
-use Rattle.std.proofs.Common.{◌≡◌, ◌≢◌, ℕ, Bool, true, false, List, slice_get, Some, arith}
-use Rattle.std.specs.Prelude.{ℤ, int_lt}
+use Rattle.std.proofs.Common.{◌≡◌, ◌≢◌, true, false, arith}
 use Rattle.std.proofs.lemmas.Bool.Decides.{nat_tests}
 use Rattle.std.proofs.lemmas.Int.{ints}
 use Rattle.apex_types.specs.declared.records.Record.{Record}
 use Rattle.apex_types.specs.Running.{is_before, is_older}
-use Rattle.apex_types.proofs.Choice.{IsStrict, IsTotalOn}
+use Rattle.apex_types.proofs.Choice.{IsStrict}
 
 pub older_strict : IsStrict is_older
 older_strict = record {

@@ -1,35 +1,127 @@
--- What a change of one process's record leaves of the others.
-use Rattle.std.proofs.Common.{◌≡◌, ◌≢◌, ℕ, ◌+◌, ◌<◌, Bool, true, false, cond, length, pos, ◌+ℤ◌, ◌≤ℤ◌, refl, arith, set, get_or}
-use Rattle.std.proofs.lemmas.List.{length-set, get_or-set_other, get_or-set_same}
+-- How each change of a roster changes it: one record, and at most one stamp.
+use Rattle.std.proofs.Common.{◌≡◌, ◌≢◌, ℕ, ◌<◌, ◌≤ℤ◌, pos, ◌+ℤ◌, true, false, None, Some, length, if◌then◌else◌, refl, arith}
 use Rattle.std.proofs.lemmas.Bool.{cond_both}
 use Rattle.std.proofs.lemmas.Int.{ints}
+use Rattle.std.proofs.lemmas.List.{get_or-set_other, get_or-set_same, length-set}
 use Rattle.apex_types.specs.declared.records.Record.{Record}
 use Rattle.apex_types.specs.declared.records.Wait.{Wait}
-use Rattle.apex_types.specs.Roster.{Roster, nobody, record_at, with_record}
+use Rattle.apex_types.specs.declared.records.Wait.TheVariants.{Normal}
+use Rattle.apex_types.specs.Roster.{Roster, nobody, record_at, with_record, is_normal}
 use Rattle.apex_types.specs.Running.{is_eligible}
 use Rattle.apex_types.specs.Stamps.{newest, readied, start, stop, block, unblock, release, set_core, set_step}
 
--- new differs from old in the record of process p alone, and at most one stamp was given
-pub record ChangesOnly (p : ℕ) (old new : Roster) : Type 0 where
-  pub many : length new.records ≡ length old.records
-  pub others : (q : ℕ) → q ≢ p → record_at new q ≡ record_at old q
-  pub stamps : new.young ≤ℤ (old.young +ℤ pos 1)
+-- process p may have another record, and the next stamp may be one greater; all else stays
+pub record ChangesOne (before after : Roster) (p : ℕ) : Type 0 where
+  pub mode : after.mode ≡ before.mode
+  pub now : after.now ≡ before.now
+  pub count : length after.records ≡ length before.records
+  pub others : (q : ℕ) → q ≢ p → record_at after q ≡ record_at before q
+  pub more : before.young ≤ℤ after.young
+  pub one_more : after.young ≤ℤ (before.young +ℤ pos 1)
 
-pub ChangesOnly-with_record : (roster : Roster) (p : ℕ) (r : Record) → ChangesOnly p roster (with_record roster p r)
-ChangesOnly-with_record roster p r = record {
-  many = length-set roster.records p r;
-  others = λ q differs. get_or-set_other roster.records p q r nobody differs;
-  stamps = omega (arith, ints);
+-- the record of process p as a START leaves it, but for the stamp
+abbrev pub started : Roster → ℕ → Record
+started roster p = record (record_at roster p) {
+  base = (record_at roster p).priority;
+  started = true;
+  step = 0;
+  wait = (if is_normal roster.mode then None else Some Normal);
 }
 
-pub ChangesOnly-newest : (roster : Roster) (p : ℕ) (r : Record) → ChangesOnly p roster (newest roster p r)
-ChangesOnly-newest roster p r = record {
-  many = length-set roster.records p _;
-  others = λ q differs. get_or-set_other roster.records p q _ nobody differs;
-  stamps = omega (arith, ints);
-}
+-- the record of process p without its wait
+abbrev pub awake : Roster → ℕ → Record
+awake roster p = record (record_at roster p) { wait = None }
 
-pub ChangesOnly-readied : (roster : Roster) (p : ℕ) (r : Record) → ChangesOnly p roster (readied roster p r)
-ChangesOnly-readied roster p r =
-    cond_both (is_eligible roster.mode r) _ _ (λ (new : Roster). ChangesOnly p roster new)
-    (λ _. ChangesOnly-newest roster p r) (λ _. ChangesOnly-with_record roster p r)
+-- the record of process p with this wait
+abbrev pub waiting : Roster → ℕ → Wait → Record
+waiting roster p wait = record (record_at roster p) { wait = Some wait }
+
+-- the record r with the stamp that it gets where it is eligible
+abbrev pub stamped_if_ready : Roster → Record → Record
+stamped_if_ready roster r = record r { since = (if is_eligible roster.mode r then roster.young else r.since) }
+
+module _ (roster : Roster) (p : ℕ) where
+  other_stays : (r : Record) (q : ℕ) → q ≢ p → record_at (with_record roster p r) q ≡ record_at roster q
+  other_stays r q apart = get_or-set_other roster.records p q r nobody apart
+
+  pub changes_record : (r : Record) → ChangesOne roster (with_record roster p r) p
+  changes_record r = record {
+    mode = refl;
+    now = refl;
+    count = length-set roster.records p r;
+    others = other_stays r;
+    more = omega (arith, ints);
+    one_more = omega (arith, ints);
+  }
+
+  pub changes_newest : (r : Record) → ChangesOne roster (newest roster p r) p
+  changes_newest r = record {
+    mode = refl;
+    now = refl;
+    count = length-set roster.records p (record r { since = roster.young });
+    others = other_stays (record r { since = roster.young });
+    more = omega (arith, ints);
+    one_more = omega (arith, ints);
+  }
+
+  pub changes_readied : (r : Record) → ChangesOne roster (readied roster p r) p
+  changes_readied r =
+      cond_both {A = Roster} (is_eligible roster.mode r) _ _ (λ after. ChangesOne roster after p)
+      (λ _. changes_newest r) (λ _. changes_record r)
+
+  pub changes_start : ChangesOne roster (start roster p) p
+  changes_start = changes_newest (started roster p)
+
+  pub changes_stop : ChangesOne roster (stop roster p) p
+  changes_stop = changes_record _
+
+  pub changes_block : (wait : Wait) → ChangesOne roster (block roster p wait) p
+  changes_block wait = changes_newest (waiting roster p wait)
+
+  pub changes_unblock : ChangesOne roster (unblock roster p) p
+  changes_unblock = changes_readied (awake roster p)
+
+  pub changes_release : ChangesOne roster (release roster p) p
+  changes_release = changes_readied (awake roster p)
+
+  pub changes_set_core : (core : ℕ) → ChangesOne roster (set_core roster p core) p
+  changes_set_core core = changes_record _
+
+  pub changes_set_step : (step : ℕ) → ChangesOne roster (set_step roster p step) p
+  changes_set_step step = changes_record _
+
+-- the record of the process that a change is about
+module _ (roster : Roster) (p : ℕ) (known : p < length roster.records) where
+  pub at_record : (r : Record) → record_at (with_record roster p r) p ≡ r
+  at_record r = get_or-set_same roster.records p r nobody known
+
+  pub at_newest : (r : Record) → record_at (newest roster p r) p ≡ record r { since = roster.young }
+  at_newest r = at_record (record r { since = roster.young })
+
+  pub at_readied : (r : Record) → record_at (readied roster p r) p ≡ stamped_if_ready roster r
+  at_readied r =
+      elim (is_eligible roster.mode r) as (λ b. record_at (if b then newest roster p r else with_record roster p r) p ≡ record r { since = (if b then roster.young else r.since) }) [
+        | true ↦ at_newest r
+        | false ↦ at_record r
+      ]
+
+  pub at_start : record_at (start roster p) p ≡ record (started roster p) { since = roster.young }
+  at_start = at_newest (started roster p)
+
+  pub at_stop : record_at (stop roster p) p ≡ record (record_at roster p) { started = false; wait = None; step = 0 }
+  at_stop = at_record _
+
+  pub at_block : (wait : Wait) → record_at (block roster p wait) p ≡ record (waiting roster p wait) { since = roster.young }
+  at_block wait = at_newest (waiting roster p wait)
+
+  pub at_unblock : record_at (unblock roster p) p ≡ stamped_if_ready roster (awake roster p)
+  at_unblock = at_readied (awake roster p)
+
+  pub at_release : record_at (release roster p) p ≡ stamped_if_ready roster (awake roster p)
+  at_release = at_readied (awake roster p)
+
+  pub at_set_core : (core : ℕ) → record_at (set_core roster p core) p ≡ record (record_at roster p) { core = core }
+  at_set_core core = at_record _
+
+  pub at_set_step : (step : ℕ) → record_at (set_step roster p step) p ≡ record (record_at roster p) { step = step }
+  at_set_step step = at_record _

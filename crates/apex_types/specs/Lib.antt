@@ -12,3 +12,4 @@ pub mod ProcessServices
 pub mod PartitionServices
 pub mod Machine
 pub mod Lines
+pub mod Distinct

@@ -3,7 +3,7 @@ use Rattle.std.proofs.lemmas.Int.{ints}
 use Rattle.apex_types.specs.Stamps as stamps
 use Rattle.apex_types.specs.Roster.{record_at}
 use Rattle.apex_types.specs.PartitionServices as services
-use Rattle.apex_types.proofs.Rosters.{ChangesOnly, ChangesOnly-readied}
+use Rattle.apex_types.proofs.Rosters.{ChangesOne, changes_release}
 use Rattle.apex_types.proofs.Releases.{release_waiting-none, release_waiting-some}
 use Rattle.apex_dispatch.proofs.partitions.enter_normal.Goals as goal
 
@@ -24,16 +24,16 @@ returns-in-None-clause-notices g c =
 pub loop-turn-preserved : goal.loop-turn-preserved
 loop-turn-preserved g c =
     let old = g.S.Store.roster c.loop-turn.store in
-    let changes : ChangesOnly c.in-Some.process old (stamps.release old c.in-Some.process) = ChangesOnly-readied old c.in-Some.process (record (record_at old c.in-Some.process) { wait = None }) in
+    let changes : ChangesOne old (stamps.release old c.in-Some.process) c.in-Some.process = changes_release old c.in-Some.process in
     record {
       rest = λ left e.
           let step = release_waiting-some left old c.loop-turn.notices c.in-Some.process (sym c.in-Some.ensures.value) in
           let before = c.loop-turn.invariant.rest (left + 1) (omega arith) in
           rw (c.release.ensures, c.push.ensures) (sym step ∙ (rw add-one at before));
-      many = rw c.release.ensures (changes.many ∙ c.loop-turn.invariant.many);
+      many = rw c.release.ensures (changes.count ∙ c.loop-turn.invariant.many);
       few = c.loop-turn.invariant.few;
       room = rw (c.push.ensures, length-append) (omega arith);
-      stamps = rw c.release.ensures (omega (arith, ints, changes.stamps, c.loop-turn.invariant.stamps));
+      stamps = rw c.release.ensures (omega (arith, ints, changes.one_more, c.loop-turn.invariant.stamps));
     }
 
 pub returns-clause-roster : goal.returns-clause-roster

@@ -1,0 +1,134 @@
+-- Each change of a roster leaves it with distinct stamps, all given before the next one.
+use Rattle.std.proofs.Common.{◌≡◌, ◌≢◌, ℕ, ◌+◌, ◌<◌, ◌<ℤ◌, pos, length, refl, sym, ◌∙◌, ap, inl, inr, arith}
+use Rattle.std.proofs.lemmas.Bool.{cases_eq, cond_both}
+use Rattle.std.proofs.lemmas.Int.{ints}
+use Rattle.std.proofs.lemmas.List.{length-set}
+use Rattle.apex_types.specs.declared.records.Mode.{Mode}
+use Rattle.apex_types.specs.declared.records.Record.{Record}
+use Rattle.apex_types.specs.declared.records.Wait.{Wait}
+use Rattle.apex_types.specs.Roster.{Roster, record_at, with_record, nobody, opening_record, opening_roster}
+use Rattle.apex_types.specs.Table.{Table, no_process}
+use Rattle.apex_types.specs.Running.{is_eligible}
+use Rattle.apex_types.specs.Stamps.{newest, readied, start, stop, block, unblock, release, set_mode, set_core, set_step}
+use Rattle.apex_types.specs.Distinct.{IsStamped}
+use Rattle.apex_types.proofs.Places.{length-map_places, at_map_places}
+use Rattle.apex_types.proofs.Rosters.{changes_record, changes_newest, at_record, at_newest, started, awake, waiting}
+
+module _ (roster : Roster) (p : ℕ) (known : p < length roster.records) (stamped : IsStamped roster) where
+  -- a change that gives no stamp
+  since_stays : (r : Record) → r.since ≡ (record_at roster p).since → (q : ℕ) → (record_at (with_record roster p r) q).since ≡ (record_at roster q).since
+  since_stays r same q =
+      elim (cases_eq q p) [
+        | inl e ↦ rw (e, at_record roster p known r, same)
+        | inr apart ↦ rw ((changes_record roster p r).others q apart)
+      ]
+
+  pub stamped_record : (r : Record) → r.since ≡ (record_at roster p).since → IsStamped (with_record roster p r)
+  stamped_record r same = record {
+    given = λ q within. rw (since_stays r same q) (stamped.given q (rw (length-set roster.records p r) at within));
+    distinct = record {
+      distinct = λ q s within there e.
+          stamped.distinct.distinct q s (rw (length-set roster.records p r) at within) (rw (length-set roster.records p r) at there)
+          (sym (since_stays r same q) ∙ e ∙ since_stays r same s);
+    };
+  }
+
+  -- a change that gives the next stamp
+  since_newest : (r : Record) → (record_at (newest roster p r) p).since ≡ roster.young
+  since_newest r = rw (at_newest roster p known r)
+
+  since_others : (r : Record) (q : ℕ) → q ≢ p → (record_at (newest roster p r) q).since ≡ (record_at roster q).since
+  since_others r q apart = rw ((changes_newest roster p r).others q apart)
+
+  within_newest : (r : Record) (q : ℕ) → q < length (newest roster p r).records → q < length roster.records
+  within_newest r q within = rw (length-set roster.records p (record r { since = roster.young })) at within
+
+  given_newest : (r : Record) (q : ℕ) → q < length (newest roster p r).records → (record_at (newest roster p r) q).since <ℤ (newest roster p r).young
+  given_newest r q within =
+      elim (cases_eq q p) [
+        | inl e ↦ rw (e, since_newest r) (omega (arith, ints))
+        | inr apart ↦
+            let others = since_others r q apart in
+            let before = stamped.given q (within_newest r q within) in omega (arith, ints)
+      ]
+
+  other_than_newest : (r : Record) (s : ℕ) → s < length (newest roster p r).records → roster.young ≡ (record_at (newest roster p r) s).since → s ≡ p
+  other_than_newest r s within e =
+      elim (cases_eq s p) [
+        | inl same ↦ same
+        | inr apart ↦
+            let others = since_others r s apart in
+            let before = stamped.given s (within_newest r s within) in absurd (omega (arith, ints))
+      ]
+
+  distinct_newest : (r : Record) (q s : ℕ) → q < length (newest roster p r).records → s < length (newest roster p r).records → (record_at (newest roster p r) q).since ≡ (record_at (newest roster p r) s).since → q ≡ s
+  distinct_newest r q s within there e =
+      elim (cases_eq q p) [
+        | inl same ↦
+            same ∙ sym (other_than_newest r s there (sym (since_newest r) ∙ ap (λ (k : ℕ). (record_at (newest roster p r) k).since) (sym same) ∙ e))
+        | inr apart ↦
+            elim (cases_eq s p) [
+              | inl same ↦
+                  absurd (apart (other_than_newest r q within (sym (since_newest r) ∙ ap (λ (k : ℕ). (record_at (newest roster p r) k).since) (sym same) ∙ sym e)))
+              | inr other ↦
+                  stamped.distinct.distinct q s (within_newest r q within) (within_newest r s there)
+                  (sym (since_others r q apart) ∙ e ∙ since_others r s other)
+            ]
+      ]
+
+  pub stamped_newest : (r : Record) → IsStamped (newest roster p r)
+  stamped_newest r = record {
+    given = given_newest r;
+    distinct = record { distinct = distinct_newest r };
+  }
+
+  pub stamped_readied : (r : Record) → r.since ≡ (record_at roster p).since → IsStamped (readied roster p r)
+  stamped_readied r same =
+      cond_both {A = Roster} (is_eligible roster.mode r) _ _ IsStamped (λ _. stamped_newest r) (λ _. stamped_record r same)
+
+  pub stamped_start : IsStamped (start roster p)
+  stamped_start = stamped_newest (started roster p)
+
+  pub stamped_stop : IsStamped (stop roster p)
+  stamped_stop = stamped_record _ refl
+
+  pub stamped_block : (wait : Wait) → IsStamped (block roster p wait)
+  stamped_block wait = stamped_newest (waiting roster p wait)
+
+  pub stamped_unblock : IsStamped (unblock roster p)
+  stamped_unblock = stamped_readied (awake roster p) refl
+
+  pub stamped_release : IsStamped (release roster p)
+  stamped_release = stamped_readied (awake roster p) refl
+
+  pub stamped_set_core : (core : ℕ) → IsStamped (set_core roster p core)
+  stamped_set_core core = stamped_record _ refl
+
+  pub stamped_set_step : (step : ℕ) → IsStamped (set_step roster p step)
+  stamped_set_step step = stamped_record _ refl
+
+pub stamped_set_mode : (roster : Roster) → IsStamped roster → (mode : Mode) → IsStamped (set_mode roster mode)
+stamped_set_mode roster stamped mode = record {
+  given = stamped.given;
+  distinct = record { distinct = stamped.distinct.distinct };
+}
+
+opening_since : (table : Table) (p : ℕ) → p < length table.processes → (record_at (opening_roster table) p).since ≡ pos (p + 1)
+opening_since table p within =
+    let z : 0 + p ≡ p = omega arith in
+    rw (at_map_places opening_record 0 table.processes p no_process nobody within, z)
+
+opening_within : (table : Table) (p : ℕ) → p < length (opening_roster table).records → p < length table.processes
+opening_within table p within = rw (length-map_places opening_record 0 table.processes) at within
+
+pub stamped_opening : (table : Table) → IsStamped (opening_roster table)
+stamped_opening table = record {
+  given = λ p within.
+      let inside = opening_within table p within in
+      rw (opening_since table p inside) (omega (arith, ints));
+  distinct = record {
+    distinct = λ p q within there e.
+        let first = opening_since table p (opening_within table p within) in
+        let second = opening_since table q (opening_within table q there) in omega (arith, ints);
+  };
+}
