@@ -19,6 +19,7 @@ abbrev pub has_only : List (List ℕ) → Members → Bool
 has_only keys no_members = true
 has_only keys (member k d ms) = list_any (bytes_eq k) keys && has_only keys ms
 
+-- a table with no other key
 abbrev pub known : Place → List (List ℕ) → Members → Result Members TableFault
 known at keys ms = if has_only keys ms then Ok ms else Err (UnknownKey at)
 
@@ -31,38 +32,48 @@ abbrev pub optional : {A : Type 0} → A → (Data → Result A TableFault) → 
 optional default read None = Ok default
 optional default read (Some d) = read d
 
+-- a value that is a text
 abbrev pub text : Place → Data → Result (List ℕ) TableFault
 text at d = some_or (WrongType at) (as_str d)
 
+-- a value that is true or false
 abbrev pub truth : Place → Data → Result Bool TableFault
 truth at d = some_or (WrongType at) (as_bool d)
 
+-- a value that is a table
 abbrev pub table : Place → Data → Result Members TableFault
 table at d = some_or (WrongType at) (as_table d)
 
+-- a value that is an array
 abbrev pub array : Place → Data → Result (List Data) TableFault
 array at d = some_or (WrongType at) (as_array d) >>= λ ds. Ok (list_of ds)
 
+-- the array at a key without a default
 abbrev pub array_at : Place → List ℕ → Members → Result (List Data) TableFault
 array_at at key ms = required at key ms >>= array at
 
+-- no more values than these
 abbrev pub at_most : Place → ℕ → List Data → Result (List Data) TableFault
 at_most at most ds = if nat_le (length ds) most then Ok ds else Err (TooMany at)
 
+-- a number from low to high
 abbrev pub in_range : Place → ℕ → ℕ → ℤ → Result ℕ TableFault
 in_range at low high (pos n) = if nat_le low n && nat_le n high then Ok n else Err (OutOfRange at)
 in_range at low high (negsuc n) = Err (OutOfRange at)
 
--- a whole number from low to high
+-- a value that is a whole number from low to high
 abbrev pub number : Place → ℕ → ℕ → Data → Result ℕ TableFault
 number at low high d = some_or (WrongType at) (as_integer d) >>= in_range at low high
 
+-- the whole number at a key without a default
 abbrev pub number_at : Place → ℕ → ℕ → List ℕ → Members → Result ℕ TableFault
 number_at at low high key ms = required at key ms >>= number at low high
 
+-- the whole number at a key with a default
 abbrev pub number_or : Place → ℕ → ℕ → ℕ → List ℕ → Members → Result ℕ TableFault
 number_or at default low high key ms = optional default (number at low high) (get_member key ms)
 
+-- the truth value at a key with a default
 abbrev pub truth_or : Place → Bool → List ℕ → Members → Result Bool TableFault
 truth_or at default key ms = optional default (truth at) (get_member key ms)
 
@@ -70,13 +81,14 @@ truth_or at default key ms = optional default (truth at) (get_member key ms)
 abbrev pub one_of : Place → List (List ℕ) → List ℕ → Result (List ℕ) TableFault
 one_of at words t = if list_any (bytes_eq t) words then Ok t else Err (OutOfRange at)
 
+-- the text at a key without a default, which is one of these words
 unfoldable pub word_at : Place → List (List ℕ) → List ℕ → Members → Result (List ℕ) TableFault
 word_at at words key ms = do
   d ← required at key ms
   t ← text at d
   one_of at words t
 
--- 1 to 30 visible bytes
+-- a text that a name may be
 abbrev pub well_formed : Place → List ℕ → Result (List ℕ) TableFault
 well_formed at t = if is_name t then Ok t else Err (BadName at)
 
@@ -84,7 +96,7 @@ well_formed at t = if is_name t then Ok t else Err (BadName at)
 abbrev pub unused : Place → List (List ℕ) → List ℕ → Result (List ℕ) TableFault
 unused at taken n = if list_any (bytes_eq n) taken then Err (DoubleName at) else Ok n
 
--- a name; the names taken are those of the section's entries before
+-- the name of an entry; those of the entries before it in its section are taken
 unfoldable pub name_at : Place → List (List ℕ) → Members → Result (List ℕ) TableFault
 name_at at taken ms = do
   d ← required at (codes "name") ms

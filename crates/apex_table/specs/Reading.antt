@@ -15,12 +15,15 @@ use Rattle.apex_table.specs.Keys.{known, text, table, array, array_at, at_most, 
 use Rattle.apex_table.specs.Steps.{step}
 use Rattle.apex_table.specs.Init.{default_init}
 
+-- the keys of the table's top
 abbrev pub top_keys : List (List ℕ)
 top_keys = codes "cores" ∷ codes "history" ∷ codes "process" ∷ codes "semaphore" ∷ []
 
+-- the keys of a process
 abbrev pub process_keys : List (List ℕ)
 process_keys = codes "name" ∷ codes "priority" ∷ codes "core" ∷ codes "start" ∷ codes "script" ∷ []
 
+-- the keys of a semaphore
 abbrev pub semaphore_keys : List (List ℕ)
 semaphore_keys = codes "name" ∷ codes "maximum" ∷ codes "initial" ∷ codes "discipline" ∷ []
 
@@ -32,9 +35,11 @@ pub record ProcessDraft : Type 0 where
   pub start : Bool
   pub script : List (List ℕ)
 
+-- the names of processes
 abbrev pub process_names : List ProcessDraft → List (List ℕ)
 process_names processes = map (λ (p : ProcessDraft). p.name) processes
 
+-- the names of semaphores
 abbrev pub semaphore_names : List SemaphoreEntry → List (List ℕ)
 semaphore_names semaphores = map (λ (s : SemaphoreEntry). s.name) semaphores
 
@@ -52,12 +57,14 @@ some_process (d ∷ ds) = Ok (d ∷ ds)
 abbrev pub texts : Place → List Data → Result (List (List ℕ)) TableFault
 texts at ds = each (λ _ d. text at d) [] ds
 
+-- the script of a process, still as texts
 unfoldable pub script_at : Place → Members → Result (List (List ℕ)) TableFault
 script_at at ms = do
   ds ← array_at at (codes "script") ms
   few ← at_most at 64 ds
   texts at few
 
+-- a process; the names of those before it are taken
 unfoldable pub process : ℕ → Place → List (List ℕ) → Data → Result ProcessDraft TableFault
 process cores at taken d = do
   entry ← table at d
@@ -69,12 +76,15 @@ process cores at taken d = do
   script ← script_at at ms
   Ok (record { name = name; priority = priority; core = core; start = start; script = script })
 
+-- the process after those before
 unfoldable pub next_process : ℕ → List ProcessDraft → Data → Result ProcessDraft TableFault
 next_process cores before d = process cores (place Process (length before + 1)) (process_names before) d
 
+-- the section of processes
 abbrev pub processes : ℕ → List Data → Result (List ProcessDraft) TableFault
 processes cores ds = each (next_process cores) [] ds
 
+-- a semaphore; the names of those before it are taken
 unfoldable pub semaphore : Place → List (List ℕ) → Data → Result SemaphoreEntry TableFault
 semaphore at taken d = do
   entry ← table at d
@@ -85,9 +95,11 @@ semaphore at taken d = do
   discipline ← word_at at (codes "FIFO" ∷ []) (codes "discipline") ms
   Ok (record { name = name; maximum = maximum; initial = initial })
 
+-- the semaphore after those before
 unfoldable pub next_semaphore : List SemaphoreEntry → Data → Result SemaphoreEntry TableFault
 next_semaphore before d = semaphore (place Semaphore (length before + 1)) (semaphore_names before) d
 
+-- the section of semaphores
 abbrev pub semaphores : List Data → Result (List SemaphoreEntry) TableFault
 semaphores ds = each next_semaphore [] ds
 
@@ -95,15 +107,17 @@ semaphores ds = each next_semaphore [] ds
 abbrev pub script : Place → List (List ℕ) → List (List ℕ) → List (List ℕ) → Result (List Call) TableFault
 script at ps ss steps = each (λ _ t. step at ps ss t) [] steps
 
+-- the process after those before, now with the calls of its script
 unfoldable pub next_entry : List (List ℕ) → List (List ℕ) → List ProcessEntry → ProcessDraft → Result ProcessEntry TableFault
 next_entry ps ss before draft = do
   calls ← script (place Process (length before + 1)) ps ss draft.script
   Ok (record { name = draft.name; priority = draft.priority; core = draft.core; start = draft.start; script = calls })
 
--- the processes, now with the calls of their scripts
+-- all processes with the calls of their scripts
 unfoldable pub with_scripts : List ProcessDraft → List SemaphoreEntry → Result (List ProcessEntry) TableFault
 with_scripts drafts sems = each (next_entry (process_names drafts) (semaphore_names sems)) [] drafts
 
+-- the table of TOML's tree
 unfoldable pub reading : Members → Result Table TableFault
 reading tree = do
   ms ← known (place Top 0) top_keys tree
@@ -121,9 +135,11 @@ reading tree = do
 abbrev pub tree_of : List ℕ → Option Members
 tree_of bytes = if is_utf8 bytes then parse_document bytes else None
 
+-- TOML's tree, or that there is none
 abbrev pub document : List ℕ → Result Members TableFault
 document bytes = some_or NotToml (tree_of bytes)
 
+-- the table of a text
 unfoldable pub table_of : List ℕ → Result Table TableFault
 table_of bytes = do
   tree ← document bytes

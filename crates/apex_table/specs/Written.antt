@@ -12,6 +12,7 @@ pub data WrittenSemaphore : Type 0 where
   wait_semaphore : List ℕ → Timeout → WrittenSemaphore
   signal_semaphore : List ℕ → WrittenSemaphore
 
+-- a step of any kind
 pub data Written : Type 0 where
   process : WrittenProcess → Written
   semaphore : WrittenSemaphore → Written

@@ -1,4 +1,5 @@
-ghost use Rattle.std.specs.Prelude.{◌≡◌};
+ghost use Rattle.std.specs.Prelude.{◌≡◌, Some};
+ghost use Rattle.apex_table.specs.Fault.{section_word};
 ghost use Rattle.apex_table.specs.declared.fault.TableFault.TheVariants.{Memory};
 
 use std::alloc::{AllocError, AllocFailed};
@@ -13,13 +14,23 @@ pub enum Section {
     Semaphore,
 }
 
-impl fmt::Display for Section {
-    fn fmt<W: fmt::Write>(&self, f: &mut fmt::Formatter<W>) -> fmt::Result {
+impl Section {
+    fn word(self) -> &'static str
+        ensures { result.now ≡ section_word self }
+    {
         match self {
-            Section::Top => write!(f, "top"),
-            Section::Process => write!(f, "process"),
-            Section::Semaphore => write!(f, "semaphore"),
+            Section::Top => "top",
+            Section::Process => "process",
+            Section::Semaphore => "semaphore",
         }
+    }
+}
+
+impl fmt::Display for Section {
+    ghost output = { λ section. Some (section_word section) };
+
+    fn fmt<W: fmt::Write>(&self, f: &mut fmt::Formatter<W>) -> fmt::Result {
+        f.write_str(self.word())
     }
 }
 
