@@ -1,5 +1,5 @@
 -- The objects that a service leaves are those that the history then gives.
-use Rattle.std.proofs.Common.{◌≡◌, ℕ, ◌+◌, ◌<◌, Bool, true, false, cond, ◌&&◌, ◌||◌, not, ◌==◌, List, [], ◌∷◌, ◌++◌, length, None, Some, nat_lt, refl, sym, ◌∙◌, arith, set, get_or, inl, inr}
+use Rattle.std.proofs.Common.{◌≡◌, ℕ, ◌+◌, ◌<◌, Bool, true, false, cond, ◌&&◌, ◌||◌, not, ◌==◌, List, [], ◌∷◌, ◌++◌, length, None, Some, nat_lt, refl, sym, ◌∙◌, arith, set, get_or, inl, inr, ap}
 use Rattle.std.proofs.lemmas.Bool.{eq-eqb, cases_eq}
 use Rattle.apex_types.specs.declared.Call.{Call}
 use Rattle.apex_types.specs.declared.Call.TheVariants.{Partition, Process as ToProcess, Semaphore as ToSemaphore}
@@ -26,10 +26,10 @@ use Rattle.apex_types.specs.PartitionServices.{partition_service}
 use Rattle.apex_types.specs.Machine.{Outcome, service, after_semaphore, semaphore_at, no_object}
 use Rattle.apex_types.proofs.Places.{map_places_same, set-map_places, get_or-map_places}
 use Rattle.apex_dispatch.proofs.Waits.{newly-none, other}
-use Rattle.apex_dispatch.specs.OpenWaits.{AreEnough, AreOpen}
+use Rattle.apex_dispatch.specs.OpenWaits.{AreEnough, AreBounded, AreOpen}
 use Rattle.apex_dispatch.proofs.Values.{IsQuiet, quiet_same, after_quiet, process_created-push}
 use Rattle.apex_dispatch.proofs.Effects.{AreQuiet, WaitsKept, IsIdle, kept_freed}
-use Rattle.apex_dispatch.proofs.SemaphoreTold.{told_service}
+use Rattle.apex_dispatch.proofs.SemaphoreTold.{told_service, below_service}
 use Rattle.apex_dispatch.proofs.OtherTold.{partition_spares, process_spares}
 
 or_false : (b : Bool) → (b || false) ≡ b
@@ -150,12 +150,19 @@ enough_quiet : (table : Table) (history : List Entry) (e : Entry) → AreEnough 
 enough_quiet table history e enough quiet s within =
     (after_quiet s (semaphore_entry table s) history e (enough s within) (quiet s)).enough
 
-module _ (number now : ℕ) (who : Who) (table : Table) (history : List Entry) (roster : Roster) (enough : AreEnough table history) (open_waits : AreOpen roster history) where
+bounded_quiet : (table : Table) (history : List Entry) (e : Entry) → AreBounded table history → ((s : ℕ) → IsQuiet s history e)
+    → AreBounded table (history ++ e ∷ [])
+bounded_quiet table history e bounded quiet s within =
+    let same = quiet_same s (semaphore_entry table s) history e (quiet s) in
+    rw (ap (λ (o : SemaphoreObject). o.value) same) (bounded s within)
+
+module _ (number now : ℕ) (who : Who) (table : Table) (history : List Entry) (roster : Roster) (enough : AreEnough table history) (bounded : AreBounded table history) (open_waits : AreOpen roster history) where
   -- after a service the objects, and who waits, are as the history then says
   pub record IsExact (caller : Caller) (call : Call) (o : Outcome) : Type 0 where
     pub objects : objects_after table (history ++ entry_with number now who caller history call o.reply o.notices ∷ []) ≡ o.objects
     pub waits : WaitsKept caller call roster o.roster o.reply o.notices
     pub enough_after : AreEnough table (history ++ entry_with number now who caller history call o.reply o.notices ∷ [])
+    pub bounded_after : AreBounded table (history ++ entry_with number now who caller history call o.reply o.notices ∷ [])
 
   abbrev objects : Objects
   objects = objects_after table history
@@ -180,6 +187,15 @@ module _ (number now : ℕ) (who : Who) (table : Table) (history : List Entry) (
           | inl same ↦ rw same told.own.enough
           | inr differs ↦ (after_quiet t (semaphore_entry table t) history e (enough t inside) (told.others t differs)).enough
         ];
+        bounded_after = λ t inside. elim (cases_eq t s) [
+          | inl same ↦
+              let below = below_service roster (semaphore_after history s entry) (bounded s within) caller call in
+              let is = ap (λ (x : SemaphoreObject). x.value) told.own.is in
+              rw same (rw is below)
+          | inr differs ↦
+              let stays = quiet_same t (semaphore_entry table t) history e (told.others t differs) in
+              rw (ap (λ (x : SemaphoreObject). x.value) stays) (bounded t inside)
+        ];
       }
 
   pub exact_service : (caller : Caller) (idle : IsIdle caller roster) (call : Call) → IsKnown table call
@@ -193,6 +209,7 @@ module _ (number now : ℕ) (who : Who) (table : Table) (history : List Entry) (
         objects = objects_by _ _ _ _ (flags_same table.processes history e (λ p. refl)) (semaphores_same table.semaphores history e quiet);
         waits = kept_freed caller (Partition call) roster o.roster idle o.reply o.notices spares.quiet spares.frees;
         enough_after = enough_quiet table history e enough quiet;
+        bounded_after = bounded_quiet table history e bounded quiet;
       }
   exact_service caller idle (ToProcess call) known =
       let o = process_service table.cores roster objects.processes caller call in
@@ -204,6 +221,7 @@ module _ (number now : ℕ) (who : Who) (table : Table) (history : List Entry) (
         objects = objects_by _ _ _ _ flagged.is (semaphores_same table.semaphores history e quiet);
         waits = kept_freed caller (ToProcess call) roster o.roster idle o.reply o.notices spares.quiet spares.frees;
         enough_after = enough_quiet table history e enough quiet;
+        bounded_after = bounded_quiet table history e bounded quiet;
       }
   exact_service caller idle (ToSemaphore call) known =
       let s = semaphore_of call in
@@ -220,9 +238,11 @@ module _ (number now : ℕ) (who : Who) (table : Table) (history : List Entry) (
 
 -- an idle turn changes nothing
 pub idle_exact : (table : Table) (history : List Entry) (e : Entry) → e.call ≡ None → e.notices ≡ [] → AreEnough table history
-    → (objects_after table (history ++ e ∷ []) ≡ objects_after table history) × AreEnough table (history ++ e ∷ [])
-idle_exact table history e no_call no_notices enough =
+    → AreBounded table history
+    → (objects_after table (history ++ e ∷ []) ≡ objects_after table history) × AreEnough table (history ++ e ∷ []) × AreBounded table (history ++ e ∷ [])
+idle_exact table history e no_call no_notices enough bounded =
     let quiet = quiet_everywhere history e (λ p. rw no_notices refl) (λ s. rw no_call refl) (λ s. rw no_call refl) (λ s. rw no_call refl) in (
       objects_by _ _ _ _ (flags_same table.processes history e (λ p. rw no_call refl)) (semaphores_same table.semaphores history e quiet),
       enough_quiet table history e enough quiet,
+      bounded_quiet table history e bounded quiet,
     )

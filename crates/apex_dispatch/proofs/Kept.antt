@@ -86,7 +86,7 @@ kept_turn table machine core init_made room kept =
     let e = entry_of (length history + 1) core deed in
     let caller = turn_caller table roster objects core due in
     let longer : length (history ++ e ∷ []) ≡ length history + 1 = rw length-append refl in
-    let exact = exact_deed table machine core kept.lawful kept.records kept.enough kept.waiting in
+    let exact = exact_deed table machine core kept.lawful kept.records kept.enough kept.bounded kept.waiting in
     record {
       lawful = kept.lawful;
       limit = kept.limit;
@@ -95,6 +95,7 @@ kept_turn table machine core init_made room kept =
       objects = refl;
       stamps = rw longer (omega (arith, ints, small.grows.stamps, kept.stamps));
       enough = exact.enough;
+      bounded = exact.bounded;
       waiting = exact.waiting;
     }
 
@@ -110,7 +111,7 @@ pub turn_is : (table : Table) (machine : Machine) (objects : Objects) (core init
     after ≡ running table (turn table machine core)
 unfolding turn
 turn_is table machine objects core init_made room kept =
-    let exact = exact_deed table machine core kept.lawful kept.records kept.enough kept.waiting in
+    let exact = exact_deed table machine core kept.lawful kept.records kept.enough kept.bounded kept.waiting in
     rw (kept.objects, exact.objects) refl
 
 -- the same of a kernel that is the one after a turn
@@ -134,6 +135,7 @@ kept_opening table lawful =
       objects = refl;
       stamps = omega (arith, ints, count);
       enough = λ s h. omega arith;
+      bounded = λ s h. omega (arith, (lawful.semaphores s h).initial);
       waiting = λ p s h. absurd (opening_free table.processes 0 p (Semaphore s) h);
     } where
       opening_free : (entries : List ProcessEntry) (q p : ℕ) (w : Wait) → (get_or (map_places opening_record q entries) p nobody).wait ≡ Some w → ⊥

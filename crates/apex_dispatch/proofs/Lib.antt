@@ -7,5 +7,5 @@ pub mod SemaphoreTold
 pub mod OtherTold
 pub mod Exact
 pub mod Turns
-pub mod Runs
 pub mod Kept
+pub mod Runs

@@ -1,5 +1,5 @@
 -- Each service of a semaphore leaves the value that the history then gives.
-use Rattle.std.proofs.Common.{◌≡◌, ◌≢◌, ℕ, ◌+◌, ◌≤◌, Bool, true, false, cond, ◌&&◌, ◌||◌, not, ◌==◌, List, [], ◌∷◌, Option, None, Some, nat_lt, refl, sym}
+use Rattle.std.proofs.Common.{◌≡◌, ◌≢◌, ℕ, ◌+◌, ◌≤◌, Bool, true, false, cond, ◌&&◌, ◌||◌, not, ◌==◌, List, [], ◌∷◌, Option, None, Some, nat_lt, refl, sym, arith}
 use Rattle.std.proofs.lemmas.Option.{none-some}
 use Rattle.std.proofs.lemmas.Bool.{cond_both, eq-eqb, ltb-true}
 use Rattle.apex_types.specs.declared.Call.TheVariants.{Semaphore as ToSemaphore}
@@ -24,7 +24,7 @@ use Rattle.apex_types.specs.Running.{is_eligible}
 use Rattle.apex_types.specs.Stamps.{unblock, newest}
 use Rattle.apex_types.specs.Table.{SemaphoreEntry}
 use Rattle.apex_types.specs.Waiters.{first_waiter}
-use Rattle.apex_types.specs.History.{is_no_error, satisfied_waits, semaphore_after, semaphore_value}
+use Rattle.apex_types.specs.History.{is_no_error, satisfied_waits, semaphore_after, semaphore_value, SemaphoreObject}
 use Rattle.apex_types.specs.SemaphoreServices.{SemaphoreOutcome, refused_semaphore, create_semaphore, wait_at_zero, wait_semaphore, raise_semaphore, signal_to, signal_semaphore, wait_by, semaphore_service, semaphore_of}
 use Rattle.apex_dispatch.proofs.Waits.{newly-none, newly-one, open_once}
 use Rattle.apex_dispatch.specs.OpenWaits.{wakes, has_open, signals}
@@ -178,3 +178,36 @@ module _ (number now : ℕ) (who : Who) (history : List Entry) (roster : Roster)
   told_service caller idle (CreateSemaphore s) enough = told_create number now who caller history roster idle open_waits s entry enough
   told_service caller idle (WaitSemaphore s timeout) enough = told_wait_by caller idle s enough timeout
   told_service caller idle (SignalSemaphore s) enough = told_signal number now who caller history roster idle open_waits s entry enough
+
+-- no service lifts a value above its maximum
+module _ (roster : Roster) (semaphore : SemaphoreObject) (below : semaphore.value ≤ semaphore.maximum) where
+  abbrev IsBelow : SemaphoreOutcome → Type 0
+  IsBelow o = o.semaphore.value ≤ semaphore.maximum
+
+  below_if : (b : Bool) (x y : SemaphoreOutcome) → (b ≡ true → IsBelow x) → (b ≡ false → IsBelow y) → IsBelow (cond b x y)
+  below_if b x y = cond_both {A = SemaphoreOutcome} b x y IsBelow
+
+  below_create : IsBelow (create_semaphore roster semaphore)
+  below_create = below_if (is_normal roster.mode) _ _ (λ _. below) (λ _. below_if semaphore.created _ _ (λ _. below) (λ _. below))
+
+  below_at_zero : (s p : ℕ) (timeout : Timeout) → IsBelow (wait_at_zero roster semaphore s p timeout)
+  below_at_zero s p Poll = below
+  below_at_zero s p Infinite = below
+
+  below_wait_by : (s : ℕ) (caller : Caller) (timeout : Timeout) → IsBelow (wait_by roster semaphore s caller timeout)
+  below_wait_by s (Process p) timeout =
+      below_if (not semaphore.created) _ _ (λ _. below)
+      (λ _. below_if (nat_lt 0 semaphore.value) _ _ (λ _. omega (arith, below)) (λ _. below_at_zero s p timeout))
+  below_wait_by s Init timeout = below
+  below_wait_by s Nobody timeout = below
+
+  below_signal_to : (first : Option ℕ) → IsBelow (signal_to roster semaphore first)
+  below_signal_to None =
+      below_if (nat_lt semaphore.value semaphore.maximum) _ _ (λ less. omega (arith, ltb-true _ _ less)) (λ _. below)
+  below_signal_to (Some p) = below
+
+  pub below_service : (caller : Caller) (call : SemaphoreCall) → IsBelow (semaphore_service roster semaphore caller call)
+  below_service caller (CreateSemaphore s) = below_create
+  below_service caller (WaitSemaphore s timeout) = below_wait_by s caller timeout
+  below_service caller (SignalSemaphore s) =
+      below_if (not semaphore.created) _ _ (λ _. below) (λ _. below_signal_to (first_waiter roster (Semaphore s)))

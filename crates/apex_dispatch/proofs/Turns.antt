@@ -25,7 +25,7 @@ use Rattle.apex_types.specs.Machine.{Machine, Deed, service, served, script_deed
 use Rattle.apex_types.proofs.Choice.{NonePasses, IsAmong, least_among}
 use Rattle.apex_dispatch.proofs.Known.{known_step, known_script_step}
 use Rattle.apex_dispatch.proofs.Waits.{open-push}
-use Rattle.apex_dispatch.specs.OpenWaits.{AreEnough, AreOpen}
+use Rattle.apex_dispatch.specs.OpenWaits.{AreEnough, AreBounded, AreOpen}
 use Rattle.apex_dispatch.proofs.Effects.{WaitsKept, IsIdle, Frees-moved, found_passes}
 use Rattle.apex_dispatch.proofs.Exact.{entry_with, exact_service, idle_exact}
 
@@ -48,17 +48,19 @@ open_after number now who caller history old new call reply notices before kept 
 pub record IsDeedExact (table : Table) (history : List Entry) (number core : ℕ) (deed : Deed) : Type 0 where
   pub objects : objects_after table (history ++ entry_of number core deed ∷ []) ≡ deed.outcome.objects
   pub enough : AreEnough table (history ++ entry_of number core deed ∷ [])
+  pub bounded : AreBounded table (history ++ entry_of number core deed ∷ [])
   pub waiting : AreOpen deed.outcome.roster (history ++ entry_of number core deed ∷ [])
 
-module _ (table : Table) (lawful : IsLawful table) (history : List Entry) (number core : ℕ) (enough : AreEnough table history) where
+module _ (table : Table) (lawful : IsLawful table) (history : List Entry) (number core : ℕ) (enough : AreEnough table history) (bounded : AreBounded table history) where
   exact_served : (roster : Roster) → AreOpen roster history → (caller : Caller) → IsIdle caller roster → (call : Call) → IsKnown table call
       → IsDeedExact table history number core (served table.cores roster (objects_after table history) caller call)
   exact_served roster before caller idle call known =
       let o = service table.cores roster (objects_after table history) caller call in
-      let exact = exact_service number o.roster.now (Core core) table history roster enough before caller idle call known in
+      let exact = exact_service number o.roster.now (Core core) table history roster enough bounded before caller idle call known in
       record {
         objects = exact.objects;
         enough = exact.enough_after;
+        bounded = exact.bounded_after;
         waiting = open_after number o.roster.now (Core core) caller history roster o.roster call o.reply o.notices before exact.waits;
       }
 
@@ -93,10 +95,11 @@ module _ (table : Table) (lawful : IsLawful table) (history : List Entry) (numbe
     exact_chosen known None is =
         let deed = chosen_deed table roster (objects_after table history) None in
         let e = entry_of number core deed in
-        let exact = idle_exact table history e refl refl enough in
+        let exact = idle_exact table history e refl refl enough bounded in
         record {
           objects = exact.0;
           enough = exact.1;
+          bounded = exact.2;
           waiting = λ p s h. rw (open-push s p history e, before p s h) refl;
         }
     exact_chosen known (Some p) is =
@@ -131,9 +134,9 @@ chosen_known roster core p is = found_within roster.records _ (least_among (runs
 -- a turn's deed, by the objects of the history
 pub exact_deed : (table : Table) (machine : Machine) (core : ℕ) → IsLawful table
     → length machine.roster.records ≡ length table.processes
-    → AreEnough table machine.history → AreOpen machine.roster machine.history
+    → AreEnough table machine.history → AreBounded table machine.history → AreOpen machine.roster machine.history
     → IsDeedExact table machine.history (length machine.history + 1) core (deed_of table machine core)
-exact_deed table machine core lawful many enough before =
-    exact_turn table lawful machine.history (length machine.history + 1) core enough machine.roster before
+exact_deed table machine core lawful many enough bounded before =
+    exact_turn table lawful machine.history (length machine.history + 1) core enough bounded machine.roster before
     (λ p is. omega (arith, chosen_known machine.roster core p is, many))
     (due_init_call table machine core) (due_known table machine core lawful)

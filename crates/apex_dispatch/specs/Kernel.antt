@@ -3,7 +3,7 @@ use Rattle.std.specs.Prelude.{◌≡◌, ℕ, ◌+◌, ◌*◌, length, pos, ◌
 use Rattle.apex_types.specs.Table.{Table, IsLawful}
 use Rattle.apex_types.specs.History.{Objects, objects_after, init_count}
 use Rattle.apex_types.specs.Machine.{Machine}
-use Rattle.apex_dispatch.specs.OpenWaits.{AreEnough, AreOpen}
+use Rattle.apex_dispatch.specs.OpenWaits.{AreEnough, AreBounded, AreOpen}
 
 -- a kernel: its table, the machine's state, and the running values of its objects
 pub record Running : Type 0 where
@@ -29,4 +29,5 @@ pub record IsKept (kernel : Running) (init_made room : ℕ) : Type 0 where
   pub objects : kernel.objects ≡ objects_after kernel.table kernel.machine.history
   pub stamps : kernel.machine.roster.young ≤ℤ pos (64 + 64 * length kernel.machine.history)
   pub enough : AreEnough kernel.table kernel.machine.history
+  pub bounded : AreBounded kernel.table kernel.machine.history
   pub waiting : AreOpen kernel.machine.roster kernel.machine.history

@@ -2,3 +2,5 @@ pub mod Callers
 pub mod OpenWaits
 pub mod Kernel
 pub mod Events
+pub mod Laws
+pub mod Worked

@@ -5,7 +5,7 @@ use Rattle.apex_types.specs.declared.Entry.{Entry}
 use Rattle.apex_types.specs.declared.Wait.TheVariants.{Semaphore}
 use Rattle.apex_types.specs.Roster.{Roster, record_at}
 use Rattle.apex_types.specs.Table.{Table, semaphore_entry}
-use Rattle.apex_types.specs.History.{is_waking, is_by_process, is_wait_on, is_accepted, is_accepted_signal, satisfied_waits}
+use Rattle.apex_types.specs.History.{is_waking, is_by_process, is_wait_on, is_accepted, is_accepted_signal, satisfied_waits, semaphore_value}
 
 -- the entry wakes process p with NO_ERROR
 abbrev pub wakes : ℕ → Entry → Bool
@@ -31,6 +31,11 @@ signals s history = count_by (is_accepted_signal s) history
 abbrev pub AreEnough : Table → List Entry → Type 0
 AreEnough table history = (s : ℕ) → s < length table.semaphores
     → satisfied_waits s history ≤ (semaphore_entry table s).initial + signals s history
+
+-- no semaphore's value is above its maximum
+abbrev pub AreBounded : Table → List Entry → Type 0
+AreBounded table history = (s : ℕ) → s < length table.semaphores
+    → semaphore_value (semaphore_entry table s).initial s history ≤ (semaphore_entry table s).maximum
 
 -- who waits for a semaphore has an open wait on it
 abbrev pub AreOpen : Roster → List Entry → Type 0

@@ -3,6 +3,7 @@
 
 mod deeds;
 mod kernels;
+mod laws;
 mod objects;
 mod partitions;
 mod processes;
@@ -10,3 +11,4 @@ mod semaphores;
 mod services;
 
 pub use kernels::Kernel;
+pub use laws::{runs_compose, runs_stay_within, values_stay_in_range, worked_histories};

@@ -1,7 +1,6 @@
-use Rattle.std.proofs.Common.{ℕ, ◌+◌, ◌-◌, ◌∙◌, arith, add-one, sym, ap, None, length-append}
+use Rattle.std.proofs.Common.{ℕ, ◌+◌, ◌-◌, ◌∙◌, arith, add-one, sym, ap, length-append}
 use Rattle.std.proofs.lemmas.Int.{ints}
 use Rattle.apex_types.specs.Stamps as stamps
-use Rattle.apex_types.specs.Roster.{record_at}
 use Rattle.apex_types.specs.PartitionServices as services
 use Rattle.apex_types.proofs.Rosters.{ChangesOne, changes_release}
 use Rattle.apex_types.proofs.Releases.{release_waiting-none, release_waiting-some}

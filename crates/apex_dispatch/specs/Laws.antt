@@ -1,0 +1,28 @@
+-- Laws of whole runs, in the subject's own words.
+use Rattle.std.specs.Prelude.{◌≡◌, ℕ, ◌+◌, ◌≤◌, ◌<◌, List, ◌++◌, length}
+use Rattle.apex_types.specs.declared.Event.{Event}
+use Rattle.apex_types.specs.declared.Entry.{Entry}
+use Rattle.apex_types.specs.Table.{Table, semaphore_entry}
+use Rattle.apex_types.specs.History.{satisfied_waits, semaphore_value}
+use Rattle.apex_types.specs.Machine.{Machine, run, opening}
+use Rattle.apex_dispatch.specs.OpenWaits.{signals}
+
+-- semaphore s never served more waits than its start and its signals allow, and its value is at most
+-- its maximum
+pub record IsInRange (table : Table) (history : List Entry) (s : ℕ) : Type 0 where
+  pub served : satisfied_waits s history ≤ (semaphore_entry table s).initial + signals s history
+  pub most : semaphore_value (semaphore_entry table s).initial s history ≤ (semaphore_entry table s).maximum
+
+-- in every run each semaphore's value stays from 0 to its maximum
+abbrev pub ValuesStayInRange : Table → Type 0
+ValuesStayInRange table = (events : List Event) (s : ℕ) → s < length table.semaphores
+    → IsInRange table (run table (opening table) events).history s
+
+-- a run over some events and then others is a run over the first, and then over the others
+abbrev pub RunsCompose : Table → Machine → Type 0
+RunsCompose table machine = (first rest : List Event)
+    → run table machine (first ++ rest) ≡ run table (run table machine first) rest
+
+-- the history never grows past its limit
+abbrev pub RunsStayWithin : Table → Type 0
+RunsStayWithin table = (events : List Event) → length (run table (opening table) events).history ≤ table.limit

@@ -1,0 +1,68 @@
+-- Three worked histories: small tables and events, and the lines that the definitions give for them.
+use Rattle.std.specs.Prelude.{◌≡◌, ℕ, true, List, [], ◌∷◌, codes, replicate, ◌++◌}
+use Rattle.apex_types.specs.declared.Call.TheVariants.{Partition, Process, Semaphore}
+use Rattle.apex_types.specs.declared.PartitionCall.TheVariants.{SetPartitionMode}
+use Rattle.apex_types.specs.declared.RequestedMode.TheVariants.{Normal}
+use Rattle.apex_types.specs.declared.ProcessCall.TheVariants.{CreateProcess, InitializeProcessCoreAffinity, Start}
+use Rattle.apex_types.specs.declared.SemaphoreCall.TheVariants.{CreateSemaphore, WaitSemaphore, SignalSemaphore}
+use Rattle.apex_types.specs.declared.Timeout.TheVariants.{Infinite}
+use Rattle.apex_types.specs.declared.Event.{Event}
+use Rattle.apex_types.specs.declared.Event.TheVariants.{Turn}
+use Rattle.apex_types.specs.Table.{Table}
+use Rattle.apex_types.specs.Machine.{run, opening}
+use Rattle.apex_types.specs.Lines.{lines_of}
+
+-- a waiter on core 0 and a signaller on core 1, with one semaphore of value 0
+abbrev pub waiter_and_signaller : Table
+waiter_and_signaller = record {
+  cores = 2;
+  limit = 4096;
+  processes =
+      (record { name = codes "P1"; priority = 10; core = 0; start = true; script = Semaphore (WaitSemaphore 0 Infinite) ∷ [] })
+      ∷ (record { name = codes "P2"; priority = 10; core = 1; start = true; script = Semaphore (SignalSemaphore 0) ∷ [] }) ∷ [];
+  semaphores = (record { name = codes "S"; maximum = 1; initial = 0 }) ∷ [];
+  init =
+      Semaphore (CreateSemaphore 0)
+      ∷ Process (CreateProcess 0) ∷ Process (InitializeProcessCoreAffinity 0 0)
+      ∷ Process (CreateProcess 1) ∷ Process (InitializeProcessCoreAffinity 1 1)
+      ∷ Process (Start 0) ∷ Process (Start 1)
+      ∷ Partition (SetPartitionMode Normal) ∷ [];
+}
+
+-- a process with an empty script
+abbrev pub empty_script : Table
+empty_script = record {
+  cores = 1;
+  limit = 4096;
+  processes = (record { name = codes "P"; priority = 10; core = 0; start = true; script = [] }) ∷ [];
+  semaphores = [];
+  init =
+      Process (CreateProcess 0) ∷ Process (InitializeProcessCoreAffinity 0 0) ∷ Process (Start 0)
+      ∷ Partition (SetPartitionMode Normal) ∷ [];
+}
+
+-- the lines of the history that these events make
+abbrev pub history_lines : Table → List Event → List ℕ
+history_lines table events = lines_of table (run table (opening table) events).history
+
+-- the lines of the init list of the waiter and the signaller
+abbrev pub init_lines : List ℕ
+init_lines = codes "1 0 core0 init CREATE_SEMAPHORE S -> NO_ERROR\n2 0 core0 init CREATE_PROCESS P1 -> NO_ERROR\n3 0 core0 init INITIALIZE_PROCESS_CORE_AFFINITY P1 0 -> NO_ERROR\n4 0 core0 init CREATE_PROCESS P2 -> NO_ERROR\n5 0 core0 init INITIALIZE_PROCESS_CORE_AFFINITY P2 1 -> NO_ERROR\n6 0 core0 init START P1 -> NO_ERROR\n7 0 core0 init START P2 -> NO_ERROR\n8 0 core0 init SET_PARTITION_MODE NORMAL -> NO_ERROR | released 1 | released 2\n"
+
+-- a signal wakes the process that waits
+abbrev pub SignalWakesWaiter : Type 0
+SignalWakesWaiter =
+    history_lines waiter_and_signaller (replicate 8 (Turn 0) ++ Turn 0 ∷ Turn 1 ∷ [])
+    ≡ init_lines ++ codes "9 0 core0 1 WAIT_SEMAPHORE S infinite -> BLOCKED\n10 0 core1 2 SIGNAL_SEMAPHORE S -> NO_ERROR | woken 1 NO_ERROR\n"
+
+-- a signal that comes first is kept for the wait
+abbrev pub SignalBeforeWait : Type 0
+SignalBeforeWait =
+    history_lines waiter_and_signaller (replicate 8 (Turn 0) ++ Turn 1 ∷ Turn 0 ∷ [])
+    ≡ init_lines ++ codes "9 0 core1 2 SIGNAL_SEMAPHORE S -> NO_ERROR\n10 0 core0 1 WAIT_SEMAPHORE S infinite -> NO_ERROR\n"
+
+-- the end of a script stops its process, and the core is idle then
+abbrev pub EmptyScriptStopsItself : Type 0
+EmptyScriptStopsItself =
+    history_lines empty_script (replicate 6 (Turn 0))
+    ≡ codes "1 0 core0 init CREATE_PROCESS P -> NO_ERROR\n2 0 core0 init INITIALIZE_PROCESS_CORE_AFFINITY P 0 -> NO_ERROR\n3 0 core0 init START P -> NO_ERROR\n4 0 core0 init SET_PARTITION_MODE NORMAL -> NO_ERROR | released 1\n5 0 core0 1 STOP_SELF -> GONE\n6 0 core0 - idle -> IDLE\n"
