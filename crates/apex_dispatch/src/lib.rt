@@ -9,6 +9,8 @@ mod partitions;
 mod processes;
 mod semaphores;
 mod services;
+#[cfg(test)]
+mod tests;
 
 pub use kernels::Kernel;
 pub use laws::{runs_compose, runs_stay_within, values_stay_in_range, worked_histories};

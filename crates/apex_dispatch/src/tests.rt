@@ -1,0 +1,81 @@
+ghost use Rattle.std.specs.Prelude.{◌≡◌, ◌<◌, IfOk};
+
+use crate::Kernel;
+use apex_store::{PlainStore, Store};
+use apex_table::read_table;
+use apex_types::{Caller, CoreId, Event, Full, Mode, Notice, ProcessId, Reply, ReturnCode};
+use std::alloc::Global;
+use std::process::Abort;
+use std::test::Fail;
+
+const WAITER_AND_SIGNALLER: &str = "
+cores = 2
+history = 11
+semaphore = [{ name = \"S\", maximum = 1, initial = 0, discipline = \"FIFO\" }]
+
+[[process]]
+name = \"P1\"
+priority = 10
+start = true
+script = [\"WAIT_SEMAPHORE S infinite\"]
+
+[[process]]
+name = \"P2\"
+priority = 10
+core = 1
+start = true
+script = [\"SIGNAL_SEMAPHORE S\"]
+";
+
+fn booted(alloc: Global) -> Result<Kernel<PlainStore>, Fail> {
+    let table = read_table(alloc, WAITER_AND_SIGNALLER.as_bytes())?;
+    let store = PlainStore::new(alloc, &table)?;
+    Ok(Kernel::boot(alloc, table, store)?)
+}
+
+fn turn_of<S: Store>(rt: &impl Abort, kernel: &mut Kernel<S>, core: CoreId) -> Result<(), Full> {
+    assert!(rt; core.number() < kernel.table().cores());
+    kernel.turn(core)
+}
+
+fn run_one<S: Store>(rt: &impl Abort, kernel: &mut Kernel<S>, core: CoreId) -> Result<(), Full> {
+    assert!(rt; core.number() < kernel.table().cores());
+    kernel.run(&[Event::Turn(core)])
+}
+
+#[test]
+fn signal_wakes_the_waiter(rt: HostRuntime) -> Result<(), Fail> {
+    let mut kernel = booted(rt.alloc())?;
+    let (first, second) = (CoreId::new(0), CoreId::new(1));
+    for _turn in 0..9 {
+        assert_eq!(rt; turn_of(&rt, &mut kernel, first), Ok(()));
+    }
+    assert_eq!(rt; kernel.store().mode(), Mode::Normal);
+    assert_eq!(rt; run_one(&rt, &mut kernel, second), Ok(()));
+    assert_eq!(rt; kernel.store().chosen(first), Some(ProcessId::at(0)));
+    let entries = kernel.entries();
+    assert_eq!(rt; entries.len(), 10);
+    let blocked = &entries[8];
+    assert_eq!(rt; blocked.number, 9);
+    assert_eq!(rt; blocked.process, Caller::Process(ProcessId::at(0)));
+    assert_eq!(rt; blocked.reply, Reply::Blocked);
+    let signalled = &entries[9];
+    assert_eq!(rt; signalled.reply, Reply::Code(ReturnCode::NoError));
+    let woken = Notice::Woken(ProcessId::at(0), ReturnCode::NoError);
+    assert_eq!(rt; signalled.notices.as_slice(), [woken].as_slice());
+    Ok(())
+}
+
+#[test]
+fn a_full_history_takes_no_event(rt: HostRuntime) -> Result<(), Fail> {
+    let mut kernel = booted(rt.alloc())?;
+    let core = CoreId::new(0);
+    for _turn in 0..11 {
+        assert_eq!(rt; turn_of(&rt, &mut kernel, core), Ok(()));
+    }
+    assert_eq!(rt; turn_of(&rt, &mut kernel, core), Err(Full { entries: 11 }));
+    assert_eq!(rt; run_one(&rt, &mut kernel, core), Err(Full { entries: 11 }));
+    assert_eq!(rt; kernel.entries().len(), 11);
+    assert_eq!(rt; kernel.now(), 0);
+    Ok(())
+}
