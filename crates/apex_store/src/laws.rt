@@ -1,5 +1,4 @@
 //! What the choices of every store mean.
-ghost use Rattle.std.specs.Prelude.{◌<◌, length};
 ghost use Rattle.apex_types.specs.Distinct.{HasDistinctStamps, IsStamped};
 ghost use Rattle.apex_types.specs.Roster.{opening_roster, record_at};
 ghost use Rattle.apex_store.specs.Laws as laws;
@@ -47,7 +46,6 @@ pub fn next_waiter_is_next<S: Store>(store: &S, queue: Wait, process: ProcessId)
 
 /// A process that waits is in the queue that it waits for, and in no other.
 pub fn waits_in_one_queue<S: Store>(store: &S, process: ProcessId)
-    requires { process < length (S.roster store.now).records }
     ensures { laws.WaitsInOneQueue (record_at (S.roster store.now) process) }
 {}
 
