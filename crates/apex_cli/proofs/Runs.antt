@@ -1,7 +1,6 @@
--- Runs of the machine: one after the other, and at a full history.
-use Rattle.std.proofs.Common.{◌≡◌, ◌∙◌, ℕ, ◌+◌, ◌-◌, ◌<◌, ◌≤◌, true, false, arith, refl, sym, ap, List, [], ◌∷◌, ◌++◌, length, take, drop, nat_lt}
+-- Runs of the machine over the items of a schedule.
+use Rattle.std.proofs.Common.{◌≡◌, ◌∙◌, ℕ, ◌+◌, ◌-◌, ◌<◌, ◌≤◌, arith, refl, sym, ap, List, [], ◌∷◌, ◌++◌, length, take, drop}
 use Rattle.std.specs.Prelude.{replicate, slice_index_or}
-use Rattle.std.proofs.lemmas.Bool.Decides.{nat_tests}
 use Rattle.std.proofs.lemmas.List.{append-nil, length-append, length-replicate, replicate-append-replicate, take-append-drop, take_more}
 use Rattle.std.proofs.lemmas.Grind.{flat_map-append, replicate_next}
 use Rattle.std.proofs.lemmas.List.Folds.{length-flat_map-take}
@@ -9,51 +8,21 @@ use Rattle.apex_types.specs.declared.Event.{Event}
 use Rattle.apex_types.specs.declared.Event.TheVariants.{Turn}
 use Rattle.apex_types.specs.Machine.{Machine, accept, run, turn}
 use Rattle.apex_types.specs.Table.{Table}
+use Rattle.apex_dispatch.proofs.Runs.{accept-room, run-append, run-full}
 use Rattle.apex_cli.specs.declared.schedule.Item.{Item}
 use Rattle.apex_cli.specs.Schedule.{events_of_item, events_of_items}
-
--- a run of some events and then of others
-pub run_append : (table : Table) (machine : Machine) (xs ys : List Event)
-    → run table machine (xs ++ ys) ≡ run table (run table machine xs) ys
-run_append table machine [] ys = refl
-run_append table machine (x ∷ xs) ys = run_append table (accept table machine x) xs ys
-
--- at a full history nothing happens
-accept_full : (table : Table) (machine : Machine) (event : Event) → table.limit ≤ length machine.history
-    → accept table machine event ≡ machine
-accept_full table machine event full =
-    let none : nat_lt (length machine.history) table.limit ≡ false = grind (arith, nat_tests) in
-    rw none refl
-
-pub run_full : (table : Table) (machine : Machine) (events : List Event) → table.limit ≤ length machine.history
-    → run table machine events ≡ machine
-run_full table machine [] full = refl
-run_full table machine (event ∷ events) full =
-    rw (accept_full table machine event full) (run_full table machine events full)
-
--- an accepted turn
-pub accept_turn : (table : Table) (machine : Machine) (core : ℕ) → length machine.history < table.limit
-    → accept table machine (Turn core) ≡ turn table machine core
-accept_turn table machine core room =
-    let some : nat_lt (length machine.history) table.limit ≡ true = grind (arith, nat_tests) in
-    rw some refl
-
-pub length_turn : (table : Table) (machine : Machine) (core : ℕ)
-    → length (turn table machine core).history ≡ length machine.history + 1
-unfolding turn
-length_turn table machine core = simp length-append
 
 -- one turn more of a core
 pub run_again : (table : Table) (machine : Machine) (core i : ℕ)
     → run table machine (replicate (i + 1) (Turn core)) ≡ accept table (run table machine (replicate i (Turn core))) (Turn core)
 run_again table machine core i =
-    rw (replicate_next, run_append) refl
+    rw (replicate_next, run-append) refl
 
 -- the events beyond a full history
 stop : (table : Table) (machine : Machine) (xs ys all : List Event) → xs ++ ys ≡ all
     → table.limit ≤ length (run table machine xs).history → run table machine xs ≡ run table machine all
 stop table machine xs ys all both full =
-    sym (run_full table (run table machine xs) ys full) ∙ sym (run_append table machine xs ys) ∙ ap (run table machine) both
+    sym (run-full table (run table machine xs) ys full) ∙ sym (run-append table machine xs ys) ∙ ap (run table machine) both
 
 -- an accepted turn of a core after i of them
 pub turn_more : (table now : Table) (first machine : Machine) (core i : ℕ) → now ≡ table
@@ -62,7 +31,7 @@ pub turn_more : (table now : Table) (first machine : Machine) (core i : ℕ) →
 turn_more table now first machine core i same far room =
     let within : length machine.history < table.limit = rw same at room in
     ap (λ t. turn t machine core) same ∙ sym (run_again table first core i
-    ∙ ap (λ m. accept table m (Turn core)) (sym far) ∙ accept_turn table machine core within)
+    ∙ ap (λ m. accept table m (Turn core)) (sym far) ∙ accept-room table machine (Turn core) within)
 
 -- turns of a core beyond a full history
 pub turns_stop : (table : Table) (machine : Machine) (core i n : ℕ) → i ≤ n
@@ -90,7 +59,7 @@ pub item_more : (table now : Table) (first machine after : Machine) (items : Lis
 item_more table now first machine after items item i within here same far played =
     played ∙ ap (λ t. run t machine (events_of_item item)) same ∙ ap (λ m. run table m (events_of_item item)) far
     ∙ ap (λ x. run table (run table first (events_of_items (take i items))) (events_of_item x)) here
-    ∙ sym (run_append table first (events_of_items (take i items)) (events_of_item (slice_index_or items i item)))
+    ∙ sym (run-append table first (events_of_items (take i items)) (events_of_item (slice_index_or items i item)))
     ∙ ap (run table first) (sym (items_next items i item within))
 
 -- the items beyond a full history

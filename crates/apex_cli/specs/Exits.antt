@@ -1,5 +1,5 @@
 -- How the program ends.
-use Rattle.std.specs.Prelude.{◌≡◌, ℕ, List, Option, None, Some}
+use Rattle.std.specs.Prelude.{◌≡◌, ℕ, List, Option, None, Some, IfSome}
 use Rattle.std.specs.Io.KnownBytes.{Appends, Keeps}
 use Rattle.apex_history.specs.Counted.{AppendsBeginning, one_more}
 use Rattle.apex_cli.specs.declared.schedule.Item.{Item}
@@ -7,29 +7,58 @@ use Rattle.apex_cli.specs.declared.faults.CliFault.{CliFault}
 use Rattle.apex_cli.specs.declared.faults.CliFault.TheVariants.{Usage, Memory, Read, Write}
 use Rattle.apex_cli.specs.Replay.{answer_of, refuses, writes}
 
--- The ways in which the program ends, by the items that are asked for, the bytes that there are to
--- read, what the writer holds before, and how many reads and writes have failed before. Last come
--- the fault, the reads and the writes that have failed afterwards, and what the writer holds then.
-pub data Ends (asked : Option (List Item)) (bytes : List ℕ) (held : Option (List ℕ)) (reads_failed writes_failed : ℕ)
-    : Option CliFault → ℕ → ℕ → Option (List ℕ) → Type 0 where
-  -- memory was refused, and nothing was written
-  no_memory : {now : Option (List ℕ)} → Keeps held now
-      → Ends asked bytes held reads_failed writes_failed (Some Memory) reads_failed writes_failed now
-  -- the words or the schedule are ill-formed; nothing was read or written
-  usage : {now : Option (List ℕ)} → asked ≡ None → Keeps held now
-      → Ends asked bytes held reads_failed writes_failed (Some Usage) reads_failed writes_failed now
-  -- a read failed, and nothing was written
-  unread : {items : List Item} {now : Option (List ℕ)} → asked ≡ Some items → Keeps held now
-      → Ends asked bytes held reads_failed writes_failed (Some Read) (one_more reads_failed) writes_failed now
-  -- the bytes are refused, and nothing was written
-  refused : {items : List Item} {fault : CliFault} {now : Option (List ℕ)} → asked ≡ Some items
-      → answer_of items bytes ≡ refuses fault → Keeps held now
-      → Ends asked bytes held reads_failed writes_failed (Some fault) reads_failed writes_failed now
+-- what the reader has left and what the writer holds, where they tell it, and how many reads and
+-- writes have failed
+pub record Ports : Type 0 where
+  pub left : Option (List ℕ)
+  pub held : Option (List ℕ)
+  pub failed_reads : ℕ
+  pub failed_writes : ℕ
+
+abbrev pub ports : Option (List ℕ) → Option (List ℕ) → ℕ → ℕ → Ports
+ports left held failed_reads failed_writes =
+    record { left = left; held = held; failed_reads = failed_reads; failed_writes = failed_writes }
+
+-- no read and no write failed
+abbrev pub NoneFails : Ports → Ports → Type 0
+NoneFails before after =
+    (after.failed_reads ≡ before.failed_reads) × (after.failed_writes ≡ before.failed_writes)
+
+-- a read failed, and no write
+abbrev pub AReadFails : Ports → Ports → Type 0
+AReadFails before after =
+    (after.failed_reads ≡ one_more before.failed_reads) × (after.failed_writes ≡ before.failed_writes)
+
+-- a write failed, and no read
+abbrev pub AWriteFails : Ports → Ports → Type 0
+AWriteFails before after =
+    (after.failed_reads ≡ before.failed_reads) × (after.failed_writes ≡ one_more before.failed_writes)
+
+-- the bytes are those that the reader had left, where it tells them
+abbrev pub IsLeft : List ℕ → Ports → Type 0
+IsLeft bytes before = IfSome before.left (λ xs. bytes ≡ xs)
+
+-- The ways in which the program ends: by the items that are asked for, the reader and the writer
+-- before, the fault, and the reader and the writer afterwards.
+pub data Ends (asked : Option (List Item)) (before : Ports) : Option CliFault → Ports → Type 0 where
+  -- memory was refused: nothing was written
+  no_memory : {after : Ports} → Keeps before.held after.held → NoneFails before after
+      → Ends asked before (Some Memory) after
+  -- the words or the schedule are ill-formed: nothing was read and nothing written
+  usage : {after : Ports} → asked ≡ None → Keeps before.left after.left → Keeps before.held after.held
+      → NoneFails before after → Ends asked before (Some Usage) after
+  -- a read failed: nothing was written
+  unread : {items : List Item} {after : Ports} → asked ≡ Some items → Keeps before.held after.held
+      → AReadFails before after → Ends asked before (Some Read) after
+  -- the bytes are refused: nothing was written
+  refused : (bytes : List ℕ) → {items : List Item} {fault : CliFault} {after : Ports} → asked ≡ Some items
+      → IsLeft bytes before → answer_of items bytes ≡ refuses fault → Keeps before.held after.held
+      → NoneFails before after → Ends asked before (Some fault) after
   -- the whole text was written
-  written : {items : List Item} {text : List ℕ} {fault : Option CliFault} {now : Option (List ℕ)} → asked ≡ Some items
-      → answer_of items bytes ≡ writes text fault → Appends held now text
-      → Ends asked bytes held reads_failed writes_failed fault reads_failed writes_failed now
+  written : (bytes : List ℕ) → {items : List Item} {text : List ℕ} {fault : Option CliFault} {after : Ports} → asked ≡ Some items
+      → IsLeft bytes before → answer_of items bytes ≡ writes text fault → Appends before.held after.held text
+      → NoneFails before after → Ends asked before fault after
   -- a write failed: a beginning of the text was written
-  unwritten : {items : List Item} {text : List ℕ} {fault : Option CliFault} {now : Option (List ℕ)} → asked ≡ Some items
-      → answer_of items bytes ≡ writes text fault → AppendsBeginning held now text
-      → Ends asked bytes held reads_failed writes_failed (Some Write) reads_failed (one_more writes_failed) now
+  unwritten : (bytes : List ℕ) → {items : List Item} {text : List ℕ} {fault : Option CliFault} {after : Ports} → asked ≡ Some items
+      → IsLeft bytes before → answer_of items bytes ≡ writes text fault → AppendsBeginning before.held after.held text
+      → AWriteFails before after → Ends asked before (Some Write) after

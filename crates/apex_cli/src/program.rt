@@ -1,8 +1,8 @@
-ghost use Rattle.std.specs.Prelude.{◌≡◌, ℕ, List, IfSome, map, string_bytes};
+ghost use Rattle.std.specs.Prelude.{◌≡◌, map, string_bytes};
 ghost use Rattle.apex_history.specs.Counted.{inner_of, failures_of};
 ghost use Rattle.apex_cli.specs.Faults.{fault_in, status_of};
 ghost use Rattle.apex_cli.specs.Replay.{items_asked};
-ghost use Rattle.apex_cli.specs.Exits.{Ends};
+ghost use Rattle.apex_cli.specs.Exits.{Ends, ports};
 
 use crate::faults::CliFault;
 use crate::replays::{items_asked, replayed};
@@ -44,11 +44,10 @@ fn replay<R: Read, W: Write>(
     reader: &mut Counted<R>,
     writer: &mut Counted<W>,
 ) -> Result<(), CliFault>
-    ensures { (bytes : List ℕ) × IfSome (R.remaining (inner_of reader.old)) (λ xs. bytes ≡ xs)
-        × Ends (items_asked (map string_bytes words.now)) bytes (W.contents (inner_of writer.old))
-        (failures_of reader.old) (failures_of writer.old)
-        (fault_in result) (failures_of reader.new) (failures_of writer.new)
-        (W.contents (inner_of writer.new)) }
+    ensures { Ends (items_asked (map string_bytes words.now))
+        (ports (R.remaining (inner_of reader.old)) (W.contents (inner_of writer.old)) (failures_of reader.old) (failures_of writer.old))
+        (fault_in result)
+        (ports (R.remaining (inner_of reader.new)) (W.contents (inner_of writer.new)) (failures_of reader.new) (failures_of writer.new)) }
 {
     let items = items_asked(alloc, words)?;
     let text = read_all(alloc, reader)?;
@@ -77,12 +76,10 @@ pub fn run_on<R: Read, W: Write>(
     writer: &mut Counted<W>,
 ) -> Exit
     ensures status { result.status ≡ status_of result.fault }
-    // What the reader still has is `bytes`, where that is known.
-    ensures ends { (bytes : List ℕ) × IfSome (R.remaining (inner_of reader.old)) (λ xs. bytes ≡ xs)
-        × Ends (items_asked (map string_bytes words.now)) bytes (W.contents (inner_of writer.old))
-        (failures_of reader.old) (failures_of writer.old)
-        result.fault (failures_of reader.new) (failures_of writer.new)
-        (W.contents (inner_of writer.new)) }
+    ensures ends { Ends (items_asked (map string_bytes words.now))
+        (ports (R.remaining (inner_of reader.old)) (W.contents (inner_of writer.old)) (failures_of reader.old) (failures_of writer.old))
+        result.fault
+        (ports (R.remaining (inner_of reader.new)) (W.contents (inner_of writer.new)) (failures_of reader.new) (failures_of writer.new)) }
 {
     Exit::of(replay(alloc, words, reader, writer))
 }

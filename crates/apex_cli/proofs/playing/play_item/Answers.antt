@@ -5,7 +5,8 @@ use Rattle.apex_types.specs.declared.Event.TheVariants.{Turn}
 use Rattle.apex_types.specs.Machine.{Machine, run, turn}
 use Rattle.apex_types.specs.Table.{Table}
 use Rattle.apex_dispatch.specs.Kernel.{Running}
-use Rattle.apex_cli.proofs.Runs.{length_turn, turn_more, turns_stop}
+use Rattle.apex_dispatch.proofs.Runs.{length-turn}
+use Rattle.apex_cli.proofs.Runs.{turn_more, turns_stop}
 use Rattle.apex_cli.proofs.playing.play_item.Goals as goal
 
 pub returns-in_err-turn-clause-machine : goal.returns-in_err-turn-clause-machine
@@ -32,7 +33,7 @@ loop-turn-preserved c =
     ap (λ (k : Running). k.machine) c.in_ok-turn.ensures.done in
     let room : length c.loop-turn.kernel.machine.history < c.loop-turn.kernel.table.limit = c.in_ok-turn.ensures.accepted.0 refl in
     let more = ap (λ (m : Machine). length m.history) done in
-    let one = length_turn c.loop-turn.kernel.table c.loop-turn.kernel.machine c.args.item.core in
+    let one = length-turn c.loop-turn.kernel.table c.loop-turn.kernel.machine c.args.item.core in
     record {
       table = ap (λ (k : Running). k.table) c.in_ok-turn.ensures.done ∙ c.loop-turn.invariant.table;
       machine = done ∙ turn_more c.args.kernel.now.table c.loop-turn.kernel.table c.args.kernel.now.machine c.loop-turn.kernel.machine
