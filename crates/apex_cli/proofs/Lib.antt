@@ -1,3 +1,6 @@
+pub mod Endings
 pub mod Parts
+pub mod Printable
+pub mod Runs
 pub mod CommandLemmas
 pub mod Items

@@ -1,8 +1,41 @@
--- The faults of the program.
-use Rattle.std.specs.Prelude.{◌≡◌, ◌⊎◌}
+-- The faults of the program, and its exit status.
+use Rattle.std.specs.Prelude.{◌≡◌, ◌⊎◌, ℕ, Option, Some, None, Result, Ok, Err}
+use Rattle.apex_history.specs.declared.ReadFault.{ReadFault}
+use Rattle.apex_history.specs.declared.ReadFault.TheVariants as read
+use Rattle.apex_table.specs.declared.TableFault.{TableFault}
+use Rattle.apex_table.specs.declared.TableFault.TheVariants as table
 use Rattle.apex_cli.specs.declared.faults.CliFault.{CliFault}
-use Rattle.apex_cli.specs.declared.faults.CliFault.TheVariants.{Usage, Memory}
+use Rattle.apex_cli.specs.declared.faults.CliFault.TheVariants.{Usage, Table, HistoryFull, Memory, Read, Write}
 
 -- what can be wrong before anything is read
 abbrev pub IsUsageOrMemory : CliFault → Type 0
 IsUsageOrMemory fault = (fault ≡ Usage) ⊎ (fault ≡ Memory)
+
+-- a fault of the reading of bytes
+abbrev pub fault_of_read : ReadFault → CliFault
+fault_of_read read.Memory = Memory
+fault_of_read read.Read = Read
+
+-- a fault of the table's text
+abbrev pub fault_of_table : TableFault → CliFault
+fault_of_table table.Memory = Memory
+fault_of_table fault = Table fault
+
+-- 2 usage, 3 the table is refused, 4 the history is full, 5 memory, 6 a read or a write failed
+abbrev pub status_of_fault : CliFault → ℕ
+status_of_fault Usage = 2
+status_of_fault (Table fault) = 3
+status_of_fault (HistoryFull entries) = 4
+status_of_fault Memory = 5
+status_of_fault Read = 6
+status_of_fault Write = 6
+
+-- 0 where all was done
+abbrev pub status_of : Option CliFault → ℕ
+status_of None = 0
+status_of (Some fault) = status_of_fault fault
+
+-- the fault with which a call ended
+abbrev pub fault_in : {T : Type 0} → Result T CliFault → Option CliFault
+fault_in (Ok value) = None
+fault_in (Err fault) = Some fault

@@ -56,9 +56,13 @@ item_of word = item_of_parts (parts 42 word)
 abbrev pub items_of : List ℕ → Option (List Item)
 items_of text = all_some (map item_of (parts 32 text))
 
+-- the events that an item asks for
+abbrev pub events_of_item : Item → List Event
+events_of_item item = replicate item.times (Turn item.core)
+
 -- the events that the items ask for, in order
-abbrev pub events_of : List Item → List Event
-events_of items = flat_map (λ (item : Item). replicate item.times (Turn item.core)) items
+abbrev pub events_of_items : List Item → List Event
+events_of_items items = flat_map events_of_item items
 
 -- every item is of a core below `cores`
 abbrev pub are_cores_below : ℕ → List Item → Bool

@@ -1,4 +1,4 @@
-ghost use Rattle.std.specs.Prelude.{codes, ◌≡◌, ◌≤◌, ◌∷◌, [], map, length, option_map, IfOk};
+ghost use Rattle.std.specs.Prelude.{◌≡◌, ◌≤◌, map, length, option_map, IfOk};
 ghost use Rattle.std.specs.List.{list_any};
 ghost use Rattle.std.specs.Str.{bytes_eq};
 ghost use Rattle.toml.specs.Data.{get_member};

@@ -1,8 +1,6 @@
-ghost use Rattle.std.specs.Prelude.{codes, ℕ, List, ◌≡◌, ◌<◌, ◌≤◌, ◌+◌, ◌-◌, map, length, option_map, IfOk};
-ghost use Rattle.toml.specs.Data.{get_member};
+ghost use Rattle.std.specs.Prelude.{◌≡◌, ◌<◌, ◌≤◌, map, length, option_map, IfOk};
 ghost use Rattle.toml.specs.View.{view, table_view};
-ghost use Rattle.apex_types.specs.Table.{IsLawful};
-ghost use Rattle.apex_table.specs.Outcome.{Gives, place};
+ghost use Rattle.apex_table.specs.Outcome.{Gives};
 ghost use Rattle.apex_table.specs.Reading.{process_names, semaphore_names, entries, some_process, texts, script_at, process, next_process, processes, semaphore, next_semaphore, semaphores, script, next_entry, with_scripts, reading, document, table_of};
 ghost use Rattle.apex_table.specs.Drafts.{draft_seen, parts_seen};
 

@@ -1,7 +1,7 @@
-ghost use Rattle.std.specs.Prelude.{codes, ℕ, List, ◌≡◌, ◌≤◌, map, length, option_map, IfOk};
+ghost use Rattle.std.specs.Prelude.{◌≡◌, ◌≤◌, map, length, option_map, IfOk};
 ghost use Rattle.std.specs.List.{list_any};
 ghost use Rattle.apex_table.specs.Outcome.{Gives};
-ghost use Rattle.apex_table.specs.Steps.{words, is_empty, timeout_form, process_alone, process_with_name, process_form, semaphore_with_name, semaphore_with_timeout, semaphore_form, form, spelling, named, process_meaning, semaphore_meaning, meaning, step};
+ghost use Rattle.apex_table.specs.Steps.{words, is_empty, timeout_form, process_alone, process_with_name, process_form, semaphore_with_name, semaphore_with_timeout, semaphore_form, form, spelling, named, process_meaning, semaphore_meaning, step};
 ghost use Rattle.apex_table.specs.Seen.{process_seen, semaphore_seen, written_seen};
 
 use crate::fault::{Place, TableFault};

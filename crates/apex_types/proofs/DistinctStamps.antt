@@ -11,7 +11,7 @@ use Rattle.apex_types.specs.Table.{Table, no_process}
 use Rattle.apex_types.specs.Running.{is_eligible}
 use Rattle.apex_types.specs.Stamps.{newest, readied, start, stop, block, unblock, release, set_mode, set_core, set_step}
 use Rattle.apex_types.specs.Distinct.{IsStamped}
-use Rattle.apex_types.proofs.Places.{length-map_places, at_map_places}
+use Rattle.apex_types.proofs.Places.{length-map_places, get_or-map_places}
 use Rattle.apex_types.proofs.Rosters.{changes_record, changes_newest, at_record, at_newest, started, awake, waiting}
 
 module _ (roster : Roster) (p : ℕ) (known : p < length roster.records) (stamped : IsStamped roster) where
@@ -116,7 +116,7 @@ stamped_set_mode roster stamped mode = record {
 opening_since : (table : Table) (p : ℕ) → p < length table.processes → (record_at (opening_roster table) p).since ≡ pos (p + 1)
 opening_since table p within =
     let z : 0 + p ≡ p = omega arith in
-    rw (at_map_places opening_record 0 table.processes p no_process nobody within, z)
+    rw (get_or-map_places opening_record 0 table.processes p no_process nobody within, z)
 
 opening_within : (table : Table) (p : ℕ) → p < length (opening_roster table).records → p < length table.processes
 opening_within table p within = rw (length-map_places opening_record 0 table.processes) at within
