@@ -20,7 +20,10 @@ use Rattle.apex_types.specs.History.{Objects, objects_after, init_count, is_by_i
 use Rattle.apex_types.specs.Machine.{script_deed, chosen_deed, step_of, turn_deed, due_init_call, opening, deed_of, after_deed, turn, entry_of, Machine}
 use Rattle.apex_types.proofs.Places.{length-map_places}
 use Rattle.apex_dispatch.specs.Kernel.{Running, IsKept, running}
-use Rattle.apex_dispatch.proofs.Turns.{exact_deed}
+use Rattle.apex_types.proofs.DistinctStamps.{stamped_opening}
+use Rattle.apex_dispatch.proofs.Known.{known_script_step}
+use Rattle.apex_dispatch.proofs.Stamped.{stamped_turn}
+use Rattle.apex_dispatch.proofs.Turns.{due_known, exact_deed}
 use Rattle.apex_dispatch.proofs.Sizes.{Grows-none, Small, small_service}
 
 -- sizes stay over a deed, and few stamps are given
@@ -94,6 +97,9 @@ kept_turn table machine core init_made room kept =
       records = small.grows.many ∙ kept.records;
       objects = refl;
       stamps = rw longer (omega (arith, ints, small.grows.stamps, kept.stamps));
+      stamped = stamped_turn table objects roster kept.stamped kept.records
+          (λ p call h e. known_script_step table p (record_at roster p).step call kept.lawful (rw kept.records at h) e)
+          core due (due_known table machine core kept.lawful);
       enough = exact.enough;
       bounded = exact.bounded;
       waiting = exact.waiting;
@@ -134,6 +140,7 @@ kept_opening table lawful =
       records = size;
       objects = refl;
       stamps = omega (arith, ints, count);
+      stamped = stamped_opening table;
       enough = λ s h. omega arith;
       bounded = λ s h. omega (arith, (lawful.semaphores s h).initial);
       waiting = λ p s h. absurd (opening_free table.processes 0 p (Semaphore s) h);

@@ -7,5 +7,6 @@ pub mod SemaphoreTold
 pub mod OtherTold
 pub mod Exact
 pub mod Turns
+pub mod Stamped
 pub mod Kept
 pub mod Runs

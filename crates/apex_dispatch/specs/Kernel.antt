@@ -3,6 +3,7 @@ use Rattle.std.specs.Prelude.{◌≡◌, ℕ, ◌+◌, ◌*◌, length, pos, ◌
 use Rattle.apex_types.specs.Table.{Table, IsLawful}
 use Rattle.apex_types.specs.History.{Objects, objects_after, init_count}
 use Rattle.apex_types.specs.Machine.{Machine}
+use Rattle.apex_types.specs.Distinct.{IsStamped}
 use Rattle.apex_dispatch.specs.OpenWaits.{AreEnough, AreBounded, AreOpen}
 
 -- a kernel: its table, the machine's state, and the running values of its objects
@@ -19,8 +20,8 @@ running table machine = record {
   objects = objects_after table machine.history;
 }
 
--- what each kernel keeps: the running values are the history's, and stamps are left for all that the
--- history's limit still admits
+-- what each kernel keeps: the running values are the history's, stamps differ, and stamps are left for
+-- all that the history's limit still admits
 pub record IsKept (kernel : Running) (init_made room : ℕ) : Type 0 where
   pub lawful : IsLawful kernel.table
   pub limit : room ≡ kernel.table.limit
@@ -28,6 +29,7 @@ pub record IsKept (kernel : Running) (init_made room : ℕ) : Type 0 where
   pub records : length kernel.machine.roster.records ≡ length kernel.table.processes
   pub objects : kernel.objects ≡ objects_after kernel.table kernel.machine.history
   pub stamps : kernel.machine.roster.young ≤ℤ pos (64 + 64 * length kernel.machine.history)
+  pub stamped : IsStamped kernel.machine.roster
   pub enough : AreEnough kernel.table kernel.machine.history
   pub bounded : AreBounded kernel.table kernel.machine.history
   pub waiting : AreOpen kernel.machine.roster kernel.machine.history

@@ -2,6 +2,7 @@ ghost use Rattle.std.specs.Prelude.{◌≡◌, ◌<◌, ◌≤◌, ◌↔◌, �
 ghost use Rattle.apex_types.specs.Roster.{opening_roster, is_cold_start};
 ghost use Rattle.apex_types.specs.Machine.{opening, turn, happen, run};
 ghost use Rattle.apex_types.specs.Table.{IsLawful};
+ghost use Rattle.apex_types.specs.Distinct.{HasDistinctStamps};
 ghost use Rattle.apex_dispatch.specs.Events.{IsWithin};
 ghost use Rattle.apex_dispatch.specs.Kernel.{running};
 
@@ -137,12 +138,13 @@ impl<S: Store> Kernel<S> {
         Ok(())
     }
 
-    /// What holds of every kernel: its running values are those that its history gives, and its
-    /// history is within the table's limit.
+    /// What holds of every kernel: its running values are those that its history gives, its history
+    /// is within the table's limit, and no two of its processes have the same stamp.
     pub fn holds(&self)
         ensures values { self.now ≡ running self.now.table self.now.machine }
         ensures within { length self.now.machine.history ≤ self.now.table.limit }
         ensures lawful { IsLawful self.now.table }
+        ensures stamps { HasDistinctStamps self.now.machine.roster }
     {
         let _entries = self.log.len();
     }

@@ -1,11 +1,30 @@
 //! Laws of the machine's definitions. Each is the contract of a function that does nothing.
 
+ghost use Rattle.apex_store.specs.Laws.{RunsMostUrgent, FirstWaiterIsLongest};
 ghost use Rattle.apex_dispatch.specs.Laws.{ValuesStayInRange, RunsCompose, RunsStayWithin};
 ghost use Rattle.apex_dispatch.specs.Worked.{SignalWakesWaiter, SignalBeforeWait, EmptyScriptStopsItself};
 
 use crate::kernels::Kernel;
 use apex_store::Store;
 use apex_table::Table;
+use apex_types::{CoreId, Wait};
+
+/// In every kernel each core's running process is the highest-priority, longest-ready one bound to it
+/// (ARINC 653 Part 1, process management; here core by core).
+pub fn most_urgent_runs<S: Store>(kernel: &Kernel<S>, core: CoreId)
+    ensures { RunsMostUrgent kernel.now.machine.roster core }
+{
+    kernel.holds();
+    apex_store::most_urgent_runs(kernel.store(), core);
+}
+
+/// In every kernel the first waiter of a queue waits in it for longer than every other one.
+pub fn first_waiter_is_longest<S: Store>(kernel: &Kernel<S>, queue: Wait)
+    ensures { FirstWaiterIsLongest kernel.now.machine.roster queue }
+{
+    kernel.holds();
+    apex_store::first_waiter_is_longest(kernel.store(), queue);
+}
 
 /// In every run on an accepted table each semaphore's value stays from 0 to its maximum.
 pub fn values_stay_in_range(table: &Table)

@@ -13,4 +13,7 @@ mod services;
 mod tests;
 
 pub use kernels::Kernel;
-pub use laws::{runs_compose, runs_stay_within, values_stay_in_range, worked_histories};
+pub use laws::{
+    first_waiter_is_longest, most_urgent_runs, runs_compose, runs_stay_within,
+    values_stay_in_range, worked_histories,
+};
