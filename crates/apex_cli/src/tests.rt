@@ -399,13 +399,15 @@ fn a_failed_read_writes_nothing(rt: HostRuntime) -> Result<(), Fail> {
 
 #[test]
 fn a_failed_write_leaves_a_beginning(rt: HostRuntime) -> Result<(), Fail> {
-    let table = ["cores = 1\nhistory = 4000\n", IDLER];
-    // More events than the history's limit, and more lines than one write takes.
-    let words = ["replay", "--schedule", "0*4001"];
+    let table = ["cores = 1\nhistory = 8000\n", IDLER];
+    // More events than the history's limit, and lines for four writes.
+    let words = ["replay", "--schedule", "0*8001"];
     let whole = run_with(rt.alloc(), &words, &table, 0, 0)?;
     assert_eq!(rt; whole.status, 4);
     assert_eq!(rt; whole.failed_writes, 0);
-    for call in [1, 2] {
+    assert!(rt; whole.written.len() > 3 * 65_536);
+    assert!(rt; whole.written.len() <= 4 * 65_536);
+    for call in [1, 2, 3, 4] {
         let done = run_with(rt.alloc(), &words, &table, 0, call)?;
         assert_eq!(rt; done.status, 6, "at {call}");
         assert_eq!(rt; done.fault.as_str(), "apex: write failed", "at {call}");
@@ -416,5 +418,8 @@ fn a_failed_write_leaves_a_beginning(rt: HostRuntime) -> Result<(), Fail> {
             "at {call}"
         );
     }
+    let done = run_with(rt.alloc(), &words, &table, 0, 5)?;
+    assert_eq!(rt; done.status, 4);
+    assert_eq!(rt; done.written.as_slice(), whole.written.as_slice());
     Ok(())
 }
