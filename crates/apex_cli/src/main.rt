@@ -18,8 +18,13 @@ use std::process::ExitCode;
 use std::{env, io};
 
 fn run(rt: HostRuntime) -> Exit {
-    let Ok(args) = env::args(&rt) else {
-        return Exit::of(Err(CliFault::Usage));
+    let args = match env::args(&rt) {
+        Ok(args) => args,
+        Err(error) if error.kind() == io::ErrorKind::OutOfMemory => {
+            return Exit::of(Err(CliFault::Memory));
+        }
+        // A word is no text.
+        Err(_) => return Exit::of(Err(CliFault::Usage)),
     };
     let Ok(words) = args.collect::<Vec<String>>(rt.alloc()) else {
         return Exit::of(Err(CliFault::Memory));
