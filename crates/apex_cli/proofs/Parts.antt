@@ -6,7 +6,7 @@ use Rattle.std.specs.List.{count_by, join_with_byte, position, position_or_len, 
 use Rattle.std.proofs.lemmas.List.{take_rest}
 use Rattle.std.proofs.lemmas.List.Splits.{join_with_byte-slice_split, length-slice_split, slice_split_first, slice_split_none}
 use Rattle.std.proofs.lemmas.List.Sums.{fails_before_first}
-use Rattle.apex_cli.specs.Numbers.{more_digits, number_of}
+use Rattle.apex_types.specs.Numbers.{more_digits, number_of}
 use Rattle.apex_cli.specs.Schedule.{parts, times_after, times_of}
 
 -- the parts, where the first separator stands at i; what follows is a range of the list

@@ -1,6 +1,5 @@
 pub mod Exits
 pub mod Faults
-pub mod Numbers
 pub mod Replay
 pub mod Schedule
 pub mod Words

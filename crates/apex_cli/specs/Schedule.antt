@@ -5,7 +5,7 @@ use Rattle.std.specs.List.{slice_split, list_all, flat_map}
 use Rattle.apex_types.specs.declared.Event.{Event}
 use Rattle.apex_types.specs.declared.Event.TheVariants.{Turn}
 use Rattle.apex_cli.specs.declared.schedule.Item.{Item}
-use Rattle.apex_cli.specs.Numbers.{number_of, at_least, at_most}
+use Rattle.apex_types.specs.Numbers.{number_of, at_least, at_most}
 
 -- the parts of a text between a separator, which may be empty
 abbrev pub parts : ℕ → List ℕ → List (List ℕ)

@@ -2,7 +2,6 @@
 #![tactic(auto)]
 
 mod faults;
-mod numbers;
 mod playing;
 mod program;
 mod replays;

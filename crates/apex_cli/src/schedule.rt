@@ -4,8 +4,8 @@ ghost use Rattle.apex_cli.specs.Schedule.{parts, parts_after, core_of, times_aft
 ghost use Rattle.apex_cli.specs.Faults.{IsUsageOrMemory};
 
 use crate::faults::CliFault;
-use crate::numbers::number_at_most;
-use apex_types::CoreId;
+
+use apex_types::{CoreId, number_at_most};
 use std::alloc::Global;
 
 /// An item of a schedule: so many turns of a core.

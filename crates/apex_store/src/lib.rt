@@ -2,6 +2,7 @@
 //! words, and [`PlainStore`], which answers by scans.
 #![tactic(auto)]
 
+mod dues;
 mod laws;
 mod opening;
 mod orders;

@@ -22,6 +22,8 @@ fn push_opening(records: &mut Vec<Record>, place: usize, process: &Process)
         started: false,
         wait: None,
         since: place as i64 + 1,
+        due: None,
+        delay: 0,
         step: 0,
     });
 }

@@ -1,6 +1,7 @@
 ghost use Rattle.std.specs.Prelude.{◌≡◌};
 ghost use Rattle.apex_types.specs.Roster.{is_normal};
 ghost use Rattle.apex_types.specs.Running.{current_priority, is_before, is_eligible, is_older, runs_on};
+ghost use Rattle.apex_types.specs.Dues.{by_number, is_due_at};
 ghost use Rattle.apex_types.specs.Waiters.{is_same_wait, is_wait_for, waits_behind, waits_in};
 
 use apex_types::{CoreId, Mode, Record, Wait};
@@ -71,4 +72,22 @@ pub fn waits_behind(queue: Wait, ahead: &Record, row: &Record) -> bool
     ensures { result ≡ waits_behind queue ahead.now row.now }
 {
     waits_in(queue, row) && is_older(ahead, row)
+}
+
+/// The process's due is this instant, in ticks.
+#[tactic(auto, unfolding(apex_types::specs::Dues::is_due_at))]
+pub fn is_due_at(instant: u64, row: &Record) -> bool
+    ensures { result ≡ is_due_at instant row.now }
+{
+    match row.due {
+        Some(due) => instant == due,
+        None => false,
+    }
+}
+
+/// Of two processes whose due is the same, none comes before the other but by its number.
+pub fn by_number(_first: &Record, _second: &Record) -> bool
+    ensures { result ≡ by_number _first.now _second.now }
+{
+    false
 }

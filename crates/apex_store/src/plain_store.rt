@@ -3,9 +3,10 @@ ghost use Rattle.apex_types.specs.Roster.{opening_roster, with_record};
 ghost use Rattle.apex_types.specs.Running.{is_process};
 ghost use Rattle.apex_types.specs.Stamps as stamps;
 
+use crate::dues::{earliest_due, start_due, start_wait};
 use crate::opening::opening_records;
-use crate::orders::{is_eligible, is_normal, waits_in};
-use crate::scan::{Behind, Runnable, Waiting, first_of};
+use crate::orders::{is_eligible, waits_in};
+use crate::scan::{Behind, Due, Runnable, Waiting, first_of};
 use crate::store::Store;
 use apex_table::Table;
 use apex_types::{CoreId, Mode, ProcessId, Record, State, Wait};
@@ -144,6 +145,10 @@ impl Store for PlainStore {
         first_of(&Behind { queue, ahead }, &self.records)
     }
 
+    fn next_instant(&self) -> Option<u64> {
+        earliest_due(&self.records)
+    }
+
     fn waiting(&self, queue: Wait) -> usize {
         self.records
             .iter()
@@ -151,18 +156,15 @@ impl Store for PlainStore {
             .count()
     }
 
-    fn start(&mut self, process: ProcessId) {
+    fn start(&mut self, process: ProcessId, delay: u32) {
         let row = self.record(process);
-        let wait = if is_normal(self.mode) {
-            None
-        } else {
-            Some(Wait::Normal)
-        };
         let started = Record {
             base: row.priority,
             started: true,
             step: 0,
-            wait,
+            wait: start_wait(self.mode, delay),
+            due: start_due(self.mode, self.time, delay),
+            delay,
             ..row
         };
         self.put_newest(process, started);
@@ -173,16 +175,18 @@ impl Store for PlainStore {
         let stopped = Record {
             started: false,
             wait: None,
+            due: None,
             step: 0,
             ..row
         };
         self.put(process, stopped);
     }
 
-    fn block(&mut self, process: ProcessId, wait: Wait) {
+    fn block(&mut self, process: ProcessId, wait: Wait, due: Option<u64>) {
         let row = self.record(process);
         let blocked = Record {
             wait: Some(wait),
+            due,
             ..row
         };
         self.put_newest(process, blocked);
@@ -190,14 +194,38 @@ impl Store for PlainStore {
 
     fn unblock(&mut self, process: ProcessId) {
         let row = self.record(process);
-        let woken = Record { wait: None, ..row };
+        let woken = Record {
+            wait: None,
+            due: None,
+            ..row
+        };
         self.put_readied(process, woken);
     }
 
     fn release(&mut self, process: ProcessId) {
         let row = self.record(process);
-        let released = Record { wait: None, ..row };
+        let released = Record {
+            wait: None,
+            due: None,
+            ..row
+        };
         self.put_readied(process, released);
+    }
+
+    fn place_newest(&mut self, process: ProcessId) {
+        let row = self.record(process);
+        self.put_newest(process, row);
+    }
+
+    fn advance_to(&mut self, instant: u64) {
+        self.time = instant;
+    }
+
+    fn take_due(&mut self) -> Option<ProcessId> {
+        let process = first_of(&Due { instant: self.time }, &self.records)?;
+        let row = self.record(process);
+        self.put(process, Record { due: None, ..row });
+        Some(process)
     }
 
     fn set_mode(&mut self, mode: Mode) {

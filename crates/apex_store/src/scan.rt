@@ -2,6 +2,7 @@ ghost use Rattle.std.specs.Prelude.{◌≡◌, ◌<◌, ◌≤◌, Bool, length,
 ghost use Rattle.apex_types.specs.declared.records.Record.{Record};
 ghost use Rattle.apex_types.specs.Choice.{place_of_least, stands_before};
 ghost use Rattle.apex_types.specs.Running.{is_before, is_older, runs_on};
+ghost use Rattle.apex_types.specs.Dues.{by_number, is_due_at};
 ghost use Rattle.apex_types.specs.Waiters.{waits_behind, waits_in};
 
 use crate::orders;
@@ -79,6 +80,26 @@ impl Order for Behind {
 
     fn precedes(first: &Record, second: &Record) -> bool {
         orders::is_older(first, second)
+    }
+}
+
+/// Those whose due is this instant, the lowest number first.
+#[derive(Drop)]
+pub struct Due {
+    pub instant: u64,
+}
+
+impl Order for Due {
+    ghost passes = { λ s. is_due_at s.instant };
+
+    ghost precedes = { by_number };
+
+    fn passes(&self, row: &Record) -> bool {
+        orders::is_due_at(self.instant, row)
+    }
+
+    fn precedes(first: &Record, second: &Record) -> bool {
+        orders::by_number(first, second)
     }
 }
 

@@ -1,7 +1,8 @@
-ghost use Rattle.std.specs.Prelude.{◌≡◌, ◌+◌, ◌<◌, ◌≤◌, length, IfSome};
+ghost use Rattle.std.specs.Prelude.{◌≡◌, ◌+◌, ◌<◌, ◌≤◌, ◌^◌, length, IfSome};
 ghost use Rattle.apex_types.specs.Roster.{Roster, record_at};
 ghost use Rattle.apex_types.specs.Running.{chosen, process_state};
 ghost use Rattle.apex_types.specs.Waiters.{first_waiter, next_waiter, waiter_count};
+ghost use Rattle.apex_types.specs.Dues.{next_instant, first_due, HasTime};
 ghost use Rattle.apex_types.specs.Stamps as stamps;
 
 use apex_types::{CoreId, Mode, ProcessId, Record, State, Wait};
@@ -48,25 +49,31 @@ pub trait Store: Drop {
         ensures value { result ≡ next_waiter (roster self.now) queue process }
         ensures known { IfSome result (λ p. p < length (roster self.now).records) };
 
+    /// The next instant at which a wait ends by itself: the least due of all processes.
+    fn next_instant(&self) -> Option<u64>
+        ensures { result ≡ next_instant (roster self.now) };
+
     /// How many wait in the queue.
     fn waiting(&self, queue: Wait) -> usize
         ensures { result ≡ waiter_count (roster self.now) queue };
 
-    /// Starts a dormant process: at once in NORMAL, else with the entry into NORMAL.
-    fn start(&mut self, process: ProcessId)
+    /// Starts a dormant process after a delay in ticks, which begins to run at once in NORMAL, else
+    /// with the entry into NORMAL.
+    fn start(&mut self, process: ProcessId, delay: u32)
         requires known { process < length (roster self.old).records }
         requires stamps { stamps.HasStamps (roster self.old) }
-        ensures { roster self.new ≡ stamps.start (roster self.old) process };
+        requires time { HasTime (roster self.old) }
+        ensures { roster self.new ≡ stamps.start (roster self.old) process delay };
 
     fn stop(&mut self, process: ProcessId)
         requires known { process < length (roster self.old).records }
         ensures { roster self.new ≡ stamps.stop (roster self.old) process };
 
-    /// The process begins to wait.
-    fn block(&mut self, process: ProcessId, wait: Wait)
+    /// The process begins to wait, until the instant that is due where there is one.
+    fn block(&mut self, process: ProcessId, wait: Wait, due: Option<u64>)
         requires known { process < length (roster self.old).records }
         requires stamps { stamps.HasStamps (roster self.old) }
-        ensures { roster self.new ≡ stamps.block (roster self.old) process wait };
+        ensures { roster self.new ≡ stamps.block (roster self.old) process wait due };
 
     /// The process's wait ends.
     fn unblock(&mut self, process: ProcessId)
@@ -79,6 +86,24 @@ pub trait Store: Drop {
         requires known { process < length (roster self.old).records }
         requires stamps { stamps.HasStamps (roster self.old) }
         ensures { roster self.new ≡ stamps.release (roster self.old) process };
+
+    /// The process goes behind all others of its priority.
+    fn place_newest(&mut self, process: ProcessId)
+        requires known { process < length (roster self.old).records }
+        requires stamps { stamps.HasStamps (roster self.old) }
+        ensures { roster self.new ≡ stamps.place_newest (roster self.old) process };
+
+    /// Time goes on to this instant, in ticks.
+    fn advance_to(&mut self, instant: u64)
+        requires forward { (roster self.old).now ≤ instant }
+        requires near { instant ≤ 2 ^ 36 }
+        ensures { roster self.new ≡ stamps.advance_to (roster self.old) instant };
+
+    /// The process of the lowest number whose due is now; it has no due afterwards.
+    fn take_due(&mut self) -> Option<ProcessId>
+        ensures value { result ≡ first_due (roster self.old) }
+        ensures known { IfSome result (λ p. p < length (roster self.old).records) }
+        ensures taken { roster self.new ≡ stamps.take_due (roster self.old) };
 
     fn set_mode(&mut self, mode: Mode)
         ensures { roster self.new ≡ stamps.set_mode (roster self.old) mode };

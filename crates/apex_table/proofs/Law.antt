@@ -190,6 +190,7 @@ with_scripts_law cores drafts sems sound =
 is_known : (table : Table) (c : Call) → IsWithin (length table.processes) (length table.semaphores) c → IsKnown table c
 is_known table (call.Partition c) h = h
 is_known table (call.Process c) h = h
+is_known table (call.Time c) h = h
 is_known table (call.Semaphore c) h = h
 
 all_known : (table : Table) (calls : List Call) → AllByRecursion (IsWithin (length table.processes) (length table.semaphores)) calls → (k : ℕ) → k < length calls → IsKnown table (call_at calls k)

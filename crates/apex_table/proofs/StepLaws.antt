@@ -5,7 +5,7 @@ use Rattle.std.specs.Str.{bytes_eq}
 use Rattle.std.proofs.lemmas.Result.{IfOk-at_ok, IfOk-weaker}
 use Rattle.apex_types.specs.Table.{ProcessEntry, SemaphoreEntry, IsKnownToProcesses, IsKnownToSemaphores}
 use Rattle.apex_types.specs.declared.calls.Call.{Call}
-use Rattle.apex_types.specs.declared.calls.Call.TheVariants.{Partition, Process, Semaphore}
+use Rattle.apex_types.specs.declared.calls.Call.TheVariants.{Partition, Process, Time, Semaphore}
 use Rattle.apex_table.specs.declared.fault.Place.{Place}
 use Rattle.apex_table.specs.declared.fault.TableFault.{TableFault}
 use Rattle.apex_table.specs.declared.fault.TableFault.TheVariants.{UnknownName, BadStep}
@@ -20,6 +20,7 @@ use Rattle.apex_table.proofs.Results.{ok_then, each_keeps, each_length, all_push
 abbrev pub IsWithin : ℕ → ℕ → Call → Type 0
 IsWithin ps ss (Partition call) = Unit {0}
 IsWithin ps ss (Process call) = IsKnownToProcesses ps call
+IsWithin ps ss (Time call) = Unit {0}
 IsWithin ps ss (Semaphore call) = IsKnownToSemaphores ss call
 
 pick : (fault : TableFault) (b : Bool) (i n : ℕ) (rest : Option ℕ) → IfOk (some_or fault rest) (λ p. p < (i + 1) + n) → IfOk (some_or fault (cond b (Some i) rest)) (λ p. p < i + suc n)

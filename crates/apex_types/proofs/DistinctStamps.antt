@@ -1,5 +1,5 @@
 -- Each change of a roster leaves it with distinct stamps, all given before the next one.
-use Rattle.std.proofs.Common.{◌≡◌, ◌≢◌, ℕ, ◌+◌, ◌<◌, ◌<ℤ◌, pos, length, refl, sym, ◌∙◌, ap, inl, inr, arith}
+use Rattle.std.proofs.Common.{◌≡◌, ◌≢◌, ℕ, ◌+◌, ◌<◌, ◌<ℤ◌, pos, Option, length, refl, sym, ◌∙◌, ap, inl, inr, arith}
 use Rattle.std.proofs.lemmas.Bool.{cases_eq, cond_both}
 use Rattle.std.proofs.lemmas.Int.{ints}
 use Rattle.std.proofs.lemmas.List.{length-set}
@@ -9,7 +9,7 @@ use Rattle.apex_types.specs.declared.records.Wait.{Wait}
 use Rattle.apex_types.specs.Roster.{Roster, record_at, with_record, nobody, opening_record, opening_roster}
 use Rattle.apex_types.specs.Table.{Table, no_process}
 use Rattle.apex_types.specs.Running.{is_eligible}
-use Rattle.apex_types.specs.Stamps.{newest, readied, start, stop, block, unblock, release, set_mode, set_core, set_step}
+use Rattle.apex_types.specs.Stamps.{newest, readied, start, stop, block, unblock, release, place_newest, advance_to, without_due, set_mode, set_core, set_step}
 use Rattle.apex_types.specs.Distinct.{IsStamped}
 use Rattle.apex_types.proofs.Places.{length-map_places, get_or-map_places}
 use Rattle.apex_types.proofs.Rosters.{changes_record, changes_newest, at_record, at_newest, started, awake, waiting}
@@ -86,14 +86,20 @@ module _ (roster : Roster) (p : ℕ) (known : p < length roster.records) (stampe
   stamped_readied r same =
       cond_both {A = Roster} (is_eligible roster.mode r) _ _ IsStamped (λ _. stamped_newest r) (λ _. stamped_record r same)
 
-  pub stamped_start : IsStamped (start roster p)
-  stamped_start = stamped_newest (started roster p)
+  pub stamped_start : (delay : ℕ) → IsStamped (start roster p delay)
+  stamped_start delay = stamped_newest (started roster p delay)
 
   pub stamped_stop : IsStamped (stop roster p)
   stamped_stop = stamped_record _ refl
 
-  pub stamped_block : (wait : Wait) → IsStamped (block roster p wait)
-  stamped_block wait = stamped_newest (waiting roster p wait)
+  pub stamped_block : (wait : Wait) (due : Option ℕ) → IsStamped (block roster p wait due)
+  stamped_block wait due = stamped_newest (waiting roster p wait due)
+
+  pub stamped_place_newest : IsStamped (place_newest roster p)
+  stamped_place_newest = stamped_newest (record_at roster p)
+
+  pub stamped_without_due : IsStamped (without_due roster p)
+  stamped_without_due = stamped_record _ refl
 
   pub stamped_unblock : IsStamped (unblock roster p)
   stamped_unblock = stamped_readied (awake roster p) refl
@@ -109,6 +115,12 @@ module _ (roster : Roster) (p : ℕ) (known : p < length roster.records) (stampe
 
 pub stamped_set_mode : (roster : Roster) → IsStamped roster → (mode : Mode) → IsStamped (set_mode roster mode)
 stamped_set_mode roster stamped mode = record {
+  given = stamped.given;
+  distinct = record { distinct = stamped.distinct.distinct };
+}
+
+pub stamped_advance_to : (roster : Roster) → IsStamped roster → (t : ℕ) → IsStamped (advance_to roster t)
+stamped_advance_to roster stamped t = record {
   given = stamped.given;
   distinct = record { distinct = stamped.distinct.distinct };
 }

@@ -1,6 +1,6 @@
 pub mod Places
 pub mod Rosters
-pub mod Releases
+pub mod InTurn
 pub mod Choice
 pub mod Orders
 pub mod DistinctStamps

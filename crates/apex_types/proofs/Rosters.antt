@@ -1,14 +1,13 @@
 -- How each change of a roster changes it: one record, and at most one stamp.
-use Rattle.std.proofs.Common.{◌≡◌, ◌≢◌, ℕ, ◌<◌, ◌≤ℤ◌, pos, ◌+ℤ◌, true, false, None, Some, length, if◌then◌else◌, refl, arith}
+use Rattle.std.proofs.Common.{◌≡◌, ◌≢◌, ℕ, ◌<◌, ◌≤ℤ◌, pos, ◌+ℤ◌, true, false, Option, None, Some, length, if◌then◌else◌, refl, arith}
 use Rattle.std.proofs.lemmas.Bool.{cond_both}
 use Rattle.std.proofs.lemmas.Int.{ints}
 use Rattle.std.proofs.lemmas.List.{get_or-set_other, get_or-set_same, length-set}
 use Rattle.apex_types.specs.declared.records.Record.{Record}
 use Rattle.apex_types.specs.declared.records.Wait.{Wait}
-use Rattle.apex_types.specs.declared.records.Wait.TheVariants.{Normal}
-use Rattle.apex_types.specs.Roster.{Roster, nobody, record_at, with_record, is_normal}
+use Rattle.apex_types.specs.Roster.{Roster, nobody, record_at, with_record}
 use Rattle.apex_types.specs.Running.{is_eligible}
-use Rattle.apex_types.specs.Stamps.{newest, readied, start, stop, block, unblock, release, set_core, set_step}
+use Rattle.apex_types.specs.Stamps.{newest, readied, start_wait, start_due, start, stop, block, unblock, release, place_newest, without_due, set_core, set_step}
 
 -- process p may have another record, and the next stamp may be one greater; all else stays
 pub record ChangesOne (before after : Roster) (p : ℕ) : Type 0 where
@@ -19,22 +18,24 @@ pub record ChangesOne (before after : Roster) (p : ℕ) : Type 0 where
   pub more : before.young ≤ℤ after.young
   pub one_more : after.young ≤ℤ (before.young +ℤ pos 1)
 
--- the record of process p as a START leaves it, but for the stamp
-abbrev pub started : Roster → ℕ → Record
-started roster p = record (record_at roster p) {
+-- the record of process p as a start after a delay leaves it, but for the stamp
+abbrev pub started : Roster → ℕ → ℕ → Record
+started roster p delay = record (record_at roster p) {
   base = (record_at roster p).priority;
   started = true;
   step = 0;
-  wait = (if is_normal roster.mode then None else Some Normal);
+  wait = start_wait roster.mode delay;
+  due = start_due roster delay;
+  delay = delay;
 }
 
 -- the record of process p without its wait
 abbrev pub awake : Roster → ℕ → Record
-awake roster p = record (record_at roster p) { wait = None }
+awake roster p = record (record_at roster p) { wait = None; due = None }
 
--- the record of process p with this wait
-abbrev pub waiting : Roster → ℕ → Wait → Record
-waiting roster p wait = record (record_at roster p) { wait = Some wait }
+-- the record of process p with this wait and due
+abbrev pub waiting : Roster → ℕ → Wait → Option ℕ → Record
+waiting roster p wait due = record (record_at roster p) { wait = Some wait; due = due }
 
 -- the record r with the stamp that it gets where it is eligible
 abbrev pub stamped_if_ready : Roster → Record → Record
@@ -69,14 +70,20 @@ module _ (roster : Roster) (p : ℕ) where
       cond_both {A = Roster} (is_eligible roster.mode r) _ _ (λ after. ChangesOne roster after p)
       (λ _. changes_newest r) (λ _. changes_record r)
 
-  pub changes_start : ChangesOne roster (start roster p) p
-  changes_start = changes_newest (started roster p)
+  pub changes_start : (delay : ℕ) → ChangesOne roster (start roster p delay) p
+  changes_start delay = changes_newest (started roster p delay)
 
   pub changes_stop : ChangesOne roster (stop roster p) p
   changes_stop = changes_record _
 
-  pub changes_block : (wait : Wait) → ChangesOne roster (block roster p wait) p
-  changes_block wait = changes_newest (waiting roster p wait)
+  pub changes_block : (wait : Wait) (due : Option ℕ) → ChangesOne roster (block roster p wait due) p
+  changes_block wait due = changes_newest (waiting roster p wait due)
+
+  pub changes_place_newest : ChangesOne roster (place_newest roster p) p
+  changes_place_newest = changes_newest (record_at roster p)
+
+  pub changes_without_due : ChangesOne roster (without_due roster p) p
+  changes_without_due = changes_record _
 
   pub changes_unblock : ChangesOne roster (unblock roster p) p
   changes_unblock = changes_readied (awake roster p)
@@ -105,14 +112,20 @@ module _ (roster : Roster) (p : ℕ) (known : p < length roster.records) where
         | false ↦ at_record r
       ]
 
-  pub at_start : record_at (start roster p) p ≡ record (started roster p) { since = roster.young }
-  at_start = at_newest (started roster p)
+  pub at_start : (delay : ℕ) → record_at (start roster p delay) p ≡ record (started roster p delay) { since = roster.young }
+  at_start delay = at_newest (started roster p delay)
 
-  pub at_stop : record_at (stop roster p) p ≡ record (record_at roster p) { started = false; wait = None; step = 0 }
+  pub at_stop : record_at (stop roster p) p ≡ record (record_at roster p) { started = false; wait = None; due = None; step = 0 }
   at_stop = at_record _
 
-  pub at_block : (wait : Wait) → record_at (block roster p wait) p ≡ record (waiting roster p wait) { since = roster.young }
-  at_block wait = at_newest (waiting roster p wait)
+  pub at_block : (wait : Wait) (due : Option ℕ) → record_at (block roster p wait due) p ≡ record (waiting roster p wait due) { since = roster.young }
+  at_block wait due = at_newest (waiting roster p wait due)
+
+  pub at_place_newest : record_at (place_newest roster p) p ≡ record (record_at roster p) { since = roster.young }
+  at_place_newest = at_newest (record_at roster p)
+
+  pub at_without_due : record_at (without_due roster p) p ≡ record (record_at roster p) { due = None }
+  at_without_due = at_record _
 
   pub at_unblock : record_at (unblock roster p) p ≡ stamped_if_ready roster (awake roster p)
   at_unblock = at_readied (awake roster p)

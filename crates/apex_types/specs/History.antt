@@ -63,9 +63,8 @@ is_satisfied e later = is_accepted e.reply || is_answered e.process later
 
 -- the call is WAIT_SEMAPHORE of semaphore s
 abbrev pub is_semaphore_wait : ℕ → SemaphoreCall → Bool
-is_semaphore_wait s (CreateSemaphore t) = false
 is_semaphore_wait s (WaitSemaphore t timeout) = s == t
-is_semaphore_wait s (SignalSemaphore t) = false
+is_semaphore_wait s _ = false
 
 abbrev pub is_wait_on : ℕ → Option Call → Bool
 is_wait_on s (Some (Semaphore call)) = is_semaphore_wait s call
@@ -73,9 +72,8 @@ is_wait_on s _ = false
 
 -- the call is SIGNAL_SEMAPHORE of semaphore s
 abbrev pub is_semaphore_signal : ℕ → SemaphoreCall → Bool
-is_semaphore_signal s (CreateSemaphore t) = false
-is_semaphore_signal s (WaitSemaphore t timeout) = false
 is_semaphore_signal s (SignalSemaphore t) = s == t
+is_semaphore_signal s _ = false
 
 abbrev pub is_signal_of : ℕ → Option Call → Bool
 is_signal_of s (Some (Semaphore call)) = is_semaphore_signal s call
@@ -111,8 +109,7 @@ creates_process p e = is_creation_of_process p e.call && is_accepted e.reply
 -- the entry created semaphore s
 abbrev pub is_semaphore_create : ℕ → SemaphoreCall → Bool
 is_semaphore_create s (CreateSemaphore t) = s == t
-is_semaphore_create s (WaitSemaphore t timeout) = false
-is_semaphore_create s (SignalSemaphore t) = false
+is_semaphore_create s _ = false
 
 abbrev pub is_creation_of_semaphore : ℕ → Option Call → Bool
 is_creation_of_semaphore s (Some (Semaphore call)) = is_semaphore_create s call

@@ -1,28 +1,30 @@
 -- The lines of a history: what is printed of each entry (this profile).
 use Rattle.std.specs.Prelude.{ℕ, ◌+◌, List, ◌++◌, flat_map, Option, None, Some, IfSome, codes, decimal}
 use Rattle.apex_types.specs.declared.calls.Call.{Call}
-use Rattle.apex_types.specs.declared.calls.Call.TheVariants.{Partition, Process, Semaphore}
+use Rattle.apex_types.specs.declared.calls.Call.TheVariants.{Partition, Process, Time, Semaphore}
 use Rattle.apex_types.specs.declared.calls.PartitionCall.{PartitionCall}
 use Rattle.apex_types.specs.declared.calls.PartitionCall.TheVariants.{SetPartitionMode}
 use Rattle.apex_types.specs.declared.calls.ProcessCall.{ProcessCall}
-use Rattle.apex_types.specs.declared.calls.ProcessCall.TheVariants.{CreateProcess, InitializeProcessCoreAffinity, Start, StopSelf}
+use Rattle.apex_types.specs.declared.calls.ProcessCall.TheVariants.{CreateProcess, InitializeProcessCoreAffinity, Start, DelayedStart, StopSelf, GetMyId}
 use Rattle.apex_types.specs.declared.calls.RequestedMode.{RequestedMode}
 use Rattle.apex_types.specs.declared.calls.RequestedMode.TheVariants.{Normal}
 use Rattle.apex_types.specs.declared.calls.SemaphoreCall.{SemaphoreCall}
-use Rattle.apex_types.specs.declared.calls.SemaphoreCall.TheVariants.{CreateSemaphore, WaitSemaphore, SignalSemaphore}
+use Rattle.apex_types.specs.declared.calls.SemaphoreCall.TheVariants.{CreateSemaphore, WaitSemaphore, SignalSemaphore, GetSemaphoreStatus}
+use Rattle.apex_types.specs.declared.calls.TimeCall.{TimeCall}
+use Rattle.apex_types.specs.declared.calls.TimeCall.TheVariants.{TimedWait, GetTime}
 use Rattle.apex_types.specs.declared.calls.Timeout.{Timeout}
-use Rattle.apex_types.specs.declared.calls.Timeout.TheVariants.{Poll, Infinite}
+use Rattle.apex_types.specs.declared.calls.Timeout.TheVariants.{Poll, Ticks, Infinite}
 use Rattle.apex_types.specs.declared.entries.Caller.{Caller}
 use Rattle.apex_types.specs.declared.entries.Caller.TheVariants.{Process as AskedBy, Init, Nobody}
 use Rattle.apex_types.specs.declared.entries.Entry.{Entry}
 use Rattle.apex_types.specs.declared.entries.Notice.{Notice}
 use Rattle.apex_types.specs.declared.entries.Notice.TheVariants.{Woken, Released}
 use Rattle.apex_types.specs.declared.entries.Reply.{Reply}
-use Rattle.apex_types.specs.declared.entries.Reply.TheVariants.{Code, Blocked, Gone, Idle}
+use Rattle.apex_types.specs.declared.entries.Reply.TheVariants.{Code, Value, Status, Blocked, Gone, Idle, Advanced}
 use Rattle.apex_types.specs.declared.entries.ReturnCode.{ReturnCode}
 use Rattle.apex_types.specs.declared.entries.ReturnCode.TheVariants.{NoError, NoAction, NotAvailable, InvalidParam, InvalidConfig, InvalidMode, TimedOut}
 use Rattle.apex_types.specs.declared.entries.Who.{Who}
-use Rattle.apex_types.specs.declared.entries.Who.TheVariants.{Core}
+use Rattle.apex_types.specs.declared.entries.Who.TheVariants.{Core, Ticker}
 use Rattle.apex_types.specs.Table.{Table, process_entry, semaphore_entry, IsKnown}
 
 -- the id of a process as users see it: its place in the table, counted from 1
@@ -42,6 +44,7 @@ code_text TimedOut = codes "TIMED_OUT"
 -- how long a call may wait
 abbrev pub timeout_text : Timeout → List ℕ
 timeout_text Poll = codes "0"
+timeout_text (Ticks n) = decimal n
 timeout_text Infinite = codes "infinite"
 
 -- the mode that is asked for
@@ -66,7 +69,15 @@ process_call_text table (CreateProcess p) = codes "CREATE_PROCESS " ++ process_n
 process_call_text table (InitializeProcessCoreAffinity p core) =
     codes "INITIALIZE_PROCESS_CORE_AFFINITY " ++ process_name table p ++ codes " " ++ decimal core
 process_call_text table (Start p) = codes "START " ++ process_name table p
+process_call_text table (DelayedStart p delay) =
+    codes "DELAYED_START " ++ process_name table p ++ codes " " ++ timeout_text delay
 process_call_text table StopSelf = codes "STOP_SELF"
+process_call_text table GetMyId = codes "GET_MY_ID"
+
+-- a step of time management
+abbrev pub time_call_text : TimeCall → List ℕ
+time_call_text (TimedWait timeout) = codes "TIMED_WAIT " ++ timeout_text timeout
+time_call_text GetTime = codes "GET_TIME"
 
 -- a step of semaphores
 abbrev pub semaphore_call_text : Table → SemaphoreCall → List ℕ
@@ -74,21 +85,29 @@ semaphore_call_text table (CreateSemaphore s) = codes "CREATE_SEMAPHORE " ++ sem
 semaphore_call_text table (WaitSemaphore s timeout) =
     codes "WAIT_SEMAPHORE " ++ semaphore_name table s ++ codes " " ++ timeout_text timeout
 semaphore_call_text table (SignalSemaphore s) = codes "SIGNAL_SEMAPHORE " ++ semaphore_name table s
+semaphore_call_text table (GetSemaphoreStatus s) = codes "GET_SEMAPHORE_STATUS " ++ semaphore_name table s
 
 -- a step as the table writes it
 abbrev pub call_text : Table → Call → List ℕ
 call_text table (Partition call) = partition_call_text call
 call_text table (Process call) = process_call_text table call
+call_text table (Time call) = time_call_text call
 call_text table (Semaphore call) = semaphore_call_text table call
 
--- what was asked for: a step, or nothing at an idle turn
-abbrev pub asked_text : Table → Option Call → List ℕ
-asked_text table None = codes "idle"
-asked_text table (Some call) = call_text table call
+-- what stands in the place of a step: how many ticks were asked for, or nothing at an idle turn
+abbrev pub no_call_text : Reply → List ℕ
+no_call_text (Advanced asked went) = codes "tick " ++ decimal asked
+no_call_text _ = codes "idle"
+
+-- what was asked for: a step, a tick, or nothing at an idle turn
+abbrev pub asked_text : Table → Option Call → Reply → List ℕ
+asked_text table None reply = no_call_text reply
+asked_text table (Some call) reply = call_text table call
 
 -- who made the event
 abbrev pub who_text : Who → List ℕ
 who_text (Core core) = codes "core" ++ decimal core
+who_text Ticker = codes "ticker"
 
 -- who asked for the call
 abbrev pub caller_text : Caller → List ℕ
@@ -99,9 +118,12 @@ caller_text Nobody = codes "-"
 -- what the call was answered
 abbrev pub reply_text : Reply → List ℕ
 reply_text (Code code) = code_text code
+reply_text (Value value) = codes "VALUE " ++ decimal value
+reply_text (Status first second) = codes "STATUS " ++ decimal first ++ codes " " ++ decimal second
 reply_text Blocked = codes "BLOCKED"
 reply_text Gone = codes "GONE"
 reply_text Idle = codes "IDLE"
+reply_text (Advanced asked went) = codes "ADVANCED " ++ decimal went
 
 -- what the event did to a process
 abbrev pub notice_text : Notice → List ℕ
@@ -117,7 +139,7 @@ noticed_text notice = codes " | " ++ notice_text notice
 abbrev pub line_of : Table → Entry → List ℕ
 line_of table entry =
     decimal entry.number ++ codes " " ++ decimal entry.now ++ codes " " ++ who_text entry.who
-    ++ codes " " ++ caller_text entry.process ++ codes " " ++ asked_text table entry.call
+    ++ codes " " ++ caller_text entry.process ++ codes " " ++ asked_text table entry.call entry.reply
     ++ codes " -> " ++ reply_text entry.reply ++ flat_map noticed_text entry.notices ++ codes "\n"
 
 -- the lines of a history, one behind the other

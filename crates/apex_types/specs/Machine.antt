@@ -1,18 +1,18 @@
 -- The machine: what each event does to a partition. It has records and a history, and no more.
-use Rattle.std.specs.Prelude.{ℕ, ◌+◌, false, List, [], ◌∷◌, ◌++◌, length, map, Option, None, Some, ◌==◌, nat_lt, ◌&&◌, slice_get, slice_set, slice_index_or, if◌then◌else◌}
+use Rattle.std.specs.Prelude.{ℕ, ◌+◌, ◌-◌, false, List, [], ◌∷◌, ◌++◌, length, map, Option, None, Some, ◌==◌, nat_lt, ◌&&◌, slice_get, slice_set, slice_index_or, if◌then◌else◌}
 use Rattle.apex_types.specs.declared.calls.Call.{Call}
-use Rattle.apex_types.specs.declared.calls.Call.TheVariants.{Partition, Process as ToProcess, Semaphore}
+use Rattle.apex_types.specs.declared.calls.Call.TheVariants.{Partition, Process as ToProcess, Time, Semaphore}
 use Rattle.apex_types.specs.declared.calls.ProcessCall.TheVariants.{StopSelf}
 use Rattle.apex_types.specs.declared.entries.Caller.{Caller}
 use Rattle.apex_types.specs.declared.entries.Caller.TheVariants.{Process, Init, Nobody}
 use Rattle.apex_types.specs.declared.entries.Entry.{Entry}
 use Rattle.apex_types.specs.declared.entries.Event.{Event}
-use Rattle.apex_types.specs.declared.entries.Event.TheVariants.{Turn}
+use Rattle.apex_types.specs.declared.entries.Event.TheVariants.{Turn, Tick}
 use Rattle.apex_types.specs.declared.entries.Notice.{Notice}
 use Rattle.apex_types.specs.declared.entries.Reply.{Reply}
-use Rattle.apex_types.specs.declared.entries.Reply.TheVariants.{Idle}
+use Rattle.apex_types.specs.declared.entries.Reply.TheVariants.{Idle, Advanced}
 use Rattle.apex_types.specs.declared.entries.Who.{Who}
-use Rattle.apex_types.specs.declared.entries.Who.TheVariants.{Core}
+use Rattle.apex_types.specs.declared.entries.Who.TheVariants.{Core, Ticker}
 use Rattle.apex_types.specs.Table.{Table, process_entry}
 use Rattle.apex_types.specs.Roster.{Roster, record_at, is_cold_start, opening_roster}
 use Rattle.apex_types.specs.Running.{chosen}
@@ -20,6 +20,8 @@ use Rattle.apex_types.specs.Stamps.{set_step}
 use Rattle.apex_types.specs.History.{Objects, SemaphoreObject, objects_after, next_init_call}
 use Rattle.apex_types.specs.SemaphoreServices.{SemaphoreOutcome, semaphore_service, semaphore_of}
 use Rattle.apex_types.specs.ProcessServices.{ProcessOutcome, process_service}
+use Rattle.apex_types.specs.TimeServices.{TimeOutcome, time_service}
+use Rattle.apex_types.specs.Ticks.{tick_goal, pass_time}
 use Rattle.apex_types.specs.PartitionServices.{PartitionOutcome, partition_service}
 
 -- the state of the machine
@@ -67,16 +69,25 @@ after_partition objects outcome = record {
   notices = outcome.notices;
 }
 
+abbrev pub after_time : Objects → TimeOutcome → Outcome
+after_time objects outcome = record {
+  roster = outcome.roster;
+  objects = objects;
+  reply = outcome.reply;
+  notices = [];
+}
+
 -- service: what the caller's call does in a partition of this many cores
 abbrev pub service : ℕ → Roster → Objects → Caller → Call → Outcome
 service cores roster objects caller (Partition call) = after_partition objects (partition_service roster call)
 service cores roster objects caller (ToProcess call) =
     after_process objects (process_service cores roster objects.processes caller call)
+service cores roster objects caller (Time call) = after_time objects (time_service roster caller call)
 service cores roster objects caller (Semaphore call) =
     after_semaphore objects (semaphore_of call)
     (semaphore_service roster (semaphore_at objects (semaphore_of call)) caller call)
 
--- a call that was carried out, or none at an idle turn
+-- a call that was carried out, or none at an idle turn and a tick
 pub record Deed : Type 0 where
   pub caller : Caller
   pub call : Option Call
@@ -122,32 +133,51 @@ abbrev pub deed_of : Table → Machine → ℕ → Deed
 deed_of table machine core =
     turn_deed table machine.roster (objects_after table machine.history) core (due_init_call table machine core)
 
--- the entry that tells of a deed of the core, as the history's number-th
-abbrev pub entry_of : ℕ → ℕ → Deed → Entry
-entry_of number core deed = record {
+-- what a tick of n does: time goes on, and no object changes
+abbrev pub tick_deed : Roster → Objects → ℕ → Deed
+tick_deed roster objects n =
+    let passed = pass_time roster n in record {
+      caller = Nobody;
+      call = None;
+      outcome = record {
+        roster = passed.roster;
+        objects = objects;
+        reply = Advanced n (tick_goal roster n - roster.now);
+        notices = passed.notices;
+      };
+    }
+
+-- the entry that tells of a deed, as the history's number-th
+abbrev pub entry_of : ℕ → Who → Deed → Entry
+entry_of number who deed = record {
   number = number;
   now = deed.outcome.roster.now;
-  who = Core core;
+  who = who;
   process = deed.caller;
   call = deed.call;
   reply = deed.outcome.reply;
   notices = deed.outcome.notices;
 }
 
--- the machine after a deed of the core, which adds its one entry
-abbrev pub after_deed : Machine → ℕ → Deed → Machine
-after_deed machine core deed = record {
+-- the machine after a deed, which adds its one entry
+abbrev pub after_deed : Machine → Who → Deed → Machine
+after_deed machine who deed = record {
   roster = deed.outcome.roster;
-  history = machine.history ++ entry_of (length machine.history + 1) core deed ∷ [];
+  history = machine.history ++ entry_of (length machine.history + 1) who deed ∷ [];
 }
 
 -- turn of a core
 unfoldable pub turn : Table → Machine → ℕ → Machine
-turn table machine core = after_deed machine core (deed_of table machine core)
+turn table machine core = after_deed machine (Core core) (deed_of table machine core)
+
+-- tick of n
+unfoldable pub tick : Table → Machine → ℕ → Machine
+tick table machine n = after_deed machine Ticker (tick_deed machine.roster (objects_after table machine.history) n)
 
 -- an event
 abbrev pub happen : Table → Machine → Event → Machine
 happen table machine (Turn core) = turn table machine core
+happen table machine (Tick n) = tick table machine n
 
 -- an event, where the history has room for its entry; else nothing
 abbrev pub accept : Table → Machine → Event → Machine
@@ -162,12 +192,17 @@ run table machine (event ∷ events) = run table (accept table machine event) ev
 abbrev pub opening : Table → Machine
 opening table = record { roster = opening_roster table; history = [] }
 
--- the event that an entry tells of
-abbrev pub event_of_who : Who → Event
-event_of_who (Core core) = Turn core
+-- the event that an entry tells of; a ticker's entry has a reply that says how many ticks were asked for
+abbrev pub asked_ticks : Reply → ℕ
+asked_ticks (Advanced asked went) = asked
+asked_ticks _ = 0
+
+abbrev pub event_by : Who → Reply → Event
+event_by (Core core) reply = Turn core
+event_by Ticker reply = Tick (asked_ticks reply)
 
 abbrev pub event_of : Entry → Event
-event_of e = event_of_who e.who
+event_of e = event_by e.who e.reply
 
 abbrev pub events_of : List Entry → List Event
 events_of history = map event_of history

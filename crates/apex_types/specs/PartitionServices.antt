@@ -1,20 +1,21 @@
 -- The services of partition management, row by row (ARINC 653 Part 1, partition management; the
 -- order of releases is this profile's).
-use Rattle.std.specs.Prelude.{ℕ, zero, suc, List, [], ◌∷◌, ◌++◌, length, Option, None, Some, if◌then◌else◌}
+use Rattle.std.specs.Prelude.{ℕ, ◌+◌, List, [], length, Option, Some, ◌==◌, if◌then◌else◌}
 use Rattle.apex_types.specs.declared.calls.PartitionCall.{PartitionCall}
 use Rattle.apex_types.specs.declared.calls.PartitionCall.TheVariants.{SetPartitionMode}
 use Rattle.apex_types.specs.declared.calls.RequestedMode.{RequestedMode}
 use Rattle.apex_types.specs.declared.calls.RequestedMode.TheVariants as requested
 use Rattle.apex_types.specs.declared.entries.Notice.{Notice}
-use Rattle.apex_types.specs.declared.entries.Notice.TheVariants.{Released}
 use Rattle.apex_types.specs.declared.entries.Reply.{Reply}
 use Rattle.apex_types.specs.declared.entries.Reply.TheVariants.{Code}
 use Rattle.apex_types.specs.declared.entries.ReturnCode.TheVariants.{NoError, NoAction}
 use Rattle.apex_types.specs.declared.records.Mode.TheVariants as mode
 use Rattle.apex_types.specs.declared.records.Wait.TheVariants as wait
-use Rattle.apex_types.specs.Roster.{Roster, is_normal}
-use Rattle.apex_types.specs.Stamps.{release, set_mode}
+use Rattle.apex_types.specs.Roster.{Roster, record_at, is_normal}
+use Rattle.apex_types.specs.Stamps.{block, set_mode}
 use Rattle.apex_types.specs.Waiters.{first_waiter}
+use Rattle.apex_types.specs.InTurn.{Changed, in_turn}
+use Rattle.apex_types.specs.Ticks.{released}
 
 -- what a service of partition management leaves and answers
 pub record PartitionOutcome : Type 0 where
@@ -22,33 +23,25 @@ pub record PartitionOutcome : Type 0 where
   pub reply : Reply
   pub notices : List Notice
 
--- the processes after their releases, which these notices tell
-pub record Releases : Type 0 where
-  pub roster : Roster
-  pub notices : List Notice
+-- the start of process p, which waited for NORMAL: a release where it has no delay, else a wait for its
+-- start
+abbrev pub begin_start : Roster → ℕ → Changed
+begin_start roster p =
+    let delay = (record_at roster p).delay in
+    if delay == 0 then released roster p
+    else record { roster = block roster p wait.Start (Some (roster.now + delay)); notices = [] }
 
--- nobody waits for NORMAL any more
-abbrev pub all_released : Roster → List Notice → Releases
-all_released roster notices = record { roster = roster; notices = notices }
+-- who has waited for NORMAL for the longest time
+abbrev pub first_to_start : Roster → Option ℕ
+first_to_start roster = first_waiter roster wait.Normal
 
--- where somebody waits for NORMAL, his release, and then the others'
-abbrev pub release_and : (Roster → List Notice → Releases) → Roster → List Notice → Option ℕ → Releases
-release_and others roster notices None = all_released roster notices
-release_and others roster notices (Some p) = others (release roster p) (notices ++ Released p ∷ [])
+-- the entry into NORMAL: the mode is set, and the starts of all who wait for it begin in order of since
+unfoldable pub enter_normal : Roster → Changed
+enter_normal roster = in_turn first_to_start begin_start (length roster.records) (set_mode roster mode.Normal) []
 
--- releases those who wait for NORMAL, who waits longest first, n of them at the most
-abbrev pub release_waiting : ℕ → Roster → List Notice → Releases
-release_waiting zero roster notices = all_released roster notices
-release_waiting (suc n) roster notices =
-    release_and (release_waiting n) roster notices (first_waiter roster wait.Normal)
-
--- the entry into NORMAL: the mode is set, and all who wait for it are released in order of since
-unfoldable pub enter_normal : Roster → Releases
-enter_normal roster = release_waiting (length roster.records) (set_mode roster mode.Normal) []
-
--- accepted, with these releases
-abbrev pub entered_normal : Releases → PartitionOutcome
-entered_normal releases = record { roster = releases.roster; reply = Code NoError; notices = releases.notices }
+-- accepted, with these changes
+abbrev pub entered_normal : Changed → PartitionOutcome
+entered_normal changed = record { roster = changed.roster; reply = Code NoError; notices = changed.notices }
 
 -- SET_PARTITION_MODE
 abbrev pub set_partition_mode : Roster → RequestedMode → PartitionOutcome

@@ -16,7 +16,7 @@ pub record Roster : Type 0 where
 
 -- a record that no process has, for a place past the end
 abbrev pub nobody : Record
-nobody = record { core = 0; priority = 0; base = 0; started = false; wait = None; since = pos 0; step = 0 }
+nobody = record { core = 0; priority = 0; base = 0; started = false; wait = None; since = pos 0; due = None; delay = 0; step = 0 }
 
 -- the record of process p
 abbrev pub record_at : Roster → ℕ → Record
@@ -47,6 +47,8 @@ opening_record p entry = record {
   started = false;
   wait = None;
   since = pos (p + 1);
+  due = None;
+  delay = 0;
   step = 0;
 }
 

@@ -2,22 +2,23 @@
 -- (ARINC 653 Part 1, semaphores; the guards are this profile's).
 use Rattle.std.specs.Prelude.{ℕ, ◌+◌, ◌-◌, true, List, [], ◌∷◌, Option, None, Some, nat_lt, not, if◌then◌else◌}
 use Rattle.apex_types.specs.declared.calls.SemaphoreCall.{SemaphoreCall}
-use Rattle.apex_types.specs.declared.calls.SemaphoreCall.TheVariants.{CreateSemaphore, WaitSemaphore, SignalSemaphore}
+use Rattle.apex_types.specs.declared.calls.SemaphoreCall.TheVariants.{CreateSemaphore, WaitSemaphore, SignalSemaphore, GetSemaphoreStatus}
 use Rattle.apex_types.specs.declared.calls.Timeout.{Timeout}
-use Rattle.apex_types.specs.declared.calls.Timeout.TheVariants.{Poll, Infinite}
+use Rattle.apex_types.specs.declared.calls.Timeout.TheVariants.{Poll, Ticks, Infinite}
 use Rattle.apex_types.specs.declared.entries.Caller.{Caller}
 use Rattle.apex_types.specs.declared.entries.Caller.TheVariants.{Process, Init, Nobody}
 use Rattle.apex_types.specs.declared.entries.Notice.{Notice}
 use Rattle.apex_types.specs.declared.entries.Notice.TheVariants.{Woken}
 use Rattle.apex_types.specs.declared.entries.Reply.{Reply}
-use Rattle.apex_types.specs.declared.entries.Reply.TheVariants.{Code, Blocked}
+use Rattle.apex_types.specs.declared.entries.Reply.TheVariants.{Code, Status, Blocked}
 use Rattle.apex_types.specs.declared.entries.ReturnCode.{ReturnCode}
 use Rattle.apex_types.specs.declared.entries.ReturnCode.TheVariants.{NoError, NoAction, NotAvailable, InvalidParam, InvalidMode}
 use Rattle.apex_types.specs.declared.records.Wait.TheVariants.{Semaphore}
 use Rattle.apex_types.specs.Roster.{Roster, is_normal}
 use Rattle.apex_types.specs.History.{SemaphoreObject}
+use Rattle.apex_types.specs.Dues.{due_after}
 use Rattle.apex_types.specs.Stamps.{block, unblock}
-use Rattle.apex_types.specs.Waiters.{first_waiter}
+use Rattle.apex_types.specs.Waiters.{first_waiter, waiter_count}
 
 -- what a service of a semaphore leaves and answers
 pub record SemaphoreOutcome : Type 0 where
@@ -38,11 +39,16 @@ create_semaphore roster semaphore =
     else if semaphore.created then refused_semaphore roster semaphore NoAction
     else record { roster = roster; semaphore = record semaphore { created = true }; reply = Code NoError; notices = [] }
 
+-- process p blocks on semaphore s
+abbrev pub blocked_on : Roster → SemaphoreObject → ℕ → ℕ → Timeout → SemaphoreOutcome
+blocked_on roster semaphore s p timeout =
+    record { roster = block roster p (Semaphore s) (due_after roster timeout); semaphore = semaphore; reply = Blocked; notices = [] }
+
 -- a wait on a semaphore of value 0, by process p
 abbrev pub wait_at_zero : Roster → SemaphoreObject → ℕ → ℕ → Timeout → SemaphoreOutcome
 wait_at_zero roster semaphore s p Poll = refused_semaphore roster semaphore NotAvailable
-wait_at_zero roster semaphore s p Infinite =
-    record { roster = block roster p (Semaphore s); semaphore = semaphore; reply = Blocked; notices = [] }
+wait_at_zero roster semaphore s p (Ticks n) = blocked_on roster semaphore s p (Ticks n)
+wait_at_zero roster semaphore s p Infinite = blocked_on roster semaphore s p Infinite
 
 -- WAIT_SEMAPHORE by process p
 abbrev pub wait_semaphore : Roster → SemaphoreObject → ℕ → ℕ → Timeout → SemaphoreOutcome
@@ -77,14 +83,22 @@ wait_by roster semaphore s (Process p) timeout = wait_semaphore roster semaphore
 wait_by roster semaphore s Init timeout = refused_semaphore roster semaphore InvalidMode
 wait_by roster semaphore s Nobody timeout = refused_semaphore roster semaphore InvalidMode
 
+-- GET_SEMAPHORE_STATUS: the value, and how many wait
+abbrev pub get_semaphore_status : Roster → SemaphoreObject → ℕ → SemaphoreOutcome
+get_semaphore_status roster semaphore s =
+    if not semaphore.created then refused_semaphore roster semaphore InvalidParam
+    else record { roster = roster; semaphore = semaphore; reply = Status semaphore.value (waiter_count roster (Semaphore s)); notices = [] }
+
 -- any service of a semaphore
 abbrev pub semaphore_service : Roster → SemaphoreObject → Caller → SemaphoreCall → SemaphoreOutcome
 semaphore_service roster semaphore caller (CreateSemaphore s) = create_semaphore roster semaphore
 semaphore_service roster semaphore caller (WaitSemaphore s timeout) = wait_by roster semaphore s caller timeout
 semaphore_service roster semaphore caller (SignalSemaphore s) = signal_semaphore roster semaphore s
+semaphore_service roster semaphore caller (GetSemaphoreStatus s) = get_semaphore_status roster semaphore s
 
 -- the semaphore that the call names
 abbrev pub semaphore_of : SemaphoreCall → ℕ
 semaphore_of (CreateSemaphore s) = s
 semaphore_of (WaitSemaphore s timeout) = s
 semaphore_of (SignalSemaphore s) = s
+semaphore_of (GetSemaphoreStatus s) = s

@@ -1,11 +1,12 @@
 -- How records change and when a process takes a new stamp (this profile).
-use Rattle.std.specs.Prelude.{ℕ, true, false, None, Some, pos, ◌+ℤ◌, ◌<ℤ◌, ◌^◌, slice_set, if◌then◌else◌}
+use Rattle.std.specs.Prelude.{ℕ, ◌+◌, true, false, Option, None, Some, pos, ◌+ℤ◌, ◌<ℤ◌, ◌^◌, ◌==◌, ◌&&◌, not, slice_set, if◌then◌else◌}
 use Rattle.apex_types.specs.declared.records.Mode.{Mode}
 use Rattle.apex_types.specs.declared.records.Record.{Record}
 use Rattle.apex_types.specs.declared.records.Wait.{Wait}
-use Rattle.apex_types.specs.declared.records.Wait.TheVariants.{Normal}
+use Rattle.apex_types.specs.declared.records.Wait.TheVariants.{Normal, Start}
 use Rattle.apex_types.specs.Roster.{Roster, record_at, with_record, is_normal}
 use Rattle.apex_types.specs.Running.{is_eligible}
+use Rattle.apex_types.specs.Dues.{first_due}
 
 -- there are stamps left: no history is long enough to use them up
 abbrev pub HasStamps : Roster → Type 0
@@ -22,33 +23,64 @@ newest roster p r = record roster {
 abbrev pub readied : Roster → ℕ → Record → Roster
 readied roster p r = if is_eligible roster.mode r then newest roster p r else with_record roster p r
 
--- START: back to the base priority and the first step; in NORMAL released at once, before it the
--- process waits for NORMAL
-abbrev pub start : Roster → ℕ → Roster
-start roster p =
+-- what a process waits for after a start: for NORMAL before it, in NORMAL for the end of its delay
+abbrev pub start_wait : Mode → ℕ → Option Wait
+start_wait mode delay = if not (is_normal mode) then Some Normal else if delay == 0 then None else Some Start
+
+-- when that wait ends by itself: the delay begins to run with the entry into NORMAL
+abbrev pub start_due : Roster → ℕ → Option ℕ
+start_due roster delay = if is_normal roster.mode && not (delay == 0) then Some (roster.now + delay) else None
+
+-- START, after a delay: back to the base priority and the first step; in NORMAL released at once where
+-- there is no delay
+abbrev pub start : Roster → ℕ → ℕ → Roster
+start roster p delay =
     let r = record_at roster p in
     newest roster p (record r {
       base = r.priority;
       started = true;
       step = 0;
-      wait = (if is_normal roster.mode then None else Some Normal);
+      wait = start_wait roster.mode delay;
+      due = start_due roster delay;
+      delay = delay;
     })
 
 -- a stop: not started, waits for nothing, at the first step; stamps nobody
 abbrev pub stop : Roster → ℕ → Roster
-stop roster p = with_record roster p (record (record_at roster p) { started = false; wait = None; step = 0 })
+stop roster p = with_record roster p (record (record_at roster p) { started = false; wait = None; due = None; step = 0 })
 
--- the process begins to wait
-abbrev pub block : Roster → ℕ → Wait → Roster
-block roster p wait = newest roster p (record (record_at roster p) { wait = Some wait })
+-- the process begins to wait, until the due where there is one
+abbrev pub block : Roster → ℕ → Wait → Option ℕ → Roster
+block roster p wait due = newest roster p (record (record_at roster p) { wait = Some wait; due = due })
 
 -- the process's wait ends
 abbrev pub unblock : Roster → ℕ → Roster
-unblock roster p = readied roster p (record (record_at roster p) { wait = None })
+unblock roster p = readied roster p (record (record_at roster p) { wait = None; due = None })
 
 -- a release: the process waits no more
 abbrev pub release : Roster → ℕ → Roster
-release roster p = readied roster p (record (record_at roster p) { wait = None })
+release roster p = readied roster p (record (record_at roster p) { wait = None; due = None })
+
+-- the process goes behind all others of its priority
+abbrev pub place_newest : Roster → ℕ → Roster
+place_newest roster p = newest roster p (record_at roster p)
+
+-- time goes on to this instant
+abbrev pub advance_to : Roster → ℕ → Roster
+advance_to roster t = record roster { now = t }
+
+-- the process has no due any more
+abbrev pub without_due : Roster → ℕ → Roster
+without_due roster p = with_record roster p (record (record_at roster p) { due = None })
+
+-- where there is such a process it has no due any more
+abbrev pub without_due_of : Roster → Option ℕ → Roster
+without_due_of roster None = roster
+without_due_of roster (Some p) = without_due roster p
+
+-- the first process whose due is now has it no more
+abbrev pub take_due : Roster → Roster
+take_due roster = without_due_of roster (first_due roster)
 
 -- the partition goes to this mode
 abbrev pub set_mode : Roster → Mode → Roster

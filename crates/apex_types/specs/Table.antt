@@ -3,11 +3,11 @@ use Rattle.std.specs.Prelude.{ℕ, ◌<◌, ◌≤◌, Bool, false, List, [], le
 use Rattle.std.specs.List.{IsDistinct}
 use Rattle.std.specs.Str.{bytes_eq}
 use Rattle.apex_types.specs.declared.calls.Call.{Call}
-use Rattle.apex_types.specs.declared.calls.Call.TheVariants.{Partition, Process, Semaphore}
+use Rattle.apex_types.specs.declared.calls.Call.TheVariants.{Partition, Process, Time, Semaphore}
 use Rattle.apex_types.specs.declared.calls.ProcessCall.{ProcessCall}
-use Rattle.apex_types.specs.declared.calls.ProcessCall.TheVariants.{CreateProcess, InitializeProcessCoreAffinity, Start, StopSelf}
+use Rattle.apex_types.specs.declared.calls.ProcessCall.TheVariants.{CreateProcess, InitializeProcessCoreAffinity, Start, DelayedStart, StopSelf, GetMyId}
 use Rattle.apex_types.specs.declared.calls.SemaphoreCall.{SemaphoreCall}
-use Rattle.apex_types.specs.declared.calls.SemaphoreCall.TheVariants.{CreateSemaphore, WaitSemaphore, SignalSemaphore}
+use Rattle.apex_types.specs.declared.calls.SemaphoreCall.TheVariants.{CreateSemaphore, WaitSemaphore, SignalSemaphore, GetSemaphoreStatus}
 use Rattle.apex_types.specs.Name.{is_name}
 
 -- a process as the table gives it
@@ -56,16 +56,20 @@ abbrev pub IsKnownToProcesses : ℕ → ProcessCall → Type 0
 IsKnownToProcesses many (CreateProcess p) = p < many
 IsKnownToProcesses many (InitializeProcessCoreAffinity p core) = p < many
 IsKnownToProcesses many (Start p) = p < many
+IsKnownToProcesses many (DelayedStart p delay) = p < many
 IsKnownToProcesses many StopSelf = Unit {0}
+IsKnownToProcesses many GetMyId = Unit {0}
 
 abbrev pub IsKnownToSemaphores : ℕ → SemaphoreCall → Type 0
 IsKnownToSemaphores many (CreateSemaphore s) = s < many
 IsKnownToSemaphores many (WaitSemaphore s timeout) = s < many
 IsKnownToSemaphores many (SignalSemaphore s) = s < many
+IsKnownToSemaphores many (GetSemaphoreStatus s) = s < many
 
 abbrev pub IsKnown : Table → Call → Type 0
 IsKnown table (Partition call) = Unit {0}
 IsKnown table (Process call) = IsKnownToProcesses (length table.processes) call
+IsKnown table (Time call) = Unit {0}
 IsKnown table (Semaphore call) = IsKnownToSemaphores (length table.semaphores) call
 
 -- what holds of a process of an accepted table

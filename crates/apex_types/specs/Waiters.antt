@@ -2,7 +2,7 @@
 use Rattle.std.specs.Prelude.{ℕ, Bool, true, false, Option, None, Some, ◌==◌, ◌&&◌, count_by}
 use Rattle.apex_types.specs.declared.records.Record.{Record}
 use Rattle.apex_types.specs.declared.records.Wait.{Wait}
-use Rattle.apex_types.specs.declared.records.Wait.TheVariants.{Normal, Semaphore}
+use Rattle.apex_types.specs.declared.records.Wait.TheVariants.{Normal, Start, Time, Semaphore}
 use Rattle.apex_types.specs.Roster.{Roster, record_at}
 use Rattle.apex_types.specs.Choice.{place_of_least}
 use Rattle.apex_types.specs.Running.{is_older}
@@ -10,9 +10,10 @@ use Rattle.apex_types.specs.Running.{is_older}
 -- the two wait for the same thing
 abbrev pub is_same_wait : Wait → Wait → Bool
 is_same_wait Normal Normal = true
-is_same_wait Normal (Semaphore t) = false
-is_same_wait (Semaphore s) Normal = false
+is_same_wait Start Start = true
+is_same_wait Time Time = true
 is_same_wait (Semaphore s) (Semaphore t) = s == t
+is_same_wait _ _ = false
 
 -- this wait is for that thing
 abbrev pub is_wait_for : Wait → Option Wait → Bool

@@ -8,6 +8,8 @@ use crate::identifiers::{ProcessId, SemaphoreId};
 pub enum Timeout {
     /// Not at all: `0`.
     Poll,
+    /// So many ticks at the most, 1 to 4,294,967,295.
+    Ticks(u32),
     /// For ever: `infinite`.
     Infinite,
 }
@@ -31,7 +33,17 @@ pub enum ProcessCall {
     /// The core is any number from 0 to 255: the service tests it.
     InitializeProcessCoreAffinity(ProcessId, u8),
     Start(ProcessId),
+    /// A START after a delay.
+    DelayedStart(ProcessId, Timeout),
     StopSelf,
+    GetMyId,
+}
+
+/// A call of a service of time management.
+#[derive(Clone, Copy, Debug, PartialEq, Eq)]
+pub enum TimeCall {
+    TimedWait(Timeout),
+    GetTime,
 }
 
 /// A call of a service of semaphores.
@@ -40,6 +52,7 @@ pub enum SemaphoreCall {
     CreateSemaphore(SemaphoreId),
     WaitSemaphore(SemaphoreId, Timeout),
     SignalSemaphore(SemaphoreId),
+    GetSemaphoreStatus(SemaphoreId),
 }
 
 impl SemaphoreCall {
@@ -50,7 +63,8 @@ impl SemaphoreCall {
         match self {
             SemaphoreCall::CreateSemaphore(semaphore)
             | SemaphoreCall::WaitSemaphore(semaphore, _)
-            | SemaphoreCall::SignalSemaphore(semaphore) => *semaphore,
+            | SemaphoreCall::SignalSemaphore(semaphore)
+            | SemaphoreCall::GetSemaphoreStatus(semaphore) => *semaphore,
         }
     }
 }
@@ -60,5 +74,6 @@ impl SemaphoreCall {
 pub enum Call {
     Partition(PartitionCall),
     Process(ProcessCall),
+    Time(TimeCall),
     Semaphore(SemaphoreCall),
 }

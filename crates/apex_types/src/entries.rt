@@ -21,13 +21,17 @@ pub enum ReturnCode {
 /// What happens to a partition: one event is one atomic step.
 #[derive(Clone, Copy, Debug, PartialEq, Eq)]
 pub enum Event {
+    /// A turn of a core.
     Turn(CoreId),
+    /// A tick of so many ticks of time, 1 to 1,048,576.
+    Tick(u32),
 }
 
 /// Who made an event.
 #[derive(Clone, Copy, Debug, PartialEq, Eq)]
 pub enum Who {
     Core(CoreId),
+    Ticker,
 }
 
 /// Who asked for an entry's call.
@@ -36,7 +40,7 @@ pub enum Caller {
     Process(ProcessId),
     /// The init list.
     Init,
-    /// Nobody: an idle turn.
+    /// Nobody: an idle turn or a tick.
     Nobody,
 }
 
@@ -44,12 +48,18 @@ pub enum Caller {
 #[derive(Clone, Copy, Debug, PartialEq, Eq)]
 pub enum Reply {
     Code(ReturnCode),
+    /// What the caller asked for: a time in ticks or an id.
+    Value(u64),
+    /// The two numbers of a status.
+    Status(u64, u64),
     /// The caller waits; a later `woken` notice has its code.
     Blocked,
     /// The caller is no longer started.
     Gone,
     /// The core had nothing to do.
     Idle,
+    /// A tick: how many ticks were asked for, and how many time went on.
+    Advanced(u32, u32),
 }
 
 /// What an event did to a process other than its caller.
@@ -115,7 +125,7 @@ pub struct Entry {
     pub now: u64,
     pub who: Who,
     pub process: Caller,
-    /// The call that was carried out, or none at an idle turn.
+    /// The call that was carried out, or none at an idle turn and a tick.
     pub call: Option<Call>,
     pub reply: Reply,
     pub notices: Notices,

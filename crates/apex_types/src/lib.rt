@@ -9,10 +9,14 @@ mod calls;
 mod entries;
 mod identifiers;
 mod names;
+mod numbers;
 mod records;
 
-pub use calls::{Call, PartitionCall, ProcessCall, RequestedMode, SemaphoreCall, Timeout};
+pub use calls::{
+    Call, PartitionCall, ProcessCall, RequestedMode, SemaphoreCall, TimeCall, Timeout,
+};
 pub use entries::{Caller, Entry, Event, Full, Notice, Notices, Reply, ReturnCode, Who};
 pub use identifiers::{CoreId, ProcessId, SemaphoreId};
 pub use names::Name;
+pub use numbers::{number, number_at_most};
 pub use records::{Mode, Record, State, Wait};

@@ -22,6 +22,10 @@ pub enum State {
 pub enum Wait {
     /// The partition's entry into NORMAL, after a START.
     Normal,
+    /// The instant of its start, after a DELAYED_START.
+    Start,
+    /// An instant, after a TIMED_WAIT.
+    Time,
     Semaphore(SemaphoreId),
 }
 
@@ -37,6 +41,10 @@ pub struct Record {
     pub wait: Option<Wait>,
     /// The stamp of its last coming into a ready or a wait queue: the smaller, the longer it is there.
     pub since: i64,
+    /// The instant in ticks at which its wait ends by itself, if it does.
+    pub due: Option<u64>,
+    /// The delay in ticks of its last start, which begins to run with the entry into NORMAL.
+    pub delay: u32,
     /// How many steps of its script it has asked for since its start.
     pub step: u8,
 }

@@ -1,6 +1,6 @@
 use Rattle.std.proofs.Common.{◌≡◌, ℕ, ◌^◌, min, drop}
-use Rattle.apex_cli.specs.Numbers.{more_digits}
-use Rattle.apex_cli.proofs.numbers.number_at_most.Given as goal
+use Rattle.apex_types.specs.Numbers.{more_digits}
+use Rattle.apex_types.proofs.numbers.number.Given as goal
 
 -- m is the number so far
 abbrev pub invariant-loop-digit : goal.invariant-loop-digit

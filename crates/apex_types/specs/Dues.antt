@@ -1,0 +1,54 @@
+-- When waits end by themselves: the dues of the processes, and the instant at which the next one falls
+-- (this profile).
+use Rattle.std.specs.Prelude.{ℕ, ◌≤◌, ◌+◌, Bool, false, List, [], ◌∷◌, Option, None, Some, ◌==◌, min, ◌^◌, ◌≡◌}
+use Rattle.apex_types.specs.declared.calls.Timeout.{Timeout}
+use Rattle.apex_types.specs.declared.calls.Timeout.TheVariants.{Poll, Ticks, Infinite}
+use Rattle.apex_types.specs.declared.records.Record.{Record}
+use Rattle.apex_types.specs.Roster.{Roster, record_at}
+use Rattle.apex_types.specs.Choice.{place_of_least}
+
+-- the sooner of two instants
+abbrev pub sooner : Option ℕ → Option ℕ → Option ℕ
+sooner None later = later
+sooner (Some t) None = Some t
+sooner (Some t) (Some u) = Some (min t u)
+
+-- the least due of these records
+abbrev pub earliest_due : List Record → Option ℕ
+earliest_due [] = None
+earliest_due (r ∷ rs) = sooner r.due (earliest_due rs)
+
+-- next instant: the least due over all records, or none
+abbrev pub next_instant : Roster → Option ℕ
+next_instant roster = earliest_due roster.records
+
+-- the instant is this one
+abbrev pub is_instant : ℕ → Option ℕ → Bool
+is_instant t None = false
+is_instant t (Some u) = t == u
+
+-- the process's due is this instant
+unfoldable pub is_due_at : ℕ → Record → Bool
+is_due_at t r = is_instant t r.due
+
+-- no record comes before another one: of those that pass a test the one of the lowest number is first
+abbrev pub by_number : Record → Record → Bool
+by_number r s = false
+
+-- the process of the lowest number whose due is now
+abbrev pub first_due : Roster → Option ℕ
+first_due roster = place_of_least (is_due_at roster.now) by_number roster.records
+
+-- when a wait that begins now ends by itself
+abbrev pub due_after : Roster → Timeout → Option ℕ
+due_after roster Poll = None
+due_after roster (Ticks n) = Some (roster.now + n)
+due_after roster Infinite = None
+
+-- so little time has passed that no sum of times overflows
+abbrev pub HasTime : Roster → Type 0
+HasTime roster = roster.now ≤ 2 ^ 36
+
+-- no due that stands is below now
+abbrev pub HasNoPastDue : Roster → Type 0
+HasNoPastDue roster = (p t : ℕ) → (record_at roster p).due ≡ Some t → roster.now ≤ t

@@ -1,0 +1,46 @@
+-- A tick: how far time goes on, and which waits it ends (this profile).
+use Rattle.std.specs.Prelude.{ℕ, ◌+◌, [], ◌∷◌, length, Option, None, Some, min}
+use Rattle.apex_types.specs.declared.entries.Notice.TheVariants.{Woken, Released}
+use Rattle.apex_types.specs.declared.entries.ReturnCode.{ReturnCode}
+use Rattle.apex_types.specs.declared.entries.ReturnCode.TheVariants.{NoError, TimedOut}
+use Rattle.apex_types.specs.declared.records.Wait.{Wait}
+use Rattle.apex_types.specs.declared.records.Wait.TheVariants.{Start, Time}
+use Rattle.apex_types.specs.Roster.{Roster, record_at}
+use Rattle.apex_types.specs.Dues.{next_instant, first_due}
+use Rattle.apex_types.specs.Stamps.{unblock, release, advance_to, without_due}
+use Rattle.apex_types.specs.InTurn.{Changed, in_turn}
+
+-- the smaller of an instant and the next one, where there is one
+abbrev pub at_most : ℕ → Option ℕ → ℕ
+at_most t None = t
+at_most t (Some next) = min t next
+
+-- where a tick of n goes: to the smaller of now + n and the next instant
+abbrev pub tick_goal : Roster → ℕ → ℕ
+tick_goal roster n = at_most (roster.now + n) (next_instant roster)
+
+-- process p is woken with this code
+abbrev pub woken : Roster → ℕ → ReturnCode → Changed
+woken roster p code = record { roster = unblock roster p; notices = Woken p code ∷ [] }
+
+-- process p is released
+abbrev pub released : Roster → ℕ → Changed
+released roster p = record { roster = release roster p; notices = Released p ∷ [] }
+
+-- the wait of process p ends at its due, by what it waited for
+abbrev pub wait_over : Roster → ℕ → Option Wait → Changed
+wait_over roster p (Some Time) = woken roster p NoError
+wait_over roster p (Some Start) = released roster p
+wait_over roster p _ = woken roster p TimedOut
+
+-- process p, whose due is now, has it no more, and its wait ends
+abbrev pub serve_due : Roster → ℕ → Changed
+serve_due roster p = wait_over (without_due roster p) p (record_at roster p).wait
+
+-- the dues at now, by process number
+abbrev pub serve_dues : Roster → Changed
+serve_dues roster = in_turn first_due serve_due (length roster.records) roster []
+
+-- time goes on by a tick of n, and the waits that are due then end
+unfoldable pub pass_time : Roster → ℕ → Changed
+pass_time roster n = serve_dues (advance_to roster (tick_goal roster n))
