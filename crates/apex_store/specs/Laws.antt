@@ -70,11 +70,14 @@ pub record RunningIsChosen (roster : Roster) (p : ℕ) : Type 0 where
 
 -- whatever is asked of a store, no two of its processes come to have the same stamp
 pub record StampsStayDistinct (roster : Roster) : Type 0 where
-  pub start : (p : ℕ) → p < length roster.records → IsStamped (stamps.start roster p)
+  pub start : (p delay : ℕ) → p < length roster.records → IsStamped (stamps.start roster p delay)
   pub stop : (p : ℕ) → p < length roster.records → IsStamped (stamps.stop roster p)
-  pub block : (p : ℕ) (wait : Wait) → p < length roster.records → IsStamped (stamps.block roster p wait)
+  pub block : (p : ℕ) (wait : Wait) (due : Option ℕ) → p < length roster.records → IsStamped (stamps.block roster p wait due)
   pub unblock : (p : ℕ) → p < length roster.records → IsStamped (stamps.unblock roster p)
   pub release : (p : ℕ) → p < length roster.records → IsStamped (stamps.release roster p)
+  pub place_newest : (p : ℕ) → p < length roster.records → IsStamped (stamps.place_newest roster p)
+  pub advance_to : (t : ℕ) → IsStamped (stamps.advance_to roster t)
+  pub take_due : IsStamped (stamps.take_due roster)
   pub set_mode : (mode : Mode) → IsStamped (stamps.set_mode roster mode)
   pub set_core : (p core : ℕ) → p < length roster.records → IsStamped (stamps.set_core roster p core)
   pub set_step : (p step : ℕ) → p < length roster.records → IsStamped (stamps.set_step roster p step)

@@ -3,7 +3,7 @@ use Rattle.std.proofs.Common.{◌≡◌, ◌≢◌, ℕ, zero, suc, ◌+◌, ◌
 use Rattle.std.specs.Option.{MatchOption, option_map}
 use Rattle.std.proofs.lemmas.Bool.{cond_both, and_parts, not-true, cases_eq, both_ways}
 use Rattle.std.proofs.lemmas.List.{at_drop_more}
-use Rattle.std.proofs.lemmas.Option.{same_Some, none-some}
+use Rattle.std.proofs.lemmas.Option.{same_Some, none-some, slice_get_within, get_or_from_slice_get}
 use Rattle.apex_types.specs.declared.records.Record.{Record}
 use Rattle.apex_types.specs.Choice.{better, least, place_of_least, IsLeast}
 
@@ -201,3 +201,13 @@ module _ (passes : Record → Bool) (before : Record → Record → Bool) where
   -- the place that is found has a record, and it passes
   pub place_among : (rs : List Record) (p : ℕ) → place_of_least passes before rs ≡ Some p → (r : Record) × (slice_get rs p ≡ Some r) × (passes r ≡ true)
   place_among rs = among_at rs _ (least_among 0 rs)
+
+  -- who is found is one of the records
+  pub place_within : (rs : List Record) (p : ℕ) → place_of_least passes before rs ≡ Some p → p < length rs
+  place_within rs p e = let found = place_among rs p e in slice_get_within rs p found.0 found.1
+
+  -- who is found passes
+  pub place_passes : (rs : List Record) (p : ℕ) (other : Record) → place_of_least passes before rs ≡ Some p → passes (get_or rs p other) ≡ true
+  place_passes rs p other e =
+      let found = place_among rs p e in
+      rw (get_or_from_slice_get rs p found.0 other found.1) found.2

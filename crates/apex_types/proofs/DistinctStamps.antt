@@ -1,5 +1,5 @@
 -- Each change of a roster leaves it with distinct stamps, all given before the next one.
-use Rattle.std.proofs.Common.{◌≡◌, ◌≢◌, ℕ, ◌+◌, ◌<◌, ◌<ℤ◌, pos, Option, length, refl, sym, ◌∙◌, ap, inl, inr, arith}
+use Rattle.std.proofs.Common.{◌≡◌, ◌≢◌, ℕ, ◌+◌, ◌<◌, ◌<ℤ◌, pos, Option, None, Some, length, refl, sym, ◌∙◌, ap, inl, inr, arith}
 use Rattle.std.proofs.lemmas.Bool.{cases_eq, cond_both}
 use Rattle.std.proofs.lemmas.Int.{ints}
 use Rattle.std.proofs.lemmas.List.{length-set}
@@ -9,8 +9,10 @@ use Rattle.apex_types.specs.declared.records.Wait.{Wait}
 use Rattle.apex_types.specs.Roster.{Roster, record_at, with_record, nobody, opening_record, opening_roster}
 use Rattle.apex_types.specs.Table.{Table, no_process}
 use Rattle.apex_types.specs.Running.{is_eligible}
-use Rattle.apex_types.specs.Stamps.{newest, readied, start, stop, block, unblock, release, place_newest, advance_to, without_due, set_mode, set_core, set_step}
+use Rattle.apex_types.specs.Stamps.{newest, readied, start, stop, block, unblock, release, place_newest, advance_to, without_due, without_due_of, take_due, set_mode, set_core, set_step}
 use Rattle.apex_types.specs.Distinct.{IsStamped}
+use Rattle.apex_types.specs.Dues.{is_due_at, by_number, first_due}
+use Rattle.apex_types.proofs.Choice.{place_within}
 use Rattle.apex_types.proofs.Places.{length-map_places, get_or-map_places}
 use Rattle.apex_types.proofs.Rosters.{changes_record, changes_newest, at_record, at_newest, started, awake, waiting}
 
@@ -124,6 +126,15 @@ stamped_advance_to roster stamped t = record {
   given = stamped.given;
   distinct = record { distinct = stamped.distinct.distinct };
 }
+
+stamped_due_of : (roster : Roster) → IsStamped roster → (found : Option ℕ) → ((p : ℕ) → found ≡ Some p → p < length roster.records)
+    → IsStamped (without_due_of roster found)
+stamped_due_of roster stamped None known = stamped
+stamped_due_of roster stamped (Some p) known = stamped_without_due roster p (known p refl) stamped
+
+pub stamped_take_due : (roster : Roster) → IsStamped roster → IsStamped (take_due roster)
+stamped_take_due roster stamped =
+    stamped_due_of roster stamped (first_due roster) (place_within (is_due_at roster.now) by_number roster.records)
 
 opening_since : (table : Table) (p : ℕ) → p < length table.processes → (record_at (opening_roster table) p).since ≡ pos (p + 1)
 opening_since table p within =
