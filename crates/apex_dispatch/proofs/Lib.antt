@@ -1,5 +1,5 @@
-pub mod Sizes
 pub mod Known
+pub mod Reach
 pub mod Waits
 pub mod Values
 pub mod Effects
@@ -7,6 +7,5 @@ pub mod SemaphoreTold
 pub mod OtherTold
 pub mod Exact
 pub mod Turns
-pub mod Stamped
 pub mod Kept
 pub mod Runs

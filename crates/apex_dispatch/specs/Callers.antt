@@ -1,23 +1,16 @@
--- What a service may rely on: who calls is known, what is named is there, and stamps are left.
+-- What a service may rely on: what is named is there, and stamps are left.
 use Rattle.std.specs.Prelude.{ℕ, ◌<◌, ◌^◌, length, pos, ◌<ℤ◌, ◌+ℤ◌}
 use Rattle.apex_types.specs.declared.Call.{Call}
-use Rattle.apex_types.specs.declared.Call.TheVariants.{Partition, Process as ToProcess, Semaphore}
-use Rattle.apex_types.specs.declared.Caller.{Caller}
-use Rattle.apex_types.specs.declared.Caller.TheVariants.{Process, Init, Nobody}
+use Rattle.apex_types.specs.declared.Call.TheVariants.{Partition, Process as ToProcess, Time, Semaphore}
 use Rattle.apex_types.specs.Table.{IsKnownToProcesses, IsKnownToSemaphores}
 use Rattle.apex_types.specs.Roster.{Roster}
 use Rattle.apex_types.specs.History.{Objects}
-
--- a process that calls is one of so many
-abbrev pub IsKnownCaller : ℕ → Caller → Type 0
-IsKnownCaller many (Process p) = p < many
-IsKnownCaller many Init = Unit {0}
-IsKnownCaller many Nobody = Unit {0}
 
 -- what the call names is one of these objects
 abbrev pub IsKnownTo : Objects → Call → Type 0
 IsKnownTo objects (Partition call) = Unit {0}
 IsKnownTo objects (ToProcess call) = IsKnownToProcesses (length objects.processes) call
+IsKnownTo objects (Time call) = Unit {0}
 IsKnownTo objects (Semaphore call) = IsKnownToSemaphores (length objects.semaphores) call
 
 -- there are stamps left for all that one event may stamp

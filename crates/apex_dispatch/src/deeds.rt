@@ -31,6 +31,7 @@ fn carry_out_step<S: Store>(
     requires processes { length objects.old.processes ≡ length table.now.processes }
     requires semaphores { length objects.old.semaphores ≡ length table.now.semaphores }
     requires stamps { HasManyStamps (S.roster store.old) }
+    requires time { HasTime (S.roster store.old) }
     requires quiet { notices.old ≡ [] }
     ensures roster { S.roster store.new ≡ (chosen_deed table.now (S.roster store.old) objects.old (Some process)).outcome.roster }
     ensures objects { objects.new ≡ (chosen_deed table.now (S.roster store.old) objects.old (Some process)).outcome.objects }
@@ -78,6 +79,7 @@ pub(crate) fn carry_out<S: Store>(
     requires processes { length objects.old.processes ≡ length table.now.processes }
     requires semaphores { length objects.old.semaphores ≡ length table.now.semaphores }
     requires stamps { HasManyStamps (S.roster store.old) }
+    requires time { HasTime (S.roster store.old) }
     requires quiet { notices.old ≡ [] }
     ensures roster { S.roster store.new ≡ (turn_deed table.now (S.roster store.old) objects.old core due).outcome.roster }
     ensures objects { objects.new ≡ (turn_deed table.now (S.roster store.old) objects.old core due).outcome.objects }

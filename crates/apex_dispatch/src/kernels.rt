@@ -1,6 +1,6 @@
 ghost use Rattle.std.specs.Prelude.{◌≡◌, ◌<◌, ◌≤◌, ◌↔◌, ◌+◌, [], ◌∷◌, ◌++◌, length, slice_get, ◌&&◌, ◌==◌, if◌then◌else◌, None, is_some, All, IfOk, IfErr, OnOk, OnErr, IsOk};
 ghost use Rattle.apex_types.specs.Roster.{opening_roster, is_cold_start};
-ghost use Rattle.apex_types.specs.Machine.{opening, turn, happen, run};
+ghost use Rattle.apex_types.specs.Machine.{opening, turn, tick, happen, run};
 ghost use Rattle.apex_types.specs.Table.{IsLawful};
 ghost use Rattle.apex_types.specs.Distinct.{HasDistinctStamps};
 ghost use Rattle.apex_dispatch.specs.Events.{IsWithin};
@@ -8,10 +8,11 @@ ghost use Rattle.apex_dispatch.specs.Kernel.{running};
 
 use crate::deeds::carry_out;
 use crate::objects::Objects;
+use crate::ticks::pass_time;
 use apex_history::Log;
 use apex_store::Store;
 use apex_table::Table;
-use apex_types::{Call, Caller, CoreId, Entry, Event, Full, Mode, Notices, Who};
+use apex_types::{Call, Caller, CoreId, Entry, Event, Full, Mode, Notices, Reply, Who};
 use std::alloc::{AllocError, Global};
 use std::marker::Model;
 
@@ -110,6 +111,35 @@ impl<S: Store> Kernel<S> {
         Ok(())
     }
 
+    /// One tick, whole: time goes on by `n` ticks, but not past the next instant at which a wait ends
+    /// by itself.
+    pub fn tick(&mut self, n: u32) -> Result<(), Full>
+        requires range { (1 ≤ n) × (n ≤ 1048576) }
+        ensures accepted { IsOk result ↔ (length self.old.machine.history < self.old.table.limit) }
+        ensures done { OnOk result (self.new ≡ running self.old.table (tick self.old.table self.old.machine n)) }
+        ensures refused { OnErr result (self.new ≡ self.old) }
+        ensures full { IfErr result (λ e. (e.entries ≡ length self.old.machine.history) × (e.entries ≡ self.old.table.limit)) }
+    {
+        if self.log.is_full() {
+            return Err(Full {
+                entries: self.log.limit(),
+            });
+        }
+        let mut notices = Notices::new();
+        let went = pass_time(&mut self.store, n, &mut notices);
+        let number = self.log.len() as u32 + 1;
+        self.log.push(Entry {
+            number,
+            now: self.store.now(),
+            who: Who::Ticker,
+            process: Caller::Nobody,
+            call: None,
+            reply: Reply::Advanced(n, went),
+            notices,
+        });
+        Ok(())
+    }
+
     /// One event, whole.
     fn accept(&mut self, event: Event) -> Result<(), Full>
         requires { IsWithin self.old.table.cores event }
@@ -120,6 +150,7 @@ impl<S: Store> Kernel<S> {
     {
         match event {
             Event::Turn(core) => self.turn(core),
+            Event::Tick(n) => self.tick(n),
         }
     }
 

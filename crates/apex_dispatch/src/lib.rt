@@ -9,6 +9,8 @@ mod partitions;
 mod processes;
 mod semaphores;
 mod services;
+mod ticks;
+mod times;
 #[cfg(test)]
 mod tests;
 

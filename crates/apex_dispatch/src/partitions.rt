@@ -1,15 +1,40 @@
-ghost use Rattle.std.specs.Prelude.{◌≡◌, ◌≤◌, [], length};
+ghost use Rattle.std.specs.Prelude.{◌≡◌, ◌<◌, ◌≤◌, [], ◌++◌, length};
+ghost use Rattle.apex_types.specs.Dues.{HasTime};
+ghost use Rattle.apex_types.specs.Stamps.{HasStamps};
 ghost use Rattle.apex_types.specs.PartitionServices as services;
 ghost use Rattle.apex_dispatch.specs.Callers.{HasManyStamps};
 
 use apex_store::Store;
-use apex_types::{Mode, Notice, Notices, PartitionCall, Reply, RequestedMode, ReturnCode, Wait};
+use apex_types::{
+    Mode, Notice, Notices, PartitionCall, ProcessId, Reply, RequestedMode, ReturnCode, Wait,
+};
 
-/// The entry into NORMAL: releases all who wait for it, who waits longest first.
+/// The start of a process that waited for NORMAL: a release where it has no delay, else a wait for
+/// its start.
+fn begin_start<S: Store>(store: &mut S, process: ProcessId, notices: &mut Notices)
+    requires known { process < length (S.roster store.old).records }
+    requires stamps { HasStamps (S.roster store.old) }
+    requires time { HasTime (S.roster store.old) }
+    requires room { length notices.old < 64 }
+    ensures roster { S.roster store.new ≡ (services.begin_start (S.roster store.old) process).roster }
+    ensures notices { notices.new ≡ notices.old ++ (services.begin_start (S.roster store.old) process).notices }
+{
+    let delay = store.record(process).delay;
+    if delay == 0 {
+        store.release(process);
+        notices.push(Notice::Released(process));
+    } else {
+        let due = store.now() + u64::from(delay);
+        store.block(process, Wait::Start, Some(due));
+    }
+}
+
+/// The entry into NORMAL: begins the starts of all who wait for it, who waits longest first.
 #[tactic(auto, unfolding(apex_types::specs::PartitionServices::enter_normal))]
 fn enter_normal<S: Store>(store: &mut S, notices: &mut Notices)
     requires few { length (S.roster store.old).records ≤ 32 }
     requires stamps { HasManyStamps (S.roster store.old) }
+    requires time { HasTime (S.roster store.old) }
     requires quiet { notices.old ≡ [] }
     ensures roster { S.roster store.new ≡ (services.enter_normal (S.roster store.old)).roster }
     ensures notices { notices.new ≡ (services.enter_normal (S.roster store.old)).notices }
@@ -17,10 +42,7 @@ fn enter_normal<S: Store>(store: &mut S, notices: &mut Notices)
     store.set_mode(Mode::Normal);
     for turn in 0..store.process_count() {
         match store.first(Wait::Normal) {
-            Some(process) => {
-                store.release(process);
-                notices.push(Notice::Released(process));
-            }
+            Some(process) => begin_start(store, process, notices),
             None => return,
         }
     }
@@ -34,6 +56,7 @@ pub(crate) fn serve_partition<S: Store>(
 ) -> Reply
     requires few { length (S.roster store.old).records ≤ 32 }
     requires stamps { HasManyStamps (S.roster store.old) }
+    requires time { HasTime (S.roster store.old) }
     requires quiet { notices.old ≡ [] }
     ensures roster { S.roster store.new ≡ (services.partition_service (S.roster store.old) call.now).roster }
     ensures reply { result ≡ (services.partition_service (S.roster store.old) call.now).reply }

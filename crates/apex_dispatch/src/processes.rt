@@ -1,12 +1,15 @@
-ghost use Rattle.std.specs.Prelude.{◌≡◌, ◌<◌, ◌≤◌, [], length};
-ghost use Rattle.apex_types.specs.Stamps.{HasStamps};
+ghost use Rattle.std.specs.Prelude.{◌≡◌, ◌<◌, ◌≤◌, Bool, List, [], length};
+ghost use Rattle.apex_types.specs.Callers.{IsKnownCaller};
+ghost use Rattle.apex_types.specs.Dues.{HasTime};
+ghost use Rattle.apex_types.specs.Roster.{Roster};
+ghost use Rattle.apex_types.specs.Stamps.{HasStamps, start};
 ghost use Rattle.apex_types.specs.Table.{IsKnownToProcesses};
 ghost use Rattle.apex_types.specs.ProcessServices as services;
-ghost use Rattle.apex_dispatch.specs.Callers.{IsKnownCaller};
 
 use apex_store::Store;
 use apex_types::{
     Caller, CoreId, Mode, Notice, Notices, ProcessCall, ProcessId, Reply, ReturnCode,
+    Timeout,
 };
 
 /// CREATE_PROCESS.
@@ -56,21 +59,38 @@ fn initialize_core_affinity<S: Store>(
     Reply::Code(ReturnCode::NoError)
 }
 
-/// START.
-fn start<S: Store>(
+/// START after a delay in ticks, of a process that is dormant.
+fn start_after<S: Store>(store: &mut S, process: ProcessId, delay: u32, notices: &mut Notices)
+    requires known { process < length (S.roster store.old).records }
+    requires stamps { HasStamps (S.roster store.old) }
+    requires time { HasTime (S.roster store.old) }
+    requires quiet { notices.old ≡ [] }
+    ensures roster { S.roster store.new ≡ start (S.roster store.old) process delay }
+    ensures notices { notices.new ≡ services.start_notices (S.roster store.old) process delay }
+{
+    if store.mode() == Mode::Normal && delay == 0 {
+        notices.push(Notice::Released(process));
+    }
+    store.start(process, delay);
+}
+
+/// DELAYED_START, and START, whose delay is 0.
+fn start_process<S: Store>(
     store: &mut S,
     created: &[bool],
     process: ProcessId,
+    delay: Timeout,
     notices: &mut Notices,
 ) -> Reply
     requires process { process < length created.now }
     requires known { process < length (S.roster store.old).records }
     requires stamps { HasStamps (S.roster store.old) }
+    requires time { HasTime (S.roster store.old) }
     requires quiet { notices.old ≡ [] }
-    ensures roster { S.roster store.new ≡ (services.start_process (S.roster store.old) created.now process).roster }
-    ensures created { (services.start_process (S.roster store.old) created.now process).created ≡ created.now }
-    ensures reply { result ≡ (services.start_process (S.roster store.old) created.now process).reply }
-    ensures notices { notices.new ≡ (services.start_process (S.roster store.old) created.now process).notices }
+    ensures roster { S.roster store.new ≡ (services.start_process (S.roster store.old) created.now process delay).roster }
+    ensures created { (services.start_process (S.roster store.old) created.now process delay).created ≡ created.now }
+    ensures reply { result ≡ (services.start_process (S.roster store.old) created.now process delay).reply }
+    ensures notices { notices.new ≡ (services.start_process (S.roster store.old) created.now process delay).notices }
 {
     if !created[process.place()] {
         return Reply::Code(ReturnCode::InvalidParam);
@@ -78,11 +98,42 @@ fn start<S: Store>(
     if store.record(process).started {
         return Reply::Code(ReturnCode::NoAction);
     }
-    if store.mode() == Mode::Normal {
-        notices.push(Notice::Released(process));
+    match delay {
+        Timeout::Poll => start_after(store, process, 0, notices),
+        Timeout::Ticks(ticks) => start_after(store, process, ticks, notices),
+        Timeout::Infinite => return Reply::Code(ReturnCode::InvalidParam),
     }
-    store.start(process);
     Reply::Code(ReturnCode::NoError)
+}
+
+/// STOP_SELF.
+fn stop_self<S: Store>(store: &mut S, caller: &Caller) -> Reply
+    requires known { IsKnownCaller (length (S.roster store.old).records) caller.now }
+    ensures roster { (created : List Bool) → S.roster store.new ≡ (services.stop_self (S.roster store.old) created caller.now).roster }
+    ensures created { (created : List Bool) → (services.stop_self (S.roster store.old) created caller.now).created ≡ created }
+    ensures reply { (created : List Bool) → result ≡ (services.stop_self (S.roster store.old) created caller.now).reply }
+    ensures quiet { (created : List Bool) → (services.stop_self (S.roster store.old) created caller.now).notices ≡ [] }
+{
+    match caller {
+        Caller::Process(process) => {
+            store.stop(*process);
+            Reply::Gone
+        }
+        Caller::Init | Caller::Nobody => Reply::Code(ReturnCode::InvalidMode),
+    }
+}
+
+/// GET_MY_ID.
+fn get_my_id(caller: &Caller) -> Reply
+    ensures reply { (roster : Roster) (created : List Bool) → result ≡ (services.get_my_id roster created caller.now).reply }
+    ensures roster { (roster : Roster) (created : List Bool) → (services.get_my_id roster created caller.now).roster ≡ roster }
+    ensures created { (roster : Roster) (created : List Bool) → (services.get_my_id roster created caller.now).created ≡ created }
+    ensures quiet { (roster : Roster) (created : List Bool) → (services.get_my_id roster created caller.now).notices ≡ [] }
+{
+    match caller {
+        Caller::Process(process) => Reply::Value(u64::from(process.number())),
+        Caller::Init | Caller::Nobody => Reply::Code(ReturnCode::InvalidMode),
+    }
 }
 
 /// Carries out a call of a service of process management in a partition of `cores` cores.
@@ -99,6 +150,7 @@ pub(crate) fn serve_process<S: Store>(
     requires many { length (S.roster store.old).records ≡ length created.old }
     requires known { IsKnownCaller (length (S.roster store.old).records) caller.now }
     requires stamps { HasStamps (S.roster store.old) }
+    requires time { HasTime (S.roster store.old) }
     requires quiet { notices.old ≡ [] }
     ensures roster { S.roster store.new ≡ (services.process_service cores (S.roster store.old) created.old caller.now call.now).roster }
     ensures created { created.new ≡ (services.process_service cores (S.roster store.old) created.old caller.now call.now).created }
@@ -110,13 +162,13 @@ pub(crate) fn serve_process<S: Store>(
         ProcessCall::InitializeProcessCoreAffinity(process, core) => {
             initialize_core_affinity(cores, store, created, *process, *core)
         }
-        ProcessCall::Start(process) => start(store, created, *process, notices),
-        ProcessCall::StopSelf => match caller {
-            Caller::Process(process) => {
-                store.stop(*process);
-                Reply::Gone
-            }
-            Caller::Init | Caller::Nobody => Reply::Code(ReturnCode::InvalidMode),
-        },
+        ProcessCall::Start(process) => {
+            start_process(store, created, *process, Timeout::Poll, notices)
+        }
+        ProcessCall::DelayedStart(process, delay) => {
+            start_process(store, created, *process, *delay, notices)
+        }
+        ProcessCall::StopSelf => stop_self(store, caller),
+        ProcessCall::GetMyId => get_my_id(caller),
     }
 }

@@ -2,7 +2,8 @@ ghost use Rattle.std.specs.Prelude.{◌≡◌, ◌<◌, [], length, false};
 ghost use Rattle.apex_types.specs.Roster.{Roster};
 ghost use Rattle.apex_types.specs.Stamps.{HasStamps};
 ghost use Rattle.apex_types.specs.SemaphoreServices as services;
-ghost use Rattle.apex_dispatch.specs.Callers.{IsKnownCaller};
+ghost use Rattle.apex_types.specs.Callers.{IsKnownCaller};
+ghost use Rattle.apex_types.specs.Dues.{HasTime};
 
 use apex_store::Store;
 use apex_types::{
@@ -69,6 +70,7 @@ fn wait<S: Store>(
 ) -> Reply
     requires known { process < length (S.roster store.old).records }
     requires stamps { HasStamps (S.roster store.old) }
+    requires time { HasTime (S.roster store.old) }
     ensures roster { S.roster store.new ≡ (services.wait_semaphore (S.roster store.old) semaphore.old id process timeout).roster }
     ensures semaphore { semaphore.new ≡ (services.wait_semaphore (S.roster store.old) semaphore.old id process timeout).semaphore }
     ensures reply { result ≡ (services.wait_semaphore (S.roster store.old) semaphore.old id process timeout).reply }
@@ -83,8 +85,13 @@ fn wait<S: Store>(
     }
     match timeout {
         Timeout::Poll => Reply::Code(ReturnCode::NotAvailable),
+        Timeout::Ticks(ticks) => {
+            let due = store.now() + u64::from(ticks);
+            store.block(process, Wait::Semaphore(id), Some(due));
+            Reply::Blocked
+        }
         Timeout::Infinite => {
-            store.block(process, Wait::Semaphore(id));
+            store.block(process, Wait::Semaphore(id), None);
             Reply::Blocked
         }
     }
@@ -98,6 +105,7 @@ fn signal<S: Store>(
     notices: &mut Notices,
 ) -> Reply
     requires stamps { HasStamps (S.roster store.old) }
+    requires time { HasTime (S.roster store.old) }
     requires quiet { notices.old ≡ [] }
     ensures roster { S.roster store.new ≡ (services.signal_semaphore (S.roster store.old) semaphore.old id).roster }
     ensures semaphore { semaphore.new ≡ (services.signal_semaphore (S.roster store.old) semaphore.old id).semaphore }
@@ -132,6 +140,22 @@ fn raise(semaphore: &mut Semaphore) -> Reply
     }
 }
 
+/// GET_SEMAPHORE_STATUS.
+fn status<S: Store>(store: &S, semaphore: &Semaphore, id: SemaphoreId) -> Reply
+    ensures reply { result ≡ (services.get_semaphore_status (S.roster store.now) semaphore.now id).reply }
+    ensures semaphore { (services.get_semaphore_status (S.roster store.now) semaphore.now id).semaphore ≡ semaphore.now }
+    ensures quiet { (services.get_semaphore_status (S.roster store.now) semaphore.now id).notices ≡ [] }
+    ensures roster { (services.get_semaphore_status (S.roster store.now) semaphore.now id).roster ≡ S.roster store.now }
+{
+    if !semaphore.created {
+        return Reply::Code(ReturnCode::InvalidParam);
+    }
+    Reply::Status(
+        u64::from(semaphore.value),
+        store.waiting(Wait::Semaphore(id)) as u64,
+    )
+}
+
 /// Carries out a call of a service of this semaphore.
 pub(crate) fn serve_semaphore<S: Store>(
     store: &mut S,
@@ -142,6 +166,7 @@ pub(crate) fn serve_semaphore<S: Store>(
 ) -> Reply
     requires known { IsKnownCaller (length (S.roster store.old).records) caller.now }
     requires stamps { HasStamps (S.roster store.old) }
+    requires time { HasTime (S.roster store.old) }
     requires quiet { notices.old ≡ [] }
     ensures roster { S.roster store.new ≡ (services.semaphore_service (S.roster store.old) semaphore.old caller.now call.now).roster }
     ensures semaphore { semaphore.new ≡ (services.semaphore_service (S.roster store.old) semaphore.old caller.now call.now).semaphore }
@@ -155,5 +180,6 @@ pub(crate) fn serve_semaphore<S: Store>(
             Caller::Init | Caller::Nobody => Reply::Code(ReturnCode::InvalidMode),
         },
         SemaphoreCall::SignalSemaphore(id) => signal(store, semaphore, *id, notices),
+        SemaphoreCall::GetSemaphoreStatus(id) => status(store, semaphore, *id),
     }
 }

@@ -1,11 +1,14 @@
 ghost use Rattle.std.specs.Prelude.{◌≡◌, ◌≤◌, [], length};
 ghost use Rattle.apex_types.specs.Machine.{service};
-ghost use Rattle.apex_dispatch.specs.Callers.{IsKnownCaller, IsKnownTo, HasManyStamps};
+ghost use Rattle.apex_types.specs.Callers.{IsKnownCaller};
+ghost use Rattle.apex_types.specs.Dues.{HasTime};
+ghost use Rattle.apex_dispatch.specs.Callers.{IsKnownTo, HasManyStamps};
 
 use crate::objects::Objects;
 use crate::partitions::serve_partition;
 use crate::processes::serve_process;
 use crate::semaphores::serve_semaphore;
+use crate::times::serve_time;
 use apex_store::Store;
 use apex_types::{Call, Caller, Notices, Reply};
 
@@ -24,6 +27,7 @@ pub(crate) fn serve<S: Store>(
     requires caller { IsKnownCaller (length (S.roster store.old).records) caller.now }
     requires known { IsKnownTo objects.old call.now }
     requires stamps { HasManyStamps (S.roster store.old) }
+    requires time { HasTime (S.roster store.old) }
     requires quiet { notices.old ≡ [] }
     ensures roster { S.roster store.new ≡ (service cores (S.roster store.old) objects.old caller.now call.now).roster }
     ensures objects { objects.new ≡ (service cores (S.roster store.old) objects.old caller.now call.now).objects }
@@ -40,6 +44,7 @@ pub(crate) fn serve<S: Store>(
             call,
             notices,
         ),
+        Call::Time(call) => serve_time(store, caller, call),
         Call::Semaphore(call) => {
             let semaphore = &mut objects.semaphores[call.semaphore().place()];
             serve_semaphore(store, semaphore, caller, call, notices)

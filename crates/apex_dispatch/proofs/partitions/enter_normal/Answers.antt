@@ -3,7 +3,7 @@ use Rattle.std.proofs.lemmas.Int.{ints}
 use Rattle.apex_types.specs.Stamps as stamps
 use Rattle.apex_types.specs.PartitionServices as services
 use Rattle.apex_types.proofs.Rosters.{ChangesOne, changes_release}
-use Rattle.apex_types.proofs.Releases.{release_waiting-none, release_waiting-some}
+
 use Rattle.apex_dispatch.proofs.partitions.enter_normal.Goals as goal
 
 pub returns-in-None-clause-roster : goal.returns-in-None-clause-roster

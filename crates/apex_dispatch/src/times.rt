@@ -1,0 +1,47 @@
+ghost use Rattle.std.specs.Prelude.{◌≡◌, ◌<◌, length};
+ghost use Rattle.apex_types.specs.Callers.{IsKnownCaller};
+ghost use Rattle.apex_types.specs.Dues.{HasTime};
+ghost use Rattle.apex_types.specs.Stamps.{HasStamps};
+ghost use Rattle.apex_types.specs.TimeServices as services;
+
+use apex_store::Store;
+use apex_types::{Caller, ProcessId, Reply, ReturnCode, TimeCall, Timeout, Wait};
+
+/// TIMED_WAIT by a process.
+fn timed_wait<S: Store>(store: &mut S, process: ProcessId, timeout: Timeout) -> Reply
+    requires known { process < length (S.roster store.old).records }
+    requires stamps { HasStamps (S.roster store.old) }
+    requires time { HasTime (S.roster store.old) }
+    ensures roster { S.roster store.new ≡ (services.timed_wait (S.roster store.old) process timeout).roster }
+    ensures reply { result ≡ (services.timed_wait (S.roster store.old) process timeout).reply }
+{
+    match timeout {
+        Timeout::Poll => {
+            store.place_newest(process);
+            Reply::Code(ReturnCode::NoError)
+        }
+        Timeout::Ticks(ticks) => {
+            let due = store.now() + u64::from(ticks);
+            store.block(process, Wait::Time, Some(due));
+            Reply::Blocked
+        }
+        Timeout::Infinite => Reply::Code(ReturnCode::InvalidParam),
+    }
+}
+
+/// Carries out a call of a service of time management.
+pub(crate) fn serve_time<S: Store>(store: &mut S, caller: &Caller, call: &TimeCall) -> Reply
+    requires known { IsKnownCaller (length (S.roster store.old).records) caller.now }
+    requires stamps { HasStamps (S.roster store.old) }
+    requires time { HasTime (S.roster store.old) }
+    ensures roster { S.roster store.new ≡ (services.time_service (S.roster store.old) caller.now call.now).roster }
+    ensures reply { result ≡ (services.time_service (S.roster store.old) caller.now call.now).reply }
+{
+    match call {
+        TimeCall::TimedWait(timeout) => match caller {
+            Caller::Process(process) => timed_wait(store, *process, *timeout),
+            Caller::Init | Caller::Nobody => Reply::Code(ReturnCode::InvalidMode),
+        },
+        TimeCall::GetTime => Reply::Value(store.now()),
+    }
+}
