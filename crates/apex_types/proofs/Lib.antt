@@ -4,3 +4,4 @@ pub mod InTurn
 pub mod Choice
 pub mod Orders
 pub mod DistinctStamps
+pub mod Dues
