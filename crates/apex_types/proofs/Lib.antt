@@ -5,3 +5,4 @@ pub mod Choice
 pub mod Orders
 pub mod DistinctStamps
 pub mod Reaches
+pub mod Dues

@@ -1,0 +1,176 @@
+-- Laws of the dues: the next instant is the least of them, who is due first has the lowest number, and
+-- no due is passed over by time that goes no further than the next instant.
+use Rattle.std.proofs.Common.{◌≡◌, ◌≢◌, ℕ, zero, suc, ◌+◌, ◌≤◌, ◌<◌, ◌⊎◌, inl, inr, Bool, true, false, min, List, [], ◌∷◌, length, get_or, Option, None, Some, refl, sym, ◌∙◌, ap, arith}
+use Rattle.std.specs.Option.{option_map}
+use Rattle.std.proofs.lemmas.Bool.{eqb-true, eq-eqb, cases_lt, cases_Bool, both_ways}
+use Rattle.std.proofs.lemmas.Option.{none-some, same_Some, slice_get-get_or}
+use Rattle.apex_types.specs.declared.records.Record.{Record}
+use Rattle.apex_types.specs.Roster.{Roster, nobody, record_at}
+use Rattle.apex_types.specs.Choice.{better, least}
+use Rattle.apex_types.specs.Dues.{sooner, earliest_due, next_instant, is_instant, is_due_at, by_number, first_due, HasNoPastDue}
+use Rattle.apex_types.specs.Stamps.{advance_to}
+use Rattle.apex_types.specs.Ticks.{at_most, tick_goal}
+use Rattle.apex_types.proofs.Choice.{place_none, place_passes, place_within}
+
+-- the sooner of two is no later than the one
+sooner_than_one : (one other : Option ℕ) (u : ℕ) → one ≡ Some u → (t : ℕ) × (sooner one other ≡ Some t) × (t ≤ u)
+sooner_than_one None other u e = absurd (none-some u e)
+sooner_than_one (Some s) None u e = (s, refl, omega (arith, same_Some s u e))
+sooner_than_one (Some s) (Some t) u e = (min s t, refl, omega (arith, same_Some s u e))
+
+-- nor than the other
+sooner_than_other : (one other : Option ℕ) (u : ℕ) → other ≡ Some u → (t : ℕ) × (sooner one other ≡ Some t) × (t ≤ u)
+sooner_than_other one None u e = absurd (none-some u e)
+sooner_than_other None (Some t) u e = (t, refl, omega (arith, same_Some t u e))
+sooner_than_other (Some s) (Some t) u e = (min s t, refl, omega (arith, same_Some t u e))
+
+-- it is one of the two
+sooner_among : (one other : Option ℕ) (t : ℕ) → sooner one other ≡ Some t → (one ≡ Some t) ⊎ (other ≡ Some t)
+sooner_among None other t e = inr e
+sooner_among (Some s) None t e = inl e
+sooner_among (Some s) (Some u) t e =
+    let least : min s u ≡ t = same_Some _ _ e in
+    elim (cases_lt s u) [
+      | inl below ↦ let here : s ≡ t = omega arith in inl (ap Some here)
+      | inr above ↦ let here : u ≡ t = omega arith in inr (ap Some here)
+    ]
+
+-- where a process has a due there is an earliest one, and it is no later
+pub earliest_is_least : (rs : List Record) (p u : ℕ) → (get_or rs p nobody).due ≡ Some u → (t : ℕ) × (earliest_due rs ≡ Some t) × (t ≤ u)
+earliest_is_least [] p u e = absurd (none-some u e)
+earliest_is_least (r ∷ rs) zero u e = sooner_than_one r.due (earliest_due rs) u e
+earliest_is_least (r ∷ rs) (suc p) u e =
+    let rest = earliest_is_least rs p u e in
+    let both = sooner_than_other r.due (earliest_due rs) rest.0 rest.1 in (both.0, both.1, omega (arith, both.2, rest.2))
+
+-- the earliest due is that of a process
+pub earliest_among : (rs : List Record) (t : ℕ) → earliest_due rs ≡ Some t → (p : ℕ) × (p < length rs) × ((get_or rs p nobody).due ≡ Some t)
+earliest_among [] t e = absurd (none-some t e)
+earliest_among (r ∷ rs) t e =
+    elim (sooner_among r.due (earliest_due rs) t e) [
+      | inl here ↦ (0, omega arith, here)
+      | inr there ↦ let rest = earliest_among rs t there in (suc rest.0, omega (arith, rest.1), rest.2)
+    ]
+
+-- no due is below the earliest
+pub earliest_below : (rs : List Record) (t : ℕ) → earliest_due rs ≡ Some t → (p u : ℕ) → (get_or rs p nobody).due ≡ Some u → t ≤ u
+earliest_below rs t e p u due =
+    let least = earliest_is_least rs p u due in
+    omega (arith, least.2, same_Some t least.0 (sym e ∙ least.1))
+
+-- where there is no earliest due, no process has one
+pub earliest_none : (rs : List Record) → earliest_due rs ≡ None → (p : ℕ) → (get_or rs p nobody).due ≡ None
+earliest_none rs e p = none_of (get_or rs p nobody).due refl where
+  none_of : (due : Option ℕ) → (get_or rs p nobody).due ≡ due → due ≡ None
+  none_of None is = refl
+  none_of (Some u) is =
+      let least = earliest_is_least rs p u is in absurd (none-some least.0 (sym e ∙ least.1))
+
+-- where every due is at least m, the earliest one is
+pub earliest_at_least : (rs : List Record) (m : ℕ) → ((p u : ℕ) → (get_or rs p nobody).due ≡ Some u → m ≤ u) → (t : ℕ) → earliest_due rs ≡ Some t → m ≤ t
+earliest_at_least rs m all t e = let found = earliest_among rs t e in all found.0 t found.2
+
+-- the next instant is not past
+pub next_not_past : (roster : Roster) → HasNoPastDue roster → (t : ℕ) → next_instant roster ≡ Some t → roster.now ≤ t
+next_not_past roster not_past = earliest_at_least roster.records roster.now not_past
+
+-- time that goes no further than the next instant, if there is one, passes over no due
+pub advanced_not_past : (roster : Roster) (t : ℕ) → ((next : ℕ) → next_instant roster ≡ Some next → t ≤ next) → HasNoPastDue (advance_to roster t)
+advanced_not_past roster t within p u due =
+    let least = earliest_is_least roster.records p u due in omega (arith, least.2, within least.0 least.1)
+
+-- the smaller of an instant and the next one
+at_most_forward : (now t : ℕ) (next : Option ℕ) → now ≤ t → ((u : ℕ) → next ≡ Some u → now ≤ u) → now ≤ at_most t next
+at_most_forward now t None here later = here
+at_most_forward now t (Some u) here later = omega (arith, later u refl)
+
+at_most_near : (t : ℕ) (next : Option ℕ) → at_most t next ≤ t
+at_most_near t None = omega arith
+at_most_near t (Some u) = omega arith
+
+at_most_next : (t : ℕ) (next : Option ℕ) (u : ℕ) → next ≡ Some u → at_most t next ≤ u
+at_most_next t None u e = absurd (none-some u e)
+at_most_next t (Some s) u e = omega (arith, same_Some s u e)
+
+-- a tick never goes back
+pub goal_forward : (roster : Roster) (n : ℕ) → HasNoPastDue roster → roster.now ≤ tick_goal roster n
+goal_forward roster n not_past =
+    at_most_forward roster.now (roster.now + n) (next_instant roster) (omega arith) (next_not_past roster not_past)
+
+-- a tick of n goes n on at the most
+pub goal_near : (roster : Roster) (n : ℕ) → tick_goal roster n ≤ roster.now + n
+goal_near roster n = at_most_near (roster.now + n) (next_instant roster)
+
+-- a tick passes over no due
+pub goal_not_past : (roster : Roster) (n : ℕ) → HasNoPastDue (advance_to roster (tick_goal roster n))
+goal_not_past roster n =
+    advanced_not_past roster (tick_goal roster n) (at_most_next (roster.now + n) (next_instant roster))
+
+-- a due that is this instant
+due_of_test : (t : ℕ) (due : Option ℕ) → is_instant t due ≡ true → due ≡ Some t
+due_of_test t None e = cc
+due_of_test t (Some u) e = ap Some (sym (eqb-true t u e))
+
+test_of_due : (t : ℕ) (due : Option ℕ) → due ≡ Some t → is_instant t due ≡ true
+test_of_due t due e = rw e (eq-eqb t t refl)
+
+-- the record at the front is taken where it passes, whatever was found behind it
+front_taken : (passes : Record → Bool) (q : ℕ) (x : Record) (found : Option (ℕ × Record)) → passes x ≡ true → better passes by_number q x found ≡ Some (q, x)
+front_taken passes q x None passing = rw passing refl
+front_taken passes q x (Some f) passing = rw passing refl
+
+front_left : (passes : Record → Bool) (q : ℕ) (x : Record) (found : Option (ℕ × Record)) → passes x ≡ false → better passes by_number q x found ≡ found
+front_left passes q x None fails = rw fails refl
+front_left passes q x (Some f) fails = rw fails refl
+
+-- none that passes is in front of the one that is found by number
+lowest_found : (passes : Record → Bool) (q : ℕ) (rs : List Record) (f : ℕ × Record) → least passes by_number q rs ≡ Some f → (k : ℕ) → k < length rs → passes (get_or rs k nobody) ≡ true → f.0 ≤ q + k
+lowest_found passes q [] f e k within passing = absurd (none-some f e)
+lowest_found passes q (x ∷ rs) f e zero within passing =
+    let front = front_taken passes q x (least passes by_number (q + 1) rs) passing in
+    omega (arith, ap (λ (found : ℕ × Record). found.0) (same_Some (q, x) f (sym front ∙ e)))
+lowest_found passes q (x ∷ rs) f e (suc k) within passing =
+    elim (cases_Bool (passes x)) [
+      | inl taken ↦
+          let front = front_taken passes q x (least passes by_number (q + 1) rs) taken in
+          omega (arith, ap (λ (found : ℕ × Record). found.0) (same_Some (q, x) f (sym front ∙ e)))
+      | inr left ↦
+          let rest = sym (front_left passes q x (least passes by_number (q + 1) rs) left) ∙ e in
+          omega (arith, lowest_found passes (q + 1) rs f rest k (omega (arith, within)) passing)
+    ]
+
+lowest_place : (passes : Record → Bool) (rs : List Record) (found : Option (ℕ × Record)) → least passes by_number 0 rs ≡ found → (p : ℕ) → option_map (λ (f : ℕ × Record). f.0) found ≡ Some p → (k : ℕ) → k < length rs → passes (get_or rs k nobody) ≡ true → p ≤ k
+lowest_place passes rs None is p e k within passing = absurd (none-some p e)
+lowest_place passes rs (Some f) is p e k within passing =
+    omega (arith, same_Some f.0 p e, lowest_found passes 0 rs f is k within passing)
+
+-- who has a due is one of the records
+due_within : (rs : List Record) (p u : ℕ) → (get_or rs p nobody).due ≡ Some u → p < length rs
+due_within [] p u e = absurd (none-some u e)
+due_within (r ∷ rs) zero u e = omega arith
+due_within (r ∷ rs) (suc p) u e = omega (arith, due_within rs p u e)
+
+-- who is due first is due now
+pub first_due_now : (roster : Roster) (p : ℕ) → first_due roster ≡ Some p → (record_at roster p).due ≡ Some roster.now
+unfolding is_due_at
+first_due_now roster p e =
+    due_of_test roster.now (record_at roster p).due (place_passes (is_due_at roster.now) by_number roster.records p nobody e)
+
+-- who is due first is one of the processes
+pub first_due_within : (roster : Roster) (p : ℕ) → first_due roster ≡ Some p → p < length roster.records
+first_due_within roster p e = place_within (is_due_at roster.now) by_number roster.records p e
+
+-- whoever is due now has no lower number than who is due first
+pub first_due_lowest : (roster : Roster) (p q : ℕ) → first_due roster ≡ Some p → (record_at roster q).due ≡ Some roster.now → p ≤ q
+unfolding is_due_at
+first_due_lowest roster p q e due =
+    lowest_place (is_due_at roster.now) roster.records _ refl p e q (due_within roster.records q roster.now due)
+    (test_of_due roster.now (record_at roster q).due due)
+
+-- where nobody is due first, nobody is due now
+pub first_due_none : (roster : Roster) → first_due roster ≡ None → (q : ℕ) → (record_at roster q).due ≢ Some roster.now
+unfolding is_due_at
+first_due_none roster e q due =
+    let here = slice_get-get_or roster.records q nobody (due_within roster.records q roster.now due) in
+    both_ways _ ((place_none (is_due_at roster.now) by_number roster.records e).none q (record_at roster q) here)
+    (test_of_due roster.now (record_at roster q).due due)
