@@ -1,15 +1,11 @@
 -- What each service does to who waits, and to the objects that are read off the history.
-use Rattle.std.proofs.Common.{◌≡◌, ◌≢◌, ℕ, ◌<◌, Bool, true, false, List, [], ◌∷◌, length, Option, None, Some, nat_lt, ◌⊎◌, MatchOption, refl, sym, ◌∙◌, ap, arith, inl, inr, set, get_or}
+use Rattle.std.proofs.Common.{◌≡◌, ◌≢◌, ℕ, ◌<◌, true, false, List, [], ◌∷◌, length, Option, None, Some, nat_lt, ◌&&◌, not, ◌⊎◌, refl, sym, ◌∙◌, ap, arith, inl, inr, set, get_or}
 use Rattle.std.specs.List.{list_any}
-use Rattle.std.specs.Option.{option_map}
 use Rattle.std.proofs.lemmas.List.{get_or-set_other, get_or_past, length-set}
-use Rattle.std.proofs.lemmas.Option.{none-some, same_Some, get_or_from_slice_get}
+use Rattle.std.proofs.lemmas.Option.{none-some, same_Some}
 use Rattle.std.proofs.lemmas.Grind.{get_or-set_at}
-use Rattle.std.proofs.lemmas.Bool.{cases_eq, cases_Bool, eq-eqb, eqb-true, ltb-true, ltb-false, both_ways}
+use Rattle.std.proofs.lemmas.Bool.{cond_both, cases_eq, cases_Bool, eq-eqb, eqb-true, ltb-true, ltb-false, both_ways}
 use Rattle.apex_types.specs.declared.Call.{Call}
-use Rattle.apex_types.specs.declared.Call.TheVariants.{Semaphore as ToSemaphore}
-use Rattle.apex_types.specs.declared.SemaphoreCall.TheVariants.{WaitSemaphore}
-use Rattle.apex_types.specs.declared.Timeout.{Timeout}
 use Rattle.apex_types.specs.declared.Caller.{Caller}
 use Rattle.apex_types.specs.declared.Caller.TheVariants.{Process}
 use Rattle.apex_types.specs.declared.Notice.{Notice}
@@ -19,12 +15,14 @@ use Rattle.apex_types.specs.declared.Reply.{Reply}
 use Rattle.apex_types.specs.declared.Reply.TheVariants.{Blocked}
 use Rattle.apex_types.specs.declared.ReturnCode.TheVariants.{NoError}
 use Rattle.apex_types.specs.declared.Wait.{Wait}
-use Rattle.apex_types.specs.declared.Wait.TheVariants.{Normal, Semaphore}
-use Rattle.apex_types.specs.Roster.{Roster, nobody, record_at}
-use Rattle.apex_types.specs.Stamps.{block}
-use Rattle.apex_types.specs.Waiters.{waits_in, is_wait_for, first_waiter}
-use Rattle.apex_types.specs.Running.{is_older}
-use Rattle.apex_types.proofs.Choice.{NonePasses, IsAmong, least_among}
+use Rattle.apex_types.specs.declared.Wait.TheVariants.{Normal, Start, Time, Semaphore}
+use Rattle.apex_types.specs.Roster.{Roster, nobody, record_at, with_record}
+use Rattle.apex_types.specs.Stamps.{block, newest, readied}
+use Rattle.apex_types.specs.Waiters.{waits_in, is_wait_for, is_same_wait, first_waiter}
+use Rattle.apex_types.specs.Running.{is_eligible, is_older}
+use Rattle.apex_types.proofs.Choice.{place_passes}
+use Rattle.apex_dispatch.specs.OpenWaits.{is_asked}
+use Rattle.apex_dispatch.proofs.Truths.{and_true}
 use Rattle.apex_dispatch.proofs.Waits.{other}
 use Rattle.apex_types.specs.History.{is_accepted, is_by_process, is_waking, is_wait_on}
 
@@ -32,17 +30,21 @@ use Rattle.apex_types.specs.History.{is_accepted, is_by_process, is_waking, is_w
 abbrev pub AreQuiet : List Notice → Type 0
 AreQuiet notices = (p : ℕ) → list_any (is_waking p) notices ≡ false
 
--- who waits for a semaphore after a call waited for it before and was not woken, but for the
--- caller, who waits only where the call blocked
+-- who waits for what it asked for after a call waited for it before and was not woken, but for the
+-- caller, who waits so only for what this call asked for
 pub record WaitsKept (caller : Caller) (call : Call) (old new : Roster) (reply : Reply) (notices : List Notice) : Type 0 where
-  pub others : (q s : ℕ) → is_by_process q caller ≡ false → (record_at new q).wait ≡ Some (Semaphore s)
-      → ((record_at old q).wait ≡ Some (Semaphore s)) × (list_any (is_waking q) notices ≡ false)
-  pub own : (q s : ℕ) → is_by_process q caller ≡ true → (record_at new q).wait ≡ Some (Semaphore s)
-      → (is_wait_on s (Some call) ≡ true) × (is_accepted reply ≡ false)
+  pub others : (q : ℕ) (w : Wait) → is_by_process q caller ≡ false → (record_at new q).wait ≡ Some w → is_asked w ≡ true
+      → ((record_at old q).wait ≡ Some w) × (list_any (is_waking q) notices ≡ false)
+  pub own : (q s : ℕ) (w : Wait) → is_by_process q caller ≡ true → (record_at new q).wait ≡ Some w → is_asked w ≡ true
+      → (is_wait_on s (Some call) && not (is_accepted reply)) ≡ is_same_wait (Semaphore s) w
 
--- the caller waits for no semaphore
+-- the caller waits for nothing that it asked for
 abbrev pub IsIdle : Caller → Roster → Type 0
-IsIdle caller roster = (q s : ℕ) → is_by_process q caller ≡ true → (record_at roster q).wait ≡ Some (Semaphore s) → ⊥
+IsIdle caller roster = (q : ℕ) (w : Wait) → is_by_process q caller ≡ true → (record_at roster q).wait ≡ Some w → is_asked w ≡ true → ⊥
+
+-- the wait of this record was not asked for
+abbrev pub IsFree : Record → Type 0
+IsFree r = (w : Wait) → r.wait ≡ Some w → is_asked w ≡ true → ⊥
 
 -- the wait of a process after a change of the record of process p
 pub wait_after : (records : List Record) (p q : ℕ) (r : Record) (w : Wait) → (get_or (set records p r) q nobody).wait ≡ Some w
@@ -61,117 +63,47 @@ wait_after records p q r w h = elim (cases_eq q p) [
   | inr differs ↦ inr (differs, ap (λ (x : Record). x.wait) (sym (get_or-set_other records p q r nobody differs)) ∙ h)
 ]
 
--- the first waiter for a semaphore waits for it
-pub found_passes : (passes : Record → Bool) (rs : List Record) (found : Option (ℕ × Record))
-    → MatchOption found (NonePasses passes rs) (IsAmong passes 0 rs)
-    → (p : ℕ) → option_map (λ (f : ℕ × Record). f.0) found ≡ Some p → passes (get_or rs p nobody) ≡ true
-found_passes passes rs None none p e = absurd (none-some p e)
-found_passes passes rs (Some f) among p e =
-    let place : among.offset ≡ p = omega (arith, among.place, same_Some f.0 p e) in
-    let here : get_or rs p nobody ≡ f.1 = rw (← place) (get_or_from_slice_get rs among.offset f.1 nobody among.here) in
-    rw here among.passing
-
 waits_in_semaphore : (s : ℕ) (wait : Option Wait) → is_wait_for (Semaphore s) wait ≡ true → wait ≡ Some (Semaphore s)
 waits_in_semaphore s None h = cc
 waits_in_semaphore s (Some Normal) h = cc
+waits_in_semaphore s (Some Start) h = cc
+waits_in_semaphore s (Some Time) h = cc
 waits_in_semaphore s (Some (Semaphore t)) h = ap (λ t. Some (Semaphore t)) (sym (eqb-true s t h))
 
+-- the first waiter for a semaphore waits for it
 pub first_waits : (roster : Roster) (s p : ℕ) → first_waiter roster (Semaphore s) ≡ Some p
     → (record_at roster p).wait ≡ Some (Semaphore s)
 unfolding waits_in
 first_waits roster s p e =
-    waits_in_semaphore s _ (found_passes (waits_in (Semaphore s)) roster.records _ (least_among (waits_in (Semaphore s)) is_older 0 roster.records) p e)
+    waits_in_semaphore s _ (place_passes (waits_in (Semaphore s)) is_older roster.records p nobody e)
 
--- the call is refused or leaves all waits
-module _ (caller : Caller) (call : Call) (roster : Roster) (idle : IsIdle caller roster) where
-  pub kept_same : (reply : Reply) (notices : List Notice) → AreQuiet notices → WaitsKept caller call roster roster reply notices
-  kept_same reply notices quiet = record {
-    others = λ q s by h. (h, quiet q);
-    own = λ q s by h. absurd (idle q s by h);
-  }
-
-  -- a process's record changes, and it waits for no semaphore then
-  pub kept_changed : (reply : Reply) (notices : List Notice) (p : ℕ) (r : Record) (new : Roster) → AreQuiet notices
-      → new.records ≡ set roster.records p r → ((s : ℕ) → r.wait ≡ Some (Semaphore s) → ⊥)
-      → WaitsKept caller call roster new reply notices
-  kept_changed reply notices p r new quiet is free = record {
-    others = λ q s by h. (still q s h, quiet q);
-    own = λ q s by h. absurd (idle q s by (still q s h));
-  } where
-    still : (q s : ℕ) → (record_at new q).wait ≡ Some (Semaphore s) → (record_at roster q).wait ≡ Some (Semaphore s)
-    still q s h =
-        elim (wait_after roster.records p q r (Semaphore s) (rw is at h)) [
-          | inl at_p ↦ absurd (free s at_p.1)
-          | inr elsewhere ↦ elsewhere.1
-        ]
-
-  -- a process is woken, and waits for no semaphore then
-  pub kept_woken : (reply : Reply) (p : ℕ) (r : Record) (new : Roster)
-      → new.records ≡ set roster.records p r → ((s : ℕ) → r.wait ≡ Some (Semaphore s) → ⊥)
-      → WaitsKept caller call roster new reply (Woken p NoError ∷ [])
-  kept_woken reply p r new is free = record {
-    others = λ q s by h. (still q s h, asleep q s h);
-    own = λ q s by h. absurd (idle q s by (still q s h));
-  } where
-    moved : (q s : ℕ) → (record_at new q).wait ≡ Some (Semaphore s) → (q ≢ p) × ((record_at roster q).wait ≡ Some (Semaphore s))
-    moved q s h =
-        elim (wait_after roster.records p q r (Semaphore s) (rw is at h)) [
-          | inl at_p ↦ absurd (free s at_p.1)
-          | inr elsewhere ↦ elsewhere
-        ]
-
-    still : (q s : ℕ) → (record_at new q).wait ≡ Some (Semaphore s) → (record_at roster q).wait ≡ Some (Semaphore s)
-    still q s h = (moved q s h).1
-
-    asleep : (q s : ℕ) → (record_at new q).wait ≡ Some (Semaphore s) → list_any (is_waking q) (Woken p NoError ∷ []) ≡ false
-    asleep q s h = rw (other q p (moved q s h).0) refl
-
--- a process blocks on a semaphore
-pub kept_blocked : (p s : ℕ) (timeout : Timeout) (roster : Roster)
-    → WaitsKept (Process p) (ToSemaphore (WaitSemaphore s timeout)) roster (block roster p (Semaphore s)) Blocked []
-kept_blocked p s timeout roster = record {
-  others = λ q t by h. elim (after q t h) [
-    | inl at_p ↦ absurd (both_ways _ by (eq-eqb q p at_p.0))
-    | inr elsewhere ↦ (elsewhere.1, refl)
-  ];
-  own = λ q t by h. elim (after q t h) [
-    | inl at_p ↦ (eq-eqb t s (sym (same_semaphore s t at_p.1)), refl)
-    | inr elsewhere ↦ absurd (elsewhere.0 (eqb-true q p by))
-  ];
-} where
-  after : (q t : ℕ) → (record_at (block roster p (Semaphore s)) q).wait ≡ Some (Semaphore t)
-      → ((q ≡ p) × (Some (Semaphore s) ≡ Some (Semaphore t))) ⊎ ((q ≢ p) × ((record_at roster q).wait ≡ Some (Semaphore t)))
-  after q t h = wait_after roster.records p q (record (record_at roster p) { wait = Some (Semaphore s); since = roster.young }) (Semaphore t) h
-
-  same_semaphore : (a b : ℕ) → Some (Semaphore a) ≡ Some (Semaphore b) → a ≡ b
-  same_semaphore a b e = cc
-
--- who waits for a semaphore afterwards waited for it before
+-- who waits for what it asked for afterwards waited for it before
 pub record Frees (old new : Roster) : Type 0 where
-  pub still : (q s : ℕ) → (record_at new q).wait ≡ Some (Semaphore s) → (record_at old q).wait ≡ Some (Semaphore s)
+  pub still : (q : ℕ) (w : Wait) → (record_at new q).wait ≡ Some w → is_asked w ≡ true → (record_at old q).wait ≡ Some w
 
-pub Frees-none : (roster : Roster) → Frees roster roster
-Frees-none roster = record { still = λ q s h. h }
+pub frees_none : (roster : Roster) → Frees roster roster
+frees_none roster = record { still = λ q w h asked. h }
 
-pub Frees-then : {first second third : Roster} → Frees first second → Frees second third → Frees first third
-Frees-then f g = record { still = λ q s h. f.still q s (g.still q s h) }
+pub frees_then : {first second third : Roster} → Frees first second → Frees second third → Frees first third
+frees_then f g = record { still = λ q w h asked. f.still q w (g.still q w h asked) asked }
 
--- a process's record changes, and it waits for no semaphore then
-pub Frees-changed : (old new : Roster) (p : ℕ) (r : Record) → new.records ≡ set old.records p r
-    → ((s : ℕ) → r.wait ≡ Some (Semaphore s) → ⊥) → Frees old new
-Frees-changed old new p r is free = record { still = still } where
-  still : (q s : ℕ) → (record_at new q).wait ≡ Some (Semaphore s) → (record_at old q).wait ≡ Some (Semaphore s)
-  still q s h = elim (wait_after old.records p q r (Semaphore s) (rw is at h)) [
-    | inl at_p ↦ absurd (free s at_p.1)
-    | inr elsewhere ↦ elsewhere.1
-  ]
+-- process p, whose record changes, waits for nothing that it asked for then, and the others as before
+pub freed : (old new : Roster) (p : ℕ) (r : Record) → new.records ≡ set old.records p r → IsFree r
+    → (q : ℕ) (w : Wait) → (record_at new q).wait ≡ Some w → is_asked w ≡ true → (q ≢ p) × ((record_at old q).wait ≡ Some w)
+freed old new p r is free q w h asked = elim (wait_after old.records p q r w (rw is at h)) [
+  | inl at_p ↦ absurd (free w at_p.1 asked)
+  | inr elsewhere ↦ elsewhere
+]
+
+pub frees_changed : (old new : Roster) (p : ℕ) (r : Record) → new.records ≡ set old.records p r → IsFree r → Frees old new
+frees_changed old new p r is free = record { still = λ q w h asked. (freed old new p r is free q w h asked).1 }
 
 -- a process's record changes, but not its wait
-pub Frees-moved : (old new : Roster) (p : ℕ) (r : Record) → new.records ≡ set old.records p r
+pub frees_moved : (old new : Roster) (p : ℕ) (r : Record) → new.records ≡ set old.records p r
     → r.wait ≡ (record_at old p).wait → Frees old new
-Frees-moved old new p r is same = record { still = still } where
-  still : (q s : ℕ) → (record_at new q).wait ≡ Some (Semaphore s) → (record_at old q).wait ≡ Some (Semaphore s)
-  still q s h = elim (wait_after old.records p q r (Semaphore s) (rw is at h)) [
+frees_moved old new p r is same = record { still = still } where
+  still : (q : ℕ) (w : Wait) → (record_at new q).wait ≡ Some w → is_asked w ≡ true → (record_at old q).wait ≡ Some w
+  still q w h asked = elim (wait_after old.records p q r w (rw is at h)) [
     | inl at_p ↦ ap (λ (p : ℕ). (record_at old p).wait) at_p.0 ∙ sym same ∙ at_p.1
     | inr elsewhere ↦ elsewhere.1
   ]
@@ -180,6 +112,49 @@ Frees-moved old new p r is same = record { still = still } where
 pub kept_freed : (caller : Caller) (call : Call) (old new : Roster) → IsIdle caller old → (reply : Reply) (notices : List Notice)
     → AreQuiet notices → Frees old new → WaitsKept caller call old new reply notices
 kept_freed caller call old new idle reply notices quiet frees = record {
-  others = λ q s by h. (frees.still q s h, quiet q);
-  own = λ q s by h. absurd (idle q s by (frees.still q s h));
+  others = λ q w by h asked. (frees.still q w h asked, quiet q);
+  own = λ q s w by h asked. absurd (idle q w by (frees.still q w h asked) asked);
 }
+
+-- the call is refused or leaves all waits
+pub kept_same : (caller : Caller) (call : Call) (roster : Roster) → IsIdle caller roster → (reply : Reply) (notices : List Notice)
+    → AreQuiet notices → WaitsKept caller call roster roster reply notices
+kept_same caller call roster idle reply notices quiet = kept_freed caller call roster roster idle reply notices quiet (frees_none roster)
+
+-- a process is woken, and waits for nothing that it asked for then
+pub kept_woken : (caller : Caller) (call : Call) (old : Roster) → IsIdle caller old → (reply : Reply) (p : ℕ) (r : Record) (new : Roster)
+    → new.records ≡ set old.records p r → IsFree r → WaitsKept caller call old new reply (Woken p NoError ∷ [])
+kept_woken caller call old idle reply p r new is free = record {
+  others = λ q w by h asked. let moved = freed old new p r is free q w h asked in (moved.1, rw (other q p moved.0) refl);
+  own = λ q s w by h asked. absurd (idle q w by (freed old new p r is free q w h asked).1 asked);
+}
+
+-- process p blocks on what its call asks for
+pub kept_blocked : (p : ℕ) (call : Call) (wait : Wait) (due : Option ℕ) (roster : Roster)
+    → ((s : ℕ) → is_wait_on s (Some call) ≡ is_same_wait (Semaphore s) wait)
+    → WaitsKept (Process p) call roster (block roster p wait due) Blocked []
+kept_blocked p call wait due roster asks = record {
+  others = λ q w by h asked. elim (after q w h) [
+    | inl at_p ↦ absurd (both_ways _ by (eq-eqb q p at_p.0))
+    | inr elsewhere ↦ (elsewhere.1, refl)
+  ];
+  own = λ q s w by h asked. elim (after q w h) [
+    | inl at_p ↦ and_true (is_wait_on s (Some call)) ∙ asks s ∙ ap (is_same_wait (Semaphore s)) (same_Some wait w at_p.1)
+    | inr elsewhere ↦ absurd (elsewhere.0 (eqb-true q p by))
+  ];
+} where
+  after : (q : ℕ) (w : Wait) → (record_at (block roster p wait due) q).wait ≡ Some w
+      → ((q ≡ p) × (Some wait ≡ Some w)) ⊎ ((q ≢ p) × ((record_at roster q).wait ≡ Some w))
+  after q w h = wait_after roster.records p q (record (record_at roster p) { wait = Some wait; due = due; since = roster.young }) w h
+
+-- a change that makes process p wait for nothing
+pub freed_readied : (roster : Roster) (p : ℕ) (r : Record) → r.wait ≡ None
+    → (q : ℕ) (w : Wait) → (record_at (readied roster p r) q).wait ≡ Some w → is_asked w ≡ true → (q ≢ p) × ((record_at roster q).wait ≡ Some w)
+freed_readied roster p r free =
+    cond_both {A = Roster} (is_eligible roster.mode r) (newest roster p r) (with_record roster p r)
+    (λ (new : Roster). (q : ℕ) (w : Wait) → (record_at new q).wait ≡ Some w → is_asked w ≡ true → (q ≢ p) × ((record_at roster q).wait ≡ Some w))
+    (λ _. freed roster (newest roster p r) p (record r { since = roster.young }) refl (λ w e asked. none-some w (sym free ∙ e)))
+    (λ _. freed roster (with_record roster p r) p r refl (λ w e asked. none-some w (sym free ∙ e)))
+
+pub frees_readied : (roster : Roster) (p : ℕ) (r : Record) → r.wait ≡ None → Frees roster (readied roster p r)
+frees_readied roster p r free = record { still = λ q w h asked. (freed_readied roster p r free q w h asked).1 }

@@ -1,12 +1,12 @@
 -- The objects that a service leaves are those that the history then gives.
-use Rattle.std.proofs.Common.{◌≡◌, ℕ, ◌+◌, ◌<◌, Bool, true, false, cond, ◌&&◌, ◌||◌, not, ◌==◌, List, [], ◌∷◌, ◌++◌, length, None, Some, nat_lt, refl, sym, ◌∙◌, arith, set, get_or, inl, inr, ap}
-use Rattle.std.proofs.lemmas.Bool.{eq-eqb, cases_eq}
+use Rattle.std.proofs.Common.{◌≡◌, ℕ, ◌+◌, ◌<◌, Bool, true, false, cond, not, ◌==◌, List, [], ◌∷◌, ◌++◌, length, None, Some, nat_lt, refl, sym, ◌∙◌, arith, set, get_or, inl, inr, ap}
+use Rattle.std.proofs.lemmas.Bool.{eq-eqb, cases_eq, both_ways}
 use Rattle.apex_types.specs.declared.Call.{Call}
-use Rattle.apex_types.specs.declared.Call.TheVariants.{Partition, Process as ToProcess, Semaphore as ToSemaphore}
+use Rattle.apex_types.specs.declared.Call.TheVariants.{Partition, Process as ToProcess, Time as ToTime, Semaphore as ToSemaphore}
 use Rattle.apex_types.specs.declared.ProcessCall.{ProcessCall}
-use Rattle.apex_types.specs.declared.ProcessCall.TheVariants.{CreateProcess, InitializeProcessCoreAffinity, Start, StopSelf}
+use Rattle.apex_types.specs.declared.ProcessCall.TheVariants.{CreateProcess, InitializeProcessCoreAffinity, Start, DelayedStart, StopSelf, GetMyId}
 use Rattle.apex_types.specs.declared.SemaphoreCall.{SemaphoreCall}
-use Rattle.apex_types.specs.declared.SemaphoreCall.TheVariants.{CreateSemaphore, WaitSemaphore, SignalSemaphore}
+use Rattle.apex_types.specs.declared.SemaphoreCall.TheVariants.{CreateSemaphore, WaitSemaphore, SignalSemaphore, GetSemaphoreStatus}
 use Rattle.apex_types.specs.declared.Caller.{Caller}
 use Rattle.apex_types.specs.declared.Caller.TheVariants.{Process, Init, Nobody}
 use Rattle.apex_types.specs.declared.Entry.{Entry}
@@ -15,34 +15,28 @@ use Rattle.apex_types.specs.declared.Reply.{Reply}
 use Rattle.apex_types.specs.declared.Reply.TheVariants.{Code}
 use Rattle.apex_types.specs.declared.ReturnCode.{ReturnCode}
 use Rattle.apex_types.specs.declared.ReturnCode.TheVariants.{NoError, NoAction, InvalidParam, InvalidConfig, InvalidMode}
+use Rattle.apex_types.specs.declared.Timeout.{Timeout}
+use Rattle.apex_types.specs.declared.Timeout.TheVariants.{Poll, Ticks, Infinite}
+use Rattle.apex_types.specs.declared.Wait.TheVariants.{Semaphore}
 use Rattle.apex_types.specs.declared.Who.{Who}
 use Rattle.apex_types.specs.Places.{map_places}
 use Rattle.apex_types.specs.Roster.{Roster, record_at, is_normal}
 use Rattle.apex_types.specs.Table.{Table, ProcessEntry, SemaphoreEntry, no_process, no_semaphore, semaphore_entry, IsKnown, IsKnownToProcesses, IsKnownToSemaphores}
-use Rattle.apex_types.specs.History.{is_no_error, is_wait_on, creates_process, creates_semaphore, is_process_created, is_accepted_signal, process_after, semaphore_after, objects_after, Objects, SemaphoreObject}
+use Rattle.apex_types.specs.History.{is_no_error, is_wait_on, is_process_create, creates_process, creates_semaphore, is_process_created, is_accepted_signal, process_after, semaphore_after, objects_after, Objects, SemaphoreObject}
 use Rattle.apex_types.specs.SemaphoreServices.{semaphore_service, semaphore_of}
-use Rattle.apex_types.specs.ProcessServices.{ProcessOutcome, process_service, refused_process, create_process, initialize_core_affinity, start_process, stop_self, is_created}
+use Rattle.apex_types.specs.ProcessServices.{ProcessOutcome, process_service, refused_process, create_process, initialize_core_affinity, started_by, start_process, stop_self, get_my_id, is_created}
 use Rattle.apex_types.specs.PartitionServices.{partition_service}
+use Rattle.apex_types.specs.TimeServices.{time_service}
 use Rattle.apex_types.specs.Machine.{Outcome, service, after_semaphore, semaphore_at, no_object}
 use Rattle.apex_types.proofs.Places.{map_places_same, set-map_places, get_or-map_places}
-use Rattle.apex_dispatch.proofs.Waits.{newly-none, other}
-use Rattle.apex_dispatch.specs.OpenWaits.{AreEnough, AreBounded, AreOpen}
+use Rattle.apex_dispatch.proofs.Truths.{or_false, or_true, and_false, and_true}
+use Rattle.apex_dispatch.proofs.TimeTold.{time_kept}
+use Rattle.apex_dispatch.proofs.Waits.{newly-closed, other}
+use Rattle.apex_dispatch.specs.OpenWaits.{wakes, has_open, AreEnough, AreBounded, AreOpen}
 use Rattle.apex_dispatch.proofs.Values.{IsQuiet, quiet_same, after_quiet, process_created-push}
 use Rattle.apex_dispatch.proofs.Effects.{AreQuiet, WaitsKept, IsIdle, kept_freed}
 use Rattle.apex_dispatch.proofs.SemaphoreTold.{told_service, below_service}
 use Rattle.apex_dispatch.proofs.OtherTold.{partition_spares, process_spares}
-
-or_false : (b : Bool) → (b || false) ≡ b
-or_false true = refl
-or_false false = refl
-
-or_true : (b : Bool) → (b || true) ≡ true
-or_true true = refl
-or_true false = refl
-
-and_false : (b : Bool) → (b && false) ≡ false
-and_false true = refl
-and_false false = refl
 
 -- an entry that creates no process leaves which ones are created
 flags_same : (entries : List ProcessEntry) (history : List Entry) (e : Entry) → ((p : ℕ) → creates_process p e ≡ false)
@@ -104,10 +98,7 @@ module _ (number now : ℕ) (who : Who) (caller : Caller) (history : List Entry)
     flagged_create p within =
         flagged_if (CreateProcess p) (is_normal roster.mode) _ _ (flagged_refused (CreateProcess p) InvalidMode refl)
         (flagged_if (CreateProcess p) (is_created flags p) _ _ (flagged_refused (CreateProcess p) NoAction refl)
-        (record { is = flags_set entries history (entry_with (ToProcess (CreateProcess p)) (Code NoError) []) p within (λ q. and_true (q == p)) })) where
-          and_true : (b : Bool) → (b && true) ≡ b
-          and_true true = refl
-          and_true false = refl
+        (record { is = flags_set entries history (entry_with (ToProcess (CreateProcess p)) (Code NoError) []) p within (λ q. and_true (q == p)) }))
 
     flagged_affinity : (p core : ℕ) → IsFlagged (InitializeProcessCoreAffinity p core) (initialize_core_affinity cores roster flags p core)
     flagged_affinity p core =
@@ -117,11 +108,29 @@ module _ (number now : ℕ) (who : Who) (caller : Caller) (history : List Entry)
         (flagged_if call (not (nat_lt core cores)) _ _ (flagged_refused call InvalidConfig refl)
         (record { is = flags_same entries history _ (λ q. refl) })))
 
-    flagged_start : (p : ℕ) → IsFlagged (Start p) (start_process roster flags p)
-    flagged_start p =
-        flagged_if (Start p) (not (is_created flags p)) _ _ (flagged_refused (Start p) InvalidParam refl)
-        (flagged_if (Start p) ((record_at roster p).started) _ _ (flagged_refused (Start p) NoAction refl)
-        (record { is = flags_same entries history _ (λ q. refl) }))
+    -- an entry of a call that is no CREATE_PROCESS
+    flagged_plain : (call : ProcessCall) → ((q : ℕ) → is_process_create q call ≡ false) → (o : ProcessOutcome) → o.created ≡ flags → IsFlagged call o
+    flagged_plain call plain o stays = record {
+      is = flags_same entries history (entry_with (ToProcess call) o.reply o.notices) (λ q. rw (plain q) refl) ∙ sym stays;
+    }
+
+    flagged_started_by : (call : ProcessCall) → ((q : ℕ) → is_process_create q call ≡ false) → (p : ℕ) (delay : Timeout)
+        → IsFlagged call (started_by roster flags p delay)
+    flagged_started_by call plain p Poll = flagged_plain call plain (started_by roster flags p Poll) refl
+    flagged_started_by call plain p (Ticks n) = flagged_plain call plain (started_by roster flags p (Ticks n)) refl
+    flagged_started_by call plain p Infinite = flagged_plain call plain (started_by roster flags p Infinite) refl
+
+    flagged_start : (call : ProcessCall) → ((q : ℕ) → is_process_create q call ≡ false) → (p : ℕ) (delay : Timeout)
+        → IsFlagged call (start_process roster flags p delay)
+    flagged_start call plain p delay =
+        flagged_if call (not (is_created flags p)) _ _ (flagged_refused call InvalidParam refl)
+        (flagged_if call ((record_at roster p).started) _ _ (flagged_refused call NoAction refl)
+        (flagged_started_by call plain p delay))
+
+    flagged_my_id : (by : Caller) → IsFlagged GetMyId (get_my_id roster flags by)
+    flagged_my_id (Process p) = flagged_plain GetMyId (λ q. refl) (get_my_id roster flags (Process p)) refl
+    flagged_my_id Init = flagged_refused GetMyId InvalidMode refl
+    flagged_my_id Nobody = flagged_refused GetMyId InvalidMode refl
 
     flagged_stop : (by : Caller) → IsFlagged StopSelf (stop_self roster flags by)
     flagged_stop (Process p) = record { is = flags_same entries history _ (λ q. refl) }
@@ -132,18 +141,26 @@ module _ (number now : ℕ) (who : Who) (caller : Caller) (history : List Entry)
         → IsFlagged call (process_service cores roster flags caller call)
     flagged_service (CreateProcess p) known = flagged_create p known
     flagged_service (InitializeProcessCoreAffinity p core) known = flagged_affinity p core
-    flagged_service (Start p) known = flagged_start p
+    flagged_service (Start p) known = flagged_start (Start p) (λ q. refl) p Poll
+    flagged_service (DelayedStart p delay) known = flagged_start (DelayedStart p delay) (λ q. refl) p delay
     flagged_service StopSelf known = flagged_stop caller
+    flagged_service GetMyId known = flagged_my_id caller
 
--- an entry whose call is of no semaphore, and that wakes nobody
+-- an entry whose call is of no semaphore, and that wakes only processes without an open wait
+quiet_closed : (history : List Entry) (e : Entry) → ((p s : ℕ) → wakes p e ≡ true → has_open s p history ≡ false)
+    → ((s : ℕ) → is_accepted_signal s e ≡ false) → ((s : ℕ) → is_wait_on s e.call ≡ false) → ((s : ℕ) → creates_semaphore s e ≡ false)
+    → (s : ℕ) → IsQuiet s history e
+quiet_closed history e closed signal wait create s = record {
+  signal = signal s;
+  satisfied = rw (newly-closed s history e (λ p. closed p s), wait s) refl;
+  create = create s;
+}
+
+-- and that wakes nobody
 quiet_everywhere : (history : List Entry) (e : Entry) → AreQuiet e.notices
     → ((s : ℕ) → is_accepted_signal s e ≡ false) → ((s : ℕ) → is_wait_on s e.call ≡ false) → ((s : ℕ) → creates_semaphore s e ≡ false)
     → (s : ℕ) → IsQuiet s history e
-quiet_everywhere history e quiet signal wait create s = record {
-  signal = signal s;
-  satisfied = rw (newly-none s history e quiet, wait s) refl;
-  create = create s;
-}
+quiet_everywhere history e quiet = quiet_closed history e (λ p s woken. absurd (both_ways _ (quiet p) woken))
 
 enough_quiet : (table : Table) (history : List Entry) (e : Entry) → AreEnough table history → ((s : ℕ) → IsQuiet s history e)
     → AreEnough table (history ++ e ∷ [])
@@ -164,6 +181,10 @@ module _ (number now : ℕ) (who : Who) (table : Table) (history : List Entry) (
     pub enough_after : AreEnough table (history ++ entry_with number now who caller history call o.reply o.notices ∷ [])
     pub bounded_after : AreBounded table (history ++ entry_with number now who caller history call o.reply o.notices ∷ [])
 
+  -- who waits for a semaphore has an open wait on it
+  waits_open : (p s : ℕ) → (record_at roster p).wait ≡ Some (Semaphore s) → has_open s p history ≡ true
+  waits_open p s h = open_waits p s (Semaphore s) h refl ∙ eq-eqb s s refl
+
   abbrev objects : Objects
   objects = objects_after table history
 
@@ -176,7 +197,7 @@ module _ (number now : ℕ) (who : Who) (table : Table) (history : List Entry) (
       let entry = semaphore_entry table s in
       let o = semaphore_service roster (semaphore_after history s entry) caller call in
       let e = entry_with number now who caller history (ToSemaphore call) o.reply o.notices in
-      let told = told_service number now who history roster open_waits entry caller idle call (enough s within) in
+      let told = told_service number now who history roster waits_open entry caller idle call (enough s within) in
       record {
         objects = objects_by _ _ _ _ (flags_same table.processes history e (λ p. refl))
             (sym (set-map_places (semaphore_after history) (semaphore_after (history ++ e ∷ [])) table.semaphores s o.semaphore no_semaphore no_object within
@@ -223,6 +244,16 @@ module _ (number now : ℕ) (who : Who) (table : Table) (history : List Entry) (
         enough_after = enough_quiet table history e enough quiet;
         bounded_after = bounded_quiet table history e bounded quiet;
       }
+  exact_service caller idle (ToTime call) known =
+      let o = time_service roster caller call in
+      let e = entry_with number now who caller history (ToTime call) o.reply [] in
+      let quiet = quiet_everywhere history e (λ p. refl) (λ s. refl) (λ s. refl) (λ s. refl) in
+      record {
+        objects = objects_by _ _ _ _ (flags_same table.processes history e (λ p. refl)) (semaphores_same table.semaphores history e quiet);
+        waits = time_kept roster caller idle call;
+        enough_after = enough_quiet table history e enough quiet;
+        bounded_after = bounded_quiet table history e bounded quiet;
+      }
   exact_service caller idle (ToSemaphore call) known =
       let s = semaphore_of call in
       let entry = semaphore_entry table s in
@@ -235,13 +266,15 @@ module _ (number now : ℕ) (who : Who) (table : Table) (history : List Entry) (
         within_table (CreateSemaphore s) h = h
         within_table (WaitSemaphore s timeout) h = h
         within_table (SignalSemaphore s) h = h
+        within_table (GetSemaphoreStatus s) h = h
 
--- an idle turn changes nothing
-pub idle_exact : (table : Table) (history : List Entry) (e : Entry) → e.call ≡ None → e.notices ≡ [] → AreEnough table history
-    → AreBounded table history
+-- an idle turn or a tick changes nothing, where it wakes with NO_ERROR only processes that have no open
+-- wait
+pub uncalled_exact : (table : Table) (history : List Entry) (e : Entry) → e.call ≡ None
+    → ((p s : ℕ) → wakes p e ≡ true → has_open s p history ≡ false) → AreEnough table history → AreBounded table history
     → (objects_after table (history ++ e ∷ []) ≡ objects_after table history) × AreEnough table (history ++ e ∷ []) × AreBounded table (history ++ e ∷ [])
-idle_exact table history e no_call no_notices enough bounded =
-    let quiet = quiet_everywhere history e (λ p. rw no_notices refl) (λ s. rw no_call refl) (λ s. rw no_call refl) (λ s. rw no_call refl) in (
+uncalled_exact table history e no_call closed enough bounded =
+    let quiet = quiet_closed history e closed (λ s. rw no_call refl) (λ s. rw no_call refl) (λ s. rw no_call refl) in (
       objects_by _ _ _ _ (flags_same table.processes history e (λ p. rw no_call refl)) (semaphores_same table.semaphores history e quiet),
       enough_quiet table history e enough quiet,
       bounded_quiet table history e bounded quiet,

@@ -1,54 +1,32 @@
--- Each kernel keeps what it keeps: at its opening, and at each turn.
-use Rattle.std.proofs.Common.{◌≡◌, ℕ, zero, suc, ◌+◌, ◌≤◌, Bool, false, List, [], ◌∷◌, ◌++◌, length, get_or, Option, None, Some, is_some, refl, sym, ◌∙◌, ap, arith, length-append, if◌then◌else◌}
-use Rattle.std.proofs.lemmas.List.{length-set}
+-- Each kernel keeps what it keeps: at its opening, at each turn, and at each tick.
+use Rattle.std.proofs.Common.{◌≡◌, ℕ, zero, suc, ◌+◌, ◌≤◌, Bool, false, List, [], ◌∷◌, ◌++◌, length, get_or, Option, None, Some, is_some, pos, ◌+ℤ◌, ◌≤ℤ◌, refl, sym, ◌∙◌, ap, arith, length-append, if◌then◌else◌}
 use Rattle.std.proofs.lemmas.Int.{ints}
 use Rattle.std.proofs.lemmas.Option.{none-some}
 use Rattle.std.proofs.lemmas.List.Sums.{sum_by-append}
 use Rattle.apex_types.specs.declared.Call.{Call}
-use Rattle.apex_types.specs.declared.Call.TheVariants.{Process as ToProcess}
-use Rattle.apex_types.specs.declared.Caller.TheVariants.{Process, Init}
-use Rattle.apex_types.specs.declared.ProcessCall.TheVariants.{StopSelf}
 use Rattle.apex_types.specs.declared.Entry.{Entry}
 use Rattle.apex_types.specs.declared.Wait.{Wait}
-use Rattle.apex_types.specs.declared.Wait.TheVariants.{Semaphore}
+use Rattle.apex_types.specs.declared.Who.{Who}
+use Rattle.apex_types.specs.declared.Who.TheVariants.{Core, Ticker}
 use Rattle.apex_types.specs.Places.{map_places}
 use Rattle.apex_types.specs.Table.{Table, ProcessEntry, IsLawful}
 use Rattle.apex_types.specs.Roster.{Roster, nobody, record_at, opening_record}
 use Rattle.apex_types.specs.Running.{chosen}
-use Rattle.apex_types.specs.Stamps.{set_step}
+use Rattle.apex_types.specs.Dues.{HasNoPastDue}
+use Rattle.apex_types.specs.Distinct.{IsStamped}
+use Rattle.apex_types.specs.Stamps.{advance_to}
+use Rattle.apex_types.specs.Ticks.{tick_goal, pass_time}
 use Rattle.apex_types.specs.History.{Objects, objects_after, init_count, is_by_init}
-use Rattle.apex_types.specs.Machine.{script_deed, chosen_deed, step_of, turn_deed, due_init_call, opening, deed_of, after_deed, turn, entry_of, Machine}
+use Rattle.apex_types.specs.Machine.{Deed, script_deed, chosen_deed, step_of, turn_deed, tick_deed, due_init_call, opening, deed_of, after_deed, turn, tick, entry_of, Machine}
 use Rattle.apex_types.proofs.Places.{length-map_places}
-use Rattle.apex_dispatch.specs.Kernel.{Running, IsKept, running}
-use Rattle.apex_types.proofs.DistinctStamps.{stamped_opening}
+use Rattle.apex_types.proofs.DistinctStamps.{stamped_opening, stamped_advance_to}
+use Rattle.apex_types.proofs.Dues.{goal_forward, goal_near, goal_not_past}
+use Rattle.apex_types.proofs.Reaches.{Reaches}
+use Rattle.apex_dispatch.specs.Kernel.{Running, IsSound, IsKept, running}
 use Rattle.apex_dispatch.proofs.Known.{known_script_step}
-use Rattle.apex_dispatch.proofs.Stamped.{stamped_turn}
-use Rattle.apex_dispatch.proofs.Turns.{due_known, exact_deed}
-use Rattle.apex_dispatch.proofs.Sizes.{Grows-none, Small, small_service}
-
--- sizes stay over a deed, and few stamps are given
-small_script : (table : Table) (roster : Roster) (objects : Objects) (p : ℕ) (step : Option Call) → length roster.records ≤ 64
-    → Small roster objects (script_deed table roster objects p step).outcome
-small_script table roster objects p None few = small_service table.cores roster objects (Process p) (ToProcess StopSelf) few
-small_script table roster objects p (Some call) few =
-    let moved = set_step roster p ((record_at roster p).step + 1) in
-    let size : length moved.records ≡ length roster.records = length-set roster.records p _ in
-    let small = small_service table.cores moved objects (Process p) call (omega (arith, size)) in
-    record {
-      grows = record { many = small.grows.many ∙ size; stamps = small.grows.stamps };
-      processes = small.processes;
-      semaphores = small.semaphores;
-    }
-
-small_chosen : (table : Table) (roster : Roster) (objects : Objects) (process : Option ℕ) → length roster.records ≤ 64
-    → Small roster objects (chosen_deed table roster objects process).outcome
-small_chosen table roster objects None few = record { grows = Grows-none 64 roster; processes = refl; semaphores = refl }
-small_chosen table roster objects (Some p) few = small_script table roster objects p (step_of table roster p) few
-
-pub small_turn : (table : Table) (roster : Roster) (objects : Objects) (core : ℕ) (due : Option Call) → length roster.records ≤ 64
-    → Small roster objects (turn_deed table roster objects core due).outcome
-small_turn table roster objects core (Some call) few = small_service table.cores roster objects Init call few
-small_turn table roster objects core None few = small_chosen table roster objects (chosen roster core) few
+use Rattle.apex_dispatch.proofs.Reach.{reach_turn, reach_serve_dues}
+use Rattle.apex_dispatch.proofs.Turns.{IsDeedExact, due_known, exact_deed}
+use Rattle.apex_dispatch.proofs.TickTold.{exact_tick}
 
 -- the init list asked for the call exactly where an init step was due
 script_caller : (table : Table) (roster : Roster) (objects : Objects) (p : ℕ) (step : Option Call)
@@ -72,53 +50,128 @@ init_count-push : (history : List Entry) (e : Entry) (b : Bool) → is_by_init e
 init_count-push history e b h =
     sum_by-append (λ (x : Entry). if is_by_init x.process then 1 else 0) history (e ∷ []) ∙ rw h (omega arith)
 
--- the kernel after a turn is in the state that the turn gives, and keeps what each kernel keeps
-pub kept_turn : (table : Table) (machine : Machine) (core init_made room : ℕ) → IsKept (running table machine) init_made room
-    → IsKept (running table (turn table machine core))
-    (init_made + (if is_some (due_init_call table machine core) then 1 else 0)) room
-unfolding turn
-kept_turn table machine core init_made room kept =
-    let roster = machine.roster in
+-- what each kernel keeps after one more deed, by what the deed owes
+sound_deed : (table : Table) (machine : Machine) (who : Who) (deed : Deed) (init_made room : ℕ) (made : Bool) → IsSound (running table machine) init_made room
+    → is_by_init deed.caller ≡ made
+    → length deed.outcome.roster.records ≡ length machine.roster.records
+    → deed.outcome.roster.young ≤ℤ (machine.roster.young +ℤ pos 64)
+    → IsStamped deed.outcome.roster → HasNoPastDue deed.outcome.roster
+    → IsDeedExact table machine.history (length machine.history + 1) who deed
+    → IsSound (running table (after_deed machine who deed)) (init_made + (if made then 1 else 0)) room
+sound_deed table machine who deed init_made room made sound by many few stamped dues exact =
     let history = machine.history in
-    let due = due_init_call table machine core in
-    let objects = objects_after table history in
-    let count = kept.lawful.process_count in
-    let few : length roster.records ≤ 64 = omega (arith, kept.records, count) in
-    let small = small_turn table roster objects core due few in
-    let deed = deed_of table machine core in
-    let e = entry_of (length history + 1) core deed in
-    let caller = turn_caller table roster objects core due in
+    let e = entry_of (length history + 1) who deed in
     let longer : length (history ++ e ∷ []) ≡ length history + 1 = rw length-append refl in
-    let exact = exact_deed table machine core kept.lawful kept.records kept.enough kept.bounded kept.waiting in
     record {
-      lawful = kept.lawful;
-      limit = kept.limit;
-      init = rw (kept.init) (sym (init_count-push history e (is_some due) caller));
-      records = small.grows.many ∙ kept.records;
+      lawful = sound.lawful;
+      limit = sound.limit;
+      init = rw (sound.init) (sym (init_count-push history e made by));
+      records = many ∙ sound.records;
       objects = refl;
-      stamps = rw longer (omega (arith, ints, small.grows.stamps, kept.stamps));
-      stamped = stamped_turn table objects roster kept.stamped kept.records
-          (λ p call h e. known_script_step table p (record_at roster p).step call kept.lawful (rw kept.records at h) e)
-          core due (due_known table machine core kept.lawful);
+      stamps = rw longer (omega (arith, ints, few, sound.stamps));
+      stamped = stamped;
+      dues = dues;
       enough = exact.enough;
       bounded = exact.bounded;
       waiting = exact.waiting;
     }
 
+-- a turn reaches the roster that it leaves
+turn_reaches : (table : Table) (machine : Machine) (core init_made room : ℕ) → IsSound (running table machine) init_made room
+    → Reaches 64 machine.roster (deed_of table machine core).outcome.roster
+turn_reaches table machine core init_made room sound =
+    let roster = machine.roster in
+    let count = sound.lawful.process_count in
+    reach_turn table (objects_after table machine.history) roster (omega (arith, sound.records, count)) sound.records
+    (λ p call h e. known_script_step table p (record_at roster p).step call sound.lawful (rw sound.records at h) e)
+    core (due_init_call table machine core) (due_known table machine core sound.lawful)
+
+-- after a turn
+pub sound_turn : (table : Table) (machine : Machine) (core init_made room : ℕ) → IsSound (running table machine) init_made room
+    → IsSound (running table (turn table machine core))
+    (init_made + (if is_some (due_init_call table machine core) then 1 else 0)) room
+unfolding turn
+sound_turn table machine core init_made room sound =
+    let due = due_init_call table machine core in
+    let reaches = turn_reaches table machine core init_made room sound in
+    sound_deed table machine (Core core) (deed_of table machine core) init_made room (is_some due) sound
+    (turn_caller table machine.roster (objects_after table machine.history) core due)
+    reaches.many reaches.stamps (reaches.stamped sound.stamped) (reaches.dues sound.dues)
+    (exact_deed table machine core sound.lawful sound.records sound.enough sound.bounded sound.waiting)
+
+pub now_turn : (table : Table) (machine : Machine) (core init_made room : ℕ) → IsSound (running table machine) init_made room
+    → (turn table machine core).roster.now ≡ machine.roster.now
+unfolding turn
+now_turn table machine core init_made room sound = (turn_reaches table machine core init_made room sound).time
+
+-- after a tick
+tick_reaches : (roster : Roster) (n : ℕ) → Reaches (length roster.records) (advance_to roster (tick_goal roster n)) (pass_time roster n).roster
+unfolding pass_time
+tick_reaches roster n = reach_serve_dues (advance_to roster (tick_goal roster n))
+
+pub sound_tick : (table : Table) (machine : Machine) (n init_made room : ℕ) → IsSound (running table machine) init_made room
+    → IsSound (running table (tick table machine n)) init_made room
+unfolding tick
+sound_tick table machine n init_made room sound =
+    let roster = machine.roster in
+    let objects = objects_after table machine.history in
+    let reaches = tick_reaches roster n in
+    let count = sound.lawful.process_count in
+    let same : init_made + 0 ≡ init_made = omega arith in
+    rw same at (sound_deed table machine Ticker (tick_deed roster objects n) init_made room false sound refl
+    reaches.many (omega (arith, ints, reaches.stamps, sound.records, count))
+    (reaches.stamped (stamped_advance_to roster sound.stamped (tick_goal roster n)))
+    (reaches.dues (goal_not_past roster n))
+    (exact_tick table machine n sound.enough sound.bounded sound.waiting))
+
+-- a tick goes forward, and n at the most
+pub now_tick : (table : Table) (machine : Machine) (n : ℕ) → HasNoPastDue machine.roster
+    → (machine.roster.now ≤ (tick table machine n).roster.now) × ((tick table machine n).roster.now ≤ machine.roster.now + n)
+unfolding tick
+now_tick table machine n dues =
+    let roster = machine.roster in
+    let same = (tick_reaches roster n).time in
+    (rw same (goal_forward roster n dues), rw same (goal_near roster n))
+
+pub length-turn : (table : Table) (machine : Machine) (core : ℕ) → length (turn table machine core).history ≡ length machine.history + 1
+unfolding turn
+length-turn table machine core = rw length-append refl
+
+pub length-tick : (table : Table) (machine : Machine) (n : ℕ) → length (tick table machine n).history ≡ length machine.history + 1
+unfolding tick
+length-tick table machine n = rw length-append refl
+
+-- what each kernel keeps, with its time
+pub kept_turn : (table : Table) (machine : Machine) (core init_made room : ℕ) → IsKept (running table machine) init_made room
+    → IsKept (running table (turn table machine core))
+    (init_made + (if is_some (due_init_call table machine core) then 1 else 0)) room
+kept_turn table machine core init_made room kept = record {
+  sound = sound_turn table machine core init_made room kept.sound;
+  time = rw (length-turn table machine core, now_turn table machine core init_made room kept.sound) (omega (arith, kept.time));
+}
+
+pub kept_tick : (table : Table) (machine : Machine) (n init_made room : ℕ) → n ≤ 1048576 → IsKept (running table machine) init_made room
+    → IsKept (running table (tick table machine n)) init_made room
+kept_tick table machine n init_made room few kept = record {
+  sound = sound_tick table machine n init_made room kept.sound;
+  time = rw (length-tick table machine n) (omega (arith, kept.time, few, (now_tick table machine n kept.sound.dues).1));
+}
+
 -- a kernel's running values are those of its history
 pub kept_running : (kernel : Running) (init_made room : ℕ) → IsKept kernel init_made room → kernel ≡ running kernel.table kernel.machine
-kept_running kernel init_made room kept = ap (λ (o : Objects). let k : Running = record kernel { objects = o } in k) kept.objects
+kept_running kernel init_made room kept = ap (λ (o : Objects). let k : Running = record kernel { objects = o } in k) kept.sound.objects
 
 -- what a turn leaves, where its deed was carried out on the running values
 pub turn_is : (table : Table) (machine : Machine) (objects : Objects) (core init_made room : ℕ)
     → IsKept (record { table = table; machine = machine; objects = objects }) init_made room
     → let deed = turn_deed table machine.roster objects core (due_init_call table machine core) in
-    let after : Running = record { table = table; machine = after_deed machine core deed; objects = deed.outcome.objects } in
+    let after : Running = record { table = table; machine = after_deed machine (Core core) deed; objects = deed.outcome.objects } in
     after ≡ running table (turn table machine core)
 unfolding turn
 turn_is table machine objects core init_made room kept =
-    let exact = exact_deed table machine core kept.lawful kept.records kept.enough kept.bounded kept.waiting in
-    rw (kept.objects, exact.objects) refl
+    let sound = kept.sound in
+    let exact = exact_deed table machine core sound.lawful sound.records sound.enough sound.bounded sound.waiting in
+    rw (sound.objects, exact.objects) refl
 
 -- the same of a kernel that is the one after a turn
 pub kept_by : (table : Table) (machine : Machine) (objects : Objects) (core init_made room : ℕ)
@@ -127,10 +180,28 @@ pub kept_by : (table : Table) (machine : Machine) (objects : Objects) (core init
     → new_made ≡ init_made + (if is_some (due_init_call table machine core) then 1 else 0)
     → new_room ≡ room → IsKept new new_made new_room
 kept_by table machine objects core init_made room kept new new_made new_room is made same =
-    rw (is, made, same) (kept_turn table machine core init_made room (rw kept.objects at kept))
+    rw (is, made, same) (kept_turn table machine core init_made room (rw kept.sound.objects at kept))
 
-pub kept_opening : (table : Table) → IsLawful table → IsKept (running table (opening table)) 0 table.limit
-kept_opening table lawful =
+-- what a tick leaves
+pub tick_is : (table : Table) (machine : Machine) (objects : Objects) (n init_made room : ℕ)
+    → IsKept (record { table = table; machine = machine; objects = objects }) init_made room
+    → let deed = tick_deed machine.roster objects n in
+    let after : Running = record { table = table; machine = after_deed machine Ticker deed; objects = objects } in
+    after ≡ running table (tick table machine n)
+unfolding tick
+tick_is table machine objects n init_made room kept =
+    let sound = kept.sound in
+    let exact = exact_tick table machine n sound.enough sound.bounded sound.waiting in
+    rw (sound.objects, exact.objects) refl
+
+pub kept_by_tick : (table : Table) (machine : Machine) (objects : Objects) (n init_made room : ℕ) → n ≤ 1048576
+    → IsKept (record { table = table; machine = machine; objects = objects }) init_made room
+    → (new : Running) (new_room : ℕ) → new ≡ running table (tick table machine n) → new_room ≡ room → IsKept new init_made new_room
+kept_by_tick table machine objects n init_made room few kept new new_room is same =
+    rw (is, same) (kept_tick table machine n init_made room few (rw kept.sound.objects at kept))
+
+pub sound_opening : (table : Table) → IsLawful table → IsSound (running table (opening table)) 0 table.limit
+sound_opening table lawful =
     let size = length-map_places opening_record 0 table.processes in
     let count = lawful.process_count in
     record {
@@ -141,11 +212,15 @@ kept_opening table lawful =
       objects = refl;
       stamps = omega (arith, ints, count);
       stamped = stamped_opening table;
+      dues = λ p t h. omega arith;
       enough = λ s h. omega arith;
       bounded = λ s h. omega (arith, (lawful.semaphores s h).initial);
-      waiting = λ p s h. absurd (opening_free table.processes 0 p (Semaphore s) h);
+      waiting = λ p s w h asked. absurd (opening_free table.processes 0 p w h);
     } where
       opening_free : (entries : List ProcessEntry) (q p : ℕ) (w : Wait) → (get_or (map_places opening_record q entries) p nobody).wait ≡ Some w → ⊥
       opening_free [] q p w h = none-some w h
       opening_free (e ∷ entries) q zero w h = none-some w h
       opening_free (e ∷ entries) q (suc p) w h = opening_free entries (q + 1) p w h
+
+pub kept_opening : (table : Table) → IsLawful table → IsKept (running table (opening table)) 0 table.limit
+kept_opening table lawful = record { sound = sound_opening table lawful; time = omega arith }

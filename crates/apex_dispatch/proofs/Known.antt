@@ -2,7 +2,7 @@
 use Rattle.std.proofs.Common.{◌≡◌, ℕ, ◌<◌, List, length, slice_get, Some, subst}
 use Rattle.std.proofs.lemmas.Option.{slice_get_within, get_or_from_slice_get}
 use Rattle.apex_types.specs.declared.Call.{Call}
-use Rattle.apex_types.specs.declared.Call.TheVariants.{Partition, Process, Semaphore}
+use Rattle.apex_types.specs.declared.Call.TheVariants.{Partition, Process, Time, Semaphore}
 use Rattle.apex_types.specs.declared.ProcessCall.TheVariants.{StopSelf}
 use Rattle.apex_types.specs.Table.{Table, IsLawful, IsKnown, call_at, process_entry}
 use Rattle.apex_types.specs.History.{Objects}
@@ -14,6 +14,7 @@ pub known_to : (table : Table) (objects : Objects) (call : Call)
     → IsKnown table call → IsKnownTo objects call
 known_to table objects (Partition call) p s h = tt
 known_to table objects (Process call) p s h = rw p h
+known_to table objects (Time call) p s h = tt
 known_to table objects (Semaphore call) p s h = rw s h
 
 -- a step of a list of steps all of which are known

@@ -1,3 +1,4 @@
+pub mod Truths
 pub mod Known
 pub mod Reach
 pub mod Waits
@@ -5,7 +6,9 @@ pub mod Values
 pub mod Effects
 pub mod SemaphoreTold
 pub mod OtherTold
+pub mod TimeTold
 pub mod Exact
 pub mod Turns
+pub mod TickTold
 pub mod Kept
 pub mod Runs

@@ -37,6 +37,7 @@ use Rattle.apex_types.specs.PartitionServices as partitions
 use Rattle.apex_types.specs.Ticks as ticks
 use Rattle.apex_types.specs.Machine.{service, semaphore_at, script_deed, chosen_deed, turn_deed, step_of}
 use Rattle.apex_types.proofs.Choice.{place_within}
+use Rattle.apex_types.proofs.Rosters.{at_without_due}
 use Rattle.apex_types.proofs.Reaches.{Reaches, reaches_none, reaches_then, reaches_more, reaches_start, reaches_stop, reaches_block, reaches_unblock, reaches_release, reaches_place_newest, reaches_without_due, reaches_set_core, reaches_set_step, reaches_set_mode, reaches_in_turn}
 
 -- an instant after now is not before it
@@ -154,10 +155,6 @@ reach_time roster caller known (TimedWait timeout) = reach_timed_wait_by roster 
 reach_time roster caller known GetTime = reaches_none 64 roster
 
 -- the entry into NORMAL
-begin_if : (roster : Roster) (b : Bool) (x y : Roster) → Reaches 1 roster x → Reaches 1 roster y → Reaches 1 roster (cond b x y)
-begin_if roster true x y p q = p
-begin_if roster false x y p q = q
-
 pub reach_begin_start : (roster : Roster) (p : ℕ) → p < length roster.records → Reaches 1 roster (partitions.begin_start roster p).roster
 reach_begin_start roster p known =
     let delay = (record_at roster p).delay in
@@ -169,13 +166,21 @@ reach_begin_start roster p known =
       by_delay true x y = x
       by_delay false x y = y
 
+-- it tells one notice at the most
+pub few_starts : (roster : Roster) (p : ℕ) → length (partitions.begin_start roster p).notices ≤ 1
+few_starts roster p =
+    few_by ((record_at roster p).delay == 0) (Some (roster.now + (record_at roster p).delay)) where
+      few_by : (b : Bool) (due : Option ℕ) → length (cond b (ticks.released roster p) (record { roster = stamps.block roster p wait.Start due; notices = [] })).notices ≤ 1
+      few_by true due = omega arith
+      few_by false due = omega arith
+
 reach_enter_normal : (roster : Roster) → length roster.records ≤ 64 → Reaches 64 roster (partitions.enter_normal roster).roster
 unfolding partitions.enter_normal
 reach_enter_normal roster many =
     let begun = stamps.set_mode roster mode.Normal in
     let steps = reaches_in_turn partitions.first_to_start partitions.begin_start
-        (λ r p is. reach_begin_start r p (place_within (waits_in wait.Normal) is_older r.records p is))
-        (length roster.records) begun [] in
+    (λ r p is. reach_begin_start r p (place_within (waits_in wait.Normal) is_older r.records p is))
+    (length roster.records) begun [] in
     reaches_more (0 + length roster.records) 64 (omega (arith, many)) (reaches_then 0 (length roster.records) (reaches_set_mode roster mode.Normal) steps)
 
 reach_set_partition_mode : (roster : Roster) (normal : Bool) → Reaches 64 roster (partitions.enter_normal roster).roster
@@ -243,8 +248,25 @@ reach_serve_due roster p known =
     reaches_then 0 1 (reaches_without_due roster p known)
     (reach_wait_over free p (rw size known) (record_at roster p).wait)
 
+-- it tells one notice
+pub one_due : (roster : Roster) (p : ℕ) → length (ticks.serve_due roster p).notices ≡ 1
+one_due roster p = one_by (record_at roster p).wait where
+  one_by : (w : Option Wait) → length (ticks.wait_over (stamps.without_due roster p) p w).notices ≡ 1
+  one_by (Some wait.Time) = refl
+  one_by (Some wait.Start) = refl
+  one_by (Some wait.Normal) = refl
+  one_by (Some (wait.Semaphore s)) = refl
+  one_by None = refl
+
 pub reach_serve_dues : (roster : Roster) → Reaches (length roster.records) roster (ticks.serve_dues roster).roster
 reach_serve_dues roster =
     reaches_in_turn first_due ticks.serve_due
     (λ r p is. reach_serve_due r p (place_within (is_due_at r.now) by_number r.records p is))
     (length roster.records) roster []
+
+-- the wait of process p is the same without its due
+pub served_is : (old middle : Roster) (p : ℕ) (w : Option Wait) → p < length old.records → middle ≡ stamps.without_due old p → w ≡ (record_at middle p).wait
+    → ticks.wait_over middle p w ≡ ticks.serve_due old p
+served_is old middle p w known is same =
+    let at_p = at_without_due old p known in
+    rw (same, is, at_p) refl

@@ -1,22 +1,19 @@
 -- Runs of events.
-use Rattle.std.proofs.Common.{◌≡◌, ℕ, ◌+◌, ◌≤◌, ◌<◌, List, [], ◌∷◌, ◌++◌, length, refl, length-append, drop, get_or, add-one, arith, nat_lt}
+use Rattle.std.proofs.Common.{◌≡◌, ℕ, ◌+◌, ◌≤◌, ◌<◌, List, [], ◌∷◌, ◌++◌, length, refl, drop, get_or, add-one, arith, nat_lt}
 use Rattle.std.proofs.Math.Seq.{drop-cons}
 use Rattle.std.proofs.lemmas.Bool.{lt-ltb, le-ltb}
 use Rattle.apex_types.specs.declared.Event.{Event}
-use Rattle.apex_types.specs.declared.Event.TheVariants.{Turn}
+use Rattle.apex_types.specs.declared.Event.TheVariants.{Turn, Tick}
 use Rattle.apex_types.specs.Table.{Table, IsLawful}
-use Rattle.apex_types.specs.Machine.{Machine, turn, happen, accept, run, opening}
-use Rattle.apex_dispatch.specs.Kernel.{IsKept, running}
-use Rattle.apex_dispatch.proofs.Kept.{kept_turn, kept_opening}
+use Rattle.apex_types.specs.Machine.{Machine, happen, accept, run, opening}
+use Rattle.apex_dispatch.specs.Kernel.{IsSound, running}
+use Rattle.apex_dispatch.proofs.Kept.{length-turn, length-tick, sound_turn, sound_tick, now_turn, now_tick, sound_opening}
 use Rattle.std.proofs.lemmas.Bool.{cond_both, ltb-true}
 
--- a turn adds one entry
-pub length-turn : (table : Table) (machine : Machine) (core : ℕ) → length (turn table machine core).history ≡ length machine.history + 1
-unfolding turn
-length-turn table machine core = rw length-append refl
-
+-- an event adds one entry
 pub length-happen : (table : Table) (machine : Machine) (event : Event) → length (happen table machine event).history ≡ length machine.history + 1
 length-happen table machine (Turn core) = length-turn table machine core
+length-happen table machine (Tick n) = length-tick table machine n
 
 -- an event for which there is room
 pub accept-room : (table : Table) (machine : Machine) (event : Event) → length machine.history < table.limit
@@ -48,20 +45,21 @@ run-step table machine new events i event end within here room is before =
     let taken : run table (happen table machine event) (drop (i + 1) events) ≡ end = rw (← accept-room table machine event room) (rw next at before) in
     rw is taken
 
-kept_happen : (table : Table) (machine : Machine) (event : Event) → (made : ℕ) × IsKept (running table machine) made table.limit
-    → (made : ℕ) × IsKept (running table (happen table machine event)) made table.limit
-kept_happen table machine (Turn core) kept = (_, kept_turn table machine core kept.0 table.limit kept.1)
+sound_happen : (table : Table) (machine : Machine) (event : Event) → (made : ℕ) × IsSound (running table machine) made table.limit
+    → (made : ℕ) × IsSound (running table (happen table machine event)) made table.limit
+sound_happen table machine (Turn core) sound = (_, sound_turn table machine core sound.0 table.limit sound.1)
+sound_happen table machine (Tick n) sound = (_, sound_tick table machine n sound.0 table.limit sound.1)
 
--- the kernel in this state keeps what each kernel keeps, and its history is within the limit
+-- the kernel in this state keeps what each kernel keeps but for its time, and its history is within the limit
 pub record IsWell (table : Table) (machine : Machine) : Type 0 where
-  pub kept : (made : ℕ) × IsKept (running table machine) made table.limit
+  pub sound : (made : ℕ) × IsSound (running table machine) made table.limit
   pub within : length machine.history ≤ table.limit
 
 well_accept : (table : Table) (machine : Machine) (event : Event) → IsWell table machine → IsWell table (accept table machine event)
 well_accept table machine event well =
     cond_both {A = Machine} (nat_lt (length machine.history) table.limit) (happen table machine event) machine (IsWell table)
     (λ room. record {
-      kept = kept_happen table machine event well.kept;
+      sound = sound_happen table machine event well.sound;
       within = omega (arith, length-happen table machine event, ltb-true _ _ room);
     })
     (λ _. well)
@@ -72,4 +70,19 @@ well_run table machine [] well = well
 well_run table machine (event ∷ events) well = well_run table (accept table machine event) events (well_accept table machine event well)
 
 pub well_opening : (table : Table) → IsLawful table → IsWell table (opening table)
-well_opening table lawful = record { kept = (0, kept_opening table lawful); within = omega arith }
+well_opening table lawful = record { sound = (0, sound_opening table lawful); within = omega arith }
+
+-- time goes forward
+now_happen : (table : Table) (machine : Machine) (event : Event) → IsWell table machine → machine.roster.now ≤ (happen table machine event).roster.now
+now_happen table machine (Turn core) well = omega (arith, now_turn table machine core well.sound.0 table.limit well.sound.1)
+now_happen table machine (Tick n) well = (now_tick table machine n well.sound.1.dues).0
+
+now_accept : (table : Table) (machine : Machine) (event : Event) → IsWell table machine → machine.roster.now ≤ (accept table machine event).roster.now
+now_accept table machine event well =
+    cond_both {A = Machine} (nat_lt (length machine.history) table.limit) (happen table machine event) machine (λ (after : Machine). machine.roster.now ≤ after.roster.now)
+    (λ room. now_happen table machine event well) (λ _. omega arith)
+
+pub now_run : (table : Table) (machine : Machine) (events : List Event) → IsWell table machine → machine.roster.now ≤ (run table machine events).roster.now
+now_run table machine [] well = omega arith
+now_run table machine (event ∷ events) well =
+    omega (arith, now_accept table machine event well, now_run table (accept table machine event) events (well_accept table machine event well))

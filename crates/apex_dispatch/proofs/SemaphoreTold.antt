@@ -4,9 +4,9 @@ use Rattle.std.proofs.lemmas.Option.{none-some}
 use Rattle.std.proofs.lemmas.Bool.{cond_both, eq-eqb, ltb-true}
 use Rattle.apex_types.specs.declared.Call.TheVariants.{Semaphore as ToSemaphore}
 use Rattle.apex_types.specs.declared.SemaphoreCall.{SemaphoreCall}
-use Rattle.apex_types.specs.declared.SemaphoreCall.TheVariants.{CreateSemaphore, WaitSemaphore, SignalSemaphore}
+use Rattle.apex_types.specs.declared.SemaphoreCall.TheVariants.{CreateSemaphore, WaitSemaphore, SignalSemaphore, GetSemaphoreStatus}
 use Rattle.apex_types.specs.declared.Timeout.{Timeout}
-use Rattle.apex_types.specs.declared.Timeout.TheVariants.{Poll, Infinite}
+use Rattle.apex_types.specs.declared.Timeout.TheVariants.{Poll, Ticks, Infinite}
 use Rattle.apex_types.specs.declared.Caller.{Caller}
 use Rattle.apex_types.specs.declared.Caller.TheVariants.{Process, Init, Nobody}
 use Rattle.apex_types.specs.declared.Entry.{Entry}
@@ -14,18 +14,19 @@ use Rattle.apex_types.specs.declared.Notice.{Notice}
 use Rattle.apex_types.specs.declared.Notice.TheVariants.{Woken}
 use Rattle.apex_types.specs.declared.Record.{Record}
 use Rattle.apex_types.specs.declared.Reply.{Reply}
-use Rattle.apex_types.specs.declared.Reply.TheVariants.{Code, Blocked}
+use Rattle.apex_types.specs.declared.Reply.TheVariants.{Code, Status, Blocked}
 use Rattle.apex_types.specs.declared.ReturnCode.{ReturnCode}
 use Rattle.apex_types.specs.declared.ReturnCode.TheVariants.{NoError, NoAction, NotAvailable, InvalidParam, InvalidMode}
 use Rattle.apex_types.specs.declared.Wait.TheVariants.{Semaphore}
 use Rattle.apex_types.specs.declared.Who.{Who}
+use Rattle.apex_types.specs.Dues.{due_after}
 use Rattle.apex_types.specs.Roster.{Roster, record_at, with_record, is_normal}
 use Rattle.apex_types.specs.Running.{is_eligible}
 use Rattle.apex_types.specs.Stamps.{unblock, newest}
 use Rattle.apex_types.specs.Table.{SemaphoreEntry}
-use Rattle.apex_types.specs.Waiters.{first_waiter}
+use Rattle.apex_types.specs.Waiters.{first_waiter, waiter_count}
 use Rattle.apex_types.specs.History.{is_no_error, satisfied_waits, semaphore_after, semaphore_value, SemaphoreObject}
-use Rattle.apex_types.specs.SemaphoreServices.{SemaphoreOutcome, refused_semaphore, create_semaphore, wait_at_zero, wait_semaphore, raise_semaphore, signal_to, signal_semaphore, wait_by, semaphore_service, semaphore_of}
+use Rattle.apex_types.specs.SemaphoreServices.{SemaphoreOutcome, refused_semaphore, create_semaphore, blocked_on, wait_at_zero, wait_semaphore, raise_semaphore, signal_to, signal_semaphore, get_semaphore_status, wait_by, semaphore_service, semaphore_of}
 use Rattle.apex_dispatch.proofs.Waits.{newly-none, newly-one, open_once}
 use Rattle.apex_dispatch.specs.OpenWaits.{wakes, has_open, signals}
 use Rattle.apex_dispatch.proofs.Values.{IsQuiet, IsAfter, quiet_refused, quiet_elsewhere, after_quiet, after_wait, after_raise, after_hand, after_create}
@@ -92,12 +93,12 @@ module _ (number now : ℕ) (who : Who) (caller : Caller) (history : List Entry)
 
   unblock_kept : (p : ℕ) → WaitsKept caller (ToSemaphore (SignalSemaphore s)) roster (unblock roster p) (Code NoError) (Woken p NoError ∷ [])
   unblock_kept p =
-      let r : Record = record (record_at roster p) { wait = None } in
+      let r : Record = record (record_at roster p) { wait = None; due = None } in
       let call = ToSemaphore (SignalSemaphore s) in
       cond_both {A = Roster} (is_eligible roster.mode r) (newest roster p r) (with_record roster p r)
       (λ (new : Roster). WaitsKept caller call roster new (Code NoError) (Woken p NoError ∷ []))
-      (λ _. kept_woken caller call roster idle (Code NoError) p (record r { since = roster.young }) (newest roster p r) refl (λ t e. none-some (Semaphore t) e))
-      (λ _. kept_woken caller call roster idle (Code NoError) p r (with_record roster p r) refl (λ t e. none-some (Semaphore t) e))
+      (λ _. kept_woken caller call roster idle (Code NoError) p (record r { since = roster.young }) (newest roster p r) refl (λ w e asked. none-some w e))
+      (λ _. kept_woken caller call roster idle (Code NoError) p r (with_record roster p r) refl (λ w e asked. none-some w e))
 
   told_signal_to : (first : Option ℕ) → first_waiter roster (Semaphore s) ≡ first
       → IsTold (SignalSemaphore s) (signal_to roster (semaphore_after history s entry) first)
@@ -123,6 +124,18 @@ module _ (number now : ℕ) (who : Who) (caller : Caller) (history : List Entry)
       told_if (SignalSemaphore s) (not (semaphore_after history s entry).created) _ _ (λ _. told_refused (SignalSemaphore s) InvalidParam refl)
       (λ _. told_signal_to (first_waiter roster (Semaphore s)) refl)
 
+  told_status : IsTold (GetSemaphoreStatus s) (get_semaphore_status roster (semaphore_after history s entry) s)
+  told_status =
+      let call = GetSemaphoreStatus s in
+      told_if call (not (semaphore_after history s entry).created) _ _ (λ _. told_refused call InvalidParam refl) (λ _.
+      let e = told call (Status (semaphore_value entry.initial s history) (waiter_count roster (Semaphore s))) [] in
+      let quiet = λ (t : ℕ). quiet_refused t history e refl (λ p. refl) in
+      record {
+        own = after_quiet s entry history e enough (quiet s);
+        others = λ t differs. quiet t;
+        waits = kept_same caller (ToSemaphore call) roster idle e.reply [] (λ p. refl);
+      })
+
 -- a wait, by its process
 module _ (number now : ℕ) (who : Who) (p : ℕ) (history : List Entry) (roster : Roster) (idle : IsIdle (Process p) roster)
     (open_waits : (q t : ℕ) → (record_at roster q).wait ≡ Some (Semaphore t) → has_open t q history ≡ true)
@@ -134,17 +147,21 @@ module _ (number now : ℕ) (who : Who) (p : ℕ) (history : List Entry) (roster
       → IsToldHere call (refused_semaphore roster (semaphore_after history s entry) code)
   refused_here = told_refused number now who (Process p) history roster idle open_waits s entry enough
 
-  told_at_zero : (timeout : Timeout) → IsToldHere (WaitSemaphore s timeout) (wait_at_zero roster (semaphore_after history s entry) s p timeout)
-  told_at_zero Poll = refused_here (WaitSemaphore s Poll) NotAvailable refl
-  told_at_zero Infinite =
-      let call = WaitSemaphore s Infinite in
+  told_blocked : (timeout : Timeout) → IsToldHere (WaitSemaphore s timeout) (blocked_on roster (semaphore_after history s entry) s p timeout)
+  told_blocked timeout =
+      let call = WaitSemaphore s timeout in
       let e = told number now who (Process p) history roster idle open_waits s entry enough call Blocked [] in
       let quiet = λ (t : ℕ). quiet_refused t history e refl (λ q. refl) in
       record {
         own = after_quiet s entry history e enough (quiet s);
         others = λ t differs. quiet t;
-        waits = kept_blocked p s Infinite roster;
+        waits = kept_blocked p (ToSemaphore call) (Semaphore s) (due_after roster timeout) roster (λ t. refl);
       }
+
+  told_at_zero : (timeout : Timeout) → IsToldHere (WaitSemaphore s timeout) (wait_at_zero roster (semaphore_after history s entry) s p timeout)
+  told_at_zero Poll = refused_here (WaitSemaphore s Poll) NotAvailable refl
+  told_at_zero (Ticks n) = told_blocked (Ticks n)
+  told_at_zero Infinite = told_blocked Infinite
 
   told_wait : (timeout : Timeout) → IsToldHere (WaitSemaphore s timeout) (wait_semaphore roster (semaphore_after history s entry) s p timeout)
   told_wait timeout =
@@ -178,6 +195,7 @@ module _ (number now : ℕ) (who : Who) (history : List Entry) (roster : Roster)
   told_service caller idle (CreateSemaphore s) enough = told_create number now who caller history roster idle open_waits s entry enough
   told_service caller idle (WaitSemaphore s timeout) enough = told_wait_by caller idle s enough timeout
   told_service caller idle (SignalSemaphore s) enough = told_signal number now who caller history roster idle open_waits s entry enough
+  told_service caller idle (GetSemaphoreStatus s) enough = told_status number now who caller history roster idle open_waits s entry enough
 
 -- no service lifts a value above its maximum
 module _ (roster : Roster) (semaphore : SemaphoreObject) (below : semaphore.value ≤ semaphore.maximum) where
@@ -192,6 +210,7 @@ module _ (roster : Roster) (semaphore : SemaphoreObject) (below : semaphore.valu
 
   below_at_zero : (s p : ℕ) (timeout : Timeout) → IsBelow (wait_at_zero roster semaphore s p timeout)
   below_at_zero s p Poll = below
+  below_at_zero s p (Ticks n) = below
   below_at_zero s p Infinite = below
 
   below_wait_by : (s : ℕ) (caller : Caller) (timeout : Timeout) → IsBelow (wait_by roster semaphore s caller timeout)
@@ -211,3 +230,4 @@ module _ (roster : Roster) (semaphore : SemaphoreObject) (below : semaphore.valu
   below_service caller (WaitSemaphore s timeout) = below_wait_by s caller timeout
   below_service caller (SignalSemaphore s) =
       below_if (not semaphore.created) _ _ (λ _. below) (λ _. below_signal_to (first_waiter roster (Semaphore s)))
+  below_service caller (GetSemaphoreStatus s) = below_if (not semaphore.created) _ _ (λ _. below) (λ _. below)

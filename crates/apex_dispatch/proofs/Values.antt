@@ -4,11 +4,12 @@ use Rattle.std.proofs.lemmas.List.Sums.{sum_by-append}
 use Rattle.std.proofs.lemmas.List.Folds.{list_any-append}
 use Rattle.apex_types.specs.declared.Call.TheVariants.{Semaphore}
 use Rattle.apex_types.specs.declared.SemaphoreCall.{SemaphoreCall}
-use Rattle.apex_types.specs.declared.SemaphoreCall.TheVariants.{CreateSemaphore, WaitSemaphore, SignalSemaphore}
+use Rattle.apex_types.specs.declared.SemaphoreCall.TheVariants.{CreateSemaphore, WaitSemaphore, SignalSemaphore, GetSemaphoreStatus}
 use Rattle.apex_types.specs.declared.Entry.{Entry}
 use Rattle.apex_types.specs.Table.{SemaphoreEntry}
 use Rattle.apex_types.specs.SemaphoreServices.{semaphore_of}
 use Rattle.apex_types.specs.History.{is_accepted, is_wait_on, is_accepted_signal, is_signal_of, satisfied_waits, semaphore_value, creates_semaphore, creates_process, is_creation_of_semaphore, is_process_created, is_semaphore_created, semaphore_after, SemaphoreObject}
+use Rattle.apex_dispatch.proofs.Truths.{or_false, or_true, and_false}
 use Rattle.apex_dispatch.proofs.Waits.{newly, newly-none, satisfied-push, other}
 use Rattle.apex_dispatch.specs.OpenWaits.{wakes, signals}
 
@@ -27,17 +28,11 @@ signals-push s history e =
 
 pub created-push : (s : ℕ) (history : List Entry) (e : Entry)
     → is_semaphore_created s (history ++ e ∷ []) ≡ (is_semaphore_created s history || creates_semaphore s e)
-created-push s history e = list_any-append (creates_semaphore s) history (e ∷ []) ∙ ap (λ b. is_semaphore_created s history || b) (last (creates_semaphore s e)) where
-  last : (b : Bool) → (b || false) ≡ b
-  last true = refl
-  last false = refl
+created-push s history e = list_any-append (creates_semaphore s) history (e ∷ []) ∙ ap (λ b. is_semaphore_created s history || b) (or_false (creates_semaphore s e))
 
 pub process_created-push : (p : ℕ) (history : List Entry) (e : Entry)
     → is_process_created p (history ++ e ∷ []) ≡ (is_process_created p history || creates_process p e)
-process_created-push p history e = list_any-append (creates_process p) history (e ∷ []) ∙ ap (λ b. is_process_created p history || b) (last (creates_process p e)) where
-  last : (b : Bool) → (b || false) ≡ b
-  last true = refl
-  last false = refl
+process_created-push p history e = list_any-append (creates_process p) history (e ∷ []) ∙ ap (λ b. is_process_created p history || b) (or_false (creates_process p e))
 
 -- semaphore s after one entry more
 pub semaphore-push : (s : ℕ) (entry : SemaphoreEntry) (history : List Entry) (e : Entry)
@@ -47,14 +42,6 @@ pub semaphore-push : (s : ℕ) (entry : SemaphoreEntry) (history : List Entry) (
       value = entry.initial + (signals s history + one_if (is_accepted_signal s e)) - (satisfied_waits s history + satisfies s history e);
     }
 semaphore-push s entry history e = rw (created-push s history e, signals-push s history e, satisfied-push s history e) refl
-
-or_false : (b : Bool) → (b || false) ≡ b
-or_false true = refl
-or_false false = refl
-
-or_true : (b : Bool) → (b || true) ≡ true
-or_true true = refl
-or_true false = refl
 
 -- the entry says nothing of semaphore s
 pub record IsQuiet (s : ℕ) (history : List Entry) (e : Entry) : Type 0 where
@@ -68,10 +55,6 @@ quiet_same s entry history e quiet =
     let n : signals s history + 0 ≡ signals s history = omega arith in
     let m : satisfied_waits s history + 0 ≡ satisfied_waits s history = omega arith in
     rw (semaphore-push s entry history e, quiet.signal, quiet.satisfied, quiet.create, n, m, or_false (is_semaphore_created s history)) refl
-
-and_false : (b : Bool) → (b && false) ≡ false
-and_false true = refl
-and_false false = refl
 
 -- a refused call, or one that blocks, and that wakes nobody
 pub quiet_refused : (s : ℕ) (history : List Entry) (e : Entry) → is_accepted e.reply ≡ false
@@ -88,12 +71,14 @@ quiet_call : (s : ℕ) (call : SemaphoreCall) → s ≢ semaphore_of call
 quiet_call s (CreateSemaphore t) differs = (refl, refl)
 quiet_call s (WaitSemaphore t timeout) differs = (refl, other s t differs)
 quiet_call s (SignalSemaphore t) differs = (other s t differs, refl)
+quiet_call s (GetSemaphoreStatus t) differs = (refl, refl)
 
 quiet_create : (s : ℕ) (call : SemaphoreCall) (b : Bool) → s ≢ semaphore_of call
     → (is_creation_of_semaphore s (Some (Semaphore call)) && b) ≡ false
 quiet_create s (CreateSemaphore t) b differs = rw (other s t differs) refl
 quiet_create s (WaitSemaphore t timeout) b differs = refl
 quiet_create s (SignalSemaphore t) b differs = refl
+quiet_create s (GetSemaphoreStatus t) b differs = refl
 
 pub quiet_elsewhere : (s : ℕ) (history : List Entry) (e : Entry) (call : SemaphoreCall) → e.call ≡ Some (Semaphore call)
     → s ≢ semaphore_of call → newly s history e ≡ 0 → IsQuiet s history e

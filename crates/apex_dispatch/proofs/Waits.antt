@@ -3,8 +3,8 @@ use Rattle.std.proofs.Common.{◌≡◌, ◌≢◌, ℕ, ◌+◌, Bool, true, fa
 use Rattle.std.proofs.lemmas.Bool.Decides.{eqb_tells}
 use Rattle.std.proofs.lemmas.Bool.{eq-eqb, eqb-true, both_ways}
 use Rattle.apex_types.specs.declared.Call.{Call}
-use Rattle.apex_types.specs.declared.Call.TheVariants.{Partition, Process as ToProcess, Semaphore}
-use Rattle.apex_types.specs.declared.SemaphoreCall.TheVariants.{CreateSemaphore, WaitSemaphore, SignalSemaphore}
+use Rattle.apex_types.specs.declared.Call.TheVariants.{Partition, Process as ToProcess, Time as ToTime, Semaphore}
+use Rattle.apex_types.specs.declared.SemaphoreCall.TheVariants.{CreateSemaphore, WaitSemaphore, SignalSemaphore, GetSemaphoreStatus}
 use Rattle.apex_types.specs.declared.Caller.{Caller}
 use Rattle.apex_types.specs.declared.Caller.TheVariants.{Process, Init, Nobody}
 use Rattle.apex_types.specs.declared.Entry.{Entry}
@@ -151,21 +151,49 @@ satisfied-push s (x ∷ later) e =
       step true false n true k rest new own h =
           rw (h refl) (elim k as (λ k. (if k then 1 else 0) + (rest + (new + own)) ≡ (0 + rest) + (((if k then 1 else 0) + new) + own)) [ true ↦ omega arith | false ↦ omega arith ])
 
+-- an entry that wakes only processes without an open wait answers nobody
+pub newly-closed : (s : ℕ) (history : List Entry) (e : Entry) → ((p : ℕ) → wakes p e ≡ true → has_open s p history ≡ false) → newly s history e ≡ 0
+newly-closed s [] e closed = refl
+newly-closed s (x ∷ later) e closed =
+    rw (newly-closed s later e rest) (asked x.process here) where
+      either : (p : ℕ) → wakes p e ≡ true
+          → ((is_by_process p x.process && (is_wait_on s x.call && (not (is_accepted x.reply) && is_unanswered p later))) ≡ false) × (has_open s p later ≡ false)
+      either p woken = parts _ (has_open s p later) (closed p woken) where
+        parts : (a b : Bool) → (a || b) ≡ false → (a ≡ false) × (b ≡ false)
+        parts true b h = cc
+        parts false b h = (refl, h)
+
+      rest : (p : ℕ) → wakes p e ≡ true → has_open s p later ≡ false
+      rest p woken = (either p woken).1
+
+      here : (p : ℕ) → wakes p e ≡ true
+          → (is_by_process p x.process && (is_wait_on s x.call && (not (is_accepted x.reply) && is_unanswered p later))) ≡ false
+      here p woken = (either p woken).0
+
+      step : (w a u k : Bool) → (k ≡ true → (true && (w && (a && u))) ≡ false) → (if w && (a && (u && k)) then 1 else 0) + 0 ≡ 0
+      step true true true true h = absurd (both_ways true (h refl) refl)
+      step true true true false h = refl
+      step true true false k h = refl
+      step true false u k h = refl
+      step false a u k h = refl
+
+      nobody : (w a : Bool) → (if w && (a && (false && false)) then 1 else 0) + 0 ≡ 0
+      nobody true true = refl
+      nobody true false = refl
+      nobody false a = refl
+
+      asked : (caller : Caller)
+          → ((p : ℕ) → wakes p e ≡ true → (is_by_process p caller && (is_wait_on s x.call && (not (is_accepted x.reply) && is_unanswered p later))) ≡ false)
+          → (if is_wait_on s x.call && (not (is_accepted x.reply) && (is_caller_unanswered caller later && wakes_caller caller e)) then 1 else 0) + 0 ≡ 0
+      asked (Process q) none =
+          step (is_wait_on s x.call) (not (is_accepted x.reply)) (is_unanswered q later) (wakes q e)
+          (λ woken. rw (eq-eqb q q refl) at (none q woken))
+      asked Init none = nobody (is_wait_on s x.call) (not (is_accepted x.reply))
+      asked Nobody none = nobody (is_wait_on s x.call) (not (is_accepted x.reply))
+
 -- an entry that wakes nobody answers nobody
 pub newly-none : (s : ℕ) (history : List Entry) (e : Entry) → ((p : ℕ) → wakes p e ≡ false) → newly s history e ≡ 0
-newly-none s [] e h = refl
-newly-none s (x ∷ later) e h =
-    rw (none x.process, newly-none s later e h) (step (is_wait_on s x.call) (not (is_accepted x.reply)) (is_caller_unanswered x.process later)) where
-      none : (caller : Caller) → wakes_caller caller e ≡ false
-      none (Process p) = h p
-      none Init = refl
-      none Nobody = refl
-
-      step : (w a u : Bool) → (if w && (a && (u && false)) then 1 else 0) + 0 ≡ 0
-      step true true true = refl
-      step true true false = refl
-      step true false u = refl
-      step false a u = refl
+newly-none s history e h = newly-closed s history e (λ p woken. absurd (both_ways _ (h p) woken))
 
 -- two numbers that differ
 pub other : (a b : ℕ) → a ≢ b → (a == b) ≡ false
@@ -219,10 +247,12 @@ wait_on_one : (s t : ℕ) (call : Option Call) → s ≢ t → is_wait_on s call
 wait_on_one s t None differs h = refl
 wait_on_one s t (Some (Partition call)) differs h = refl
 wait_on_one s t (Some (ToProcess call)) differs h = refl
+wait_on_one s t (Some (ToTime call)) differs h = refl
 wait_on_one s t (Some (Semaphore (CreateSemaphore u))) differs h = refl
 wait_on_one s t (Some (Semaphore (WaitSemaphore u timeout))) differs h =
     other t u (λ e. differs (eqb-true s u h ∙ sym e))
 wait_on_one s t (Some (Semaphore (SignalSemaphore u))) differs h = refl
+wait_on_one s t (Some (Semaphore (GetSemaphoreStatus u))) differs h = refl
 
 -- a process has an open wait on one semaphore at the most
 pub open_once : (s t p : ℕ) (history : List Entry) → s ≢ t → has_open s p history ≡ true → has_open t p history ≡ false

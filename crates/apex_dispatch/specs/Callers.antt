@@ -1,5 +1,5 @@
 -- What a service may rely on: what is named is there, and stamps are left.
-use Rattle.std.specs.Prelude.{ℕ, ◌<◌, ◌^◌, length, pos, ◌<ℤ◌, ◌+ℤ◌}
+use Rattle.std.specs.Prelude.{◌^◌, length, pos, ◌<ℤ◌, ◌+ℤ◌}
 use Rattle.apex_types.specs.declared.Call.{Call}
 use Rattle.apex_types.specs.declared.Call.TheVariants.{Partition, Process as ToProcess, Time, Semaphore}
 use Rattle.apex_types.specs.Table.{IsKnownToProcesses, IsKnownToSemaphores}

@@ -1,9 +1,10 @@
 -- What every contract sees of a kernel, and what each kernel keeps.
-use Rattle.std.specs.Prelude.{◌≡◌, ℕ, ◌+◌, ◌*◌, length, pos, ◌≤ℤ◌}
+use Rattle.std.specs.Prelude.{◌≡◌, ℕ, ◌+◌, ◌*◌, ◌≤◌, length, pos, ◌≤ℤ◌}
 use Rattle.apex_types.specs.Table.{Table, IsLawful}
 use Rattle.apex_types.specs.History.{Objects, objects_after, init_count}
 use Rattle.apex_types.specs.Machine.{Machine}
 use Rattle.apex_types.specs.Distinct.{IsStamped}
+use Rattle.apex_types.specs.Dues.{HasNoPastDue}
 use Rattle.apex_dispatch.specs.OpenWaits.{AreEnough, AreBounded, AreOpen}
 
 -- a kernel: its table, the machine's state, and the running values of its objects
@@ -20,9 +21,9 @@ running table machine = record {
   objects = objects_after table machine.history;
 }
 
--- what each kernel keeps: the running values are the history's, stamps differ, and stamps are left for
--- all that the history's limit still admits
-pub record IsKept (kernel : Running) (init_made room : ℕ) : Type 0 where
+-- what each kernel keeps: the running values are the history's, stamps differ, stamps are left for all
+-- that the history's limit still admits, and no due that stands is past
+pub record IsSound (kernel : Running) (init_made room : ℕ) : Type 0 where
   pub lawful : IsLawful kernel.table
   pub limit : room ≡ kernel.table.limit
   pub init : init_made ≡ init_count kernel.machine.history
@@ -30,6 +31,12 @@ pub record IsKept (kernel : Running) (init_made room : ℕ) : Type 0 where
   pub objects : kernel.objects ≡ objects_after kernel.table kernel.machine.history
   pub stamps : kernel.machine.roster.young ≤ℤ pos (64 + 64 * length kernel.machine.history)
   pub stamped : IsStamped kernel.machine.roster
+  pub dues : HasNoPastDue kernel.machine.roster
   pub enough : AreEnough kernel.table kernel.machine.history
   pub bounded : AreBounded kernel.table kernel.machine.history
   pub waiting : AreOpen kernel.machine.roster kernel.machine.history
+
+-- and as ticks are of 1,048,576 at the most, so is the time for each entry of the history
+pub record IsKept (kernel : Running) (init_made room : ℕ) : Type 0 where
+  pub sound : IsSound kernel init_made room
+  pub time : kernel.machine.roster.now ≤ 1048576 * length kernel.machine.history

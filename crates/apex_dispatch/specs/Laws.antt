@@ -2,6 +2,7 @@
 use Rattle.std.specs.Prelude.{◌≡◌, ℕ, ◌+◌, ◌≤◌, ◌<◌, List, ◌++◌, length}
 use Rattle.apex_types.specs.declared.Event.{Event}
 use Rattle.apex_types.specs.declared.Entry.{Entry}
+use Rattle.apex_types.specs.Dues.{HasNoPastDue}
 use Rattle.apex_types.specs.Table.{Table, semaphore_entry}
 use Rattle.apex_types.specs.History.{satisfied_waits, semaphore_value}
 use Rattle.apex_types.specs.Machine.{Machine, run, opening}
@@ -26,3 +27,8 @@ RunsCompose table machine = (first rest : List Event)
 -- the history never grows past its limit
 abbrev pub RunsStayWithin : Table → Type 0
 RunsStayWithin table = (events : List Event) → length (run table (opening table) events).history ≤ table.limit
+
+-- in every run time never goes back, and no due that stands is below now
+pub record TimeGoesForward (table : Table) : Type 0 where
+  pub forward : (first rest : List Event) → (run table (opening table) first).roster.now ≤ (run table (opening table) (first ++ rest)).roster.now
+  pub dues : (events : List Event) → HasNoPastDue (run table (opening table) events).roster

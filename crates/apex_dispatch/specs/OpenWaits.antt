@@ -2,7 +2,9 @@
 use Rattle.std.specs.Prelude.{◌≡◌, ℕ, ◌+◌, ◌≤◌, ◌<◌, Bool, true, false, List, [], ◌∷◌, Some, length, not, ◌&&◌, ◌||◌, count_by}
 use Rattle.std.specs.List.{list_any}
 use Rattle.apex_types.specs.declared.Entry.{Entry}
-use Rattle.apex_types.specs.declared.Wait.TheVariants.{Semaphore}
+use Rattle.apex_types.specs.declared.Wait.{Wait}
+use Rattle.apex_types.specs.declared.Wait.TheVariants.{Normal, Start, Time, Semaphore}
+use Rattle.apex_types.specs.Waiters.{is_same_wait}
 use Rattle.apex_types.specs.Roster.{Roster, record_at}
 use Rattle.apex_types.specs.Table.{Table, semaphore_entry}
 use Rattle.apex_types.specs.History.{is_waking, is_by_process, is_wait_on, is_accepted, is_accepted_signal, satisfied_waits, semaphore_value}
@@ -37,6 +39,14 @@ abbrev pub AreBounded : Table → List Entry → Type 0
 AreBounded table history = (s : ℕ) → s < length table.semaphores
     → semaphore_value (semaphore_entry table s).initial s history ≤ (semaphore_entry table s).maximum
 
--- who waits for a semaphore has an open wait on it
+-- a process waits so for what it asked for itself, and not for its start
+abbrev pub is_asked : Wait → Bool
+is_asked Normal = false
+is_asked Start = false
+is_asked Time = true
+is_asked (Semaphore s) = true
+
+-- who waits for what it asked for has an open wait on a semaphore exactly where it waits for that one
 abbrev pub AreOpen : Roster → List Entry → Type 0
-AreOpen roster history = (p s : ℕ) → (record_at roster p).wait ≡ Some (Semaphore s) → has_open s p history ≡ true
+AreOpen roster history = (p s : ℕ) (w : Wait) → (record_at roster p).wait ≡ Some w → is_asked w ≡ true
+    → has_open s p history ≡ is_same_wait (Semaphore s) w

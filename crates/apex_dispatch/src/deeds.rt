@@ -1,5 +1,6 @@
 ghost use Rattle.std.specs.Prelude.{◌≡◌, ◌<◌, ◌≤◌, [], length, Some};
 ghost use Rattle.std.specs.Option.{ForSome};
+ghost use Rattle.apex_types.specs.Dues.{HasTime};
 ghost use Rattle.apex_types.specs.Table.{IsKnown};
 ghost use Rattle.apex_types.specs.Machine.{chosen_deed, turn_deed};
 ghost use Rattle.apex_dispatch.specs.Callers.{HasManyStamps};

@@ -1,7 +1,7 @@
 //! Laws of the machine's definitions. Each is the contract of a function that does nothing.
 
 ghost use Rattle.apex_store.specs.Laws.{RunsMostUrgent, FirstWaiterIsLongest};
-ghost use Rattle.apex_dispatch.specs.Laws.{ValuesStayInRange, RunsCompose, RunsStayWithin};
+ghost use Rattle.apex_dispatch.specs.Laws.{ValuesStayInRange, RunsCompose, RunsStayWithin, TimeGoesForward};
 ghost use Rattle.apex_dispatch.specs.Worked.{SignalWakesWaiter, SignalBeforeWait, EmptyScriptStopsItself};
 
 use crate::kernels::Kernel;
@@ -43,6 +43,14 @@ pub fn runs_compose<S: Store>(kernel: &Kernel<S>)
 /// No run makes more entries than the table's limit.
 pub fn runs_stay_within(table: &Table)
     ensures { RunsStayWithin table.now }
+{
+    table.lawful();
+}
+
+/// In every run time never goes back, and no due that stands is below now: no wait outlasts its due
+/// unseen.
+pub fn time_goes_forward(table: &Table)
+    ensures { TimeGoesForward table.now }
 {
     table.lawful();
 }

@@ -9,13 +9,13 @@ mod partitions;
 mod processes;
 mod semaphores;
 mod services;
-mod ticks;
-mod times;
 #[cfg(test)]
 mod tests;
+mod ticks;
+mod times;
 
 pub use kernels::Kernel;
 pub use laws::{
-    first_waiter_is_longest, most_urgent_runs, runs_compose, runs_stay_within,
+    first_waiter_is_longest, most_urgent_runs, runs_compose, runs_stay_within, time_goes_forward,
     values_stay_in_range, worked_histories,
 };

@@ -8,8 +8,7 @@ ghost use Rattle.apex_types.specs.ProcessServices as services;
 
 use apex_store::Store;
 use apex_types::{
-    Caller, CoreId, Mode, Notice, Notices, ProcessCall, ProcessId, Reply, ReturnCode,
-    Timeout,
+    Caller, CoreId, Mode, Notice, Notices, ProcessCall, ProcessId, Reply, ReturnCode, Timeout,
 };
 
 /// CREATE_PROCESS.

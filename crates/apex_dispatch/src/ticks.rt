@@ -27,12 +27,7 @@ fn tick_goal<S: Store>(store: &S, n: u32) -> u64
 }
 
 /// The wait of a process ends at its due, by what it waited for.
-fn end_wait<S: Store>(
-    store: &mut S,
-    process: ProcessId,
-    wait: Option<Wait>,
-    notices: &mut Notices,
-)
+fn end_wait<S: Store>(store: &mut S, process: ProcessId, wait: Option<Wait>, notices: &mut Notices)
     requires known { process < length (S.roster store.old).records }
     requires stamps { HasStamps (S.roster store.old) }
     requires room { length notices.old < 64 }

@@ -5,5 +5,5 @@ use Rattle.apex_dispatch.proofs.laws.values_stay_in_range.Goals as goal
 pub returns : goal.returns
 returns c events s within =
     let table = c.args.table.now in
-    let kept = (well_run table (opening table) events (well_opening table c.lawful.ensures)).kept.1 in
+    let kept = (well_run table (opening table) events (well_opening table c.lawful.ensures)).sound.1 in
     record { served = kept.enough s within; most = kept.bounded s within }

@@ -1,5 +1,6 @@
-use Rattle.std.proofs.Common.{◌≡◌, ◌+◌, is_some, if◌then◌else◌, rules, refl, ◌∙◌}
+use Rattle.std.proofs.Common.{◌≡◌, ◌+◌, is_some, if◌then◌else◌, rules, refl, ◌∙◌, arith}
 use Rattle.apex_types.specs.History.{process_after, semaphore_after}
+use Rattle.apex_types.specs.declared.Who.TheVariants.{Core}
 use Rattle.apex_types.specs.Machine.{Machine, due_init_call, turn_deed, after_deed}
 use Rattle.apex_types.proofs.Places.{length-map_places}
 use Rattle.apex_dispatch.specs.Kernel.{Running}
@@ -8,11 +9,16 @@ use Rattle.apex_dispatch.proofs.kernels.Kernel.turn.Goals as goal
 
 pub carry_out-deed-requires-clause-processes : goal.carry_out-deed-requires-clause-processes
 carry_out-deed-requires-clause-processes g c =
-    rw c.self.invariant.objects (length-map_places (process_after c.self.inside.log.entries) 0 c.self.inside.table.processes)
+    rw c.self.invariant.sound.objects (length-map_places (process_after c.self.inside.log.entries) 0 c.self.inside.table.processes)
 
 pub carry_out-deed-requires-clause-semaphores : goal.carry_out-deed-requires-clause-semaphores
 carry_out-deed-requires-clause-semaphores g c =
-    rw c.self.invariant.objects (length-map_places (semaphore_after c.self.inside.log.entries) 0 c.self.inside.table.semaphores)
+    rw c.self.invariant.sound.objects (length-map_places (semaphore_after c.self.inside.log.entries) 0 c.self.inside.table.semaphores)
+
+pub carry_out-deed-requires-clause-time : goal.carry_out-deed-requires-clause-time
+carry_out-deed-requires-clause-time g c =
+    let within = c.self.invariant.sound.lawful.limit in
+    omega (arith, c.self.invariant.time, within, c.self.invariant.sound.limit)
 
 pub invariant_of-self : goal.invariant_of-self
 invariant_of-self g c =
@@ -26,10 +32,10 @@ invariant_of-self g c =
       machine = record { roster = g.S.Store.roster c.carry_out-deed.new.store; history = c.push.new.self.entries };
       objects = c.carry_out-deed.new.objects;
     } in
-    let after : Running = record { table = table; machine = after_deed machine core deed; objects = deed.outcome.objects } in
+    let after : Running = record { table = table; machine = after_deed machine (Core core) deed; objects = deed.outcome.objects } in
     let step : new ≡ after = search rules in
     let is = step ∙ turn_is table machine objects core c.self.inside.init_made c.self.inside.log.limit c.self.invariant in
-    let made : c.self.inside.init_made + c.steps_in.result ≡ c.self.inside.init_made + (if is_some (due_init_call table machine core) then 1 else 0) = rw (c.steps_in.ensures, c.due_call-due.ensures, c.self.invariant.init) refl in
+    let made : c.self.inside.init_made + c.steps_in.result ≡ c.self.inside.init_made + (if is_some (due_init_call table machine core) then 1 else 0) = rw (c.steps_in.ensures, c.due_call-due.ensures, c.self.invariant.sound.init) refl in
     let same : c.push.new.self.limit ≡ c.self.inside.log.limit = rw c.push.ensures refl in
     kept_by table machine objects core c.self.inside.init_made c.self.inside.log.limit c.self.invariant new _ _ is made same
 
@@ -45,7 +51,7 @@ returns-clause-done g c =
       machine = record { roster = g.S.Store.roster c.carry_out-deed.new.store; history = c.push.new.self.entries };
       objects = c.carry_out-deed.new.objects;
     } in
-    let after : Running = record { table = table; machine = after_deed machine core deed; objects = deed.outcome.objects } in
+    let after : Running = record { table = table; machine = after_deed machine (Core core) deed; objects = deed.outcome.objects } in
     let step : new ≡ after = search rules in
     let is = step ∙ turn_is table machine objects core c.self.inside.init_made c.self.inside.log.limit c.self.invariant in
     rw (← c.self.view_is) is

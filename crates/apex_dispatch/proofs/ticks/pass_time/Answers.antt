@@ -1,0 +1,11 @@
+use Rattle.std.proofs.Common.{arith}
+use Rattle.apex_types.proofs.Dues.{goal_forward}
+use Rattle.apex_dispatch.proofs.ticks.pass_time.Goals as goal
+
+pub advance_to-requires-clause-forward : goal.advance_to-requires-clause-forward
+advance_to-requires-clause-forward g c =
+    omega (arith, c.tick_goal-goal.ensures, goal_forward (g.S.Store.roster c.args.store.now) c.args.n c.requires.dues)
+
+pub overflow_sub-result : goal.overflow_sub-result
+overflow_sub-result g c =
+    omega (arith, c.now-before.ensures, c.tick_goal-goal.ensures, goal_forward (g.S.Store.roster c.args.store.now) c.args.n c.requires.dues)
