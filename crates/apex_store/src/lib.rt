@@ -11,6 +11,7 @@ mod scan;
 mod store;
 #[cfg(test)]
 mod tests;
+mod timeouts;
 
 pub use laws::{
     chosen_is_first, first_waiter_is_longest, most_urgent_runs, next_waiter_is_next,
@@ -19,3 +20,4 @@ pub use laws::{
 };
 pub use plain_store::PlainStore;
 pub use store::Store;
+pub use timeouts::due_after;

@@ -1,0 +1,12 @@
+//! The services of semaphores (ARINC 653 Part 1, intrapartition communication), over any store.
+//!
+//! Each service takes the store and the semaphore that its call names, answers a reply, and appends
+//! what it did to other processes to the notices.
+#![tactic(auto)]
+
+mod semaphores;
+
+pub use semaphores::{
+    Semaphore, create_semaphore, get_semaphore_status, serve_semaphore, signal_semaphore,
+    wait_semaphore,
+};
