@@ -5,6 +5,8 @@
 #![tactic(auto)]
 
 mod semaphores;
+#[cfg(test)]
+mod tests;
 
 pub use semaphores::{
     Semaphore, create_semaphore, get_semaphore_status, serve_semaphore, signal_semaphore,

@@ -1,0 +1,131 @@
+ghost use Rattle.std.specs.Prelude.{◌≡◌, pos, length, true, IfOk};
+ghost use Rattle.apex_types.specs.Roster.{is_cold_start};
+
+use crate::{
+    Semaphore, create_semaphore, get_semaphore_status, serve_semaphore, signal_semaphore,
+    wait_semaphore,
+};
+use apex_store::{PlainStore, Store};
+use apex_table::read_table;
+use apex_types::{
+    Caller, Notice, Notices, ProcessId, Reply, ReturnCode, SemaphoreCall, SemaphoreId, Timeout,
+    Wait,
+};
+use std::alloc::Global;
+use std::process::Abort;
+use std::test::Fail;
+
+const TWO_PROCESSES: &str = "
+cores = 1
+
+[[process]]
+name = \"SLOW\"
+priority = 10
+script = []
+
+[[process]]
+name = \"URGENT\"
+priority = 20
+script = []
+";
+
+fn slow() -> ProcessId
+    ensures { result ≡ 0 }
+{
+    ProcessId::at(0)
+}
+
+fn urgent() -> ProcessId
+    ensures { result ≡ 1 }
+{
+    ProcessId::at(1)
+}
+
+fn the_semaphore() -> SemaphoreId
+    ensures { result ≡ 0 }
+{
+    SemaphoreId::at(0)
+}
+
+fn two_processes(rt: &impl Abort, alloc: Global) -> Result<PlainStore, Fail>
+    ensures records { IfOk result (λ store. length store.records ≡ 2) }
+    ensures stamps { IfOk result (λ store. store.young ≡ pos 3) }
+    ensures mode { IfOk result (λ store. is_cold_start store.mode ≡ true) }
+    ensures time { IfOk result (λ store. store.now ≡ 0) }
+{
+    let table = read_table(alloc, TWO_PROCESSES.as_bytes())?;
+    assert_eq!(rt; table.process_count(), 2);
+    let store = PlainStore::new(alloc, &table)?;
+    assert_eq!(rt; store.process_count(), 2);
+    Ok(store)
+}
+
+/// A semaphore of value 0, created.
+fn created<S: Store>(rt: &impl Abort, store: &S) -> Semaphore
+    requires mode { is_cold_start (S.roster store.now).mode ≡ true }
+    ensures { result ≡ record { maximum = 32767; created = true; value = 0 } }
+{
+    let mut semaphore = Semaphore::new(32767, 0);
+    let created = create_semaphore(store, &mut semaphore);
+    assert_eq!(rt; created, Reply::Code(ReturnCode::NoError));
+    semaphore
+}
+
+#[test]
+fn a_full_semaphore_takes_no_signal(rt: HostRuntime) -> Result<(), Fail> {
+    let mut store = two_processes(&rt, rt.alloc())?;
+    let mut semaphore = Semaphore::new(32767, 32767);
+    let mut notices = Notices::new();
+    let id = the_semaphore();
+    let created = create_semaphore(&store, &mut semaphore);
+    assert_eq!(rt; created, Reply::Code(ReturnCode::NoError));
+    let again = create_semaphore(&store, &mut semaphore);
+    assert_eq!(rt; again, Reply::Code(ReturnCode::NoAction));
+    let signalled = signal_semaphore(&mut store, &mut semaphore, id, &mut notices);
+    assert_eq!(rt; signalled, Reply::Code(ReturnCode::NoAction));
+    let status = get_semaphore_status(&store, &semaphore, id);
+    assert_eq!(rt; status, Reply::Status(32767, 0));
+    Ok(())
+}
+
+#[test]
+fn a_wait_at_zero_is_due_after_its_timeout(rt: HostRuntime) -> Result<(), Fail> {
+    let mut store = two_processes(&rt, rt.alloc())?;
+    store.advance_to(7);
+    let mut semaphore = created(&rt, &store);
+    let (id, timeout) = (the_semaphore(), Timeout::Ticks(5));
+    let waited = wait_semaphore(&mut store, &mut semaphore, id, slow(), timeout);
+    assert_eq!(rt; waited, Reply::Blocked);
+    assert_eq!(rt; store.record(slow()).due, Some(12));
+    Ok(())
+}
+
+/// Who has waited for the longest time is woken, and not who is most urgent.
+fn signal_wakes_the_first<S: Store>(rt: &impl Abort, store: &mut S)
+    requires records { length (S.roster store.old).records ≡ 2 }
+    requires stamps { (S.roster store.old).young ≡ pos 3 }
+    requires mode { is_cold_start (S.roster store.old).mode ≡ true }
+    requires time { (S.roster store.old).now ≡ 0 }
+{
+    let mut semaphore = created(rt, store);
+    let mut notices = Notices::new();
+    let wait = SemaphoreCall::WaitSemaphore(the_semaphore(), Timeout::Infinite);
+    let (first, second) = (Caller::Process(slow()), Caller::Process(urgent()));
+    let waited = serve_semaphore(store, &mut semaphore, &first, &wait, &mut notices);
+    assert_eq!(rt; waited, Reply::Blocked);
+    let waited = serve_semaphore(store, &mut semaphore, &second, &wait, &mut notices);
+    assert_eq!(rt; waited, Reply::Blocked);
+    let signal = SemaphoreCall::SignalSemaphore(the_semaphore());
+    let signalled = serve_semaphore(store, &mut semaphore, &second, &signal, &mut notices);
+    assert_eq!(rt; signalled, Reply::Code(ReturnCode::NoError));
+    let woken = Notice::Woken(slow(), ReturnCode::NoError);
+    assert_eq!(rt; notices.as_slice(), [woken].as_slice());
+    let status = get_semaphore_status(store, &semaphore, the_semaphore());
+    assert_eq!(rt; status, Reply::Status(0, 1));
+}
+
+#[test]
+fn services_serve_over_the_plain_store(rt: HostRuntime) -> Result<(), Fail> {
+    signal_wakes_the_first(&rt, &mut two_processes(&rt, rt.alloc())?);
+    Ok(())
+}
