@@ -1,5 +1,5 @@
 -- What the choices of a store mean, in the standard's own words.
-use Rattle.std.specs.Prelude.{◌≡◌, ◌≢◌, ℕ, ◌<◌, ◌<ℤ◌, ◌⊎◌, Bool, true, false, List, length, Option, None, Some, slice_get}
+use Rattle.std.specs.Prelude.{◌≡◌, ◌≢◌, ℕ, ◌<◌, ◌≤◌, ◌<ℤ◌, ◌⊎◌, Bool, true, false, List, length, Option, None, Some, slice_get}
 use Rattle.apex_types.specs.declared.records.Mode.{Mode}
 use Rattle.apex_types.specs.declared.records.Record.{Record}
 use Rattle.apex_types.specs.declared.records.State.TheVariants.{Running}
@@ -7,6 +7,7 @@ use Rattle.apex_types.specs.declared.records.Wait.{Wait}
 use Rattle.apex_types.specs.Roster.{Roster, record_at}
 use Rattle.apex_types.specs.Choice.{IsLeast}
 use Rattle.apex_types.specs.Distinct.{IsStamped}
+use Rattle.apex_types.specs.Dues.{first_due, next_instant}
 use Rattle.apex_types.specs.Running.{chosen, current_priority, is_before, is_eligible, is_older, process_state, runs_on}
 use Rattle.apex_types.specs.Stamps as stamps
 use Rattle.apex_types.specs.Waiters.{first_waiter, next_waiter, waits_behind, waits_in}
@@ -67,6 +68,20 @@ pub record RunningIsChosen (roster : Roster) (p : ℕ) : Type 0 where
   pub found : process_state roster p ≡ Running → chosen roster (record_at roster p).core ≡ Some p
   pub running : (core : ℕ) → chosen roster core ≡ Some p → process_state roster p ≡ Running
   pub bound : (core : ℕ) → chosen roster core ≡ Some p → (record_at roster p).core ≡ core
+
+-- the next instant is the due of a process and no later than any other due, and there is none only where
+-- no process has a due
+pub record NextInstantIsLeast (roster : Roster) : Type 0 where
+  pub due : (t : ℕ) → next_instant roster ≡ Some t → (p : ℕ) × (p < length roster.records) × ((record_at roster p).due ≡ Some t)
+  pub least : (t : ℕ) → next_instant roster ≡ Some t → (q u : ℕ) → (record_at roster q).due ≡ Some u → t ≤ u
+  pub none : next_instant roster ≡ None → (q : ℕ) → (record_at roster q).due ≡ None
+
+-- who is due first is due now and has the lowest number of those who are, and nobody is only where no
+-- process is due now
+pub record FirstDueIsLowest (roster : Roster) : Type 0 where
+  pub now : (p : ℕ) → first_due roster ≡ Some p → (record_at roster p).due ≡ Some roster.now
+  pub lowest : (p q : ℕ) → first_due roster ≡ Some p → (record_at roster q).due ≡ Some roster.now → p ≤ q
+  pub none : first_due roster ≡ None → (q : ℕ) → (record_at roster q).due ≢ Some roster.now
 
 -- whatever is asked of a store, no two of its processes come to have the same stamp
 pub record StampsStayDistinct (roster : Roster) : Type 0 where

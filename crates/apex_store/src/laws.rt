@@ -49,6 +49,18 @@ pub fn waits_in_one_queue<S: Store>(store: &S, process: ProcessId)
     ensures { laws.WaitsInOneQueue (record_at (S.roster store.now) process) }
 {}
 
+/// The next instant is the least due of all processes, and there is none only where no process has a
+/// due.
+pub fn next_instant_is_least<S: Store>(store: &S)
+    ensures { laws.NextInstantIsLeast (S.roster store.now) }
+{}
+
+/// Who is due first has the lowest number of those whose due is now, and nobody is only where no
+/// process is due now.
+pub fn first_due_is_lowest<S: Store>(store: &S)
+    ensures { laws.FirstDueIsLowest (S.roster store.now) }
+{}
+
 /// The processes of a table open with distinct stamps.
 pub fn opens_with_distinct_stamps(table: &Table)
     ensures { IsStamped (opening_roster table.now) }

@@ -14,9 +14,9 @@ mod tests;
 mod timeouts;
 
 pub use laws::{
-    chosen_is_first, first_waiter_is_longest, most_urgent_runs, next_waiter_is_next,
-    one_process_runs, opens_with_distinct_stamps, running_is_chosen, stamps_stay_distinct,
-    waits_in_one_queue,
+    chosen_is_first, first_due_is_lowest, first_waiter_is_longest, most_urgent_runs,
+    next_instant_is_least, next_waiter_is_next, one_process_runs, opens_with_distinct_stamps,
+    running_is_chosen, stamps_stay_distinct, waits_in_one_queue,
 };
 pub use plain_store::PlainStore;
 pub use store::Store;

@@ -213,8 +213,8 @@ impl Store for PlainStore {
     }
 
     fn place_newest(&mut self, process: ProcessId) {
-        let row = self.record(process);
-        self.put_newest(process, row);
+        let placed = self.record(process);
+        self.put_newest(process, placed);
     }
 
     fn advance_to(&mut self, instant: u64) {

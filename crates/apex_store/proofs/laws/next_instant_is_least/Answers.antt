@@ -1,0 +1,9 @@
+use Rattle.apex_types.proofs.Dues.{earliest_among, earliest_below, earliest_none}
+use Rattle.apex_store.proofs.laws.next_instant_is_least.Goals as goal
+
+pub returns : goal.returns
+returns g c = record {
+  due = earliest_among _;
+  least = earliest_below _;
+  none = earliest_none _;
+}
