@@ -1,13 +1,14 @@
--- Three worked histories: small tables and events, and the lines that the definitions give for them.
-use Rattle.std.specs.Prelude.{◌≡◌, ℕ, true, List, [], ◌∷◌, codes, replicate, ◌++◌}
-use Rattle.apex_types.specs.declared.Call.TheVariants.{Partition, Process, Semaphore}
+-- Worked histories: small tables and events, and the lines that the definitions give for them.
+use Rattle.std.specs.Prelude.{◌≡◌, ℕ, true, false, List, [], ◌∷◌, codes, replicate, ◌++◌}
+use Rattle.apex_types.specs.declared.Call.TheVariants.{Partition, Process, Time, Semaphore}
 use Rattle.apex_types.specs.declared.PartitionCall.TheVariants.{SetPartitionMode}
 use Rattle.apex_types.specs.declared.RequestedMode.TheVariants.{Normal}
-use Rattle.apex_types.specs.declared.ProcessCall.TheVariants.{CreateProcess, InitializeProcessCoreAffinity, Start}
-use Rattle.apex_types.specs.declared.SemaphoreCall.TheVariants.{CreateSemaphore, WaitSemaphore, SignalSemaphore}
-use Rattle.apex_types.specs.declared.Timeout.TheVariants.{Infinite}
+use Rattle.apex_types.specs.declared.ProcessCall.TheVariants.{CreateProcess, InitializeProcessCoreAffinity, Start, DelayedStart, GetMyId}
+use Rattle.apex_types.specs.declared.SemaphoreCall.TheVariants.{CreateSemaphore, WaitSemaphore, SignalSemaphore, GetSemaphoreStatus}
+use Rattle.apex_types.specs.declared.TimeCall.TheVariants.{TimedWait, GetTime}
+use Rattle.apex_types.specs.declared.Timeout.TheVariants.{Ticks, Infinite}
 use Rattle.apex_types.specs.declared.Event.{Event}
-use Rattle.apex_types.specs.declared.Event.TheVariants.{Turn}
+use Rattle.apex_types.specs.declared.Event.TheVariants.{Turn, Tick}
 use Rattle.apex_types.specs.Table.{Table}
 use Rattle.apex_types.specs.Machine.{run, opening}
 use Rattle.apex_types.specs.Lines.{lines_of}
@@ -66,3 +67,72 @@ abbrev pub EmptyScriptStopsItself : Type 0
 EmptyScriptStopsItself =
     history_lines empty_script (replicate 6 (Turn 0))
     ≡ codes "1 0 core0 init CREATE_PROCESS P -> NO_ERROR\n2 0 core0 init INITIALIZE_PROCESS_CORE_AFFINITY P 0 -> NO_ERROR\n3 0 core0 init START P -> NO_ERROR\n4 0 core0 init SET_PARTITION_MODE NORMAL -> NO_ERROR | released 1\n5 0 core0 1 STOP_SELF -> GONE\n6 0 core0 - idle -> IDLE\n"
+
+-- a process that waits on a semaphore for 5 ticks, and one that signals and asks for the value
+abbrev pub timed_waiter : Table
+timed_waiter = record {
+  cores = 2;
+  limit = 4096;
+  processes =
+      (record { name = codes "P1"; priority = 10; core = 0; start = true; script = Semaphore (WaitSemaphore 0 (Ticks 5)) ∷ [] })
+      ∷ (record {
+        name = codes "P2";
+        priority = 10;
+        core = 1;
+        start = true;
+        script = Semaphore (SignalSemaphore 0) ∷ Semaphore (GetSemaphoreStatus 0) ∷ [];
+      }) ∷ [];
+  semaphores = (record { name = codes "S"; maximum = 1; initial = 0 }) ∷ [];
+  init = waiter_and_signaller.init;
+}
+
+-- a waiter whose time is out gets no signal
+abbrev pub TimedOutWaiterGetsNoSignal : Type 0
+TimedOutWaiterGetsNoSignal =
+    history_lines timed_waiter (replicate 9 (Turn 0) ++ Tick 5 ∷ Turn 1 ∷ Turn 1 ∷ [])
+    ≡ init_lines ++ codes "9 0 core0 1 WAIT_SEMAPHORE S 5 -> BLOCKED\n10 5 ticker - tick 5 -> ADVANCED 5 | woken 1 TIMED_OUT\n11 5 core1 2 SIGNAL_SEMAPHORE S -> NO_ERROR\n12 5 core1 2 GET_SEMAPHORE_STATUS S -> STATUS 1 0\n"
+
+-- two processes that wait for 9 ticks, and one that waits for 4
+abbrev pub three_timers : Table
+three_timers = record {
+  cores = 1;
+  limit = 4096;
+  processes =
+      (record { name = codes "A"; priority = 10; core = 0; start = true; script = Time (TimedWait (Ticks 9)) ∷ Process GetMyId ∷ [] })
+      ∷ (record { name = codes "B"; priority = 10; core = 0; start = true; script = Time (TimedWait (Ticks 9)) ∷ [] })
+      ∷ (record { name = codes "C"; priority = 5; core = 0; start = true; script = Time (TimedWait (Ticks 4)) ∷ [] }) ∷ [];
+  semaphores = [];
+  init =
+      Process (CreateProcess 0) ∷ Process (InitializeProcessCoreAffinity 0 0)
+      ∷ Process (CreateProcess 1) ∷ Process (InitializeProcessCoreAffinity 1 0)
+      ∷ Process (CreateProcess 2) ∷ Process (InitializeProcessCoreAffinity 2 0)
+      ∷ Process (Start 0) ∷ Process (Start 1) ∷ Process (Start 2)
+      ∷ Partition (SetPartitionMode Normal) ∷ [];
+}
+
+-- a tick halts at the next instant, and serves its dues by process number
+abbrev pub TickHaltsAtTheNextInstant : Type 0
+TickHaltsAtTheNextInstant =
+    history_lines three_timers (replicate 13 (Turn 0) ++ Tick 9 ∷ Tick 9 ∷ Turn 0 ∷ [])
+    ≡ codes "1 0 core0 init CREATE_PROCESS A -> NO_ERROR\n2 0 core0 init INITIALIZE_PROCESS_CORE_AFFINITY A 0 -> NO_ERROR\n3 0 core0 init CREATE_PROCESS B -> NO_ERROR\n4 0 core0 init INITIALIZE_PROCESS_CORE_AFFINITY B 0 -> NO_ERROR\n5 0 core0 init CREATE_PROCESS C -> NO_ERROR\n6 0 core0 init INITIALIZE_PROCESS_CORE_AFFINITY C 0 -> NO_ERROR\n7 0 core0 init START A -> NO_ERROR\n8 0 core0 init START B -> NO_ERROR\n9 0 core0 init START C -> NO_ERROR\n10 0 core0 init SET_PARTITION_MODE NORMAL -> NO_ERROR | released 1 | released 2 | released 3\n11 0 core0 1 TIMED_WAIT 9 -> BLOCKED\n12 0 core0 2 TIMED_WAIT 9 -> BLOCKED\n13 0 core0 3 TIMED_WAIT 4 -> BLOCKED\n14 4 ticker - tick 9 -> ADVANCED 4 | woken 3 NO_ERROR\n15 9 ticker - tick 9 -> ADVANCED 5 | woken 1 NO_ERROR | woken 2 NO_ERROR\n16 9 core0 1 GET_MY_ID -> VALUE 1\n"
+
+-- a process that starts another one after 3 ticks
+abbrev pub delayed_starter : Table
+delayed_starter = record {
+  cores = 1;
+  limit = 4096;
+  processes =
+      (record { name = codes "A"; priority = 10; core = 0; start = true; script = Process (DelayedStart 1 (Ticks 3)) ∷ [] })
+      ∷ (record { name = codes "B"; priority = 20; core = 0; start = false; script = Time GetTime ∷ [] }) ∷ [];
+  semaphores = [];
+  init =
+      Process (CreateProcess 0) ∷ Process (InitializeProcessCoreAffinity 0 0)
+      ∷ Process (CreateProcess 1) ∷ Process (InitializeProcessCoreAffinity 1 0)
+      ∷ Process (Start 0) ∷ Partition (SetPartitionMode Normal) ∷ [];
+}
+
+-- a delayed start releases its process when the delay has passed, and no earlier
+abbrev pub DelayedStartReleasesAtItsTime : Type 0
+DelayedStartReleasesAtItsTime =
+    history_lines delayed_starter (replicate 7 (Turn 0) ++ Tick 5 ∷ Turn 0 ∷ [])
+    ≡ codes "1 0 core0 init CREATE_PROCESS A -> NO_ERROR\n2 0 core0 init INITIALIZE_PROCESS_CORE_AFFINITY A 0 -> NO_ERROR\n3 0 core0 init CREATE_PROCESS B -> NO_ERROR\n4 0 core0 init INITIALIZE_PROCESS_CORE_AFFINITY B 0 -> NO_ERROR\n5 0 core0 init START A -> NO_ERROR\n6 0 core0 init SET_PARTITION_MODE NORMAL -> NO_ERROR | released 1\n7 0 core0 1 DELAYED_START B 3 -> NO_ERROR\n8 3 ticker - tick 5 -> ADVANCED 3 | released 2\n9 3 core0 2 GET_TIME -> VALUE 3\n"

@@ -6,7 +6,7 @@ ghost use Rattle.apex_types.specs.Distinct.{HasDistinctStamps};
 ghost use Rattle.apex_dispatch.specs.Events.{IsWithin};
 ghost use Rattle.apex_dispatch.specs.Kernel.{running};
 
-use crate::deeds::carry_out;
+use crate::deeds::{Deed, carry_out};
 use crate::objects::Objects;
 use crate::ticks::pass_time;
 use apex_history::Log;
@@ -55,6 +55,47 @@ fn steps_in(due: &Option<Call>) -> usize
     if due.is_some() { 1 } else { 0 }
 }
 
+/// Refuses an event where the history has no room for its entry.
+fn has_room(log: &Log) -> Result<(), Full>
+    ensures accepted { IsOk result ↔ (length log.now.entries < log.now.limit) }
+    ensures full { IfErr result (λ e. (e.entries ≡ length log.now.entries) × (e.entries ≡ log.now.limit)) }
+{
+    if log.is_full() {
+        Err(Full {
+            entries: log.limit(),
+        })
+    } else {
+        Ok(())
+    }
+}
+
+/// Adds the entry that tells of a deed.
+fn append<S: Store>(log: &mut Log, store: &S, who: Who, deed: Deed, notices: Notices)
+    requires room { length log.old.entries < log.old.limit }
+    requires few { log.old.limit ≤ 65536 }
+    ensures entries { log.new.entries ≡ log.old.entries ++ record {
+        number = length log.old.entries + 1;
+        now = (S.roster store.now).now;
+        who = who;
+        process = deed.caller;
+        call = deed.call;
+        reply = deed.reply;
+        notices = notices;
+    } ∷ [] }
+    ensures limit { log.new.limit ≡ log.old.limit }
+{
+    let number = log.len() as u32 + 1;
+    log.push(Entry {
+        number,
+        now: store.now(),
+        who,
+        process: deed.caller,
+        call: deed.call,
+        reply: deed.reply,
+        notices,
+    });
+}
+
 impl<S: Store> Kernel<S> {
     /// The kernel before any event, which takes all the memory that events will fill. It fails
     /// only for want of memory.
@@ -82,11 +123,7 @@ impl<S: Store> Kernel<S> {
         ensures refused { OnErr result (self.new ≡ self.old) }
         ensures full { IfErr result (λ e. (e.entries ≡ length self.old.machine.history) × (e.entries ≡ self.old.table.limit)) }
     {
-        if self.log.is_full() {
-            return Err(Full {
-                entries: self.log.limit(),
-            });
-        }
+        has_room(&self.log)?;
         let due = due_call(&self.table, &self.store, self.init_made, core);
         let mut notices = Notices::new();
         let deed = carry_out(
@@ -98,16 +135,7 @@ impl<S: Store> Kernel<S> {
             &mut notices,
         );
         self.init_made += steps_in(&due);
-        let number = self.log.len() as u32 + 1;
-        self.log.push(Entry {
-            number,
-            now: self.store.now(),
-            who: Who::Core(core),
-            process: deed.caller,
-            call: deed.call,
-            reply: deed.reply,
-            notices,
-        });
+        append(&mut self.log, &self.store, Who::Core(core), deed, notices);
         Ok(())
     }
 
@@ -120,23 +148,15 @@ impl<S: Store> Kernel<S> {
         ensures refused { OnErr result (self.new ≡ self.old) }
         ensures full { IfErr result (λ e. (e.entries ≡ length self.old.machine.history) × (e.entries ≡ self.old.table.limit)) }
     {
-        if self.log.is_full() {
-            return Err(Full {
-                entries: self.log.limit(),
-            });
-        }
+        has_room(&self.log)?;
         let mut notices = Notices::new();
         let went = pass_time(&mut self.store, n, &mut notices);
-        let number = self.log.len() as u32 + 1;
-        self.log.push(Entry {
-            number,
-            now: self.store.now(),
-            who: Who::Ticker,
-            process: Caller::Nobody,
+        let deed = Deed {
+            caller: Caller::Nobody,
             call: None,
             reply: Reply::Advanced(n, went),
-            notices,
-        });
+        };
+        append(&mut self.log, &self.store, Who::Ticker, deed, notices);
         Ok(())
     }
 

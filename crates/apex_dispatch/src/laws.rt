@@ -2,7 +2,7 @@
 
 ghost use Rattle.apex_store.specs.Laws.{RunsMostUrgent, FirstWaiterIsLongest};
 ghost use Rattle.apex_dispatch.specs.Laws.{ValuesStayInRange, RunsCompose, RunsStayWithin, TimeGoesForward};
-ghost use Rattle.apex_dispatch.specs.Worked.{SignalWakesWaiter, SignalBeforeWait, EmptyScriptStopsItself};
+ghost use Rattle.apex_dispatch.specs.Worked.{SignalWakesWaiter, SignalBeforeWait, EmptyScriptStopsItself, TimedOutWaiterGetsNoSignal, TickHaltsAtTheNextInstant, DelayedStartReleasesAtItsTime};
 
 use crate::kernels::Kernel;
 use apex_store::Store;
@@ -60,4 +60,7 @@ pub fn worked_histories()
     ensures signal_wakes_waiter { SignalWakesWaiter }
     ensures signal_before_wait { SignalBeforeWait }
     ensures empty_script_stops_itself { EmptyScriptStopsItself }
+    ensures timed_out_waiter_gets_no_signal { TimedOutWaiterGetsNoSignal }
+    ensures tick_halts_at_the_next_instant { TickHaltsAtTheNextInstant }
+    ensures delayed_start_releases_at_its_time { DelayedStartReleasesAtItsTime }
 {}

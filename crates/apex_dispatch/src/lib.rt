@@ -7,7 +7,6 @@ mod laws;
 mod objects;
 mod partitions;
 mod processes;
-mod semaphores;
 mod services;
 #[cfg(test)]
 mod tests;

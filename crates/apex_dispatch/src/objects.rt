@@ -1,7 +1,8 @@
 ghost use Rattle.std.specs.Prelude.{◌≡◌, [], IfOk};
 ghost use Rattle.apex_types.specs.History.{objects_after};
 
-use crate::semaphores::Semaphore;
+
+use apex_semaphore::Semaphore;
 use apex_table::Table;
 use apex_types::{ProcessId, SemaphoreId};
 use std::alloc::{AllocError, Global};

@@ -7,8 +7,8 @@ ghost use Rattle.apex_dispatch.specs.Callers.{IsKnownTo, HasManyStamps};
 use crate::objects::Objects;
 use crate::partitions::serve_partition;
 use crate::processes::serve_process;
-use crate::semaphores::serve_semaphore;
 use crate::times::serve_time;
+use apex_semaphore::serve_semaphore;
 use apex_store::Store;
 use apex_types::{Call, Caller, Notices, Reply};
 

@@ -3,7 +3,7 @@ ghost use Rattle.std.specs.Prelude.{◌≡◌, ◌<◌, IfOk};
 use crate::Kernel;
 use apex_store::{PlainStore, Store};
 use apex_table::read_table;
-use apex_types::{Caller, CoreId, Event, Full, Mode, Notice, ProcessId, Reply, ReturnCode};
+use apex_types::{Caller, CoreId, Event, Full, Mode, Notice, ProcessId, Reply, ReturnCode, Who};
 use std::alloc::Global;
 use std::process::Abort;
 use std::test::Fail;
@@ -36,6 +36,11 @@ fn booted(alloc: Global) -> Result<Kernel<PlainStore>, Fail> {
 fn turn_of<S: Store>(rt: &impl Abort, kernel: &mut Kernel<S>, core: CoreId) -> Result<(), Full> {
     assert!(rt; core.number() < kernel.table().cores());
     kernel.turn(core)
+}
+
+fn tick_of<S: Store>(rt: &impl Abort, kernel: &mut Kernel<S>, n: u32) -> Result<(), Full> {
+    assert!(rt; n >= 1 && n <= 1_048_576);
+    kernel.tick(n)
 }
 
 fn run_one<S: Store>(rt: &impl Abort, kernel: &mut Kernel<S>, core: CoreId) -> Result<(), Full> {
@@ -75,7 +80,19 @@ fn a_full_history_takes_no_event(rt: HostRuntime) -> Result<(), Fail> {
     }
     assert_eq!(rt; turn_of(&rt, &mut kernel, core), Err(Full { entries: 11 }));
     assert_eq!(rt; run_one(&rt, &mut kernel, core), Err(Full { entries: 11 }));
+    assert_eq!(rt; tick_of(&rt, &mut kernel, 1), Err(Full { entries: 11 }));
     assert_eq!(rt; kernel.entries().len(), 11);
     assert_eq!(rt; kernel.now(), 0);
+    Ok(())
+}
+
+#[test]
+fn a_tick_lets_time_go_on(rt: HostRuntime) -> Result<(), Fail> {
+    let mut kernel = booted(rt.alloc())?;
+    assert_eq!(rt; tick_of(&rt, &mut kernel, 1_048_576), Ok(()));
+    assert_eq!(rt; kernel.now(), 1_048_576);
+    let entry = &kernel.entries()[0];
+    assert_eq!(rt; entry.who, Who::Ticker);
+    assert_eq!(rt; entry.reply, Reply::Advanced(1_048_576, 1_048_576));
     Ok(())
 }

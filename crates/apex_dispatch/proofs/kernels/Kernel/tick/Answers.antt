@@ -18,13 +18,13 @@ invariant_of-self g c =
     let n = c.args.n in
     let new : Running = record {
       table = c.self.inside.table;
-      machine = record { roster = g.S.Store.roster c.pass_time-went.new.store; history = c.push.new.self.entries };
+      machine = record { roster = g.S.Store.roster c.pass_time-went.new.store; history = c.append.new.log.entries };
       objects = c.self.inside.objects;
     } in
     let after : Running = record { table = table; machine = after_deed machine Ticker (tick_deed machine.roster objects n); objects = objects } in
     let step : new ≡ after = search rules in
     let is = step ∙ tick_is table machine objects n c.self.inside.init_made c.self.inside.log.limit c.self.invariant in
-    let same : c.push.new.self.limit ≡ c.self.inside.log.limit = rw c.push.ensures refl in
+    let same : c.append.new.log.limit ≡ c.self.inside.log.limit = c.append.ensures.limit in
     kept_by_tick table machine objects n c.self.inside.init_made c.self.inside.log.limit c.requires.range.1 c.self.invariant new _ is same
 
 pub returns-clause-done : goal.returns-clause-done
@@ -35,7 +35,7 @@ returns-clause-done g c =
     let n = c.args.n in
     let new : Running = record {
       table = c.self.inside.table;
-      machine = record { roster = g.S.Store.roster c.pass_time-went.new.store; history = c.push.new.self.entries };
+      machine = record { roster = g.S.Store.roster c.pass_time-went.new.store; history = c.append.new.log.entries };
       objects = c.self.inside.objects;
     } in
     let after : Running = record { table = table; machine = after_deed machine Ticker (tick_deed machine.roster objects n); objects = objects } in

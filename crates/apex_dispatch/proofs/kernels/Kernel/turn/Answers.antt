@@ -29,14 +29,14 @@ invariant_of-self g c =
     let deed = turn_deed table machine.roster objects core (due_init_call table machine core) in
     let new : Running = record {
       table = c.self.inside.table;
-      machine = record { roster = g.S.Store.roster c.carry_out-deed.new.store; history = c.push.new.self.entries };
+      machine = record { roster = g.S.Store.roster c.carry_out-deed.new.store; history = c.append.new.log.entries };
       objects = c.carry_out-deed.new.objects;
     } in
     let after : Running = record { table = table; machine = after_deed machine (Core core) deed; objects = deed.outcome.objects } in
     let step : new ≡ after = search rules in
     let is = step ∙ turn_is table machine objects core c.self.inside.init_made c.self.inside.log.limit c.self.invariant in
     let made : c.self.inside.init_made + c.steps_in.result ≡ c.self.inside.init_made + (if is_some (due_init_call table machine core) then 1 else 0) = rw (c.steps_in.ensures, c.due_call-due.ensures, c.self.invariant.sound.init) refl in
-    let same : c.push.new.self.limit ≡ c.self.inside.log.limit = rw c.push.ensures refl in
+    let same : c.append.new.log.limit ≡ c.self.inside.log.limit = c.append.ensures.limit in
     kept_by table machine objects core c.self.inside.init_made c.self.inside.log.limit c.self.invariant new _ _ is made same
 
 pub returns-clause-done : goal.returns-clause-done
@@ -48,7 +48,7 @@ returns-clause-done g c =
     let deed = turn_deed table machine.roster objects core (due_init_call table machine core) in
     let new : Running = record {
       table = c.self.inside.table;
-      machine = record { roster = g.S.Store.roster c.carry_out-deed.new.store; history = c.push.new.self.entries };
+      machine = record { roster = g.S.Store.roster c.carry_out-deed.new.store; history = c.append.new.log.entries };
       objects = c.carry_out-deed.new.objects;
     } in
     let after : Running = record { table = table; machine = after_deed machine (Core core) deed; objects = deed.outcome.objects } in
