@@ -1,12 +1,12 @@
 ghost use Rattle.std.specs.Prelude.{◌≡◌, ◌+◌, ◌<◌, ◌≤◌, ◌++◌, length, flat_map, decimal, IfSome};
 ghost use Rattle.arrayvec.specs.ArrayVec.{array_vec_len};
 ghost use Rattle.apex_types.specs.Table.{IsKnown, IsKnownToProcesses, IsKnownToSemaphores};
-ghost use Rattle.apex_types.specs.Lines.{id_text, code_text, timeout_text, mode_text, process_name, semaphore_name, partition_call_text, process_call_text, semaphore_call_text, call_text, asked_text, who_text, caller_text, reply_text, notice_text, noticed_text, line_of, IsPrintable};
+ghost use Rattle.apex_types.specs.Lines.{id_text, code_text, timeout_text, mode_text, process_name, semaphore_name, partition_call_text, process_call_text, time_call_text, semaphore_call_text, call_text, no_call_text, asked_text, who_text, caller_text, reply_text, notice_text, noticed_text, line_of, IsPrintable};
 
 use apex_table::Table;
 use apex_types::{
     Call, Caller, Entry, Notice, PartitionCall, ProcessCall, ProcessId, Reply, RequestedMode,
-    ReturnCode, SemaphoreCall, SemaphoreId, Timeout, Who,
+    ReturnCode, SemaphoreCall, SemaphoreId, TimeCall, Timeout, Who,
 };
 use arrayvec::ArrayVec;
 use itoa::Buffer;
@@ -44,13 +44,13 @@ fn put_number(line: &mut Line, number: u32)
     put(line, buffer.format(number));
 }
 
-fn put_time(line: &mut Line, time: u64)
+fn put_long_number(line: &mut Line, number: u64)
     requires { array_vec_len line.old + 20 ≤ 4096 }
-    ensures text { line.new.items ≡ line.old.items ++ decimal time }
+    ensures text { line.new.items ≡ line.old.items ++ decimal number }
     ensures short { array_vec_len line.new ≤ array_vec_len line.old + 20 }
 {
     let mut buffer = Buffer::new();
-    put(line, buffer.format(time));
+    put(line, buffer.format(number));
 }
 
 fn put_id(line: &mut Line, process: ProcessId)
@@ -76,13 +76,15 @@ fn code_name(code: &ReturnCode) -> &'static str
     }
 }
 
-fn timeout_word(timeout: &Timeout) -> &'static str
-    ensures value { result.now ≡ timeout_text timeout.now }
-    ensures short { length result.now ≤ 8 }
+fn put_timeout(line: &mut Line, timeout: &Timeout)
+    requires { array_vec_len line.old + 10 ≤ 4096 }
+    ensures text { line.new.items ≡ line.old.items ++ timeout_text timeout.now }
+    ensures short { array_vec_len line.new ≤ array_vec_len line.old + 10 }
 {
     match timeout {
-        Timeout::Poll => "0",
-        Timeout::Infinite => "infinite",
+        Timeout::Poll => put(line, "0"),
+        Timeout::Ticks(ticks) => put_number(line, *ticks),
+        Timeout::Infinite => put(line, "infinite"),
     }
 }
 
@@ -149,7 +151,29 @@ fn put_process_call(line: &mut Line, table: &Table, call: &ProcessCall)
             put(line, "START ");
             put_process(line, table, *process);
         }
+        ProcessCall::DelayedStart(process, delay) => {
+            put(line, "DELAYED_START ");
+            put_process(line, table, *process);
+            put(line, " ");
+            put_timeout(line, delay);
+        }
         ProcessCall::StopSelf => put(line, "STOP_SELF"),
+        ProcessCall::GetMyId => put(line, "GET_MY_ID"),
+    }
+}
+
+#[tactic(auto, using(std::proofs::Common::append_assoc))]
+fn put_time_call(line: &mut Line, call: &TimeCall)
+    requires { array_vec_len line.old + 80 ≤ 4096 }
+    ensures text { line.new.items ≡ line.old.items ++ time_call_text call.now }
+    ensures short { array_vec_len line.new ≤ array_vec_len line.old + 80 }
+{
+    match call {
+        TimeCall::TimedWait(timeout) => {
+            put(line, "TIMED_WAIT ");
+            put_timeout(line, timeout);
+        }
+        TimeCall::GetTime => put(line, "GET_TIME"),
     }
 }
 
@@ -169,10 +193,14 @@ fn put_semaphore_call(line: &mut Line, table: &Table, call: &SemaphoreCall)
             put(line, "WAIT_SEMAPHORE ");
             put_semaphore(line, table, *semaphore);
             put(line, " ");
-            put(line, timeout_word(timeout));
+            put_timeout(line, timeout);
         }
         SemaphoreCall::SignalSemaphore(semaphore) => {
             put(line, "SIGNAL_SEMAPHORE ");
+            put_semaphore(line, table, *semaphore);
+        }
+        SemaphoreCall::GetSemaphoreStatus(semaphore) => {
+            put(line, "GET_SEMAPHORE_STATUS ");
             put_semaphore(line, table, *semaphore);
         }
     }
@@ -187,19 +215,35 @@ fn put_call(line: &mut Line, table: &Table, call: &Call)
     match call {
         Call::Partition(call) => put_partition_call(line, call),
         Call::Process(call) => put_process_call(line, table, call),
+        Call::Time(call) => put_time_call(line, call),
         Call::Semaphore(call) => put_semaphore_call(line, table, call),
     }
 }
 
-fn put_asked(line: &mut Line, table: &Table, asked: &Option<Call>)
+#[tactic(auto, using(std::proofs::Common::append_assoc))]
+fn put_no_call(line: &mut Line, reply: &Reply)
+    requires { array_vec_len line.old + 15 ≤ 4096 }
+    ensures text { line.new.items ≡ line.old.items ++ no_call_text reply.now }
+    ensures short { array_vec_len line.new ≤ array_vec_len line.old + 15 }
+{
+    match reply {
+        Reply::Advanced(asked, _) => {
+            put(line, "tick ");
+            put_number(line, *asked);
+        }
+        _ => put(line, "idle"),
+    }
+}
+
+fn put_asked(line: &mut Line, table: &Table, asked: &Option<Call>, reply: &Reply)
     requires known { IfSome asked.now (IsKnown table.now) }
     requires room { array_vec_len line.old + 80 ≤ 4096 }
-    ensures text { line.new.items ≡ line.old.items ++ asked_text table.now asked.now }
+    ensures text { line.new.items ≡ line.old.items ++ asked_text table.now asked.now reply.now }
     ensures short { array_vec_len line.new ≤ array_vec_len line.old + 80 }
 {
     match asked {
         Some(call) => put_call(line, table, call),
-        None => put(line, "idle"),
+        None => put_no_call(line, reply),
     }
 }
 
@@ -214,6 +258,7 @@ fn put_who(line: &mut Line, who: &Who)
             put(line, "core");
             put_number(line, u32::from(core.number()));
         }
+        Who::Ticker => put(line, "ticker"),
     }
 }
 
@@ -229,16 +274,31 @@ fn put_caller(line: &mut Line, caller: &Caller)
     }
 }
 
+#[tactic(auto, using(std::proofs::Common::append_assoc))]
 fn put_reply(line: &mut Line, reply: &Reply)
-    requires { array_vec_len line.old + 14 ≤ 4096 }
+    requires { array_vec_len line.old + 48 ≤ 4096 }
     ensures text { line.new.items ≡ line.old.items ++ reply_text reply.now }
-    ensures short { array_vec_len line.new ≤ array_vec_len line.old + 14 }
+    ensures short { array_vec_len line.new ≤ array_vec_len line.old + 48 }
 {
     match reply {
         Reply::Code(code) => put(line, code_name(code)),
+        Reply::Value(value) => {
+            put(line, "VALUE ");
+            put_long_number(line, *value);
+        }
+        Reply::Status(first, second) => {
+            put(line, "STATUS ");
+            put_long_number(line, *first);
+            put(line, " ");
+            put_long_number(line, *second);
+        }
         Reply::Blocked => put(line, "BLOCKED"),
         Reply::Gone => put(line, "GONE"),
         Reply::Idle => put(line, "IDLE"),
+        Reply::Advanced(_, went) => {
+            put(line, "ADVANCED ");
+            put_number(line, *went);
+        }
     }
 }
 
@@ -291,13 +351,13 @@ pub(crate) fn set_line(line: &mut Line, table: &Table, entry: &Entry)
     line.clear();
     put_number(line, entry.number);
     put(line, " ");
-    put_time(line, entry.now);
+    put_long_number(line, entry.now);
     put(line, " ");
     put_who(line, &entry.who);
     put(line, " ");
     put_caller(line, &entry.process);
     put(line, " ");
-    put_asked(line, table, &entry.call);
+    put_asked(line, table, &entry.call, &entry.reply);
     put(line, " -> ");
     put_reply(line, &entry.reply);
     put_notices(line, entry.notices.as_slice());

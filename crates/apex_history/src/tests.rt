@@ -1,4 +1,5 @@
 mod lines;
+mod ticks;
 
 ghost use Rattle.std.specs.Prelude.{◌≡◌, None};
 
