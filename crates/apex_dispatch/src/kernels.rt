@@ -74,13 +74,13 @@ fn append<S: Store>(log: &mut Log, store: &S, who: Who, deed: Deed, notices: Not
     requires room { length log.old.entries < log.old.limit }
     requires few { log.old.limit ≤ 65536 }
     ensures entries { log.new.entries ≡ log.old.entries ++ record {
-        number = length log.old.entries + 1;
-        now = (S.roster store.now).now;
-        who = who;
-        process = deed.caller;
-        call = deed.call;
-        reply = deed.reply;
-        notices = notices;
+      number = length log.old.entries + 1;
+      now = (S.roster store.now).now;
+      who = who;
+      process = deed.caller;
+      call = deed.call;
+      reply = deed.reply;
+      notices = notices;
     } ∷ [] }
     ensures limit { log.new.limit ≡ log.old.limit }
 {

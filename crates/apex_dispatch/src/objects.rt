@@ -1,7 +1,6 @@
 ghost use Rattle.std.specs.Prelude.{◌≡◌, [], IfOk};
 ghost use Rattle.apex_types.specs.History.{objects_after};
 
-
 use apex_semaphore::Semaphore;
 use apex_table::Table;
 use apex_types::{ProcessId, SemaphoreId};

@@ -8,7 +8,7 @@ use Rattle.apex_dispatch.proofs.kernels.Kernel.tick.Goals as goal
 pub pass_time-went-requires-clause-near : goal.pass_time-went-requires-clause-near
 pass_time-went-requires-clause-near g c =
     let within = c.self.invariant.sound.lawful.limit in
-    omega (arith, c.self.invariant.time, within, c.self.invariant.sound.limit, c.requires.range)
+    omega (arith, c.self.invariant.time, within, c.self.invariant.sound.limit, c.requires.range, c.in_ok-has_room.ensures.accepted.0 refl)
 
 pub invariant_of-self : goal.invariant_of-self
 invariant_of-self g c =

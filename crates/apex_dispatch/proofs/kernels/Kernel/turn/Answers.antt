@@ -18,7 +18,7 @@ carry_out-deed-requires-clause-semaphores g c =
 pub carry_out-deed-requires-clause-time : goal.carry_out-deed-requires-clause-time
 carry_out-deed-requires-clause-time g c =
     let within = c.self.invariant.sound.lawful.limit in
-    omega (arith, c.self.invariant.time, within, c.self.invariant.sound.limit)
+    omega (arith, c.self.invariant.time, within, c.self.invariant.sound.limit, c.in_ok-has_room.ensures.accepted.0 refl)
 
 pub invariant_of-self : goal.invariant_of-self
 invariant_of-self g c =
