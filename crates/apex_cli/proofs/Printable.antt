@@ -9,13 +9,14 @@ use Rattle.apex_types.specs.declared.Call.{Call}
 use Rattle.apex_types.specs.declared.Call.TheVariants.{Process as ToProcess}
 use Rattle.apex_types.specs.declared.ProcessCall.TheVariants.{StopSelf}
 use Rattle.apex_types.specs.declared.Event.{Event}
-use Rattle.apex_types.specs.declared.Event.TheVariants.{Turn}
+use Rattle.apex_types.specs.declared.Event.TheVariants.{Turn, Tick}
+use Rattle.apex_types.specs.declared.Who.TheVariants.{Core, Ticker}
 use Rattle.apex_types.specs.Table.{Table, IsKnown, IsLawful, ProcessEntry, call_at, no_process, process_entry}
 use Rattle.apex_types.specs.Lines.{IsPrintable}
 use Rattle.apex_types.specs.Roster.{Roster, is_cold_start, record_at}
 use Rattle.apex_types.specs.Running.{chosen}
 use Rattle.apex_types.specs.History.{Objects, next_init_call, init_count, objects_after}
-use Rattle.apex_types.specs.Machine.{Machine, accept, chosen_deed, deed_of, due_init_call, entry_of, run, script_deed, step_of, turn, turn_deed}
+use Rattle.apex_types.specs.Machine.{Machine, accept, chosen_deed, deed_of, due_init_call, entry_of, happen, run, script_deed, step_of, tick, tick_deed, turn, turn_deed}
 
 -- the calls of a list of which each is known
 known_at : (table : Table) (calls : List Call) → ((k : ℕ) → k < length calls → IsKnown table (call_at calls k))
@@ -68,15 +69,27 @@ unfolding turn
 turn_printable table lawful machine core before =
     let known = known_due table (is_cold_start machine.roster.mode && core == 0) (next_init_call table machine.history)
     (known_at table table.init lawful.init (init_count machine.history)) in
-    All-push (IsPrintable table) machine.history (entry_of (length machine.history + 1) core (deed_of table machine core)) before
+    All-push (IsPrintable table) machine.history (entry_of (length machine.history + 1) (Core core) (deed_of table machine core)) before
     (deed_printable table lawful machine.roster (objects_after table machine.history) core (due_init_call table machine core) known)
+
+tick_printable : (table : Table) (machine : Machine) (n : ℕ) → All (IsPrintable table) machine.history
+    → All (IsPrintable table) (tick table machine n).history
+unfolding tick
+tick_printable table machine n before =
+    All-push (IsPrintable table) machine.history
+    (entry_of (length machine.history + 1) Ticker (tick_deed machine.roster (objects_after table machine.history) n)) before tt
+
+happen_printable : (table : Table) → IsLawful table → (machine : Machine) (event : Event) → All (IsPrintable table) machine.history
+    → All (IsPrintable table) (happen table machine event).history
+happen_printable table lawful machine (Turn core) before = turn_printable table lawful machine core before
+happen_printable table lawful machine (Tick n) before = tick_printable table machine n before
 
 accept_printable : (table : Table) → IsLawful table → (machine : Machine) (event : Event) → All (IsPrintable table) machine.history
     → All (IsPrintable table) (accept table machine event).history
-accept_printable table lawful machine (Turn core) before = go (nat_lt (length machine.history) table.limit)
+accept_printable table lawful machine event before = go (nat_lt (length machine.history) table.limit)
   where
-    go : (b : Bool) → All (IsPrintable table) (cond b (turn table machine core) machine).history
-    go true = turn_printable table lawful machine core before
+    go : (b : Bool) → All (IsPrintable table) (cond b (happen table machine event) machine).history
+    go true = happen_printable table lawful machine event before
     go false = before
 
 -- a run

@@ -1,14 +1,14 @@
 -- Runs of the machine over the items of a schedule.
 use Rattle.std.proofs.Common.{◌≡◌, ◌∙◌, ℕ, ◌+◌, ◌-◌, ◌<◌, ◌≤◌, arith, refl, sym, ap, List, [], ◌∷◌, ◌++◌, length, take, drop}
 use Rattle.std.specs.Prelude.{replicate, slice_index_or}
-use Rattle.std.proofs.lemmas.List.{append-nil, length-append, length-replicate, replicate-append-replicate, take-append-drop, take_more}
+use Rattle.std.proofs.lemmas.List.{append-nil, length-append, replicate-append-replicate, take-append-drop, take_more}
 use Rattle.std.proofs.lemmas.Grind.{flat_map-append, replicate_next}
 use Rattle.std.proofs.lemmas.List.Folds.{length-flat_map-take}
 use Rattle.apex_types.specs.declared.Event.{Event}
-use Rattle.apex_types.specs.declared.Event.TheVariants.{Turn}
-use Rattle.apex_types.specs.Machine.{Machine, accept, run, turn}
+use Rattle.apex_types.specs.declared.Event.TheVariants.{Turn, Tick}
+use Rattle.apex_types.specs.Machine.{Machine, accept, run, tick, turn}
 use Rattle.apex_types.specs.Table.{Table}
-use Rattle.apex_dispatch.proofs.Runs.{accept-room, run-append, run-full}
+use Rattle.apex_dispatch.proofs.Runs.{accept-room, length-happen, run-append, run-full}
 use Rattle.apex_cli.specs.declared.schedule.Item.{Item}
 use Rattle.apex_cli.specs.Schedule.{events_of_item, events_of_items}
 
@@ -43,6 +43,14 @@ turns_stop table machine core i n within full =
     replicate-append-replicate i (n - i) (Turn core) ∙ ap (λ k. replicate k (Turn core)) sum in
     stop table machine (replicate i (Turn core)) (replicate (n - i) (Turn core)) _ both full
 
+-- a turn adds one entry
+pub length_turn : (table : Table) (machine : Machine) (core : ℕ) → length (turn table machine core).history ≡ length machine.history + 1
+length_turn table machine core = length-happen table machine (Turn core)
+
+-- a tick adds one entry
+pub length_tick : (table : Table) (machine : Machine) (n : ℕ) → length (tick table machine n).history ≡ length machine.history + 1
+length_tick table machine n = length-happen table machine (Tick n)
+
 -- the events of one item more
 pub items_next : (items : List Item) (i : ℕ) (d : Item) → i < length items
     → events_of_items (take (i + 1) items) ≡ events_of_items (take i items) ++ events_of_item (slice_index_or items i d)
@@ -72,18 +80,15 @@ items_stop table machine items i full =
     stop table machine (events_of_items (take i items)) (events_of_items (drop i items)) _ both full
 
 pub length_items_next : (items : List Item) (item : Item) (i : ℕ) → i < length items → item ≡ slice_index_or items i item
-    → length (events_of_items (take (i + 1) items)) ≡ length (events_of_items (take i items)) + item.times
+    → length (events_of_items (take (i + 1) items)) ≡ length (events_of_items (take i items)) + length (events_of_item item)
 length_items_next items item i within here =
-    let next = ap length (items_next items i item within) in
-    let times : (slice_index_or items i item).times ≡ item.times = ap (λ (x : Item). x.times) (sym here) in
-    next ∙ length-append (events_of_items (take i items)) (events_of_item (slice_index_or items i item))
-    ∙ ap (λ n. length (events_of_items (take i items)) + n) (length-replicate _ (Turn (slice_index_or items i item).core) ∙ times)
+    ap length (items_next items i item within)
+    ∙ length-append (events_of_items (take i items)) (events_of_item (slice_index_or items i item))
+    ∙ ap (λ x. length (events_of_items (take i items)) + length (events_of_item x)) (sym here)
 
--- the turns of an item and of those before it are among those of all
+-- the events of an item and of those before it are among those of all
 pub length_items_within : (items : List Item) (item : Item) (i : ℕ) → i < length items → item ≡ slice_index_or items i item
-    → length (events_of_items (take i items)) + item.times ≤ length (events_of_items items)
+    → length (events_of_items (take i items)) + length (events_of_item item) ≤ length (events_of_items items)
 length_items_within items item i within here =
     let part = length-flat_map-take events_of_item items i item within in
-    let count = length-replicate (slice_index_or items i item).times (Turn (slice_index_or items i item).core) in
-    let times : (slice_index_or items i item).times ≡ item.times = ap (λ (x : Item). x.times) (sym here) in
-    rw (count, times) at part
+    rw (← here) at part

@@ -1,10 +1,11 @@
 -- What the text of a schedule asks for.
-use Rattle.std.specs.Prelude.{ℕ, ◌-◌, Bool, List, [], ◌∷◌, Option, Some, None, map, option_map, option_and_then}
+use Rattle.std.specs.Prelude.{ℕ, ◌-◌, Bool, true, List, [], ◌∷◌, Option, Some, None, map, option_map, option_and_then}
 use Rattle.std.specs.Prelude.{◌==◌, ◌&&◌, nat_lt, nat_le, if◌then◌else◌, replicate}
 use Rattle.std.specs.List.{slice_split, list_all, flat_map}
 use Rattle.apex_types.specs.declared.Event.{Event}
-use Rattle.apex_types.specs.declared.Event.TheVariants.{Turn}
+use Rattle.apex_types.specs.declared.Event.TheVariants as event
 use Rattle.apex_cli.specs.declared.schedule.Item.{Item}
+use Rattle.apex_cli.specs.declared.schedule.Item.TheVariants.{Turns, Tick}
 use Rattle.apex_types.specs.Numbers.{number_of, at_least, at_most}
 
 -- the parts of a text between a separator, which may be empty
@@ -38,19 +39,22 @@ times_after [] = Some 1
 times_after (times ∷ []) = times_of times
 times_after (times ∷ next ∷ rest) = None
 
--- so many turns of a core
-abbrev pub turns_of : ℕ → ℕ → Item
-turns_of core times = record { core = core; times = times }
+-- `c`, one turn of a core, or `c*k`, so many, by the parts of the word
+abbrev pub turns_of_parts : List (List ℕ) → Option Item
+turns_of_parts [] = None
+turns_of_parts (core ∷ after) =
+    option_and_then (λ c. option_map (Turns c) (times_after after)) (core_of core)
 
--- `c`, one turn of a core, or `c*k`, so many
-abbrev pub item_of_parts : List (List ℕ) → Option Item
-item_of_parts [] = None
-item_of_parts (core ∷ after) =
-    option_and_then (λ c. option_map (turns_of c) (times_after after)) (core_of core)
+-- of how many ticks of time a tick is, 1 to 1,048,576
+abbrev pub ticks_of : List ℕ → Option ℕ
+ticks_of word = at_least 1 (at_most 1048576 (number_of word))
 
--- an item's word, in which `*` (42) stands before the repetition
+-- an item's word: `tN`, in which the number stands behind the `t` (116), or turns, in which `*` (42)
+-- stands before the repetition
 abbrev pub item_of : List ℕ → Option Item
-item_of word = item_of_parts (parts 42 word)
+item_of [] = None
+item_of (first ∷ rest) =
+    if first == 116 then option_map Tick (ticks_of rest) else turns_of_parts (parts 42 (first ∷ rest))
 
 -- the items of a schedule's text, with one space (32) between two; none where one is ill-formed
 abbrev pub items_of : List ℕ → Option (List Item)
@@ -58,12 +62,18 @@ items_of text = all_some (map item_of (parts 32 text))
 
 -- the events that an item asks for
 abbrev pub events_of_item : Item → List Event
-events_of_item item = replicate item.times (Turn item.core)
+events_of_item (Turns core times) = replicate times (event.Turn core)
+events_of_item (Tick ticks) = event.Tick ticks ∷ []
 
 -- the events that the items ask for, in order
 abbrev pub events_of_items : List Item → List Event
 events_of_items items = flat_map events_of_item items
 
--- every item is of a core below `cores`
+-- turns are of a core below `cores`; a tick is of no core
+unfoldable pub is_core_below : ℕ → Item → Bool
+is_core_below cores (Turns core times) = nat_lt core cores
+is_core_below cores (Tick ticks) = true
+
+-- the turns of every item are of a core below `cores`
 abbrev pub are_cores_below : ℕ → List Item → Bool
-are_cores_below cores items = list_all (λ (item : Item). nat_lt item.core cores) items
+are_cores_below cores items = list_all (is_core_below cores) items

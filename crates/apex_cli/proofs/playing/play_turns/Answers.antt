@@ -5,9 +5,8 @@ use Rattle.apex_types.specs.declared.Event.TheVariants.{Turn}
 use Rattle.apex_types.specs.Machine.{Machine, run, turn}
 use Rattle.apex_types.specs.Table.{Table}
 use Rattle.apex_dispatch.specs.Kernel.{Running}
-use Rattle.apex_dispatch.proofs.Runs.{length-turn}
-use Rattle.apex_cli.proofs.Runs.{turn_more, turns_stop}
-use Rattle.apex_cli.proofs.playing.play_item.Goals as goal
+use Rattle.apex_cli.proofs.Runs.{length_turn, turn_more, turns_stop}
+use Rattle.apex_cli.proofs.playing.play_turns.Goals as goal
 
 pub returns-in_err-turn-clause-machine : goal.returns-in_err-turn-clause-machine
 returns-in_err-turn-clause-machine c =
@@ -17,7 +16,7 @@ returns-in_err-turn-clause-machine c =
     let same = ap (λ (t : Table). t.limit) c.loop-turn.invariant.table in
     omega arith in
     ap (λ (k : Running). k.machine) c.in_err-turn.ensures.refused ∙ far
-    ∙ turns_stop c.args.kernel.now.table c.args.kernel.now.machine c.args.item.core c.loop-turn.turn c.args.item.times
+    ∙ turns_stop c.args.kernel.now.table c.args.kernel.now.machine c.args.core c.loop-turn.turn c.args.times
     (omega arith) (rw (← far) full)
 
 pub returns-in_err-turn-clause-full : goal.returns-in_err-turn-clause-full
@@ -29,19 +28,19 @@ returns-in_err-turn-clause-full c =
 
 pub loop-turn-preserved : goal.loop-turn-preserved
 loop-turn-preserved c =
-    let done : c.turn.new.self.machine ≡ turn c.loop-turn.kernel.table c.loop-turn.kernel.machine c.args.item.core =
+    let done : c.turn.new.self.machine ≡ turn c.loop-turn.kernel.table c.loop-turn.kernel.machine c.args.core =
     ap (λ (k : Running). k.machine) c.in_ok-turn.ensures.done in
     let room : length c.loop-turn.kernel.machine.history < c.loop-turn.kernel.table.limit = c.in_ok-turn.ensures.accepted.0 refl in
     let more = ap (λ (m : Machine). length m.history) done in
-    let one = length-turn c.loop-turn.kernel.table c.loop-turn.kernel.machine c.args.item.core in
+    let one = length_turn c.loop-turn.kernel.table c.loop-turn.kernel.machine c.args.core in
     record {
       table = ap (λ (k : Running). k.table) c.in_ok-turn.ensures.done ∙ c.loop-turn.invariant.table;
       machine = done ∙ turn_more c.args.kernel.now.table c.loop-turn.kernel.table c.args.kernel.now.machine c.loop-turn.kernel.machine
-          c.args.item.core c.loop-turn.turn c.loop-turn.invariant.table c.loop-turn.invariant.machine room;
+          c.args.core c.loop-turn.turn c.loop-turn.invariant.table c.loop-turn.invariant.machine room;
       count = omega arith;
     }
 
 pub returns-clause-machine : goal.returns-clause-machine
 returns-clause-machine c =
-    let all : c.loop-turn.turn ≡ c.args.item.times = omega arith in
-    c.loop-turn.invariant.machine ∙ ap (λ n. run c.args.kernel.now.table c.args.kernel.now.machine (replicate n (Turn c.args.item.core))) all
+    let all : c.loop-turn.turn ≡ c.args.times = omega arith in
+    c.loop-turn.invariant.machine ∙ ap (λ n. run c.args.kernel.now.table c.args.kernel.now.machine (replicate n (Turn c.args.core))) all

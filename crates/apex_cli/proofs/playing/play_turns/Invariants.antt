@@ -2,7 +2,7 @@ use Rattle.std.proofs.Common.{◌≡◌, ◌+◌, length}
 use Rattle.std.specs.Prelude.{replicate}
 use Rattle.apex_types.specs.declared.Event.TheVariants.{Turn}
 use Rattle.apex_types.specs.Machine.{run}
-use Rattle.apex_cli.proofs.playing.play_item.Given as goal
+use Rattle.apex_cli.proofs.playing.play_turns.Given as goal
 
 abbrev pub invariant-loop-turn : goal.invariant-loop-turn
 invariant-loop-turn l = record {
