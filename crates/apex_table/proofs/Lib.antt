@@ -5,4 +5,5 @@ pub mod Results
 pub mod Distinct
 pub mod KeyLaws
 pub mod StepLaws
+pub mod KeptLaws
 pub mod Law

@@ -11,7 +11,7 @@ use Rattle.apex_table.specs.declared.fault.TableFault.{TableFault}
 use Rattle.apex_table.specs.declared.fault.TableFault.TheVariants.{UnknownName, BadStep}
 use Rattle.apex_table.specs.Outcome.{some_or}
 use Rattle.apex_table.specs.Written as written
-use Rattle.apex_table.specs.Steps.{spelling, named, process_meaning, semaphore_meaning, meaning, step}
+use Rattle.apex_table.specs.Steps.{spelling, named, timeout_meaning, process_meaning, time_meaning, semaphore_meaning, meaning, step}
 use Rattle.apex_table.specs.Init.{created_semaphores, created_processes, started_processes, default_init}
 use Rattle.apex_table.specs.Reading.{script}
 use Rattle.apex_table.proofs.Results.{ok_then, each_keeps, each_length, all_push, all_append}
@@ -38,16 +38,28 @@ named_law at names name =
 process_law : (at : Place) (ps : List (List ℕ)) (ss : ℕ) (w : written.WrittenProcess) → IfOk (process_meaning at ps w) (IsWithin (length ps) ss)
 process_law at ps ss (written.start name) =
     ok_then (named at ps name) _ (IsWithin (length ps) ss) (λ p e. IfOk-at_ok (λ p. p < length ps) e (named_law at ps name))
+process_law at ps ss (written.delayed_start name t) =
+    ok_then (named at ps name) _ (IsWithin (length ps) ss) (λ p e.
+    ok_then (timeout_meaning at t) _ (IsWithin (length ps) ss) (λ delay _. IfOk-at_ok (λ p. p < length ps) e (named_law at ps name)))
 process_law at ps ss written.stop_self = tt
+process_law at ps ss written.get_my_id = tt
+
+time_law : (at : Place) (ps ss : ℕ) (w : written.WrittenTime) → IfOk (time_meaning at w) (IsWithin ps ss)
+time_law at ps ss (written.timed_wait t) = ok_then (timeout_meaning at t) _ (IsWithin ps ss) (λ timeout _. tt)
+time_law at ps ss written.get_time = tt
 
 semaphore_law : (at : Place) (ps : ℕ) (ss : List (List ℕ)) (w : written.WrittenSemaphore) → IfOk (semaphore_meaning at ss w) (IsWithin ps (length ss))
 semaphore_law at ps ss (written.wait_semaphore name t) =
-    ok_then (named at ss name) _ (IsWithin ps (length ss)) (λ s e. IfOk-at_ok (λ s. s < length ss) e (named_law at ss name))
+    ok_then (named at ss name) _ (IsWithin ps (length ss)) (λ s e.
+    ok_then (timeout_meaning at t) _ (IsWithin ps (length ss)) (λ timeout _. IfOk-at_ok (λ s. s < length ss) e (named_law at ss name)))
 semaphore_law at ps ss (written.signal_semaphore name) =
+    ok_then (named at ss name) _ (IsWithin ps (length ss)) (λ s e. IfOk-at_ok (λ s. s < length ss) e (named_law at ss name))
+semaphore_law at ps ss (written.get_semaphore_status name) =
     ok_then (named at ss name) _ (IsWithin ps (length ss)) (λ s e. IfOk-at_ok (λ s. s < length ss) e (named_law at ss name))
 
 meaning_law : (at : Place) (ps ss : List (List ℕ)) (w : written.Written) → IfOk (meaning at ps ss w) (IsWithin (length ps) (length ss))
 meaning_law at ps ss (written.process w) = process_law at ps (length ss) w
+meaning_law at ps ss (written.time w) = time_law at (length ps) (length ss) w
 meaning_law at ps ss (written.semaphore w) = semaphore_law at (length ps) ss w
 
 step_law : (at : Place) (ps ss : List (List ℕ)) (text : List ℕ) → IfOk (step at ps ss text) (IsWithin (length ps) (length ss))

@@ -2,6 +2,7 @@ pub mod Fault
 pub mod Outcome
 pub mod Keys
 pub mod Written
+pub mod Kept
 pub mod Seen
 pub mod Steps
 pub mod Init

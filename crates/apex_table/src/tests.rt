@@ -1,7 +1,8 @@
 use crate::fault::TableFault;
 use crate::reading::read_table;
 use apex_types::{
-    Call, PartitionCall, ProcessCall, ProcessId, RequestedMode, SemaphoreCall, SemaphoreId, Timeout,
+    Call, PartitionCall, ProcessCall, ProcessId, RequestedMode, SemaphoreCall, SemaphoreId,
+    TimeCall, Timeout,
 };
 use std::alloc::{AllocError, Global};
 use std::test::Fail;
@@ -108,101 +109,14 @@ const CHANGES: &[(&str, &str, &str)] = &[
         "WrongType in process 2",
     ),
     (
-        "WAIT_SEMAPHORE S infinite",
-        "WAIT_SEMAPHORE X infinite",
-        "UnknownName in process 1",
-    ),
-    (
-        "WAIT_SEMAPHORE S infinite",
-        "WAIT_SEMAPHORE P1 infinite",
-        "UnknownName in process 1",
-    ),
-    (
-        "WAIT_SEMAPHORE S infinite",
-        "WAIT_SEMAPHORE S 05",
-        "BadStep in process 1",
-    ),
-    (
-        "WAIT_SEMAPHORE S infinite",
-        "WAIT_SEMAPHORE S 00",
-        "BadStep in process 1",
-    ),
-    (
-        "WAIT_SEMAPHORE S infinite",
-        "WAIT_SEMAPHORE S 5",
-        "BadStep in process 1",
-    ),
-    (
-        "WAIT_SEMAPHORE S infinite",
-        "WAIT_SEMAPHORE X 05",
-        "BadStep in process 1",
-    ),
-    (
-        "WAIT_SEMAPHORE S infinite",
-        "WAIT_SEMAPHORE S",
-        "BadStep in process 1",
-    ),
-    (
-        "WAIT_SEMAPHORE S infinite",
-        "WAIT_SEMAPHORE S infinite 0",
-        "BadStep in process 1",
-    ),
-    (
-        "WAIT_SEMAPHORE S infinite",
-        "WAIT_SEMAPHORE  infinite",
-        "BadStep in process 1",
-    ),
-    (
-        "WAIT_SEMAPHORE S infinite",
-        "WAIT_SEMAPHORE  S infinite",
-        "BadStep in process 1",
-    ),
-    (
-        "WAIT_SEMAPHORE S infinite",
-        " STOP_SELF",
-        "BadStep in process 1",
-    ),
-    (
-        "WAIT_SEMAPHORE S infinite",
-        "STOP_SELF ",
-        "BadStep in process 1",
-    ),
-    (
-        "WAIT_SEMAPHORE S infinite",
-        "STOP_SELF\t",
-        "BadStep in process 1",
-    ),
-    (
-        "WAIT_SEMAPHORE S infinite",
-        "stop_self",
-        "BadStep in process 1",
-    ),
-    ("WAIT_SEMAPHORE S infinite", "", "BadStep in process 1"),
-    ("WAIT_SEMAPHORE S infinite", "START", "BadStep in process 1"),
-    (
-        "WAIT_SEMAPHORE S infinite",
-        "START S",
-        "UnknownName in process 1",
-    ),
-    (
-        "WAIT_SEMAPHORE S infinite",
-        "GET_TIME",
-        "BadStep in process 1",
-    ),
-    (
-        "WAIT_SEMAPHORE S infinite",
-        "CREATE_SEMAPHORE S",
-        "BadStep in process 1",
-    ),
-    (
-        "WAIT_SEMAPHORE S infinite",
-        "SET_PARTITION_MODE NORMAL",
-        "BadStep in process 1",
-    ),
-    (
         "SIGNAL_SEMAPHORE S",
         "SIGNAL_SEMAPHORE P2",
         "UnknownName in process 2",
+    ),
+    (
+        "SIGNAL_SEMAPHORE S",
+        "GET_TIME\", \"TIMED_WAIT 4294967296\", \"?",
+        "OutOfRange in process 2",
     ),
     (
         "name = \"S\"",
@@ -243,6 +157,67 @@ const CHANGES: &[(&str, &str, &str)] = &[
         "discipline = \"FIFO\"\n[[semaphore]]\nname = \"S\"",
         "DoubleName in semaphore 2",
     ),
+];
+
+/// A step of P1 in place of the one in the table above, and its fault.
+const STEPS: &[(&str, &str)] = &[
+    ("WAIT_SEMAPHORE X infinite", "UnknownName in process 1"),
+    ("WAIT_SEMAPHORE P1 infinite", "UnknownName in process 1"),
+    ("WAIT_SEMAPHORE S 05", "BadStep in process 1"),
+    ("WAIT_SEMAPHORE S 00", "BadStep in process 1"),
+    ("WAIT_SEMAPHORE X 05", "BadStep in process 1"),
+    ("WAIT_SEMAPHORE S", "BadStep in process 1"),
+    ("WAIT_SEMAPHORE S infinite 0", "BadStep in process 1"),
+    ("WAIT_SEMAPHORE  infinite", "BadStep in process 1"),
+    ("WAIT_SEMAPHORE  S infinite", "BadStep in process 1"),
+    (" STOP_SELF", "BadStep in process 1"),
+    ("STOP_SELF ", "BadStep in process 1"),
+    ("STOP_SELF\t", "BadStep in process 1"),
+    ("stop_self", "BadStep in process 1"),
+    ("", "BadStep in process 1"),
+    ("START", "BadStep in process 1"),
+    ("START S", "UnknownName in process 1"),
+    ("CREATE_SEMAPHORE S", "BadStep in process 1"),
+    ("SET_PARTITION_MODE NORMAL", "BadStep in process 1"),
+    ("WAIT_SEMAPHORE X 00", "BadStep in process 1"),
+    ("WAIT_SEMAPHORE S -1", "BadStep in process 1"),
+    ("WAIT_SEMAPHORE S +5", "BadStep in process 1"),
+    ("WAIT_SEMAPHORE S 5s", "BadStep in process 1"),
+    ("WAIT_SEMAPHORE S INFINITE", "BadStep in process 1"),
+    (
+        "WAIT_SEMAPHORE S 0100000000000000000000000000005",
+        "BadStep in process 1",
+    ),
+    ("TIMED_WAIT", "BadStep in process 1"),
+    ("TIMED_WAIT 05", "BadStep in process 1"),
+    ("TIMED_WAIT S 5", "BadStep in process 1"),
+    ("DELAYED_START P2", "BadStep in process 1"),
+    ("DELAYED_START 5", "BadStep in process 1"),
+    ("DELAYED_START X 05", "BadStep in process 1"),
+    ("GET_TIME 0", "BadStep in process 1"),
+    ("GET_MY_ID P1", "BadStep in process 1"),
+    ("GET_SEMAPHORE_STATUS", "BadStep in process 1"),
+    ("GET_SEMAPHORE_STATUS S 0", "BadStep in process 1"),
+    ("SUSPEND P2", "BadStep in process 1"),
+    ("GET_PROCESS_STATUS P2", "BadStep in process 1"),
+    ("SUSPEND_SELF 5", "BadStep in process 1"),
+    ("WAIT_SEMAPHORE S 4294967296", "OutOfRange in process 1"),
+    (
+        "WAIT_SEMAPHORE S 18446744073709551617",
+        "OutOfRange in process 1",
+    ),
+    ("DELAYED_START P2 4294967296", "OutOfRange in process 1"),
+    (
+        "TIMED_WAIT 100000000000000000000000000005",
+        "OutOfRange in process 1",
+    ),
+    ("WAIT_SEMAPHORE X 4294967296", "UnknownName in process 1"),
+    (
+        "DELAYED_START X 100000000000000000000000000005",
+        "UnknownName in process 1",
+    ),
+    ("DELAYED_START S 5", "UnknownName in process 1"),
+    ("GET_SEMAPHORE_STATUS P1", "UnknownName in process 1"),
 ];
 
 /// A whole text, and its fault.
@@ -292,6 +267,76 @@ fn a_change_has_its_fault(rt: HostRuntime) -> Result<(), Fail> {
         let text = SIGNAL_WAKES_WAITER.replacen(rt.alloc(), *old, new, 1)?;
         let told = fault_of(rt.alloc(), text.as_bytes())?;
         assert_eq!(rt; told.as_str(), *want, "with {new}");
+    }
+    Ok(())
+}
+
+/// The table above with this step of P1.
+fn with_step(alloc: Global, step: &str) -> Result<String, AllocError> {
+    SIGNAL_WAKES_WAITER.replacen(alloc, "WAIT_SEMAPHORE S infinite", step, 1)
+}
+
+#[test]
+fn a_step_has_its_fault(rt: HostRuntime) -> Result<(), Fail> {
+    for (step, want) in STEPS {
+        let text = with_step(rt.alloc(), step)?;
+        let told = fault_of(rt.alloc(), text.as_bytes())?;
+        assert_eq!(rt; told.as_str(), *want, "of {step}");
+    }
+    Ok(())
+}
+
+#[test]
+fn a_step_is_read_as_its_call(rt: HostRuntime) -> Result<(), Fail> {
+    let p2 = ProcessId::at(1);
+    let s = SemaphoreId::at(0);
+    for (step, call) in [
+        (
+            "DELAYED_START P2 0",
+            Call::Process(ProcessCall::DelayedStart(p2, Timeout::Poll)),
+        ),
+        (
+            "DELAYED_START P2 infinite",
+            Call::Process(ProcessCall::DelayedStart(p2, Timeout::Infinite)),
+        ),
+        (
+            "DELAYED_START P2 1",
+            Call::Process(ProcessCall::DelayedStart(p2, Timeout::Ticks(1))),
+        ),
+        ("GET_MY_ID", Call::Process(ProcessCall::GetMyId)),
+        (
+            "TIMED_WAIT 0",
+            Call::Time(TimeCall::TimedWait(Timeout::Poll)),
+        ),
+        (
+            "TIMED_WAIT 10",
+            Call::Time(TimeCall::TimedWait(Timeout::Ticks(10))),
+        ),
+        (
+            "TIMED_WAIT infinite",
+            Call::Time(TimeCall::TimedWait(Timeout::Infinite)),
+        ),
+        ("GET_TIME", Call::Time(TimeCall::GetTime)),
+        (
+            "WAIT_SEMAPHORE S 0",
+            Call::Semaphore(SemaphoreCall::WaitSemaphore(s, Timeout::Poll)),
+        ),
+        (
+            "WAIT_SEMAPHORE S 4294967295",
+            Call::Semaphore(SemaphoreCall::WaitSemaphore(s, Timeout::Ticks(4294967295))),
+        ),
+        (
+            "GET_SEMAPHORE_STATUS S",
+            Call::Semaphore(SemaphoreCall::GetSemaphoreStatus(s)),
+        ),
+    ] {
+        let text = with_step(rt.alloc(), step)?;
+        let table = read_table(rt.alloc(), text.as_bytes())?;
+        assert_eq!(rt;
+            table.process(ProcessId::at(0)).step(0),
+            Some(call),
+            "of {step}"
+        );
     }
     Ok(())
 }
@@ -445,6 +490,7 @@ fn a_refused_growth_is_memory(rt: HostRuntime) -> Result<(), Fail> {
         SIGNAL_WAKES_WAITER,
         "cores = 9",
         "cores = 1\nprocess = [{name = \"P\", priority = 1, script = [\"?\"]}]",
+        "cores = 1\nprocess = [{name = \"P\", priority = 1, script = [\"DELAYED_START P 1\", \"TIMED_WAIT 4294967296\"]}]",
     ] {
         let one = read_table(rt.alloc(), text.as_bytes());
         let other = read_table(rt.alloc(), text.as_bytes());
