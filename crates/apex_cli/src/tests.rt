@@ -1,3 +1,5 @@
+mod ticks;
+
 use crate::program::run_on;
 use apex_history::{Counted, FailAt};
 use std::alloc::Global;
@@ -66,6 +68,15 @@ name = "P1"
 priority = 10
 script = [
   "WAIT_SEMAPHORE S 05",
+]
+"#;
+
+const TOO_MANY_TICKS: &str = r#"
+[[process]]
+name = "P1"
+priority = 10
+script = [
+  "WAIT_SEMAPHORE S 4294967296",
 ]
 "#;
 
@@ -292,6 +303,11 @@ fn tables_are_refused(rt: HostRuntime) -> Result<(), Fail> {
             "timeout_with_a_leading_zero",
             &[TWO_CORES, FIVE_WITH_A_ZERO, SIGNALLER, SEMAPHORE],
             "apex: table refused: BadStep in process 1",
+        ),
+        refused(
+            "timeout_above_its_range",
+            &[TWO_CORES, TOO_MANY_TICKS, SIGNALLER, SEMAPHORE],
+            "apex: table refused: OutOfRange in process 1",
         ),
         refused(
             "table_without_cores",
