@@ -1,12 +1,16 @@
 -- The objects that a service leaves are those that the history then gives.
-use Rattle.std.proofs.Common.{◌≡◌, ℕ, ◌+◌, ◌<◌, Bool, true, false, cond, not, ◌==◌, List, [], ◌∷◌, ◌++◌, length, None, Some, nat_lt, refl, sym, ◌∙◌, arith, set, get_or, inl, inr, ap}
+use Rattle.std.proofs.Common.{◌≡◌, ℕ, ◌+◌, ◌<◌, Bool, true, false, cond, not, ◌==◌, List, [], ◌∷◌, ◌++◌, length, None, Some, nat_lt, nat_le, is_some, is_none, Option, if◌then◌else◌, refl, sym, ◌∙◌, arith, set, get_or, inl, inr, ap}
+use Rattle.std.proofs.lemmas.Option.{none-some, same_Some}
 use Rattle.std.proofs.lemmas.Bool.{eq-eqb, cases_eq, both_ways}
 use Rattle.apex_types.specs.declared.Call.{Call}
 use Rattle.apex_types.specs.declared.Call.TheVariants.{Partition, Process as ToProcess, Time as ToTime, Semaphore as ToSemaphore}
+use Rattle.apex_types.specs.declared.NamedProcess.{NamedProcess}
+use Rattle.apex_types.specs.declared.NamedProcess.TheVariants as process
+use Rattle.apex_types.specs.declared.NamedSemaphore.TheVariants as semaphore
 use Rattle.apex_types.specs.declared.ProcessCall.{ProcessCall}
-use Rattle.apex_types.specs.declared.ProcessCall.TheVariants.{CreateProcess, InitializeProcessCoreAffinity, Start, DelayedStart, StopSelf, GetMyId}
+use Rattle.apex_types.specs.declared.ProcessCall.TheVariants.{CreateProcess, InitializeProcessCoreAffinity, SetPriority, Start, DelayedStart, Stop, StopSelf, Suspend, Resume, SuspendSelf, GetMyId, GetMyProcessorCoreId, GetProcessId, GetProcessStatus}
 use Rattle.apex_types.specs.declared.SemaphoreCall.{SemaphoreCall}
-use Rattle.apex_types.specs.declared.SemaphoreCall.TheVariants.{CreateSemaphore, WaitSemaphore, SignalSemaphore, GetSemaphoreStatus}
+use Rattle.apex_types.specs.declared.SemaphoreCall.TheVariants.{CreateSemaphore, WaitSemaphore, SignalSemaphore, GetSemaphoreId, GetSemaphoreStatus}
 use Rattle.apex_types.specs.declared.Caller.{Caller}
 use Rattle.apex_types.specs.declared.Caller.TheVariants.{Process, Init, Nobody}
 use Rattle.apex_types.specs.declared.Entry.{Entry}
@@ -17,26 +21,27 @@ use Rattle.apex_types.specs.declared.ReturnCode.{ReturnCode}
 use Rattle.apex_types.specs.declared.ReturnCode.TheVariants.{NoError, NoAction, InvalidParam, InvalidConfig, InvalidMode}
 use Rattle.apex_types.specs.declared.Timeout.{Timeout}
 use Rattle.apex_types.specs.declared.Timeout.TheVariants.{Poll, Ticks, Infinite}
-use Rattle.apex_types.specs.declared.Wait.TheVariants.{Semaphore}
+use Rattle.apex_types.specs.declared.Wait.TheVariants.{Time, Semaphore}
 use Rattle.apex_types.specs.declared.Who.{Who}
 use Rattle.apex_types.specs.Places.{map_places}
 use Rattle.apex_types.specs.Roster.{Roster, record_at, is_normal}
-use Rattle.apex_types.specs.Table.{Table, ProcessEntry, SemaphoreEntry, no_process, no_semaphore, semaphore_entry, IsKnown, IsKnownToProcesses, IsKnownToSemaphores}
+use Rattle.apex_types.specs.Table.{Table, ProcessEntry, SemaphoreEntry, no_process, no_semaphore, semaphore_entry, IsKnown, IsKnownProcess, IsKnownToProcesses, IsKnownToSemaphores}
 use Rattle.apex_types.specs.History.{is_no_error, is_wait_on, is_process_create, creates_process, creates_semaphore, is_process_created, is_accepted_signal, process_after, semaphore_after, objects_after, Objects, SemaphoreObject}
-use Rattle.apex_types.specs.SemaphoreServices.{semaphore_service, semaphore_of}
-use Rattle.apex_types.specs.ProcessServices.{ProcessOutcome, process_service, refused_process, create_process, initialize_core_affinity, started_by, start_process, stop_self, get_my_id, is_created}
+use Rattle.apex_types.specs.Stamps.{WaitsForOne}
+use Rattle.apex_types.specs.SemaphoreServices.{semaphore_service, semaphore_of, no_semaphore_code}
+use Rattle.apex_types.specs.ProcessServices.{ProcessOutcome, process_service, refused_process, create_process, create_named, initialize_core_affinity, started_by, start_process, set_priority, is_caller, stop_process, suspend_process, resume_process, suspend_self, get_process_id, get_process_status, own_service, own_service_by, is_created}
 use Rattle.apex_types.specs.PartitionServices.{partition_service}
 use Rattle.apex_types.specs.TimeServices.{time_service}
-use Rattle.apex_types.specs.Machine.{Outcome, service, after_semaphore, semaphore_at, no_object}
+use Rattle.apex_types.specs.Machine.{Outcome, service, after_semaphore, refused, semaphore_deed, semaphore_at, no_object}
 use Rattle.apex_types.proofs.Places.{map_places_same, set-map_places, get_or-map_places}
 use Rattle.apex_dispatch.proofs.Truths.{or_false, or_true, and_false, and_true}
 use Rattle.apex_dispatch.proofs.TimeTold.{time_kept}
 use Rattle.apex_dispatch.proofs.Waits.{newly-closed, other}
-use Rattle.apex_dispatch.specs.OpenWaits.{wakes, has_open, AreEnough, AreBounded, AreOpen}
-use Rattle.apex_dispatch.proofs.Values.{IsQuiet, quiet_same, after_quiet, process_created-push}
-use Rattle.apex_dispatch.proofs.Effects.{AreQuiet, WaitsKept, IsIdle, kept_freed}
+use Rattle.apex_dispatch.specs.OpenWaits.{wakes, has_open, awaited, AreEnough, AreBounded, AreOpen}
+use Rattle.apex_dispatch.proofs.Values.{IsQuiet, quiet_same, quiet_refused, after_quiet, process_created-push}
+use Rattle.apex_dispatch.proofs.Effects.{AreQuiet, WaitsKept, IsIdle, kept_freed, kept_same}
 use Rattle.apex_dispatch.proofs.SemaphoreTold.{told_service, below_service}
-use Rattle.apex_dispatch.proofs.OtherTold.{partition_spares, process_spares}
+use Rattle.apex_dispatch.proofs.OtherTold.{partition_spares, process_keeps}
 
 -- an entry that creates no process leaves which ones are created
 flags_same : (entries : List ProcessEntry) (history : List Entry) (e : Entry) → ((p : ℕ) → creates_process p e ≡ false)
@@ -94,11 +99,12 @@ module _ (number now : ℕ) (who : Who) (caller : Caller) (history : List Entry)
       is = flags_same entries history (entry_with (ToProcess call) (Code code) []) (λ p. rw refused (and_false _));
     }
 
-    flagged_create : (p : ℕ) → p < length entries → IsFlagged (CreateProcess p) (create_process roster flags p)
+    flagged_create : (p : ℕ) → p < length entries → IsFlagged (CreateProcess (process.Known p)) (create_process roster flags p)
     flagged_create p within =
-        flagged_if (CreateProcess p) (is_normal roster.mode) _ _ (flagged_refused (CreateProcess p) InvalidMode refl)
-        (flagged_if (CreateProcess p) (is_created flags p) _ _ (flagged_refused (CreateProcess p) NoAction refl)
-        (record { is = flags_set entries history (entry_with (ToProcess (CreateProcess p)) (Code NoError) []) p within (λ q. and_true (q == p)) }))
+        let call = CreateProcess (process.Known p) in
+        flagged_if call (is_normal roster.mode) _ _ (flagged_refused call InvalidMode refl)
+        (flagged_if call (is_created flags p) _ _ (flagged_refused call NoAction refl)
+        (record { is = flags_set entries history (entry_with (ToProcess call) (Code NoError) []) p within (λ q. and_true (q == p)) }))
 
     flagged_affinity : (p core : ℕ) → IsFlagged (InitializeProcessCoreAffinity p core) (initialize_core_affinity cores roster flags p core)
     flagged_affinity p core =
@@ -127,24 +133,97 @@ module _ (number now : ℕ) (who : Who) (caller : Caller) (history : List Entry)
         (flagged_if call ((record_at roster p).started) _ _ (flagged_refused call NoAction refl)
         (flagged_started_by call plain p delay))
 
-    flagged_my_id : (by : Caller) → IsFlagged GetMyId (get_my_id roster flags by)
-    flagged_my_id (Process p) = flagged_plain GetMyId (λ q. refl) (get_my_id roster flags (Process p)) refl
-    flagged_my_id Init = flagged_refused GetMyId InvalidMode refl
-    flagged_my_id Nobody = flagged_refused GetMyId InvalidMode refl
+    flagged_named : (named : NamedProcess) → IsKnownProcess (length entries) named → IsFlagged (CreateProcess named) (create_named roster flags named)
+    flagged_named (process.Known p) known = flagged_create p known
+    flagged_named (process.Unknown name) known =
+        flagged_if (CreateProcess (process.Unknown name)) (is_normal roster.mode) _ _
+        (flagged_refused (CreateProcess (process.Unknown name)) InvalidMode refl)
+        (flagged_refused (CreateProcess (process.Unknown name)) InvalidConfig refl)
 
-    flagged_stop : (by : Caller) → IsFlagged StopSelf (stop_self roster flags by)
-    flagged_stop (Process p) = record { is = flags_same entries history _ (λ q. refl) }
-    flagged_stop Init = flagged_refused StopSelf InvalidMode refl
-    flagged_stop Nobody = flagged_refused StopSelf InvalidMode refl
+    -- the services that create nothing
+    stays_if : (b : Bool) (x y : ProcessOutcome) → x.created ≡ flags → y.created ≡ flags → (cond b x y).created ≡ flags
+    stays_if true x y e f = e
+    stays_if false x y e f = f
+
+    stays_set_priority : (p priority : ℕ) → (set_priority roster flags p priority).created ≡ flags
+    stays_set_priority p priority =
+        stays_if (not (is_created flags p)) _ _ refl (stays_if (not (nat_le 1 priority && nat_le priority 239)) _ _ refl
+        (stays_if (not (record_at roster p).started) _ _ refl refl))
+
+    stays_stop : (by : Caller) (p : ℕ) → (stop_process roster flags by p).created ≡ flags
+    stays_stop by p =
+        stays_if (is_caller p by) _ _ refl (stays_if (not (is_created flags p)) _ _ refl
+        (stays_if (not (record_at roster p).started) _ _ refl refl))
+
+    stays_suspend : (by : Caller) (p : ℕ) → (suspend_process roster flags by p).created ≡ flags
+    stays_suspend by p =
+        stays_if (is_caller p by) _ _ refl (stays_if (not (is_created flags p)) _ _ refl
+        (stays_if (not (record_at roster p).started) _ _ refl (stays_if (is_some (record_at roster p).suspended) _ _ refl refl)))
+
+    stays_resume : (by : Caller) (p : ℕ) → (resume_process roster flags by p).created ≡ flags
+    stays_resume by p =
+        stays_if (is_caller p by) _ _ refl (stays_if (not (is_created flags p)) _ _ refl
+        (stays_if (not (record_at roster p).started) _ _ refl (stays_if (is_none (record_at roster p).suspended) _ _ refl refl)))
+
+    stays_id : (named : NamedProcess) → (get_process_id roster flags named).created ≡ flags
+    stays_id (process.Known p) = stays_if (not (is_created flags p)) _ _ refl refl
+    stays_id (process.Unknown name) = refl
+
+    stays_status : (p : ℕ) → (get_process_status roster flags p).created ≡ flags
+    stays_status p = stays_if (not (is_created flags p)) _ _ refl refl
+
+    stays_suspend_self : (p : ℕ) (timeout : Timeout) → (suspend_self roster flags p timeout).created ≡ flags
+    stays_suspend_self p Poll = refl
+    stays_suspend_self p (Ticks n) = refl
+    stays_suspend_self p Infinite = refl
+
+    stays_own_of : (p : ℕ) (call : ProcessCall) → (own_service roster flags p call).created ≡ flags
+    stays_own_of p StopSelf = refl
+    stays_own_of p (SuspendSelf timeout) = stays_suspend_self p timeout
+    stays_own_of p GetMyId = refl
+    stays_own_of p GetMyProcessorCoreId = refl
+    stays_own_of p (CreateProcess named) = refl
+    stays_own_of p (InitializeProcessCoreAffinity q core) = refl
+    stays_own_of p (SetPriority q priority) = refl
+    stays_own_of p (Start q) = refl
+    stays_own_of p (DelayedStart q delay) = refl
+    stays_own_of p (Stop q) = refl
+    stays_own_of p (Suspend q) = refl
+    stays_own_of p (Resume q) = refl
+    stays_own_of p (GetProcessId named) = refl
+    stays_own_of p (GetProcessStatus q) = refl
+
+    stays_own : (by : Caller) (call : ProcessCall) → (own_service_by roster flags by call).created ≡ flags
+    stays_own (Process p) call = stays_own_of p call
+    stays_own Init call = refl
+    stays_own Nobody call = refl
 
     flagged_service : (call : ProcessCall) → IsKnownToProcesses (length entries) call
         → IsFlagged call (process_service cores roster flags caller call)
-    flagged_service (CreateProcess p) known = flagged_create p known
+    flagged_service (CreateProcess named) known = flagged_named named known
     flagged_service (InitializeProcessCoreAffinity p core) known = flagged_affinity p core
     flagged_service (Start p) known = flagged_start (Start p) (λ q. refl) p Poll
     flagged_service (DelayedStart p delay) known = flagged_start (DelayedStart p delay) (λ q. refl) p delay
-    flagged_service StopSelf known = flagged_stop caller
-    flagged_service GetMyId known = flagged_my_id caller
+    flagged_service (SetPriority p priority) known = flagged_plain _ (λ q. refl) _ (stays_set_priority p priority)
+    flagged_service (Stop p) known = flagged_plain _ (λ q. refl) _ (stays_stop caller p)
+    flagged_service (Suspend p) known = flagged_plain _ (λ q. refl) _ (stays_suspend caller p)
+    flagged_service (Resume p) known = flagged_plain _ (λ q. refl) _ (stays_resume caller p)
+    flagged_service (GetProcessId named) known = flagged_plain _ (λ q. refl) _ (stays_id named)
+    flagged_service (GetProcessStatus p) known = flagged_plain _ (λ q. refl) _ (stays_status p)
+    flagged_service StopSelf known = flagged_plain _ (λ q. refl) _ (stays_own caller StopSelf)
+    flagged_service (SuspendSelf timeout) known = flagged_plain _ (λ q. refl) _ (stays_own caller (SuspendSelf timeout))
+    flagged_service GetMyId known = flagged_plain _ (λ q. refl) _ (stays_own caller GetMyId)
+    flagged_service GetMyProcessorCoreId known = flagged_plain _ (λ q. refl) _ (stays_own caller GetMyProcessorCoreId)
+
+-- the semaphore that a call names is one of so many
+pub known_target : (many : ℕ) (call : SemaphoreCall) (s : ℕ) → semaphore_of call ≡ Some s → IsKnownToSemaphores many call → s < many
+known_target many (CreateSemaphore (semaphore.Known t)) s is h = omega (arith, h, same_Some t s is)
+known_target many (CreateSemaphore (semaphore.Unknown name)) s is h = absurd (none-some s is)
+known_target many (WaitSemaphore t timeout) s is h = omega (arith, h, same_Some t s is)
+known_target many (SignalSemaphore t) s is h = omega (arith, h, same_Some t s is)
+known_target many (GetSemaphoreId (semaphore.Known t)) s is h = omega (arith, h, same_Some t s is)
+known_target many (GetSemaphoreId (semaphore.Unknown name)) s is h = absurd (none-some s is)
+known_target many (GetSemaphoreStatus t) s is h = omega (arith, h, same_Some t s is)
 
 -- an entry whose call is of no semaphore, and that wakes only processes without an open wait
 quiet_closed : (history : List Entry) (e : Entry) → ((p s : ℕ) → wakes p e ≡ true → has_open s p history ≡ false)
@@ -173,7 +252,7 @@ bounded_quiet table history e bounded quiet s within =
     let same = quiet_same s (semaphore_entry table s) history e (quiet s) in
     rw (ap (λ (o : SemaphoreObject). o.value) same) (bounded s within)
 
-module _ (number now : ℕ) (who : Who) (table : Table) (history : List Entry) (roster : Roster) (enough : AreEnough table history) (bounded : AreBounded table history) (open_waits : AreOpen roster history) where
+module _ (number now : ℕ) (who : Who) (table : Table) (history : List Entry) (roster : Roster) (enough : AreEnough table history) (bounded : AreBounded table history) (open_waits : AreOpen roster history) (one : WaitsForOne roster) where
   -- after a service the objects, and who waits, are as the history then says
   pub record IsExact (caller : Caller) (call : Call) (o : Outcome) : Type 0 where
     pub objects : objects_after table (history ++ entry_with number now who caller history call o.reply o.notices ∷ []) ≡ o.objects
@@ -182,22 +261,21 @@ module _ (number now : ℕ) (who : Who) (table : Table) (history : List Entry) (
     pub bounded_after : AreBounded table (history ++ entry_with number now who caller history call o.reply o.notices ∷ [])
 
   -- who waits for a semaphore has an open wait on it
-  waits_open : (p s : ℕ) → (record_at roster p).wait ≡ Some (Semaphore s) → has_open s p history ≡ true
-  waits_open p s h = open_waits p s (Semaphore s) h refl ∙ eq-eqb s s refl
+  waits_open : (p s : ℕ) → awaited (record_at roster p) ≡ Some (Semaphore s) → has_open s p history ≡ true
+  waits_open p s h = open_waits p s (Semaphore s) h ∙ eq-eqb s s refl
 
   abbrev objects : Objects
   objects = objects_after table history
 
-  exact_semaphore : (caller : Caller) (idle : IsIdle caller roster) (call : SemaphoreCall) → semaphore_of call < length table.semaphores
+  exact_semaphore : (caller : Caller) (idle : IsIdle caller roster) (call : SemaphoreCall) (s : ℕ) → semaphore_of call ≡ Some s → s < length table.semaphores
       → IsExact caller (ToSemaphore call)
-      (after_semaphore objects (semaphore_of call)
-      (semaphore_service roster (semaphore_after history (semaphore_of call) (semaphore_entry table (semaphore_of call))) caller call))
-  exact_semaphore caller idle call within =
-      let s = semaphore_of call in
+      (after_semaphore objects s
+      (semaphore_service roster (semaphore_after history s (semaphore_entry table s)) s caller call))
+  exact_semaphore caller idle call s is within =
       let entry = semaphore_entry table s in
-      let o = semaphore_service roster (semaphore_after history s entry) caller call in
+      let o = semaphore_service roster (semaphore_after history s entry) s caller call in
       let e = entry_with number now who caller history (ToSemaphore call) o.reply o.notices in
-      let told = told_service number now who history roster waits_open entry caller idle call (enough s within) in
+      let told = told_service number now who history roster waits_open entry caller idle call s is (enough s within) in
       record {
         objects = objects_by _ _ _ _ (flags_same table.processes history e (λ p. refl))
             (sym (set-map_places (semaphore_after history) (semaphore_after (history ++ e ∷ [])) table.semaphores s o.semaphore no_semaphore no_object within
@@ -210,7 +288,7 @@ module _ (number now : ℕ) (who : Who) (table : Table) (history : List Entry) (
         ];
         bounded_after = λ t inside. elim (cases_eq t s) [
           | inl same ↦
-              let below = below_service roster (semaphore_after history s entry) (bounded s within) caller call in
+              let below = below_service roster (semaphore_after history s entry) (bounded s within) s caller call in
               let is = ap (λ (x : SemaphoreObject). x.value) told.own.is in
               rw same (rw is below)
           | inr differs ↦
@@ -219,12 +297,46 @@ module _ (number now : ℕ) (who : Who) (table : Table) (history : List Entry) (
         ];
       }
 
+  -- a call of a name that is no entry's
+  exact_unknown : (caller : Caller) (idle : IsIdle caller roster) (call : SemaphoreCall) → semaphore_of call ≡ None → (code : ReturnCode) → is_no_error code ≡ false
+      → IsExact caller (ToSemaphore call) (refused roster objects code)
+  exact_unknown caller idle call is code bad =
+      let e = entry_with number now who caller history (ToSemaphore call) (Code code) [] in
+      let quiet = λ (s : ℕ). quiet_refused s history e bad (λ p. refl) in
+      record {
+        objects = objects_by _ _ _ _ (flags_same table.processes history e (λ p. refl)) (semaphores_same table.semaphores history e quiet);
+        waits = kept_same caller (ToSemaphore call) roster idle (Code code) [] (λ p. refl);
+        enough_after = enough_quiet table history e enough quiet;
+        bounded_after = bounded_quiet table history e bounded quiet;
+      }
+
+  no_semaphore_refused : (call : SemaphoreCall) → is_no_error (no_semaphore_code roster call) ≡ false
+  no_semaphore_refused (CreateSemaphore named) = by_mode (is_normal roster.mode) where
+    by_mode : (b : Bool) → is_no_error (if b then InvalidMode else InvalidConfig) ≡ false
+    by_mode true = refl
+    by_mode false = refl
+  no_semaphore_refused (WaitSemaphore s timeout) = refl
+  no_semaphore_refused (SignalSemaphore s) = refl
+  no_semaphore_refused (GetSemaphoreId named) = refl
+  no_semaphore_refused (GetSemaphoreStatus s) = refl
+
+  exact_target : (caller : Caller) (idle : IsIdle caller roster) (call : SemaphoreCall) (target : Option ℕ) → semaphore_of call ≡ target
+      → IsKnownToSemaphores (length table.semaphores) call
+      → IsExact caller (ToSemaphore call) (semaphore_deed roster objects caller call target)
+  exact_target caller idle call None is known = exact_unknown caller idle call is (no_semaphore_code roster call) (no_semaphore_refused call)
+  exact_target caller idle call (Some s) is known =
+      let within = known_target (length table.semaphores) call s is known in
+      let z : 0 + s ≡ s = omega arith in
+      let object : semaphore_at objects s ≡ semaphore_after history s (semaphore_entry table s) =
+      rw (get_or-map_places (semaphore_after history) 0 table.semaphores s no_semaphore no_object within, z) refl in
+      rw object (exact_semaphore caller idle call s is within)
+
   pub exact_service : (caller : Caller) (idle : IsIdle caller roster) (call : Call) → IsKnown table call
       → IsExact caller call (service table.cores roster objects caller call)
   exact_service caller idle (Partition call) known =
-      let o = partition_service roster call in
+      let o = partition_service table.cores roster call in
       let e = entry_with number now who caller history (Partition call) o.reply o.notices in
-      let spares = partition_spares roster call in
+      let spares = partition_spares table.cores roster call in
       let quiet = quiet_everywhere history e spares.quiet (λ s. refl) (λ s. refl) (λ s. refl) in
       record {
         objects = objects_by _ _ _ _ (flags_same table.processes history e (λ p. refl)) (semaphores_same table.semaphores history e quiet);
@@ -235,12 +347,13 @@ module _ (number now : ℕ) (who : Who) (table : Table) (history : List Entry) (
   exact_service caller idle (ToProcess call) known =
       let o = process_service table.cores roster objects.processes caller call in
       let e = entry_with number now who caller history (ToProcess call) o.reply o.notices in
-      let spares = process_spares table.cores roster objects.processes caller call in
-      let quiet = quiet_everywhere history e spares.quiet (λ s. refl) (λ s. refl) (λ s. refl) in
+      let keeps = process_keeps table.cores roster objects.processes one caller idle call in
+      let closed : (p s : ℕ) → wakes p e ≡ true → has_open s p history ≡ false = λ p s woken. open_waits p s Time (keeps.closed p woken) in
+      let quiet = quiet_closed history e closed (λ s. refl) (λ s. refl) (λ s. refl) in
       let flagged = flagged_service number now who caller history table.processes table.cores roster call known in
       record {
         objects = objects_by _ _ _ _ flagged.is (semaphores_same table.semaphores history e quiet);
-        waits = kept_freed caller (ToProcess call) roster o.roster idle o.reply o.notices spares.quiet spares.frees;
+        waits = keeps.waits;
         enough_after = enough_quiet table history e enough quiet;
         bounded_after = bounded_quiet table history e bounded quiet;
       }
@@ -254,19 +367,7 @@ module _ (number now : ℕ) (who : Who) (table : Table) (history : List Entry) (
         enough_after = enough_quiet table history e enough quiet;
         bounded_after = bounded_quiet table history e bounded quiet;
       }
-  exact_service caller idle (ToSemaphore call) known =
-      let s = semaphore_of call in
-      let entry = semaphore_entry table s in
-      let within = within_table call known in
-      let z : 0 + s ≡ s = omega arith in
-      let object : semaphore_at objects s ≡ semaphore_after history s entry =
-      rw (get_or-map_places (semaphore_after history) 0 table.semaphores s no_semaphore no_object within, z) refl in
-      rw object (exact_semaphore caller idle call within) where
-        within_table : (call : SemaphoreCall) → IsKnownToSemaphores (length table.semaphores) call → semaphore_of call < length table.semaphores
-        within_table (CreateSemaphore s) h = h
-        within_table (WaitSemaphore s timeout) h = h
-        within_table (SignalSemaphore s) h = h
-        within_table (GetSemaphoreStatus s) h = h
+  exact_service caller idle (ToSemaphore call) known = exact_target caller idle call (semaphore_of call) refl known
 
 -- an idle turn or a tick changes nothing, where it wakes with NO_ERROR only processes that have no open
 -- wait

@@ -14,7 +14,7 @@ use Rattle.apex_types.specs.Roster.{Roster, nobody, record_at, opening_record}
 use Rattle.apex_types.specs.Running.{chosen}
 use Rattle.apex_types.specs.Dues.{HasNoPastDue}
 use Rattle.apex_types.specs.Distinct.{IsStamped}
-use Rattle.apex_types.specs.Stamps.{advance_to}
+use Rattle.apex_types.specs.Stamps.{advance_to, WaitsForOne}
 use Rattle.apex_types.specs.Ticks.{tick_goal, pass_time}
 use Rattle.apex_types.specs.History.{Objects, objects_after, init_count, is_by_init}
 use Rattle.apex_types.specs.Machine.{Deed, script_deed, chosen_deed, step_of, turn_deed, tick_deed, due_init_call, opening, deed_of, after_deed, turn, tick, entry_of, Machine}
@@ -23,6 +23,7 @@ use Rattle.apex_types.proofs.DistinctStamps.{stamped_opening, stamped_advance_to
 use Rattle.apex_types.proofs.Dues.{goal_forward, goal_near, goal_not_past}
 use Rattle.apex_types.proofs.Reaches.{Reaches}
 use Rattle.apex_dispatch.specs.Kernel.{Running, IsSound, IsKept, running}
+use Rattle.apex_dispatch.specs.OpenWaits.{awaited}
 use Rattle.apex_dispatch.proofs.Known.{known_script_step}
 use Rattle.apex_dispatch.proofs.Reach.{reach_turn, reach_serve_dues}
 use Rattle.apex_dispatch.proofs.Turns.{IsDeedExact, due_known, exact_deed}
@@ -55,10 +56,10 @@ sound_deed : (table : Table) (machine : Machine) (who : Who) (deed : Deed) (init
     → is_by_init deed.caller ≡ made
     → length deed.outcome.roster.records ≡ length machine.roster.records
     → deed.outcome.roster.young ≤ℤ (machine.roster.young +ℤ pos 64)
-    → IsStamped deed.outcome.roster → HasNoPastDue deed.outcome.roster
+    → IsStamped deed.outcome.roster → HasNoPastDue deed.outcome.roster → WaitsForOne deed.outcome.roster
     → IsDeedExact table machine.history (length machine.history + 1) who deed
     → IsSound (running table (after_deed machine who deed)) (init_made + (if made then 1 else 0)) room
-sound_deed table machine who deed init_made room made sound by many few stamped dues exact =
+sound_deed table machine who deed init_made room made sound by many few stamped dues one exact =
     let history = machine.history in
     let e = entry_of (length history + 1) who deed in
     let longer : length (history ++ e ∷ []) ≡ length history + 1 = rw length-append refl in
@@ -71,6 +72,7 @@ sound_deed table machine who deed init_made room made sound by many few stamped 
       stamps = rw longer (omega (arith, ints, few, sound.stamps));
       stamped = stamped;
       dues = dues;
+      one = one;
       enough = exact.enough;
       bounded = exact.bounded;
       waiting = exact.waiting;
@@ -96,8 +98,8 @@ sound_turn table machine core init_made room sound =
     let reaches = turn_reaches table machine core init_made room sound in
     sound_deed table machine (Core core) (deed_of table machine core) init_made room (is_some due) sound
     (turn_caller table machine.roster (objects_after table machine.history) core due)
-    reaches.many reaches.stamps (reaches.stamped sound.stamped) (reaches.dues sound.dues)
-    (exact_deed table machine core sound.lawful sound.records sound.enough sound.bounded sound.waiting)
+    reaches.many reaches.stamps (reaches.stamped sound.stamped) (reaches.dues sound.dues) (reaches.one sound.one)
+    (exact_deed table machine core sound.lawful sound.records sound.enough sound.bounded sound.waiting sound.one)
 
 pub now_turn : (table : Table) (machine : Machine) (core init_made room : ℕ) → IsSound (running table machine) init_made room
     → (turn table machine core).roster.now ≡ machine.roster.now
@@ -121,7 +123,7 @@ sound_tick table machine n init_made room sound =
     rw same at (sound_deed table machine Ticker (tick_deed roster objects n) init_made room false sound refl
     reaches.many (omega (arith, ints, reaches.stamps, sound.records, count))
     (reaches.stamped (stamped_advance_to roster sound.stamped (tick_goal roster n)))
-    (reaches.dues (goal_not_past roster n))
+    (reaches.dues (goal_not_past roster n)) (reaches.one sound.one)
     (exact_tick table machine n sound.enough sound.bounded sound.waiting))
 
 -- a tick goes forward, and n at the most
@@ -170,7 +172,7 @@ pub turn_is : (table : Table) (machine : Machine) (objects : Objects) (core init
 unfolding turn
 turn_is table machine objects core init_made room kept =
     let sound = kept.sound in
-    let exact = exact_deed table machine core sound.lawful sound.records sound.enough sound.bounded sound.waiting in
+    let exact = exact_deed table machine core sound.lawful sound.records sound.enough sound.bounded sound.waiting sound.one in
     rw (sound.objects, exact.objects) refl
 
 -- the same of a kernel that is the one after a turn
@@ -213,11 +215,17 @@ sound_opening table lawful =
       stamps = omega (arith, ints, count);
       stamped = stamped_opening table;
       dues = λ p t h. omega arith;
+      one = λ p h. opening_waits table.processes 0 p;
       enough = λ s h. omega arith;
       bounded = λ s h. omega (arith, (lawful.semaphores s h).initial);
-      waiting = λ p s w h asked. absurd (opening_free table.processes 0 p w h);
+      waiting = λ p s w h. absurd (opening_free table.processes 0 p w h);
     } where
-      opening_free : (entries : List ProcessEntry) (q p : ℕ) (w : Wait) → (get_or (map_places opening_record q entries) p nobody).wait ≡ Some w → ⊥
+      opening_waits : (entries : List ProcessEntry) (q p : ℕ) → (get_or (map_places opening_record q entries) p nobody).wait ≡ None
+      opening_waits [] q p = refl
+      opening_waits (e ∷ entries) q zero = refl
+      opening_waits (e ∷ entries) q (suc p) = opening_waits entries (q + 1) p
+
+      opening_free : (entries : List ProcessEntry) (q p : ℕ) (w : Wait) → awaited (get_or (map_places opening_record q entries) p nobody) ≡ Some w → ⊥
       opening_free [] q p w h = none-some w h
       opening_free (e ∷ entries) q zero w h = none-some w h
       opening_free (e ∷ entries) q (suc p) w h = opening_free entries (q + 1) p w h

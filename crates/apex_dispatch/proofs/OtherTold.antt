@@ -1,97 +1,150 @@
--- The services of processes and of the partition leave the semaphores alone, and who waits for them.
-use Rattle.std.proofs.Common.{◌≡◌, ℕ, ◌+◌, ◌==◌, Bool, true, false, cond, ◌&&◌, not, List, [], ◌∷◌, length, Option, None, Some, nat_lt, if◌then◌else◌, refl, ap, ◌∙◌}
-use Rattle.std.proofs.lemmas.Option.{none-some, same_Some}
-use Rattle.std.proofs.lemmas.Bool.{both_ways}
+-- The services of processes and of the partition leave the semaphores alone: whom they wake had waited
+-- for time.
+use Rattle.std.proofs.Common.{◌≡◌, ◌≢◌, ℕ, zero, suc, ◌+◌, ◌==◌, set, Bool, true, false, cond, ◌&&◌, ◌||◌, not, List, [], ◌∷◌, map, get_or, length, Option, None, Some, is_some, is_none, nat_lt, nat_le, if◌then◌else◌, refl, ap, sym, ◌∙◌}
+use Rattle.std.specs.List.{list_any}
+use Rattle.std.proofs.lemmas.Option.{none-some}
+use Rattle.std.proofs.lemmas.Bool.{both_ways, cond_both, eqb-true, and_parts}
 use Rattle.std.proofs.lemmas.List.Folds.{list_any-append}
+use Rattle.apex_types.specs.declared.Call.{Call}
+use Rattle.apex_types.specs.declared.Call.TheVariants.{Partition, Process as ToProcess}
+use Rattle.apex_types.specs.declared.NamedProcess.{NamedProcess}
+use Rattle.apex_types.specs.declared.NamedProcess.TheVariants.{Known, Unknown}
 use Rattle.apex_types.specs.declared.PartitionCall.{PartitionCall}
-use Rattle.apex_types.specs.declared.PartitionCall.TheVariants.{SetPartitionMode}
+use Rattle.apex_types.specs.declared.PartitionCall.TheVariants.{SetPartitionMode, GetPartitionStatus}
 use Rattle.apex_types.specs.declared.RequestedMode.TheVariants as requested
 use Rattle.apex_types.specs.declared.ProcessCall.{ProcessCall}
-use Rattle.apex_types.specs.declared.ProcessCall.TheVariants.{CreateProcess, InitializeProcessCoreAffinity, Start as ToStart, DelayedStart, StopSelf, GetMyId}
+use Rattle.apex_types.specs.declared.ProcessCall.TheVariants.{CreateProcess, InitializeProcessCoreAffinity, SetPriority, Start as ToStart, DelayedStart, Stop, StopSelf, Suspend, Resume, SuspendSelf, GetMyId, GetMyProcessorCoreId, GetProcessId, GetProcessStatus}
 use Rattle.apex_types.specs.declared.Caller.{Caller}
 use Rattle.apex_types.specs.declared.Caller.TheVariants.{Process, Init, Nobody}
 use Rattle.apex_types.specs.declared.Mode.TheVariants as mode
 use Rattle.apex_types.specs.declared.Notice.{Notice}
-use Rattle.apex_types.specs.declared.Notice.TheVariants.{Released}
-use Rattle.apex_types.specs.declared.Reply.TheVariants.{Code}
+use Rattle.apex_types.specs.declared.Notice.TheVariants.{Woken, Released}
+use Rattle.apex_types.specs.declared.Record.{Record}
+use Rattle.apex_types.specs.declared.Reply.{Reply}
+use Rattle.apex_types.specs.declared.Reply.TheVariants.{Code, Value, Status, Gone}
 use Rattle.apex_types.specs.declared.ReturnCode.{ReturnCode}
-use Rattle.apex_types.specs.declared.ReturnCode.TheVariants.{NoAction, InvalidParam, InvalidConfig, InvalidMode}
+use Rattle.apex_types.specs.declared.ReturnCode.TheVariants.{NoError, NoAction, InvalidParam, InvalidConfig, InvalidMode}
+use Rattle.apex_types.specs.declared.Suspender.TheVariants.{Other}
 use Rattle.apex_types.specs.declared.Wait.{Wait}
-use Rattle.apex_types.specs.declared.Wait.TheVariants.{Normal, Start}
+use Rattle.apex_types.specs.declared.Wait.TheVariants.{Normal, Start, Time, Semaphore}
 use Rattle.apex_types.specs.declared.Timeout.{Timeout}
 use Rattle.apex_types.specs.declared.Timeout.TheVariants.{Poll, Ticks, Infinite}
-use Rattle.apex_types.specs.Roster.{Roster, record_at, is_normal}
+use Rattle.apex_types.specs.Dues.{due_after}
+use Rattle.apex_types.specs.Roster.{Roster, nobody, record_at, is_normal}
+use Rattle.apex_types.specs.Running.{is_eligible, process_state, current_priority}
+use Rattle.apex_types.specs.Waiters.{is_ranked, is_wait_for, waits_in, waits_before, discipline_of}
 use Rattle.apex_types.specs.Stamps as stamps
 use Rattle.apex_types.specs.History.{is_waking}
 use Rattle.apex_types.specs.ProcessServices as processes
 use Rattle.apex_types.specs.PartitionServices as partitions
 use Rattle.apex_types.specs.Ticks as ticks
+use Rattle.apex_types.proofs.Choice.{place_passes}
 use Rattle.apex_types.proofs.InTurn.{holds_in_turn}
-use Rattle.apex_types.proofs.Rosters.{started}
-use Rattle.apex_dispatch.specs.OpenWaits.{is_asked}
-use Rattle.apex_dispatch.proofs.Effects.{AreQuiet, Frees, frees_none, frees_then, frees_changed, frees_moved, frees_readied}
+use Rattle.apex_types.proofs.Rosters.{started, self_suspended, unsuspended}
+use Rattle.apex_dispatch.specs.OpenWaits.{asked_of, or_suspended, awaited}
+use Rattle.apex_dispatch.proofs.Effects.{AreQuiet, WaitsKept, IsIdle, Frees, frees_none, frees_then, frees_changed, frees_moved, frees_unblock, freed_unblock, frees_lessened, awake_free, kept_freed, kept_woken, kept_waiting}
+
+-- a service frees, and wakes nobody
+pub record Spares (old new : Roster) (notices : List Notice) : Type 0 where
+  pub frees : Frees old new
+  pub quiet : AreQuiet notices
+
+pub spares_none : (roster : Roster) → Spares roster roster []
+spares_none roster = record { frees = frees_none roster; quiet = λ q. refl }
+
+-- who waits is kept, and whom the service wakes with NO_ERROR had waited for time
+pub record Keeps (caller : Caller) (call : Call) (old new : Roster) (reply : Reply) (notices : List Notice) : Type 0 where
+  pub waits : WaitsKept caller call old new reply notices
+  pub closed : (q : ℕ) → list_any (is_waking q) notices ≡ true → awaited (record_at old q) ≡ Some Time
+
+pub keeps_spared : (caller : Caller) (call : Call) (old new : Roster) (reply : Reply) (notices : List Notice) → IsIdle caller old
+    → Spares old new notices → Keeps caller call old new reply notices
+keeps_spared caller call old new reply notices idle spares = record {
+  waits = kept_freed caller call old new idle reply notices spares.quiet spares.frees;
+  closed = λ q woken. absurd (both_ways _ (spares.quiet q) woken);
+}
 
 -- the notices of a start wake nobody
 start_quiet : (now : Bool) (p : ℕ) → AreQuiet (if now then Released p ∷ [] else [])
 start_quiet true p q = refl
 start_quiet false p q = refl
 
-not_asked : (v w : Wait) → is_asked v ≡ false → Some v ≡ Some w → is_asked w ≡ true → ⊥
-not_asked v w plain e asked = both_ways _ plain (ap is_asked (same_Some v w e) ∙ asked)
-
 -- who is started did not ask for what it waits for
-start_free : (normal at_once : Bool) (w : Wait)
-    → (if not normal then Some Normal else if at_once then None else Some Start) ≡ Some w → is_asked w ≡ true → ⊥
-start_free false at_once w e asked = not_asked Normal w refl e asked
-start_free true true w e asked = none-some w e
-start_free true false w e asked = not_asked Start w refl e asked
+start_free : (normal at_once : Bool)
+    → or_suspended (asked_of (if not normal then Some Normal else if at_once then None else Some Start)) false ≡ None
+start_free false at_once = refl
+start_free true true = refl
+start_free true false = refl
+
+-- a process that waits for NORMAL asked for nothing
+asks_nothing : (wait : Option Wait) → is_wait_for Normal wait ≡ true → asked_of wait ≡ None
+asks_nothing None h = cc
+asks_nothing (Some Normal) h = refl
+asks_nothing (Some Start) h = cc
+asks_nothing (Some Time) h = cc
+asks_nothing (Some (Semaphore s)) h = cc
+
+starting : (roster : Roster) (p : ℕ) → partitions.first_to_start roster ≡ Some p → asked_of (record_at roster p).wait ≡ None
+unfolding waits_in
+starting roster p e =
+    asks_nothing _ (place_passes (waits_in Normal) (waits_before (discipline_of roster Normal)) roster.records p nobody e)
 
 -- the entry into NORMAL
-begin_frees : (roster : Roster) (p : ℕ) (at_once : Bool) (due : Option ℕ)
+begin_frees : (roster : Roster) (p : ℕ) → asked_of (record_at roster p).wait ≡ None → (at_once : Bool) (due : Option ℕ)
     → Frees roster (cond at_once (ticks.released roster p) (record { roster = stamps.block roster p Start due; notices = [] })).roster
-begin_frees roster p true due = frees_readied roster p (record (record_at roster p) { wait = None; due = None }) refl
-begin_frees roster p false due =
-    frees_changed roster (stamps.block roster p Start due) p (record (record_at roster p) { wait = Some Start; due = due; since = roster.young }) refl
-    (λ w e asked. start_free true false w e asked)
+begin_frees roster p plain true due = frees_unblock roster p
+begin_frees roster p plain false due =
+    let r : Record = record (record_at roster p) { suspended = stamps.suspension_awake (record_at roster p).suspended; wait = Some Start; due = due; since = roster.young } in
+    frees_changed roster (stamps.block roster p Start due) p r refl (awake_free (record_at roster p).suspended)
 
 begin_quiet : (roster : Roster) (p : ℕ) (at_once : Bool) (due : Option ℕ)
     → AreQuiet (cond at_once (ticks.released roster p) (record { roster = stamps.block roster p Start due; notices = [] })).notices
 begin_quiet roster p true due q = refl
 begin_quiet roster p false due q = refl
 
--- what a service of the partition, of processes or of time does to who waits: it frees, and wakes
--- nobody
-pub record Spares (old new : Roster) (notices : List Notice) : Type 0 where
-  pub frees : Frees old new
-  pub quiet : AreQuiet notices
-
-enter_starts : (roster : Roster) → Spares roster (partitions.enter_normal roster).roster (partitions.enter_normal roster).notices
+enter_spares : (roster : Roster) → Spares roster (partitions.enter_normal roster).roster (partitions.enter_normal roster).notices
 unfolding partitions.enter_normal
-enter_starts roster =
+enter_spares roster =
     holds_in_turn partitions.first_to_start partitions.begin_start (Spares roster)
     (λ r notices p is holds.
     let delay = (record_at r p).delay in
     let quiet = begin_quiet r p (delay == 0) (Some (r.now + delay)) in
     record {
-      frees = frees_then holds.frees (begin_frees r p (delay == 0) (Some (r.now + delay)));
+      frees = frees_then holds.frees (begin_frees r p (starting r p is) (delay == 0) (Some (r.now + delay)));
       quiet = λ q. list_any-append (is_waking q) notices (partitions.begin_start r p).notices ∙ rw (holds.quiet q, quiet q) refl;
     })
     (length roster.records) (stamps.set_mode roster mode.Normal) []
-    (record { frees = record { still = λ q w h asked. h }; quiet = λ q. refl })
+    (record { frees = record { still = λ q w h. h }; quiet = λ q. refl })
 
-set_mode_spares : (roster : Roster) (normal : Bool)
+-- in IDLE nobody waits
+stopped_free : (rs : List Record) (p : ℕ) → awaited (get_or (map stamps.stopped rs) p nobody) ≡ None
+stopped_free [] p = refl
+stopped_free (r ∷ rs) p = at_place p where
+  at_place : (p : ℕ) → awaited (get_or (map stamps.stopped (r ∷ rs)) p nobody) ≡ None
+  at_place zero = refl
+  at_place (suc p) = stopped_free rs p
+
+idle_spares : (roster : Roster) → Spares roster (partitions.enter_idle roster) []
+idle_spares roster = record {
+  frees = record { still = λ q w h. absurd (none-some w (sym (stopped_free roster.records q) ∙ h)) };
+  quiet = λ q. refl;
+}
+
+normal_spares : (roster : Roster) (normal : Bool)
     → Spares roster
     (cond normal (record { roster = roster; reply = Code NoAction; notices = [] }) (partitions.entered_normal (partitions.enter_normal roster))).roster
     (cond normal (record { roster = roster; reply = Code NoAction; notices = [] }) (partitions.entered_normal (partitions.enter_normal roster))).notices
-set_mode_spares roster true = record { frees = frees_none roster; quiet = λ q. refl }
-set_mode_spares roster false = enter_starts roster
+normal_spares roster true = spares_none roster
+normal_spares roster false = enter_spares roster
 
-pub partition_spares : (roster : Roster) (call : PartitionCall)
-    → Spares roster (partitions.partition_service roster call).roster (partitions.partition_service roster call).notices
-partition_spares roster (SetPartitionMode requested.Normal) = set_mode_spares roster (is_normal roster.mode)
+pub partition_spares : (cores : ℕ) (roster : Roster) (call : PartitionCall)
+    → Spares roster (partitions.partition_service cores roster call).roster (partitions.partition_service cores roster call).notices
+partition_spares cores roster (SetPartitionMode requested.Idle) = idle_spares roster
+partition_spares cores roster (SetPartitionMode requested.Normal) = normal_spares roster (is_normal roster.mode)
+partition_spares cores roster GetPartitionStatus = spares_none roster
 
--- the services of process management
-module _ (cores : ℕ) (roster : Roster) (created : List Bool) where
+-- the services of process management that wake nobody, and let nobody wait
+module _ (roster : Roster) (created : List Bool) where
   abbrev SparesAll : processes.ProcessOutcome → Type 0
   SparesAll o = Spares roster o.roster o.notices
 
@@ -99,8 +152,24 @@ module _ (cores : ℕ) (roster : Roster) (created : List Bool) where
   spares_if true x y p q = p
   spares_if false x y p q = q
 
-  spares_refused : (code : ReturnCode) → SparesAll (processes.refused_process roster created code)
-  spares_refused code = record { frees = frees_none roster; quiet = λ q. refl }
+  same : Spares roster roster []
+  same = spares_none roster
+
+  -- a record changes, but not what its process waits for
+  moved : (new : Roster) (p : ℕ) (r : Record) → new.records ≡ set roster.records p r
+      → ((w : Wait) → awaited r ≡ Some w → awaited (record_at roster p) ≡ Some w) → Spares roster new []
+  moved new p r is less = record { frees = frees_moved roster new p r is less; quiet = λ q. refl }
+
+  create_spares : (named : NamedProcess) → SparesAll (processes.create_named roster created named)
+  create_spares (Known p) =
+      spares_if (is_normal roster.mode) _ _ same (spares_if (processes.is_created created p) _ _ same same)
+  create_spares (Unknown name) = spares_if (is_normal roster.mode) _ _ same same
+
+  affinity_spares : (cores p core : ℕ) → SparesAll (processes.initialize_core_affinity cores roster created p core)
+  affinity_spares cores p core =
+      spares_if (is_normal roster.mode) _ _ same (spares_if (not (processes.is_created created p)) _ _ same
+      (spares_if (not (nat_lt core cores)) _ _ same
+      (moved (stamps.set_core roster p core) p (record (record_at roster p) { core = core }) refl (λ w h. h))))
 
   after_spares : (p delay : ℕ) → SparesAll (processes.started_after roster created p delay)
   after_spares p delay = record {
@@ -112,48 +181,165 @@ module _ (cores : ℕ) (roster : Roster) (created : List Bool) where
   started_spares : (p : ℕ) (delay : Timeout) → SparesAll (processes.started_by roster created p delay)
   started_spares p Poll = after_spares p 0
   started_spares p (Ticks n) = after_spares p n
-  started_spares p Infinite = spares_refused InvalidParam
+  started_spares p Infinite = same
 
   start_spares : (p : ℕ) (delay : Timeout) → SparesAll (processes.start_process roster created p delay)
   start_spares p delay =
-      spares_if (not (processes.is_created created p)) _ _ (spares_refused InvalidParam)
-      (spares_if ((record_at roster p).started) _ _ (spares_refused NoAction) (started_spares p delay))
+      spares_if (not (processes.is_created created p)) _ _ same
+      (spares_if ((record_at roster p).started) _ _ same (started_spares p delay))
 
-  affinity_spares : (p core : ℕ) → SparesAll (processes.initialize_core_affinity cores roster created p core)
-  affinity_spares p core =
-      spares_if (is_normal roster.mode) _ _ (spares_refused InvalidMode)
-      (spares_if (not (processes.is_created created p)) _ _ (spares_refused InvalidParam)
-      (spares_if (not (nat_lt core cores)) _ _ (spares_refused InvalidConfig)
-      (record {
-        frees = frees_moved roster (stamps.set_core roster p core) p (record (record_at roster p) { core = core }) refl refl;
-        quiet = λ q. refl;
-      })))
-
-  create_spares : (p : ℕ) → SparesAll (processes.create_process roster created p)
-  create_spares p =
-      spares_if (is_normal roster.mode) _ _ (spares_refused InvalidMode)
-      (spares_if (processes.is_created created p) _ _ (spares_refused NoAction)
-      (record { frees = frees_none roster; quiet = λ q. refl }))
-
-  stop_spares : (caller : Caller) → SparesAll (processes.stop_self roster created caller)
-  stop_spares (Process p) = record {
-    frees = frees_changed roster (stamps.stop roster p) p (record (record_at roster p) { started = false; wait = None; due = None; step = 0 }) refl
-        (λ w e asked. none-some w e);
+  stopped_spares : (p : ℕ) → Spares roster (stamps.stop roster p) []
+  stopped_spares p = record {
+    frees = frees_changed roster (stamps.stop roster p) p (stamps.stopped (record_at roster p)) refl refl;
     quiet = λ q. refl;
   }
-  stop_spares Init = spares_refused InvalidMode
-  stop_spares Nobody = spares_refused InvalidMode
 
-  my_id_spares : (caller : Caller) → SparesAll (processes.get_my_id roster created caller)
-  my_id_spares (Process p) = record { frees = frees_none roster; quiet = λ q. refl }
-  my_id_spares Init = spares_refused InvalidMode
-  my_id_spares Nobody = spares_refused InvalidMode
+  stop_spares : (caller : Caller) (p : ℕ) → SparesAll (processes.stop_process roster created caller p)
+  stop_spares caller p =
+      spares_if (processes.is_caller p caller) _ _ same (spares_if (not (processes.is_created created p)) _ _ same
+      (spares_if (not (record_at roster p).started) _ _ same (stopped_spares p)))
 
-  pub process_spares : (caller : Caller) (call : ProcessCall)
-      → Spares roster (processes.process_service cores roster created caller call).roster (processes.process_service cores roster created caller call).notices
-  process_spares caller (CreateProcess p) = create_spares p
-  process_spares caller (InitializeProcessCoreAffinity p core) = affinity_spares p core
-  process_spares caller (ToStart p) = start_spares p Poll
-  process_spares caller (DelayedStart p delay) = start_spares p delay
-  process_spares caller StopSelf = stop_spares caller
-  process_spares caller GetMyId = my_id_spares caller
+  -- who is suspended by another waits for no more than before
+  suspended_less : (wait : Option Wait) (by_itself : Bool) (w : Wait) → or_suspended (asked_of wait) false ≡ Some w
+      → or_suspended (asked_of wait) by_itself ≡ Some w
+  suspended_less wait by_itself w h = by_asked (asked_of wait) h where
+    by_asked : (asked : Option Wait) → or_suspended asked false ≡ Some w → or_suspended asked by_itself ≡ Some w
+    by_asked (Some v) h = h
+    by_asked None h = absurd (none-some w h)
+
+  suspend_spares : (caller : Caller) (p : ℕ) → SparesAll (processes.suspend_process roster created caller p)
+  suspend_spares caller p =
+      let r = record_at roster p in
+      spares_if (processes.is_caller p caller) _ _ same (spares_if (not (processes.is_created created p)) _ _ same
+      (spares_if (not r.started) _ _ same (spares_if (is_some r.suspended) _ _ same
+      (moved (stamps.suspend roster p) p (record r { suspended = Some Other }) refl
+      (suspended_less r.wait (stamps.is_by_itself r.suspended))))))
+
+  -- a new priority changes no wait
+  priority_frees : (p priority : ℕ) (newly : Bool)
+      → Frees roster (cond newly (stamps.place_newest (stamps.set_base roster p priority) p) (stamps.set_base roster p priority))
+  priority_frees p priority newly =
+      let base = stamps.set_base roster p priority in
+      let changed = frees_moved roster base p (record (record_at roster p) { base = priority }) refl (λ w h. h) in
+      by_newly newly changed where
+        by_newly : (newly : Bool) → Frees roster (stamps.set_base roster p priority)
+            → Frees roster (cond newly (stamps.place_newest (stamps.set_base roster p priority) p) (stamps.set_base roster p priority))
+        by_newly true changed =
+            let base = stamps.set_base roster p priority in
+            frees_then changed (frees_moved base (stamps.place_newest base p) p (record (record_at base p) { since = base.young }) refl (λ w h. h))
+        by_newly false changed = changed
+
+  priority_spares : (p priority : ℕ) → SparesAll (processes.set_priority roster created p priority)
+  priority_spares p priority =
+      let r = record_at roster p in
+      spares_if (not (processes.is_created created p)) _ _ same
+      (spares_if (not (nat_le 1 priority && nat_le priority 239)) _ _ same
+      (spares_if (not r.started) _ _ same
+      (record { frees = priority_frees p priority (is_eligible roster.mode r || is_ranked roster r.wait); quiet = λ q. refl })))
+
+  id_spares : (named : NamedProcess) → SparesAll (processes.get_process_id roster created named)
+  id_spares (Known p) = spares_if (not (processes.is_created created p)) _ _ same same
+  id_spares (Unknown name) = same
+
+-- RESUME
+resume_keeps : (caller : Caller) (roster : Roster) → IsIdle caller roster → stamps.WaitsForOne roster → (p : ℕ) (by_itself : Bool)
+    → stamps.is_by_itself (record_at roster p).suspended ≡ by_itself
+    → Keeps caller (ToProcess (Resume p)) roster
+    (cond by_itself (stamps.unblock roster p) (stamps.readied roster p (unsuspended roster p))) (Code NoError)
+    (cond by_itself (Woken p NoError ∷ []) [])
+resume_keeps caller roster idle one p true is = record {
+  waits = kept_woken caller (ToProcess (Resume p)) roster idle (Code NoError) p (stamps.unblock roster p) (freed_unblock roster p);
+  closed = λ q woken.
+      let here = eqb-true q p (only (q == p) woken) in
+      let free = one p is in
+      ap (λ (k : ℕ). awaited (record_at roster k)) here ∙ rw (free, is) refl;
+} where
+  only : (b : Bool) → ((b && true) || false) ≡ true → b ≡ true
+  only true h = refl
+  only false h = h
+resume_keeps caller roster idle one p false is =
+    keeps_spared caller (ToProcess (Resume p)) roster (stamps.readied roster p (unsuspended roster p)) (Code NoError) [] idle
+    (record { frees = frees_lessened roster p (unsuspended roster p) (λ w h. rw is h); quiet = λ q. refl })
+
+-- any service of process management
+module _ (cores : ℕ) (roster : Roster) (created : List Bool) (one : stamps.WaitsForOne roster) where
+  abbrev KeepsAll : Caller → ProcessCall → processes.ProcessOutcome → Type 0
+  KeepsAll caller call o = Keeps caller (ToProcess call) roster o.roster o.reply o.notices
+
+  keeps_if : (caller : Caller) (call : ProcessCall) (b : Bool) (x y : processes.ProcessOutcome)
+      → KeepsAll caller call x → KeepsAll caller call y → KeepsAll caller call (cond b x y)
+  keeps_if caller call true x y p q = p
+  keeps_if caller call false x y p q = q
+
+  keeps_same : (caller : Caller) (call : ProcessCall) (reply : Reply) → IsIdle caller roster → Keeps caller (ToProcess call) roster roster reply []
+  keeps_same caller call reply idle = keeps_spared caller (ToProcess call) roster roster reply [] idle (spares_none roster)
+
+  keeps_resume : (caller : Caller) → IsIdle caller roster → (p : ℕ) → KeepsAll caller (Resume p) (processes.resume_process roster created caller p)
+  keeps_resume caller idle p =
+      let call = Resume p in
+      let r = record_at roster p in
+      keeps_if caller call (processes.is_caller p caller) _ _ (keeps_same caller call (Code InvalidParam) idle)
+      (keeps_if caller call (not (processes.is_created created p)) _ _ (keeps_same caller call (Code InvalidParam) idle)
+      (keeps_if caller call (not r.started) _ _ (keeps_same caller call (Code InvalidMode) idle)
+      (keeps_if caller call (is_none r.suspended) _ _ (keeps_same caller call (Code NoAction) idle)
+      (resume_keeps caller roster idle one p (stamps.is_by_itself r.suspended) refl))))
+
+  keeps_suspended : (p : ℕ) (timeout : Timeout) → IsIdle (Process p) roster
+      → KeepsAll (Process p) (SuspendSelf timeout) (processes.suspended_for roster created p timeout)
+  keeps_suspended p timeout idle = record {
+    waits = kept_waiting p (ToProcess (SuspendSelf timeout)) Time (record (self_suspended roster p (due_after roster timeout)) { since = roster.young })
+        roster (stamps.suspend_self roster p (due_after roster timeout)) refl refl (λ s. refl);
+    closed = λ q woken. absurd (both_ways false refl woken);
+  }
+
+  keeps_suspend_self : (p : ℕ) (timeout : Timeout) → IsIdle (Process p) roster
+      → KeepsAll (Process p) (SuspendSelf timeout) (processes.suspend_self roster created p timeout)
+  keeps_suspend_self p Poll idle = keeps_same (Process p) (SuspendSelf Poll) (Code NoError) idle
+  keeps_suspend_self p (Ticks n) idle = keeps_suspended p (Ticks n) idle
+  keeps_suspend_self p Infinite idle = keeps_suspended p Infinite idle
+
+  keeps_stop_self : (caller : Caller) → IsIdle caller roster → KeepsAll caller StopSelf (processes.own_service_by roster created caller StopSelf)
+  keeps_stop_self (Process p) idle =
+      keeps_spared (Process p) (ToProcess StopSelf) roster (stamps.stop roster p) Gone [] idle (stopped_spares roster created p)
+  keeps_stop_self Init idle = keeps_same Init StopSelf (Code InvalidMode) idle
+  keeps_stop_self Nobody idle = keeps_same Nobody StopSelf (Code InvalidMode) idle
+
+  keeps_suspend_self_by : (caller : Caller) (timeout : Timeout) → IsIdle caller roster
+      → KeepsAll caller (SuspendSelf timeout) (processes.own_service_by roster created caller (SuspendSelf timeout))
+  keeps_suspend_self_by (Process p) timeout idle = keeps_suspend_self p timeout idle
+  keeps_suspend_self_by Init timeout idle = keeps_same Init (SuspendSelf timeout) (Code InvalidMode) idle
+  keeps_suspend_self_by Nobody timeout idle = keeps_same Nobody (SuspendSelf timeout) (Code InvalidMode) idle
+
+  keeps_my_id : (caller : Caller) → IsIdle caller roster → KeepsAll caller GetMyId (processes.own_service_by roster created caller GetMyId)
+  keeps_my_id (Process p) idle = keeps_same (Process p) GetMyId (Value (p + 1)) idle
+  keeps_my_id Init idle = keeps_same Init GetMyId (Code InvalidMode) idle
+  keeps_my_id Nobody idle = keeps_same Nobody GetMyId (Code InvalidMode) idle
+
+  keeps_my_core : (caller : Caller) → IsIdle caller roster
+      → KeepsAll caller GetMyProcessorCoreId (processes.own_service_by roster created caller GetMyProcessorCoreId)
+  keeps_my_core (Process p) idle = keeps_same (Process p) GetMyProcessorCoreId (Value (record_at roster p).core) idle
+  keeps_my_core Init idle = keeps_same Init GetMyProcessorCoreId (Code InvalidMode) idle
+  keeps_my_core Nobody idle = keeps_same Nobody GetMyProcessorCoreId (Code InvalidMode) idle
+
+  keeps_status : (caller : Caller) → IsIdle caller roster → (p : ℕ) → KeepsAll caller (GetProcessStatus p) (processes.get_process_status roster created p)
+  keeps_status caller idle p =
+      let call = GetProcessStatus p in
+      keeps_if caller call (not (processes.is_created created p)) _ _ (keeps_same caller call (Code InvalidParam) idle)
+      (keeps_same caller call (Status (processes.state_number (process_state roster p)) (current_priority (record_at roster p))) idle)
+
+  pub process_keeps : (caller : Caller) → IsIdle caller roster → (call : ProcessCall)
+      → KeepsAll caller call (processes.process_service cores roster created caller call)
+  process_keeps caller idle (CreateProcess named) = keeps_spared caller _ roster _ _ _ idle (create_spares roster created named)
+  process_keeps caller idle (InitializeProcessCoreAffinity p core) = keeps_spared caller _ roster _ _ _ idle (affinity_spares roster created cores p core)
+  process_keeps caller idle (SetPriority p priority) = keeps_spared caller _ roster _ _ _ idle (priority_spares roster created p priority)
+  process_keeps caller idle (ToStart p) = keeps_spared caller _ roster _ _ _ idle (start_spares roster created p Poll)
+  process_keeps caller idle (DelayedStart p delay) = keeps_spared caller _ roster _ _ _ idle (start_spares roster created p delay)
+  process_keeps caller idle (Stop p) = keeps_spared caller _ roster _ _ _ idle (stop_spares roster created caller p)
+  process_keeps caller idle (Suspend p) = keeps_spared caller _ roster _ _ _ idle (suspend_spares roster created caller p)
+  process_keeps caller idle (Resume p) = keeps_resume caller idle p
+  process_keeps caller idle (GetProcessId named) = keeps_spared caller _ roster _ _ _ idle (id_spares roster created named)
+  process_keeps caller idle (GetProcessStatus p) = keeps_status caller idle p
+  process_keeps caller idle StopSelf = keeps_stop_self caller idle
+  process_keeps caller idle (SuspendSelf timeout) = keeps_suspend_self_by caller timeout idle
+  process_keeps caller idle GetMyId = keeps_my_id caller idle
+  process_keeps caller idle GetMyProcessorCoreId = keeps_my_core caller idle

@@ -1,18 +1,20 @@
 -- Every service, turn and tick reaches the roster that it leaves, by at most 64 stamps.
-use Rattle.std.proofs.Common.{◌≡◌, ℕ, ◌+◌, ◌<◌, ◌≤◌, Bool, true, false, cond, not, List, [], length, Option, None, Some, nat_lt, lit≤, refl, ◌∙◌, arith, ◌==◌}
+use Rattle.std.proofs.Common.{◌≡◌, ℕ, ◌+◌, ◌<◌, ◌≤◌, Bool, true, false, cond, not, List, [], length, Option, None, Some, nat_lt, nat_le, is_some, is_none, ◌&&◌, ◌||◌, lit≤, refl, ◌∙◌, arith, ◌==◌}
 use Rattle.std.proofs.lemmas.List.{length-set}
 use Rattle.std.proofs.lemmas.Option.{none-some, same_Some}
 use Rattle.apex_types.specs.declared.Call.{Call}
 use Rattle.apex_types.specs.declared.Call.TheVariants.{Partition, Process as ToProcess, Time as ToTime, Semaphore as ToSemaphore}
 use Rattle.apex_types.specs.declared.PartitionCall.{PartitionCall}
-use Rattle.apex_types.specs.declared.PartitionCall.TheVariants.{SetPartitionMode}
+use Rattle.apex_types.specs.declared.PartitionCall.TheVariants.{SetPartitionMode, GetPartitionStatus}
 use Rattle.apex_types.specs.declared.RequestedMode.TheVariants as requested
+use Rattle.apex_types.specs.declared.NamedProcess.{NamedProcess}
+use Rattle.apex_types.specs.declared.NamedProcess.TheVariants.{Known, Unknown}
 use Rattle.apex_types.specs.declared.ProcessCall.{ProcessCall}
-use Rattle.apex_types.specs.declared.ProcessCall.TheVariants.{CreateProcess, InitializeProcessCoreAffinity, Start, DelayedStart, StopSelf, GetMyId}
+use Rattle.apex_types.specs.declared.ProcessCall.TheVariants.{CreateProcess, InitializeProcessCoreAffinity, SetPriority, Start, DelayedStart, Stop, StopSelf, Suspend, Resume, SuspendSelf, GetMyId, GetMyProcessorCoreId, GetProcessId, GetProcessStatus}
 use Rattle.apex_types.specs.declared.TimeCall.{TimeCall}
 use Rattle.apex_types.specs.declared.TimeCall.TheVariants.{TimedWait, GetTime}
 use Rattle.apex_types.specs.declared.SemaphoreCall.{SemaphoreCall}
-use Rattle.apex_types.specs.declared.SemaphoreCall.TheVariants.{CreateSemaphore, WaitSemaphore, SignalSemaphore, GetSemaphoreStatus}
+use Rattle.apex_types.specs.declared.SemaphoreCall.TheVariants.{CreateSemaphore, WaitSemaphore, SignalSemaphore, GetSemaphoreId, GetSemaphoreStatus}
 use Rattle.apex_types.specs.declared.Timeout.{Timeout}
 use Rattle.apex_types.specs.declared.Timeout.TheVariants.{Poll, Ticks, Infinite}
 use Rattle.apex_types.specs.declared.Caller.{Caller}
@@ -25,20 +27,20 @@ use Rattle.apex_types.specs.declared.Wait.TheVariants as wait
 use Rattle.apex_types.specs.Callers.{IsKnownCaller}
 use Rattle.apex_types.specs.Dues.{due_after, first_due, is_due_at, by_number}
 use Rattle.apex_types.specs.Roster.{Roster, record_at, is_normal}
-use Rattle.apex_types.specs.Running.{runs_on, is_before, is_older, chosen}
-use Rattle.apex_types.specs.Waiters.{waits_in, first_waiter}
+use Rattle.apex_types.specs.Running.{runs_on, is_before, is_eligible, chosen}
+use Rattle.apex_types.specs.Waiters.{waits_in, waits_before, discipline_of, is_ranked, first_waiter}
 use Rattle.apex_types.specs.Stamps as stamps
-use Rattle.apex_types.specs.Table.{Table, IsKnown, IsKnownToProcesses}
+use Rattle.apex_types.specs.Table.{Table, process_entry, IsKnown, IsKnownToProcesses}
 use Rattle.apex_types.specs.History.{Objects, SemaphoreObject}
 use Rattle.apex_types.specs.SemaphoreServices as semaphores
 use Rattle.apex_types.specs.ProcessServices as processes
 use Rattle.apex_types.specs.TimeServices as times
 use Rattle.apex_types.specs.PartitionServices as partitions
 use Rattle.apex_types.specs.Ticks as ticks
-use Rattle.apex_types.specs.Machine.{service, semaphore_at, script_deed, chosen_deed, turn_deed, step_of}
+use Rattle.apex_types.specs.Machine.{service, semaphore_deed, next_place, semaphore_at, script_deed, chosen_deed, turn_deed, step_of}
 use Rattle.apex_types.proofs.Choice.{place_within}
 use Rattle.apex_types.proofs.Rosters.{at_without_due}
-use Rattle.apex_types.proofs.Reaches.{Reaches, reaches_none, reaches_then, reaches_more, reaches_start, reaches_stop, reaches_block, reaches_unblock, reaches_release, reaches_place_newest, reaches_without_due, reaches_set_core, reaches_set_step, reaches_set_mode, reaches_in_turn}
+use Rattle.apex_types.proofs.Reaches.{Reaches, reaches_none, reaches_then, reaches_more, reaches_start, reaches_stop, reaches_block, reaches_unblock, reaches_release, reaches_place_newest, reaches_without_due, reaches_suspend, reaches_suspend_self, reaches_resume, reaches_set_base, reaches_set_core, reaches_set_step, reaches_set_mode, reaches_enter_idle, reaches_in_turn}
 
 -- an instant after now is not before it
 later : (roster : Roster) (n t : ℕ) → Some (roster.now + n) ≡ Some t → roster.now ≤ t
@@ -82,16 +84,17 @@ module _ (roster : Roster) (semaphore : SemaphoreObject) where
       → ReachesBy (semaphores.signal_to roster semaphore first)
   reach_signal_to s None is = semaphore_if (nat_lt semaphore.value semaphore.maximum) _ _ same same
   reach_signal_to s (Some p) is =
-      few (reaches_unblock roster p (place_within (waits_in (wait.Semaphore s)) is_older roster.records p is))
+      few (reaches_unblock roster p (place_within (waits_in (wait.Semaphore s)) (waits_before (discipline_of roster (wait.Semaphore s))) roster.records p is))
 
-  pub reach_semaphore : (caller : Caller) → IsKnownCaller (length roster.records) caller → (call : SemaphoreCall)
-      → ReachesBy (semaphores.semaphore_service roster semaphore caller call)
-  reach_semaphore caller known (CreateSemaphore s) =
+  pub reach_semaphore : (s : ℕ) (caller : Caller) → IsKnownCaller (length roster.records) caller → (call : SemaphoreCall)
+      → ReachesBy (semaphores.semaphore_service roster semaphore s caller call)
+  reach_semaphore s caller known (CreateSemaphore named) =
       semaphore_if (is_normal roster.mode) _ _ same (semaphore_if semaphore.created _ _ same same)
-  reach_semaphore caller known (WaitSemaphore s timeout) = reach_wait_by s caller known timeout
-  reach_semaphore caller known (SignalSemaphore s) =
+  reach_semaphore s caller known (WaitSemaphore t timeout) = reach_wait_by s caller known timeout
+  reach_semaphore s caller known (SignalSemaphore t) =
       semaphore_if (not semaphore.created) _ _ same (reach_signal_to s (first_waiter roster (wait.Semaphore s)) refl)
-  reach_semaphore caller known (GetSemaphoreStatus s) = semaphore_if (not semaphore.created) _ _ same same
+  reach_semaphore s caller known (GetSemaphoreId named) = semaphore_if (not semaphore.created) _ _ same same
+  reach_semaphore s caller known (GetSemaphoreStatus t) = semaphore_if (not semaphore.created) _ _ same same
 
 -- the services of process management
 module _ (cores : ℕ) (roster : Roster) (created : List Bool) where
@@ -115,27 +118,96 @@ module _ (cores : ℕ) (roster : Roster) (created : List Bool) where
       process_if (not (processes.is_created created p)) _ _ unmoved
       (process_if ((record_at roster p).started) _ _ unmoved (reach_started_by p known delay))
 
-  reach_stop_self : (caller : Caller) → IsKnownCaller (length roster.records) caller → ReachesWith (processes.stop_self roster created caller)
-  reach_stop_self (Process p) known = few (reaches_stop roster p known)
-  reach_stop_self Init known = unmoved
-  reach_stop_self Nobody known = unmoved
+  reach_set_priority : (p : ℕ) → p < length roster.records → (priority : ℕ) → ReachesWith (processes.set_priority roster created p priority)
+  reach_set_priority p known priority =
+      let r = record_at roster p in
+      let base = stamps.set_base roster p priority in
+      let size : length base.records ≡ length roster.records = length-set roster.records p (record r { base = priority }) in
+      let set = reaches_set_base roster p known priority in
+      process_if (not (processes.is_created created p)) _ _ unmoved
+      (process_if (not (nat_le 1 priority && nat_le priority 239)) _ _ unmoved
+      (process_if (not r.started) _ _ unmoved
+      (by_newly (is_eligible roster.mode r || is_ranked roster r.wait)
+      (few (reaches_then 0 1 set (reaches_place_newest base p (rw size known)))) (reaches_more 0 64 (lit≤ tt) set)))) where
+        by_newly : (newly : Bool)
+            → Reaches 64 roster (stamps.place_newest (stamps.set_base roster p priority) p)
+            → Reaches 64 roster (stamps.set_base roster p priority)
+            → Reaches 64 roster (cond newly (stamps.place_newest (stamps.set_base roster p priority) p) (stamps.set_base roster p priority))
+        by_newly true x y = x
+        by_newly false x y = y
 
-  reach_my_id : (caller : Caller) → ReachesWith (processes.get_my_id roster created caller)
-  reach_my_id (Process p) = unmoved
-  reach_my_id Init = unmoved
-  reach_my_id Nobody = unmoved
+  reach_stop : (caller : Caller) (p : ℕ) → p < length roster.records → ReachesWith (processes.stop_process roster created caller p)
+  reach_stop caller p known =
+      process_if (processes.is_caller p caller) _ _ unmoved (process_if (not (processes.is_created created p)) _ _ unmoved
+      (process_if (not (record_at roster p).started) _ _ unmoved (few (reaches_stop roster p known))))
+
+  reach_suspend : (caller : Caller) (p : ℕ) → p < length roster.records → ReachesWith (processes.suspend_process roster created caller p)
+  reach_suspend caller p known =
+      let r = record_at roster p in
+      process_if (processes.is_caller p caller) _ _ unmoved (process_if (not (processes.is_created created p)) _ _ unmoved
+      (process_if (not r.started) _ _ unmoved (process_if (is_some r.suspended) _ _ unmoved
+      (reaches_more 0 64 (lit≤ tt) (reaches_suspend roster p known)))))
+
+  reach_resume : (caller : Caller) (p : ℕ) → p < length roster.records → ReachesWith (processes.resume_process roster created caller p)
+  reach_resume caller p known =
+      let r = record_at roster p in
+      process_if (processes.is_caller p caller) _ _ unmoved (process_if (not (processes.is_created created p)) _ _ unmoved
+      (process_if (not r.started) _ _ unmoved (process_if (is_none r.suspended) _ _ unmoved (few (reaches_resume roster p known)))))
+
+  reach_id : (named : NamedProcess) → ReachesWith (processes.get_process_id roster created named)
+  reach_id (Known p) = process_if (not (processes.is_created created p)) _ _ unmoved unmoved
+  reach_id (Unknown name) = unmoved
+
+  reach_create : (named : NamedProcess) → ReachesWith (processes.create_named roster created named)
+  reach_create (Known p) =
+      process_if (is_normal roster.mode) _ _ unmoved (process_if (processes.is_created created p) _ _ unmoved unmoved)
+  reach_create (Unknown name) = process_if (is_normal roster.mode) _ _ unmoved unmoved
+
+  reach_suspend_self : (p : ℕ) → p < length roster.records → (timeout : Timeout) → ReachesWith (processes.suspend_self roster created p timeout)
+  reach_suspend_self p known Poll = unmoved
+  reach_suspend_self p known (Ticks n) = few (reaches_suspend_self roster p known (Some (roster.now + n)) (later roster n))
+  reach_suspend_self p known Infinite = few (reaches_suspend_self roster p known None (λ t e. absurd (none-some t e)))
+
+  reach_own : (p : ℕ) → p < length roster.records → (call : ProcessCall) → ReachesWith (processes.own_service roster created p call)
+  reach_own p known StopSelf = few (reaches_stop roster p known)
+  reach_own p known (SuspendSelf timeout) = reach_suspend_self p known timeout
+  reach_own p known GetMyId = unmoved
+  reach_own p known GetMyProcessorCoreId = unmoved
+  reach_own p known (CreateProcess named) = unmoved
+  reach_own p known (InitializeProcessCoreAffinity q core) = unmoved
+  reach_own p known (SetPriority q priority) = unmoved
+  reach_own p known (Start q) = unmoved
+  reach_own p known (DelayedStart q delay) = unmoved
+  reach_own p known (Stop q) = unmoved
+  reach_own p known (Suspend q) = unmoved
+  reach_own p known (Resume q) = unmoved
+  reach_own p known (GetProcessId named) = unmoved
+  reach_own p known (GetProcessStatus q) = unmoved
+
+  reach_own_by : (caller : Caller) → IsKnownCaller (length roster.records) caller → (call : ProcessCall)
+      → ReachesWith (processes.own_service_by roster created caller call)
+  reach_own_by (Process p) known call = reach_own p known call
+  reach_own_by Init known call = unmoved
+  reach_own_by Nobody known call = unmoved
 
   pub reach_process : (caller : Caller) → IsKnownCaller (length roster.records) caller → (call : ProcessCall)
       → IsKnownToProcesses (length roster.records) call → ReachesWith (processes.process_service cores roster created caller call)
-  reach_process caller known (CreateProcess p) here =
-      process_if (is_normal roster.mode) _ _ unmoved (process_if (processes.is_created created p) _ _ unmoved unmoved)
+  reach_process caller known (CreateProcess named) here = reach_create named
   reach_process caller known (InitializeProcessCoreAffinity p core) here =
       process_if (is_normal roster.mode) _ _ unmoved (process_if (not (processes.is_created created p)) _ _ unmoved
       (process_if (not (nat_lt core cores)) _ _ unmoved (reaches_more 0 64 (lit≤ tt) (reaches_set_core roster p here core))))
+  reach_process caller known (SetPriority p priority) here = reach_set_priority p here priority
   reach_process caller known (Start p) here = reach_start p here Poll
   reach_process caller known (DelayedStart p delay) here = reach_start p here delay
-  reach_process caller known StopSelf here = reach_stop_self caller known
-  reach_process caller known GetMyId here = reach_my_id caller
+  reach_process caller known (Stop p) here = reach_stop caller p here
+  reach_process caller known (Suspend p) here = reach_suspend caller p here
+  reach_process caller known (Resume p) here = reach_resume caller p here
+  reach_process caller known (GetProcessId named) here = reach_id named
+  reach_process caller known (GetProcessStatus p) here = process_if (not (processes.is_created created p)) _ _ unmoved unmoved
+  reach_process caller known StopSelf here = reach_own_by caller known StopSelf
+  reach_process caller known (SuspendSelf timeout) here = reach_own_by caller known (SuspendSelf timeout)
+  reach_process caller known GetMyId here = reach_own_by caller known GetMyId
+  reach_process caller known GetMyProcessorCoreId here = reach_own_by caller known GetMyProcessorCoreId
 
 -- the services of time management
 reach_timed_wait : (roster : Roster) (p : ℕ) → p < length roster.records → (timeout : Timeout) → Reaches 64 roster (times.timed_wait roster p timeout).roster
@@ -179,7 +251,7 @@ unfolding partitions.enter_normal
 reach_enter_normal roster many =
     let begun = stamps.set_mode roster mode.Normal in
     let steps = reaches_in_turn partitions.first_to_start partitions.begin_start
-    (λ r p is. reach_begin_start r p (place_within (waits_in wait.Normal) is_older r.records p is))
+    (λ r p is. reach_begin_start r p (place_within (waits_in wait.Normal) (waits_before (discipline_of r wait.Normal)) r.records p is))
     (length roster.records) begun [] in
     reaches_more (0 + length roster.records) 64 (omega (arith, many)) (reaches_then 0 (length roster.records) (reaches_set_mode roster mode.Normal) steps)
 
@@ -188,29 +260,35 @@ reach_set_partition_mode : (roster : Roster) (normal : Bool) → Reaches 64 rost
 reach_set_partition_mode roster true entered = reaches_none 64 roster
 reach_set_partition_mode roster false entered = entered
 
-pub reach_partition : (roster : Roster) (call : PartitionCall) → length roster.records ≤ 64
-    → Reaches 64 roster (partitions.partition_service roster call).roster
-reach_partition roster (SetPartitionMode requested.Normal) many =
+pub reach_partition : (cores : ℕ) (roster : Roster) (call : PartitionCall) → length roster.records ≤ 64
+    → Reaches 64 roster (partitions.partition_service cores roster call).roster
+reach_partition cores roster (SetPartitionMode requested.Idle) many = reaches_more 0 64 (lit≤ tt) (reaches_enter_idle roster)
+reach_partition cores roster GetPartitionStatus many = reaches_none 64 roster
+reach_partition cores roster (SetPartitionMode requested.Normal) many =
     reach_set_partition_mode roster (is_normal roster.mode) (reach_enter_normal roster many)
 
 -- any service, and a turn
 module _ (table : Table) (objects : Objects) where
+  reach_target : (roster : Roster) (caller : Caller) → IsKnownCaller (length roster.records) caller → (call : SemaphoreCall) (target : Option ℕ)
+      → Reaches 64 roster (semaphore_deed roster objects caller call target).roster
+  reach_target roster caller known call None = reaches_none 64 roster
+  reach_target roster caller known call (Some s) = reach_semaphore roster (semaphore_at objects s) s caller known call
+
   pub reach_service : (roster : Roster) → length roster.records ≤ 64 → length roster.records ≡ length table.processes
       → (caller : Caller) → IsKnownCaller (length roster.records) caller → (call : Call) → IsKnown table call
       → Reaches 64 roster (service table.cores roster objects caller call).roster
-  reach_service roster most many caller known (Partition call) here = reach_partition roster call most
+  reach_service roster most many caller known (Partition call) here = reach_partition table.cores roster call most
   reach_service roster most many caller known (ToProcess call) here =
       reach_process table.cores roster objects.processes caller known call (rw many here)
   reach_service roster most many caller known (ToTime call) here = reach_time roster caller known call
-  reach_service roster most many caller known (ToSemaphore call) here =
-      reach_semaphore roster (semaphore_at objects (semaphores.semaphore_of call)) caller known call
+  reach_service roster most many caller known (ToSemaphore call) here = reach_target roster caller known call (semaphores.semaphore_of call)
 
   reach_script : (roster : Roster) → length roster.records ≤ 64 → length roster.records ≡ length table.processes
       → (p : ℕ) → p < length roster.records → (step : Option Call) → ((call : Call) → step ≡ Some call → IsKnown table call)
       → Reaches 64 roster (script_deed table roster objects p step).outcome.roster
   reach_script roster most many p known None steps = reach_service roster most many (Process p) known (ToProcess StopSelf) tt
   reach_script roster most many p known (Some call) steps =
-      let next = (record_at roster p).step + 1 in
+      let next = next_place (process_entry table p) (record_at roster p).step in
       let moved = stamps.set_step roster p next in
       let size : length moved.records ≡ length roster.records = length-set roster.records p (record (record_at roster p) { step = next }) in
       reaches_then 0 64 (reaches_set_step roster p known next)

@@ -1,10 +1,11 @@
 -- Each service of a semaphore leaves the value that the history then gives.
 use Rattle.std.proofs.Common.{◌≡◌, ◌≢◌, ℕ, ◌+◌, ◌≤◌, Bool, true, false, cond, ◌&&◌, ◌||◌, not, ◌==◌, List, [], ◌∷◌, Option, None, Some, nat_lt, refl, sym, arith}
-use Rattle.std.proofs.lemmas.Option.{none-some}
+use Rattle.std.proofs.lemmas.Option.{none-some, same_Some}
 use Rattle.std.proofs.lemmas.Bool.{cond_both, eq-eqb, ltb-true}
 use Rattle.apex_types.specs.declared.Call.TheVariants.{Semaphore as ToSemaphore}
+use Rattle.apex_types.specs.declared.NamedSemaphore.TheVariants.{Known, Unknown}
 use Rattle.apex_types.specs.declared.SemaphoreCall.{SemaphoreCall}
-use Rattle.apex_types.specs.declared.SemaphoreCall.TheVariants.{CreateSemaphore, WaitSemaphore, SignalSemaphore, GetSemaphoreStatus}
+use Rattle.apex_types.specs.declared.SemaphoreCall.TheVariants.{CreateSemaphore, WaitSemaphore, SignalSemaphore, GetSemaphoreId, GetSemaphoreStatus}
 use Rattle.apex_types.specs.declared.Timeout.{Timeout}
 use Rattle.apex_types.specs.declared.Timeout.TheVariants.{Poll, Ticks, Infinite}
 use Rattle.apex_types.specs.declared.Caller.{Caller}
@@ -14,9 +15,9 @@ use Rattle.apex_types.specs.declared.Notice.{Notice}
 use Rattle.apex_types.specs.declared.Notice.TheVariants.{Woken}
 use Rattle.apex_types.specs.declared.Record.{Record}
 use Rattle.apex_types.specs.declared.Reply.{Reply}
-use Rattle.apex_types.specs.declared.Reply.TheVariants.{Code, Status, Blocked}
+use Rattle.apex_types.specs.declared.Reply.TheVariants.{Code, Value, Status, Blocked}
 use Rattle.apex_types.specs.declared.ReturnCode.{ReturnCode}
-use Rattle.apex_types.specs.declared.ReturnCode.TheVariants.{NoError, NoAction, NotAvailable, InvalidParam, InvalidMode}
+use Rattle.apex_types.specs.declared.ReturnCode.TheVariants.{NoError, NoAction, NotAvailable, InvalidParam, InvalidConfig, InvalidMode}
 use Rattle.apex_types.specs.declared.Wait.TheVariants.{Semaphore}
 use Rattle.apex_types.specs.declared.Who.{Who}
 use Rattle.apex_types.specs.Dues.{due_after}
@@ -26,14 +27,14 @@ use Rattle.apex_types.specs.Stamps.{unblock, newest}
 use Rattle.apex_types.specs.Table.{SemaphoreEntry}
 use Rattle.apex_types.specs.Waiters.{first_waiter, waiter_count}
 use Rattle.apex_types.specs.History.{is_no_error, satisfied_waits, semaphore_after, semaphore_value, SemaphoreObject}
-use Rattle.apex_types.specs.SemaphoreServices.{SemaphoreOutcome, refused_semaphore, create_semaphore, blocked_on, wait_at_zero, wait_semaphore, raise_semaphore, signal_to, signal_semaphore, get_semaphore_status, wait_by, semaphore_service, semaphore_of}
+use Rattle.apex_types.specs.SemaphoreServices.{SemaphoreOutcome, refused_semaphore, create_semaphore, blocked_on, wait_at_zero, wait_semaphore, raise_semaphore, signal_to, signal_semaphore, get_semaphore_id, get_semaphore_status, wait_by, semaphore_service, semaphore_of}
 use Rattle.apex_dispatch.proofs.Waits.{newly-none, newly-one, open_once}
-use Rattle.apex_dispatch.specs.OpenWaits.{wakes, has_open, signals}
+use Rattle.apex_dispatch.specs.OpenWaits.{wakes, has_open, signals, awaited}
 use Rattle.apex_dispatch.proofs.Values.{IsQuiet, IsAfter, quiet_refused, quiet_elsewhere, after_quiet, after_wait, after_raise, after_hand, after_create}
-use Rattle.apex_dispatch.proofs.Effects.{WaitsKept, IsIdle, kept_same, kept_woken, kept_blocked, first_waits}
+use Rattle.apex_dispatch.proofs.Effects.{WaitsKept, IsIdle, kept_same, kept_woken, kept_blocked, freed_unblock, first_waits}
 
 module _ (number now : ℕ) (who : Who) (caller : Caller) (history : List Entry) (roster : Roster) (idle : IsIdle caller roster)
-    (open_waits : (p s : ℕ) → (record_at roster p).wait ≡ Some (Semaphore s) → has_open s p history ≡ true)
+    (open_waits : (p s : ℕ) → awaited (record_at roster p) ≡ Some (Semaphore s) → has_open s p history ≡ true)
     (s : ℕ) (entry : SemaphoreEntry) (enough : satisfied_waits s history ≤ entry.initial + signals s history) where
   -- the entry of a call of the semaphore
   abbrev pub told : SemaphoreCall → Reply → List Notice → Entry
@@ -67,15 +68,15 @@ module _ (number now : ℕ) (who : Who) (caller : Caller) (history : List Entry)
       → IsTold call (cond b x y)
   told_if call b x y = cond_both {A = SemaphoreOutcome} b x y (IsTold call)
 
-  told_create : IsTold (CreateSemaphore s) (create_semaphore roster (semaphore_after history s entry))
+  told_create : IsTold (CreateSemaphore (Known s)) (create_semaphore roster (semaphore_after history s entry))
   told_create =
-      let call = CreateSemaphore s in
+      let call = CreateSemaphore (Known s) in
       let e = told call (Code NoError) [] in
       let same : (s == s) ≡ true = eq-eqb s s refl in
       told_if call (is_normal roster.mode) _ _ (λ _. told_refused call InvalidMode refl) (λ _.
       told_if call ((semaphore_after history s entry).created) _ _ (λ _. told_refused call NoAction refl) (λ _. record {
         own = after_create s entry history e enough refl (rw same refl) (rw (newly-none s history e (λ p. refl)) refl);
-        others = λ t differs. quiet_elsewhere t history e call refl differs (newly-none t history e (λ p. refl));
+        others = λ t differs. quiet_elsewhere t history e call refl (λ is. differs (sym (same_Some _ _ is))) (newly-none t history e (λ p. refl));
         waits = kept_same caller (ToSemaphore call) roster idle (Code NoError) [] (λ p. refl);
       }))
 
@@ -86,19 +87,14 @@ module _ (number now : ℕ) (who : Who) (caller : Caller) (history : List Entry)
       let same : (s == s) ≡ true = eq-eqb s s refl in
       told_if call (nat_lt (semaphore_value entry.initial s history) entry.maximum) _ _ (λ _. record {
         own = after_raise s entry history e enough (rw same refl) refl (rw (newly-none s history e (λ p. refl)) refl);
-        others = λ t differs. quiet_elsewhere t history e call refl differs (newly-none t history e (λ p. refl));
+        others = λ t differs. quiet_elsewhere t history e call refl (λ is. differs (sym (same_Some _ _ is))) (newly-none t history e (λ p. refl));
         waits = kept_same caller (ToSemaphore call) roster idle (Code NoError) [] (λ p. refl);
       })
       (λ _. told_refused call NoAction refl)
 
   unblock_kept : (p : ℕ) → WaitsKept caller (ToSemaphore (SignalSemaphore s)) roster (unblock roster p) (Code NoError) (Woken p NoError ∷ [])
   unblock_kept p =
-      let r : Record = record (record_at roster p) { wait = None; due = None } in
-      let call = ToSemaphore (SignalSemaphore s) in
-      cond_both {A = Roster} (is_eligible roster.mode r) (newest roster p r) (with_record roster p r)
-      (λ (new : Roster). WaitsKept caller call roster new (Code NoError) (Woken p NoError ∷ []))
-      (λ _. kept_woken caller call roster idle (Code NoError) p (record r { since = roster.young }) (newest roster p r) refl (λ w e asked. none-some w e))
-      (λ _. kept_woken caller call roster idle (Code NoError) p r (with_record roster p r) refl (λ w e asked. none-some w e))
+      kept_woken caller (ToSemaphore (SignalSemaphore s)) roster idle (Code NoError) p (unblock roster p) (freed_unblock roster p)
 
   told_signal_to : (first : Option ℕ) → first_waiter roster (Semaphore s) ≡ first
       → IsTold (SignalSemaphore s) (signal_to roster (semaphore_after history s entry) first)
@@ -111,7 +107,7 @@ module _ (number now : ℕ) (who : Who) (caller : Caller) (history : List Entry)
       let waited = open_waits p s (first_waits roster s p is) in
       record {
         own = after_hand s entry history e enough (rw same refl) refl (rw (newly-one s p history e waking, waited) refl);
-        others = λ t differs. quiet_elsewhere t history e call refl differs
+        others = λ t differs. quiet_elsewhere t history e call refl (λ is. differs (sym (same_Some _ _ is)))
             (rw (newly-one t p history e waking, open_once s t p history (λ eq. differs (sym eq)) waited) refl);
         waits = unblock_kept p;
       } where
@@ -136,9 +132,21 @@ module _ (number now : ℕ) (who : Who) (caller : Caller) (history : List Entry)
         waits = kept_same caller (ToSemaphore call) roster idle e.reply [] (λ p. refl);
       })
 
+  told_id : IsTold (GetSemaphoreId (Known s)) (get_semaphore_id roster (semaphore_after history s entry) s)
+  told_id =
+      let call = GetSemaphoreId (Known s) in
+      told_if call (not (semaphore_after history s entry).created) _ _ (λ _. told_refused call InvalidConfig refl) (λ _.
+      let e = told call (Value (s + 1)) [] in
+      let quiet = λ (t : ℕ). quiet_refused t history e refl (λ p. refl) in
+      record {
+        own = after_quiet s entry history e enough (quiet s);
+        others = λ t differs. quiet t;
+        waits = kept_same caller (ToSemaphore call) roster idle e.reply [] (λ p. refl);
+      })
+
 -- a wait, by its process
 module _ (number now : ℕ) (who : Who) (p : ℕ) (history : List Entry) (roster : Roster) (idle : IsIdle (Process p) roster)
-    (open_waits : (q t : ℕ) → (record_at roster q).wait ≡ Some (Semaphore t) → has_open t q history ≡ true)
+    (open_waits : (q t : ℕ) → awaited (record_at roster q) ≡ Some (Semaphore t) → has_open t q history ≡ true)
     (s : ℕ) (entry : SemaphoreEntry) (enough : satisfied_waits s history ≤ entry.initial + signals s history) where
   abbrev IsToldHere : SemaphoreCall → SemaphoreOutcome → Type 0
   IsToldHere call o = IsTold number now who (Process p) history roster idle open_waits s entry enough call o
@@ -155,7 +163,7 @@ module _ (number now : ℕ) (who : Who) (p : ℕ) (history : List Entry) (roster
       record {
         own = after_quiet s entry history e enough (quiet s);
         others = λ t differs. quiet t;
-        waits = kept_blocked p (ToSemaphore call) (Semaphore s) (due_after roster timeout) roster (λ t. refl);
+        waits = kept_blocked p (ToSemaphore call) (Semaphore s) (due_after roster timeout) roster refl (λ t. refl);
       }
 
   told_at_zero : (timeout : Timeout) → IsToldHere (WaitSemaphore s timeout) (wait_at_zero roster (semaphore_after history s entry) s p timeout)
@@ -172,14 +180,14 @@ module _ (number now : ℕ) (who : Who) (p : ℕ) (history : List Entry) (roster
       choose (not (semaphore_after history s entry).created) _ _ (λ _. refused_here call InvalidParam refl)
       (λ _. choose (nat_lt 0 (semaphore_value entry.initial s history)) _ _ (λ positive. record {
         own = after_wait s entry history e enough refl refl (rw (newly-none s history e (λ q. refl), same) refl) (ltb-true 0 _ positive);
-        others = λ t differs. quiet_elsewhere t history e call refl differs (newly-none t history e (λ q. refl));
+        others = λ t differs. quiet_elsewhere t history e call refl (λ is. differs (sym (same_Some _ _ is))) (newly-none t history e (λ q. refl));
         waits = kept_same (Process p) (ToSemaphore call) roster idle (Code NoError) [] (λ q. refl);
       })
       (λ _. told_at_zero timeout))
 
 -- any service of semaphore s
 module _ (number now : ℕ) (who : Who) (history : List Entry) (roster : Roster)
-    (open_waits : (q t : ℕ) → (record_at roster q).wait ≡ Some (Semaphore t) → has_open t q history ≡ true)
+    (open_waits : (q t : ℕ) → awaited (record_at roster q) ≡ Some (Semaphore t) → has_open t q history ≡ true)
     (entry : SemaphoreEntry) where
   told_wait_by : (caller : Caller) (idle : IsIdle caller roster) (s : ℕ) (enough : satisfied_waits s history ≤ entry.initial + signals s history) (timeout : Timeout)
       → IsTold number now who caller history roster idle open_waits s entry enough (WaitSemaphore s timeout)
@@ -188,14 +196,22 @@ module _ (number now : ℕ) (who : Who) (history : List Entry) (roster : Roster)
   told_wait_by Init idle s enough timeout = told_refused number now who Init history roster idle open_waits s entry enough (WaitSemaphore s timeout) InvalidMode refl
   told_wait_by Nobody idle s enough timeout = told_refused number now who Nobody history roster idle open_waits s entry enough (WaitSemaphore s timeout) InvalidMode refl
 
-  pub told_service : (caller : Caller) (idle : IsIdle caller roster) (call : SemaphoreCall)
-      (enough : satisfied_waits (semaphore_of call) history ≤ entry.initial + signals (semaphore_of call) history)
-      → IsTold number now who caller history roster idle open_waits (semaphore_of call) entry enough call
-      (semaphore_service roster (semaphore_after history (semaphore_of call) entry) caller call)
-  told_service caller idle (CreateSemaphore s) enough = told_create number now who caller history roster idle open_waits s entry enough
-  told_service caller idle (WaitSemaphore s timeout) enough = told_wait_by caller idle s enough timeout
-  told_service caller idle (SignalSemaphore s) enough = told_signal number now who caller history roster idle open_waits s entry enough
-  told_service caller idle (GetSemaphoreStatus s) enough = told_status number now who caller history roster idle open_waits s entry enough
+  pub told_service : (caller : Caller) (idle : IsIdle caller roster) (call : SemaphoreCall) (s : ℕ) → semaphore_of call ≡ Some s
+      → (enough : satisfied_waits s history ≤ entry.initial + signals s history)
+      → IsTold number now who caller history roster idle open_waits s entry enough call
+      (semaphore_service roster (semaphore_after history s entry) s caller call)
+  told_service caller idle (CreateSemaphore (Known t)) s is enough =
+      rw (same_Some t s is) (told_create number now who caller history roster idle open_waits s entry enough)
+  told_service caller idle (CreateSemaphore (Unknown name)) s is enough = absurd (none-some s is)
+  told_service caller idle (WaitSemaphore t timeout) s is enough =
+      rw (same_Some t s is) (told_wait_by caller idle s enough timeout)
+  told_service caller idle (SignalSemaphore t) s is enough =
+      rw (same_Some t s is) (told_signal number now who caller history roster idle open_waits s entry enough)
+  told_service caller idle (GetSemaphoreId (Known t)) s is enough =
+      rw (same_Some t s is) (told_id number now who caller history roster idle open_waits s entry enough)
+  told_service caller idle (GetSemaphoreId (Unknown name)) s is enough = absurd (none-some s is)
+  told_service caller idle (GetSemaphoreStatus t) s is enough =
+      rw (same_Some t s is) (told_status number now who caller history roster idle open_waits s entry enough)
 
 -- no service lifts a value above its maximum
 module _ (roster : Roster) (semaphore : SemaphoreObject) (below : semaphore.value ≤ semaphore.maximum) where
@@ -225,9 +241,10 @@ module _ (roster : Roster) (semaphore : SemaphoreObject) (below : semaphore.valu
       below_if (nat_lt semaphore.value semaphore.maximum) _ _ (λ less. omega (arith, ltb-true _ _ less)) (λ _. below)
   below_signal_to (Some p) = below
 
-  pub below_service : (caller : Caller) (call : SemaphoreCall) → IsBelow (semaphore_service roster semaphore caller call)
-  below_service caller (CreateSemaphore s) = below_create
-  below_service caller (WaitSemaphore s timeout) = below_wait_by s caller timeout
-  below_service caller (SignalSemaphore s) =
+  pub below_service : (s : ℕ) (caller : Caller) (call : SemaphoreCall) → IsBelow (semaphore_service roster semaphore s caller call)
+  below_service s caller (CreateSemaphore named) = below_create
+  below_service s caller (WaitSemaphore t timeout) = below_wait_by s caller timeout
+  below_service s caller (SignalSemaphore t) =
       below_if (not semaphore.created) _ _ (λ _. below) (λ _. below_signal_to (first_waiter roster (Semaphore s)))
-  below_service caller (GetSemaphoreStatus s) = below_if (not semaphore.created) _ _ (λ _. below) (λ _. below)
+  below_service s caller (GetSemaphoreId named) = below_if (not semaphore.created) _ _ (λ _. below) (λ _. below)
+  below_service s caller (GetSemaphoreStatus t) = below_if (not semaphore.created) _ _ (λ _. below) (λ _. below)

@@ -16,10 +16,10 @@ use Rattle.apex_types.specs.Table.{Table}
 use Rattle.apex_types.specs.History.{is_waking, objects_after}
 use Rattle.apex_types.specs.Machine.{Machine, tick_deed, entry_of}
 use Rattle.apex_types.proofs.InTurn.{holds_in_turn}
-use Rattle.apex_dispatch.specs.OpenWaits.{is_asked, AreEnough, AreBounded, AreOpen}
+use Rattle.apex_dispatch.specs.OpenWaits.{asked_of, or_suspended, awaited, AreEnough, AreBounded, AreOpen}
 use Rattle.apex_dispatch.proofs.Truths.{or_false, and_false}
 use Rattle.apex_dispatch.proofs.Waits.{other}
-use Rattle.apex_dispatch.proofs.Effects.{Frees, frees_none, frees_then, frees_moved, freed_readied, frees_readied}
+use Rattle.apex_dispatch.proofs.Effects.{Frees, frees_none, frees_then, frees_moved, freed_unblock, frees_unblock}
 use Rattle.apex_dispatch.proofs.Exact.{uncalled_exact}
 use Rattle.apex_dispatch.proofs.Turns.{IsDeedExact, open_uncalled}
 
@@ -28,13 +28,13 @@ is_for_time : Option Wait → Bool
 is_for_time (Some Time) = true
 is_for_time _ = false
 
-for_time : (wait : Option Wait) → is_for_time wait ≡ true → wait ≡ Some Time
+for_time : (wait : Option Wait) (by_itself : Bool) → is_for_time wait ≡ true → or_suspended (asked_of wait) by_itself ≡ Some Time
 unfolding is_for_time
-for_time (Some Time) h = refl
-for_time (Some Normal) h = cc
-for_time (Some Start) h = cc
-for_time (Some (Semaphore s)) h = cc
-for_time None h = cc
+for_time (Some Time) by_itself h = refl
+for_time (Some Normal) by_itself h = cc
+for_time (Some Start) by_itself h = cc
+for_time (Some (Semaphore s)) by_itself h = cc
+for_time None by_itself h = cc
 
 -- whatever process p waited for, its wait ends in the same way, and only one for time ends with NO_ERROR
 over_roster : (roster : Roster) (p : ℕ) (wait : Option Wait) → (wait_over roster p wait).roster ≡ unblock roster p
@@ -56,8 +56,8 @@ over_waking roster p q None = or_false (q == p && false)
 -- time
 record IsServed (old new : Roster) (notices : List Notice) : Type 0 where
   frees : Frees old new
-  asleep : (q : ℕ) (w : Wait) → (record_at new q).wait ≡ Some w → is_asked w ≡ true → list_any (is_waking q) notices ≡ false
-  timed : (q : ℕ) → list_any (is_waking q) notices ≡ true → (record_at old q).wait ≡ Some Time
+  asleep : (q : ℕ) (w : Wait) → awaited (record_at new q) ≡ Some w → list_any (is_waking q) notices ≡ false
+  timed : (q : ℕ) → list_any (is_waking q) notices ≡ true → awaited (record_at old q) ≡ Some Time
 
 -- one due more is served
 module _ (old roster : Roster) (notices : List Notice) (p : ℕ) (served : IsServed old roster notices) where
@@ -67,33 +67,30 @@ module _ (old roster : Roster) (notices : List Notice) (p : ℕ) (served : IsSer
   abbrev wait : Option Wait
   wait = (record_at roster p).wait
 
-  abbrev woken : Record
-  woken = record (record_at free p) { wait = None; due = None }
-
-  moved : (q : ℕ) (w : Wait) → (record_at (serve_due roster p).roster q).wait ≡ Some w → is_asked w ≡ true
-      → (q ≢ p) × ((record_at free q).wait ≡ Some w)
-  moved q w h asked = freed_readied free p woken refl q w (rw (over_roster free p wait) at h) asked
+  moved : (q : ℕ) (w : Wait) → awaited (record_at (serve_due roster p).roster q) ≡ Some w
+      → (q ≢ p) × (awaited (record_at free q) ≡ Some w)
+  moved q w h = freed_unblock free p q w (rw (over_roster free p wait) at h)
 
   serve_frees : Frees roster (serve_due roster p).roster
   serve_frees =
-      frees_then (frees_moved roster free p (record (record_at roster p) { due = None }) refl refl)
-      (rw (over_roster free p wait) (frees_readied free p woken refl))
+      frees_then (frees_moved roster free p (record (record_at roster p) { due = None }) refl (λ w h. h))
+      (rw (over_roster free p wait) (frees_unblock free p))
 
   told : (q : ℕ) → list_any (is_waking q) (notices ++ (serve_due roster p).notices) ≡ (list_any (is_waking q) notices || (q == p && is_for_time wait))
   told q = list_any-append (is_waking q) notices (serve_due roster p).notices ∙ ap (λ b. list_any (is_waking q) notices || b) (over_waking free p q wait)
 
-  still_asleep : (q : ℕ) (w : Wait) → (record_at (serve_due roster p).roster q).wait ≡ Some w → is_asked w ≡ true
+  still_asleep : (q : ℕ) (w : Wait) → awaited (record_at (serve_due roster p).roster q) ≡ Some w
       → list_any (is_waking q) (notices ++ (serve_due roster p).notices) ≡ false
-  still_asleep q w h asked =
-      told q ∙ rw (served.asleep q w (serve_frees.still q w h asked) asked, other q p (moved q w h asked).0) refl
+  still_asleep q w h =
+      told q ∙ rw (served.asleep q w (serve_frees.still q w h), other q p (moved q w h).0) refl
 
-  woken_timed : (q : ℕ) → list_any (is_waking q) (notices ++ (serve_due roster p).notices) ≡ true → (record_at old q).wait ≡ Some Time
+  woken_timed : (q : ℕ) → list_any (is_waking q) (notices ++ (serve_due roster p).notices) ≡ true → awaited (record_at old q) ≡ Some Time
   woken_timed q h =
       elim (cases_Bool (list_any (is_waking q) notices)) [
         | inl before ↦ served.timed q before
         | inr not_before ↦
             let here = and_parts (q == p) (is_for_time wait) (rw not_before at (sym (told q) ∙ h)) in
-            let waited = served.frees.still p Time (for_time wait here.1) refl in
+            let waited = served.frees.still p Time (for_time wait _ here.1) in
             rw (← eqb-true q p here.0) at waited
       ]
 
@@ -106,7 +103,7 @@ all_served roster =
     holds_in_turn first_due serve_due (IsServed roster)
     (λ r notices p is served. one_served roster r notices p served)
     (length roster.records) roster []
-    (record { frees = frees_none roster; asleep = λ q w h asked. refl; timed = λ q h. absurd (both_ways false refl h) })
+    (record { frees = frees_none roster; asleep = λ q w h. refl; timed = λ q h. absurd (both_ways false refl h) })
 
 -- a tick's deed, by the objects of the history
 pub exact_tick : (table : Table) (machine : Machine) (n : ℕ) → AreEnough table machine.history → AreBounded table machine.history
@@ -119,11 +116,11 @@ exact_tick table machine n enough bounded waiting =
     let deed = tick_deed roster (objects_after table history) n in
     let e = entry_of (length history + 1) Ticker deed in
     let served = all_served (advance_to roster (tick_goal roster n)) in
-    let exact = uncalled_exact table history e refl (λ p s woken. waiting p s Time (served.timed p woken) refl) enough bounded in
+    let exact = uncalled_exact table history e refl (λ p s woken. waiting p s Time (served.timed p woken)) enough bounded in
     record {
       objects = exact.0;
       enough = exact.1;
       bounded = exact.2;
       waiting = open_uncalled history roster deed.outcome.roster e refl waiting
-          (λ q w h asked. (served.frees.still q w h asked, served.asleep q w h asked));
+          (λ q w h. (served.frees.still q w h, served.asleep q w h));
     }

@@ -21,8 +21,8 @@ timed_kept : (roster : Roster) (p : ℕ) → IsIdle (Process p) roster → (time
 timed_kept roster p idle Poll =
     let r : Record = record (record_at roster p) { since = roster.young } in
     kept_freed (Process p) (ToTime (TimedWait Poll)) roster (place_newest roster p) idle (Code NoError) [] (λ q. refl)
-    (frees_moved roster (place_newest roster p) p r refl refl)
-timed_kept roster p idle (Ticks n) = kept_blocked p (ToTime (TimedWait (Ticks n))) Time (Some (roster.now + n)) roster (λ s. refl)
+    (frees_moved roster (place_newest roster p) p r refl (λ w h. h))
+timed_kept roster p idle (Ticks n) = kept_blocked p (ToTime (TimedWait (Ticks n))) Time (Some (roster.now + n)) roster refl (λ s. refl)
 timed_kept roster p idle Infinite =
     kept_same (Process p) (ToTime (TimedWait Infinite)) roster idle (Code InvalidParam) [] (λ q. refl)
 

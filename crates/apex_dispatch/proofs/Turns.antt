@@ -1,7 +1,7 @@
 -- After each turn the running objects are those that the history gives.
-use Rattle.std.proofs.Common.{◌≡◌, ℕ, ◌+◌, ◌<◌, Bool, true, false, ◌&&◌, ◌||◌, not, ◌==◌, List, [], ◌∷◌, ◌++◌, length, Option, None, Some, is_none, refl, sym, ◌∙◌, arith, inl, inr}
+use Rattle.std.proofs.Common.{◌≡◌, ℕ, ◌+◌, ◌<◌, Bool, true, false, ◌&&◌, ◌||◌, not, ◌==◌, List, [], ◌∷◌, ◌++◌, length, Option, None, Some, is_none, set, nat_lt, ap, refl, sym, ◌∙◌, arith, inl, inr}
 use Rattle.std.proofs.lemmas.Option.{none-some}
-use Rattle.std.proofs.lemmas.Bool.{both_ways, cond_both, cases_Bool, and_parts, eqb-true}
+use Rattle.std.proofs.lemmas.Bool.{both_ways, cond_both, cases_eq, ltb-true, ltb-false, cases_Bool, and_parts, eqb-true}
 use Rattle.apex_types.specs.declared.Call.{Call}
 use Rattle.apex_types.specs.declared.Call.TheVariants.{Process as ToProcess}
 use Rattle.apex_types.specs.declared.ProcessCall.TheVariants.{StopSelf}
@@ -10,19 +10,22 @@ use Rattle.apex_types.specs.declared.Caller.TheVariants.{Process, Init, Nobody}
 use Rattle.apex_types.specs.declared.Entry.{Entry}
 use Rattle.apex_types.specs.declared.Notice.{Notice}
 use Rattle.apex_types.specs.declared.Reply.{Reply}
+use Rattle.apex_types.specs.declared.Suspender.{Suspender}
 use Rattle.apex_types.specs.declared.Wait.{Wait}
 use Rattle.apex_types.specs.declared.Who.{Who}
 use Rattle.apex_types.specs.declared.Who.TheVariants.{Core}
 use Rattle.apex_types.specs.Roster.{Roster, nobody as no_record, record_at, is_cold_start}
 use Rattle.apex_types.specs.Running.{runs_on, is_before, chosen}
-use Rattle.apex_types.specs.Stamps.{set_step}
-use Rattle.apex_types.specs.Table.{Table, IsLawful, IsKnown}
+use Rattle.apex_types.specs.Stamps.{WaitsForOne, is_by_itself, set_step}
+use Rattle.apex_types.specs.Table.{Table, process_entry, IsLawful, IsKnown}
 use Rattle.apex_types.specs.History.{objects_after, is_accepted, is_by_process, is_wait_on, next_init_call}
-use Rattle.apex_types.specs.Machine.{Machine, Deed, service, served, script_deed, chosen_deed, turn_deed, step_of, due_init_call, deed_of, entry_of}
+use Rattle.apex_types.specs.Machine.{Machine, Deed, service, served, next_place, script_deed, chosen_deed, turn_deed, step_of, due_init_call, deed_of, entry_of}
+use Rattle.std.proofs.lemmas.List.{get_or_past, length-set}
+use Rattle.apex_types.proofs.Rosters.{changes_record, at_record}
 use Rattle.apex_types.proofs.Choice.{place_passes, place_within}
 use Rattle.apex_dispatch.proofs.Known.{known_step, known_script_step}
 use Rattle.apex_dispatch.proofs.Waits.{open-push}
-use Rattle.apex_dispatch.specs.OpenWaits.{wakes, has_open, is_asked, AreEnough, AreBounded, AreOpen}
+use Rattle.apex_dispatch.specs.OpenWaits.{wakes, has_open, asked_of, or_suspended, awaited, AreEnough, AreBounded, AreOpen}
 use Rattle.apex_dispatch.proofs.Effects.{WaitsKept, IsIdle, frees_moved}
 use Rattle.apex_dispatch.proofs.Exact.{entry_with, exact_service, uncalled_exact}
 
@@ -40,27 +43,46 @@ open_other b false = refl
 open_after : (number now : ℕ) (who : Who) (caller : Caller) (history : List Entry) (old new : Roster) (call : Call) (reply : Reply) (notices : List Notice)
     → AreOpen old history → WaitsKept caller call old new reply notices
     → AreOpen new (history ++ entry_with number now who caller history call reply notices ∷ [])
-open_after number now who caller history old new call reply notices before kept p s w h asked =
+open_after number now who caller history old new call reply notices before kept p s w h =
     let e = entry_with number now who caller history call reply notices in
     let pushed = open-push s p history e in
     elim (cases_Bool (is_by_process p caller)) [
       | inl by ↦
           pushed ∙ rw by (open_own (is_wait_on s (Some call) && not (is_accepted reply)) (has_open s p history) (not (wakes p e)))
-          ∙ kept.own p s w by h asked
+          ∙ kept.own p s w by h
       | inr not_by ↦
-          let others = kept.others p w not_by h asked in
+          let others = kept.others p w not_by h in
           pushed ∙ rw (not_by, others.1) (open_other (is_wait_on s (Some call) && not (is_accepted reply)) (has_open s p history))
-          ∙ before p s w others.0 asked
+          ∙ before p s w others.0
     ]
 
 -- the same of an entry without a call
 pub open_uncalled : (history : List Entry) (old new : Roster) (e : Entry) → e.process ≡ Nobody → AreOpen old history
-    → ((q : ℕ) (w : Wait) → (record_at new q).wait ≡ Some w → is_asked w ≡ true → ((record_at old q).wait ≡ Some w) × (wakes q e ≡ false))
+    → ((q : ℕ) (w : Wait) → awaited (record_at new q) ≡ Some w → (awaited (record_at old q) ≡ Some w) × (wakes q e ≡ false))
     → AreOpen new (history ++ e ∷ [])
-open_uncalled history old new e nobody before kept p s w h asked =
-    let others = kept p w h asked in
+open_uncalled history old new e nobody before kept p s w h =
+    let others = kept p w h in
     open-push s p history e ∙ rw (nobody, others.1) (open_other (is_wait_on s e.call && not (is_accepted e.reply)) (has_open s p history))
-    ∙ before p s w others.0 asked
+    ∙ before p s w others.0
+
+-- a step more changes no wait
+one_step : (roster : Roster) (p place : ℕ) → WaitsForOne roster → WaitsForOne (set_step roster p place)
+one_step roster p place one q =
+    let r : Record = record (record_at roster p) { step = place } in
+    elim (cases_eq q p) [
+      | inl same ↦ elim (cases_Bool (nat_lt q (length roster.records))) [
+        | inl inside ↦
+            let known : p < length roster.records = omega (arith, ltb-true _ _ inside, same) in
+            let here : record_at (set_step roster p place) q ≡ r = ap (record_at (set_step roster p place)) same ∙ at_record roster p known r in
+            λ h. ap (λ (x : Record). x.wait) here ∙ one p (ap (λ (x : Record). is_by_itself x.suspended) (sym here) ∙ h)
+        | inr past ↦
+            let none : record_at (set_step roster p place) q ≡ no_record = get_or_past (set roster.records p r) q no_record (omega (arith, ltb-false _ _ past, length-set roster.records p r)) in
+            λ h. ap (λ (x : Record). x.wait) none
+      ]
+      | inr apart ↦
+          let here : record_at (set_step roster p place) q ≡ record_at roster q = (changes_record roster p r).others q apart in
+          λ h. ap (λ (x : Record). x.wait) here ∙ one q (ap (λ (x : Record). is_by_itself x.suspended) (sym here) ∙ h)
+    ]
 
 -- the objects after a deed, and who waits, are as the history then says
 pub record IsDeedExact (table : Table) (history : List Entry) (number : ℕ) (who : Who) (deed : Deed) : Type 0 where
@@ -70,11 +92,11 @@ pub record IsDeedExact (table : Table) (history : List Entry) (number : ℕ) (wh
   pub waiting : AreOpen deed.outcome.roster (history ++ entry_of number who deed ∷ [])
 
 module _ (table : Table) (lawful : IsLawful table) (history : List Entry) (number core : ℕ) (enough : AreEnough table history) (bounded : AreBounded table history) where
-  exact_served : (roster : Roster) → AreOpen roster history → (caller : Caller) → IsIdle caller roster → (call : Call) → IsKnown table call
+  exact_served : (roster : Roster) → AreOpen roster history → WaitsForOne roster → (caller : Caller) → IsIdle caller roster → (call : Call) → IsKnown table call
       → IsDeedExact table history number (Core core) (served table.cores roster (objects_after table history) caller call)
-  exact_served roster before caller idle call known =
+  exact_served roster before one caller idle call known =
       let o = service table.cores roster (objects_after table history) caller call in
-      let exact = exact_service number o.roster.now (Core core) table history roster enough bounded before caller idle call known in
+      let exact = exact_service number o.roster.now (Core core) table history roster enough bounded before one caller idle call known in
       record {
         objects = exact.objects;
         enough = exact.enough_after;
@@ -82,30 +104,36 @@ module _ (table : Table) (lawful : IsLawful table) (history : List Entry) (numbe
         waiting = open_after number o.roster.now (Core core) caller history roster o.roster call o.reply o.notices before exact.waits;
       }
 
-  module _ (roster : Roster) (before : AreOpen roster history) where
-    exact_script : (p : ℕ) → p < length table.processes → (record_at roster p).wait ≡ None
+  module _ (roster : Roster) (before : AreOpen roster history) (one : WaitsForOne roster) where
+    exact_script : (p : ℕ) → p < length table.processes → awaited (record_at roster p) ≡ None
         → (step : Option Call) → step_of table roster p ≡ step
         → IsDeedExact table history number (Core core) (script_deed table roster (objects_after table history) p step)
     exact_script p within free None is =
-        exact_served roster before (Process p)
-        (λ q w by h asked. none-some w (sym free ∙ rw (eqb-true q p by) at h)) (ToProcess StopSelf) tt
+        exact_served roster before one (Process p)
+        (λ q w by h. none-some w (sym free ∙ rw (eqb-true q p by) at h)) (ToProcess StopSelf) tt
     exact_script p within free (Some call) is =
         let r = record_at roster p in
-        let moved = set_step roster p (r.step + 1) in
-        let frees = frees_moved roster moved p (record r { step = r.step + 1 }) refl refl in
-        exact_served moved (λ q s w h asked. before q s w (frees.still q w h asked) asked) (Process p)
-        (λ q w by h asked. none-some w (sym free ∙ rw (eqb-true q p by) at (frees.still q w h asked)))
+        let place = next_place (process_entry table p) r.step in
+        let moved = set_step roster p place in
+        let frees = frees_moved roster moved p (record r { step = place }) refl (λ w h. h) in
+        exact_served moved (λ q s w h. before q s w (frees.still q w h)) (one_step roster p place one) (Process p)
+        (λ q w by h. none-some w (sym free ∙ rw (eqb-true q p by) at (frees.still q w h)))
         call (known_script_step table p r.step call lawful within is)
 
-    -- the chosen process waits for nothing
-    chosen_free : (p : ℕ) → chosen roster core ≡ Some p → (record_at roster p).wait ≡ None
+    -- the chosen process waits for nothing, and is not suspended
+    chosen_free : (p : ℕ) → chosen roster core ≡ Some p → awaited (record_at roster p) ≡ None
     unfolding runs_on
     chosen_free p is =
         let passes = place_passes (runs_on roster.mode core) is_before roster.records p no_record is in
-        nothing (record_at roster p).wait (and_parts _ _ (and_parts _ _ passes).0).1 where
-          nothing : (wait : Option Wait) → is_none wait ≡ true → wait ≡ None
-          nothing None h = refl
-          nothing (Some w) h = cc
+        let eligible = (and_parts _ _ passes).0 in
+        let waits = (and_parts _ _ eligible).1 in
+        let suspended = (and_parts _ _ (and_parts _ _ eligible).0).1 in
+        nothing (record_at roster p).wait (record_at roster p).suspended waits suspended where
+          nothing : (wait : Option Wait) (suspended : Option Suspender) → is_none wait ≡ true → is_none suspended ≡ true
+              → or_suspended (asked_of wait) (is_by_itself suspended) ≡ None
+          nothing None None h i = refl
+          nothing None (Some by) h i = cc
+          nothing (Some w) suspended h i = cc
 
     exact_chosen : ((p : ℕ) → chosen roster core ≡ Some p → p < length table.processes)
         → (found : Option ℕ) → chosen roster core ≡ found
@@ -118,7 +146,7 @@ module _ (table : Table) (lawful : IsLawful table) (history : List Entry) (numbe
           objects = exact.0;
           enough = exact.1;
           bounded = exact.2;
-          waiting = open_uncalled history roster roster e refl before (λ q w h asked. (h, refl));
+          waiting = open_uncalled history roster roster e refl before (λ q w h. (h, refl));
         }
     exact_chosen known (Some p) is =
         exact_script p (known p is) (chosen_free p is) (step_of table roster p) refl
@@ -128,7 +156,7 @@ module _ (table : Table) (lawful : IsLawful table) (history : List Entry) (numbe
         → IsDeedExact table history number (Core core) (turn_deed table roster (objects_after table history) core due)
     exact_turn known None steps = exact_chosen known (chosen roster core) refl
     exact_turn known (Some call) steps =
-        exact_served roster before Init (λ q w by h asked. cc) call (steps call refl)
+        exact_served roster before one Init (λ q w by h. cc) call (steps call refl)
 
 -- an init step that is due is one of the table's
 pub due_known : (table : Table) (machine : Machine) (core : ℕ) → IsLawful table
@@ -142,9 +170,9 @@ due_known table machine core lawful =
 -- a turn's deed, by the objects of the history
 pub exact_deed : (table : Table) (machine : Machine) (core : ℕ) → IsLawful table
     → length machine.roster.records ≡ length table.processes
-    → AreEnough table machine.history → AreBounded table machine.history → AreOpen machine.roster machine.history
+    → AreEnough table machine.history → AreBounded table machine.history → AreOpen machine.roster machine.history → WaitsForOne machine.roster
     → IsDeedExact table machine.history (length machine.history + 1) (Core core) (deed_of table machine core)
-exact_deed table machine core lawful many enough bounded before =
-    exact_turn table lawful machine.history (length machine.history + 1) core enough bounded machine.roster before
+exact_deed table machine core lawful many enough bounded before one =
+    exact_turn table lawful machine.history (length machine.history + 1) core enough bounded machine.roster before one
     (λ p is. omega (arith, place_within (runs_on machine.roster.mode core) is_before machine.roster.records p is, many))
     (due_init_call table machine core) (due_known table machine core lawful)

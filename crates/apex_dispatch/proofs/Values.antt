@@ -1,10 +1,11 @@
 -- What one entry more does to the objects that are read off the history.
-use Rattle.std.proofs.Common.{◌≡◌, ◌≢◌, ℕ, ◌+◌, ◌-◌, ◌≤◌, ◌<◌, Bool, true, false, ◌&&◌, ◌||◌, List, [], ◌∷◌, ◌++◌, Some, if◌then◌else◌, refl, ◌∙◌, ap, arith}
+use Rattle.std.proofs.Common.{◌≡◌, ◌≢◌, ℕ, ◌+◌, ◌-◌, ◌≤◌, ◌<◌, Bool, true, false, ◌&&◌, ◌||◌, List, [], ◌∷◌, ◌++◌, Some, if◌then◌else◌, refl, sym, ◌∙◌, ap, arith}
 use Rattle.std.proofs.lemmas.List.Sums.{sum_by-append}
 use Rattle.std.proofs.lemmas.List.Folds.{list_any-append}
 use Rattle.apex_types.specs.declared.Call.TheVariants.{Semaphore}
+use Rattle.apex_types.specs.declared.NamedSemaphore.TheVariants.{Known, Unknown}
 use Rattle.apex_types.specs.declared.SemaphoreCall.{SemaphoreCall}
-use Rattle.apex_types.specs.declared.SemaphoreCall.TheVariants.{CreateSemaphore, WaitSemaphore, SignalSemaphore, GetSemaphoreStatus}
+use Rattle.apex_types.specs.declared.SemaphoreCall.TheVariants.{CreateSemaphore, WaitSemaphore, SignalSemaphore, GetSemaphoreId, GetSemaphoreStatus}
 use Rattle.apex_types.specs.declared.Entry.{Entry}
 use Rattle.apex_types.specs.Table.{SemaphoreEntry}
 use Rattle.apex_types.specs.SemaphoreServices.{semaphore_of}
@@ -66,22 +67,25 @@ quiet_refused s history e refused nobody = record {
 }
 
 -- a call of another semaphore, which wakes nobody
-quiet_call : (s : ℕ) (call : SemaphoreCall) → s ≢ semaphore_of call
+quiet_call : (s : ℕ) (call : SemaphoreCall) → (semaphore_of call ≡ Some s → ⊥)
     → (is_signal_of s (Some (Semaphore call)) ≡ false) × (is_wait_on s (Some (Semaphore call)) ≡ false)
-quiet_call s (CreateSemaphore t) differs = (refl, refl)
-quiet_call s (WaitSemaphore t timeout) differs = (refl, other s t differs)
-quiet_call s (SignalSemaphore t) differs = (other s t differs, refl)
+quiet_call s (CreateSemaphore named) differs = (refl, refl)
+quiet_call s (WaitSemaphore t timeout) differs = (refl, other s t (λ e. differs (ap Some (sym e))))
+quiet_call s (SignalSemaphore t) differs = (other s t (λ e. differs (ap Some (sym e))), refl)
+quiet_call s (GetSemaphoreId named) differs = (refl, refl)
 quiet_call s (GetSemaphoreStatus t) differs = (refl, refl)
 
-quiet_create : (s : ℕ) (call : SemaphoreCall) (b : Bool) → s ≢ semaphore_of call
+quiet_create : (s : ℕ) (call : SemaphoreCall) (b : Bool) → (semaphore_of call ≡ Some s → ⊥)
     → (is_creation_of_semaphore s (Some (Semaphore call)) && b) ≡ false
-quiet_create s (CreateSemaphore t) b differs = rw (other s t differs) refl
+quiet_create s (CreateSemaphore (Known t)) b differs = rw (other s t (λ e. differs (ap Some (sym e)))) refl
+quiet_create s (CreateSemaphore (Unknown name)) b differs = refl
 quiet_create s (WaitSemaphore t timeout) b differs = refl
 quiet_create s (SignalSemaphore t) b differs = refl
+quiet_create s (GetSemaphoreId named) b differs = refl
 quiet_create s (GetSemaphoreStatus t) b differs = refl
 
 pub quiet_elsewhere : (s : ℕ) (history : List Entry) (e : Entry) (call : SemaphoreCall) → e.call ≡ Some (Semaphore call)
-    → s ≢ semaphore_of call → newly s history e ≡ 0 → IsQuiet s history e
+    → (semaphore_of call ≡ Some s → ⊥) → newly s history e ≡ 0 → IsQuiet s history e
 quiet_elsewhere s history e call is differs none = record {
   signal = rw (is, (quiet_call s call differs).0) refl;
   satisfied = rw (none, is, (quiet_call s call differs).1) refl;

@@ -4,7 +4,7 @@ use Rattle.std.proofs.lemmas.Bool.Decides.{eqb_tells}
 use Rattle.std.proofs.lemmas.Bool.{eq-eqb, eqb-true, both_ways}
 use Rattle.apex_types.specs.declared.Call.{Call}
 use Rattle.apex_types.specs.declared.Call.TheVariants.{Partition, Process as ToProcess, Time as ToTime, Semaphore}
-use Rattle.apex_types.specs.declared.SemaphoreCall.TheVariants.{CreateSemaphore, WaitSemaphore, SignalSemaphore, GetSemaphoreStatus}
+use Rattle.apex_types.specs.declared.SemaphoreCall.TheVariants.{CreateSemaphore, WaitSemaphore, SignalSemaphore, GetSemaphoreId, GetSemaphoreStatus}
 use Rattle.apex_types.specs.declared.Caller.{Caller}
 use Rattle.apex_types.specs.declared.Caller.TheVariants.{Process, Init, Nobody}
 use Rattle.apex_types.specs.declared.Entry.{Entry}
@@ -252,6 +252,7 @@ wait_on_one s t (Some (Semaphore (CreateSemaphore u))) differs h = refl
 wait_on_one s t (Some (Semaphore (WaitSemaphore u timeout))) differs h =
     other t u (λ e. differs (eqb-true s u h ∙ sym e))
 wait_on_one s t (Some (Semaphore (SignalSemaphore u))) differs h = refl
+wait_on_one s t (Some (Semaphore (GetSemaphoreId named))) differs h = refl
 wait_on_one s t (Some (Semaphore (GetSemaphoreStatus u))) differs h = refl
 
 -- a process has an open wait on one semaphore at the most

@@ -5,6 +5,7 @@ use Rattle.apex_types.specs.History.{Objects, objects_after, init_count}
 use Rattle.apex_types.specs.Machine.{Machine}
 use Rattle.apex_types.specs.Distinct.{IsStamped}
 use Rattle.apex_types.specs.Dues.{HasNoPastDue}
+use Rattle.apex_types.specs.Stamps.{WaitsForOne}
 use Rattle.apex_dispatch.specs.OpenWaits.{AreEnough, AreBounded, AreOpen}
 
 -- a kernel: its table, the machine's state, and the running values of its objects
@@ -22,7 +23,8 @@ running table machine = record {
 }
 
 -- what each kernel keeps: the running values are the history's, stamps differ, stamps are left for all
--- that the history's limit still admits, and no due that stands is past
+-- that the history's limit still admits, no due that stands is past, and who suspended itself waits for
+-- nothing else
 pub record IsSound (kernel : Running) (init_made room : ℕ) : Type 0 where
   pub lawful : IsLawful kernel.table
   pub limit : room ≡ kernel.table.limit
@@ -32,6 +34,7 @@ pub record IsSound (kernel : Running) (init_made room : ℕ) : Type 0 where
   pub stamps : kernel.machine.roster.young ≤ℤ pos (64 + 64 * length kernel.machine.history)
   pub stamped : IsStamped kernel.machine.roster
   pub dues : HasNoPastDue kernel.machine.roster
+  pub one : WaitsForOne kernel.machine.roster
   pub enough : AreEnough kernel.table kernel.machine.history
   pub bounded : AreBounded kernel.table kernel.machine.history
   pub waiting : AreOpen kernel.machine.roster kernel.machine.history

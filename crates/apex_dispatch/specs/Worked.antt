@@ -1,6 +1,9 @@
 -- Worked histories: small tables and events, and the lines that the definitions give for them.
 use Rattle.std.specs.Prelude.{◌≡◌, ℕ, true, false, List, [], ◌∷◌, codes, replicate, ◌++◌}
 use Rattle.apex_types.specs.declared.Call.TheVariants.{Partition, Process, Time, Semaphore}
+use Rattle.apex_types.specs.declared.Discipline.TheVariants.{Fifo}
+use Rattle.apex_types.specs.declared.NamedProcess.TheVariants as process
+use Rattle.apex_types.specs.declared.NamedSemaphore.TheVariants as semaphore
 use Rattle.apex_types.specs.declared.PartitionCall.TheVariants.{SetPartitionMode}
 use Rattle.apex_types.specs.declared.RequestedMode.TheVariants.{Normal}
 use Rattle.apex_types.specs.declared.ProcessCall.TheVariants.{CreateProcess, InitializeProcessCoreAffinity, Start, DelayedStart, GetMyId}
@@ -19,13 +22,13 @@ waiter_and_signaller = record {
   cores = 2;
   limit = 4096;
   processes =
-      (record { name = codes "P1"; priority = 10; core = 0; start = true; script = Semaphore (WaitSemaphore 0 Infinite) ∷ [] })
-      ∷ (record { name = codes "P2"; priority = 10; core = 1; start = true; script = Semaphore (SignalSemaphore 0) ∷ [] }) ∷ [];
-  semaphores = (record { name = codes "S"; maximum = 1; initial = 0 }) ∷ [];
+      (record { name = codes "P1"; priority = 10; core = 0; loops = false; start = true; script = Semaphore (WaitSemaphore 0 Infinite) ∷ [] })
+      ∷ (record { name = codes "P2"; priority = 10; core = 1; loops = false; start = true; script = Semaphore (SignalSemaphore 0) ∷ [] }) ∷ [];
+  semaphores = (record { name = codes "S"; maximum = 1; initial = 0; discipline = Fifo }) ∷ [];
   init =
-      Semaphore (CreateSemaphore 0)
-      ∷ Process (CreateProcess 0) ∷ Process (InitializeProcessCoreAffinity 0 0)
-      ∷ Process (CreateProcess 1) ∷ Process (InitializeProcessCoreAffinity 1 1)
+      Semaphore (CreateSemaphore (semaphore.Known 0))
+      ∷ Process (CreateProcess (process.Known 0)) ∷ Process (InitializeProcessCoreAffinity 0 0)
+      ∷ Process (CreateProcess (process.Known 1)) ∷ Process (InitializeProcessCoreAffinity 1 1)
       ∷ Process (Start 0) ∷ Process (Start 1)
       ∷ Partition (SetPartitionMode Normal) ∷ [];
 }
@@ -35,10 +38,10 @@ abbrev pub empty_script : Table
 empty_script = record {
   cores = 1;
   limit = 4096;
-  processes = (record { name = codes "P"; priority = 10; core = 0; start = true; script = [] }) ∷ [];
+  processes = (record { name = codes "P"; priority = 10; core = 0; loops = false; start = true; script = [] }) ∷ [];
   semaphores = [];
   init =
-      Process (CreateProcess 0) ∷ Process (InitializeProcessCoreAffinity 0 0) ∷ Process (Start 0)
+      Process (CreateProcess (process.Known 0)) ∷ Process (InitializeProcessCoreAffinity 0 0) ∷ Process (Start 0)
       ∷ Partition (SetPartitionMode Normal) ∷ [];
 }
 
@@ -74,15 +77,16 @@ timed_waiter = record {
   cores = 2;
   limit = 4096;
   processes =
-      (record { name = codes "P1"; priority = 10; core = 0; start = true; script = Semaphore (WaitSemaphore 0 (Ticks 5)) ∷ [] })
+      (record { name = codes "P1"; priority = 10; core = 0; loops = false; start = true; script = Semaphore (WaitSemaphore 0 (Ticks 5)) ∷ [] })
       ∷ (record {
         name = codes "P2";
         priority = 10;
         core = 1;
+        loops = false;
         start = true;
         script = Semaphore (SignalSemaphore 0) ∷ Semaphore (GetSemaphoreStatus 0) ∷ [];
       }) ∷ [];
-  semaphores = (record { name = codes "S"; maximum = 1; initial = 0 }) ∷ [];
+  semaphores = (record { name = codes "S"; maximum = 1; initial = 0; discipline = Fifo }) ∷ [];
   init = waiter_and_signaller.init;
 }
 
@@ -98,14 +102,14 @@ three_timers = record {
   cores = 1;
   limit = 4096;
   processes =
-      (record { name = codes "A"; priority = 10; core = 0; start = true; script = Time (TimedWait (Ticks 9)) ∷ Process GetMyId ∷ [] })
-      ∷ (record { name = codes "B"; priority = 10; core = 0; start = true; script = Time (TimedWait (Ticks 9)) ∷ [] })
-      ∷ (record { name = codes "C"; priority = 5; core = 0; start = true; script = Time (TimedWait (Ticks 4)) ∷ [] }) ∷ [];
+      (record { name = codes "A"; priority = 10; core = 0; loops = false; start = true; script = Time (TimedWait (Ticks 9)) ∷ Process GetMyId ∷ [] })
+      ∷ (record { name = codes "B"; priority = 10; core = 0; loops = false; start = true; script = Time (TimedWait (Ticks 9)) ∷ [] })
+      ∷ (record { name = codes "C"; priority = 5; core = 0; loops = false; start = true; script = Time (TimedWait (Ticks 4)) ∷ [] }) ∷ [];
   semaphores = [];
   init =
-      Process (CreateProcess 0) ∷ Process (InitializeProcessCoreAffinity 0 0)
-      ∷ Process (CreateProcess 1) ∷ Process (InitializeProcessCoreAffinity 1 0)
-      ∷ Process (CreateProcess 2) ∷ Process (InitializeProcessCoreAffinity 2 0)
+      Process (CreateProcess (process.Known 0)) ∷ Process (InitializeProcessCoreAffinity 0 0)
+      ∷ Process (CreateProcess (process.Known 1)) ∷ Process (InitializeProcessCoreAffinity 1 0)
+      ∷ Process (CreateProcess (process.Known 2)) ∷ Process (InitializeProcessCoreAffinity 2 0)
       ∷ Process (Start 0) ∷ Process (Start 1) ∷ Process (Start 2)
       ∷ Partition (SetPartitionMode Normal) ∷ [];
 }
@@ -122,12 +126,12 @@ delayed_starter = record {
   cores = 1;
   limit = 4096;
   processes =
-      (record { name = codes "A"; priority = 10; core = 0; start = true; script = Process (DelayedStart 1 (Ticks 3)) ∷ [] })
-      ∷ (record { name = codes "B"; priority = 20; core = 0; start = false; script = Time GetTime ∷ [] }) ∷ [];
+      (record { name = codes "A"; priority = 10; core = 0; loops = false; start = true; script = Process (DelayedStart 1 (Ticks 3)) ∷ [] })
+      ∷ (record { name = codes "B"; priority = 20; core = 0; loops = false; start = false; script = Time GetTime ∷ [] }) ∷ [];
   semaphores = [];
   init =
-      Process (CreateProcess 0) ∷ Process (InitializeProcessCoreAffinity 0 0)
-      ∷ Process (CreateProcess 1) ∷ Process (InitializeProcessCoreAffinity 1 0)
+      Process (CreateProcess (process.Known 0)) ∷ Process (InitializeProcessCoreAffinity 0 0)
+      ∷ Process (CreateProcess (process.Known 1)) ∷ Process (InitializeProcessCoreAffinity 1 0)
       ∷ Process (Start 0) ∷ Partition (SetPartitionMode Normal) ∷ [];
 }
 

@@ -2,13 +2,13 @@ ghost use Rattle.std.specs.Prelude.{◌≡◌, ◌<◌, ◌≤◌, [], length, S
 ghost use Rattle.std.specs.Option.{ForSome};
 ghost use Rattle.apex_types.specs.Dues.{HasTime};
 ghost use Rattle.apex_types.specs.Table.{IsKnown};
-ghost use Rattle.apex_types.specs.Machine.{chosen_deed, turn_deed};
+ghost use Rattle.apex_types.specs.Machine.{chosen_deed, next_place, turn_deed};
 ghost use Rattle.apex_dispatch.specs.Callers.{HasManyStamps};
 
 use crate::objects::Objects;
 use crate::services::serve;
 use apex_store::Store;
-use apex_table::Table;
+use apex_table::{Process, Table};
 use apex_types::{Call, Caller, CoreId, Notices, ProcessCall, ProcessId, Reply};
 
 /// A call that was carried out, and its reply; no call at an idle turn.
@@ -17,6 +17,18 @@ pub(crate) struct Deed {
     pub(crate) caller: Caller,
     pub(crate) call: Option<Call>,
     pub(crate) reply: Reply,
+}
+
+/// The place after this one: a looping script is at its first step again after its last one.
+fn next_place(process: &Process, step: u8) -> u8
+    requires { step < 64 }
+    ensures { result ≡ next_place process.now step }
+{
+    if process.loops() && usize::from(step) + 1 == process.step_count() {
+        0
+    } else {
+        step + 1
+    }
 }
 
 /// The process carries out its step; the end of its script is STOP_SELF.
@@ -46,7 +58,7 @@ fn carry_out_step<S: Store>(
     let step = store.record(process).step;
     match table.process(process).step(usize::from(step)) {
         Some(call) => {
-            store.set_step(process, step + 1);
+            store.set_step(process, next_place(table.process(process), step));
             let reply = serve(table.cores(), store, objects, &caller, &call, notices);
             Deed {
                 caller,

@@ -1,6 +1,6 @@
 //! Laws of the machine's definitions. Each is the contract of a function that does nothing.
 
-ghost use Rattle.apex_store.specs.Laws.{RunsMostUrgent, FirstWaiterIsLongest};
+ghost use Rattle.apex_store.specs.Laws.{RunsMostUrgent, FirstWaiterIsFirst};
 ghost use Rattle.apex_dispatch.specs.Laws.{ValuesStayInRange, RunsCompose, RunsStayWithin, TimeGoesForward};
 ghost use Rattle.apex_dispatch.specs.Worked.{SignalWakesWaiter, SignalBeforeWait, EmptyScriptStopsItself, TimedOutWaiterGetsNoSignal, TickHaltsAtTheNextInstant, DelayedStartReleasesAtItsTime};
 
@@ -18,12 +18,13 @@ pub fn most_urgent_runs<S: Store>(kernel: &Kernel<S>, core: CoreId)
     apex_store::most_urgent_runs(kernel.store(), core);
 }
 
-/// In every kernel the first waiter of a queue waits in it for longer than every other one.
-pub fn first_waiter_is_longest<S: Store>(kernel: &Kernel<S>, queue: Wait)
-    ensures { FirstWaiterIsLongest kernel.now.machine.roster queue }
+/// In every kernel the first waiter of a queue is before every other one there, by the queue's
+/// discipline.
+pub fn first_waiter_is_first<S: Store>(kernel: &Kernel<S>, queue: Wait)
+    ensures { FirstWaiterIsFirst kernel.now.machine.roster queue }
 {
     kernel.holds();
-    apex_store::first_waiter_is_longest(kernel.store(), queue);
+    apex_store::first_waiter_is_first(kernel.store(), queue);
 }
 
 /// In every run on an accepted table each semaphore's value stays from 0 to its maximum.

@@ -5,9 +5,13 @@ mod deeds;
 mod kernels;
 mod laws;
 mod objects;
+mod own;
 mod partitions;
+mod priorities;
 mod processes;
 mod services;
+mod statuses;
+mod suspensions;
 #[cfg(test)]
 mod tests;
 mod ticks;
@@ -15,6 +19,6 @@ mod times;
 
 pub use kernels::Kernel;
 pub use laws::{
-    first_waiter_is_longest, most_urgent_runs, runs_compose, runs_stay_within, time_goes_forward,
+    first_waiter_is_first, most_urgent_runs, runs_compose, runs_stay_within, time_goes_forward,
     values_stay_in_range, worked_histories,
 };

@@ -4,6 +4,7 @@ ghost use Rattle.apex_types.specs.Stamps.{HasStamps};
 ghost use Rattle.apex_types.specs.PartitionServices as services;
 ghost use Rattle.apex_dispatch.specs.Callers.{HasManyStamps};
 
+use crate::statuses::mode_number;
 use apex_store::Store;
 use apex_types::{
     Mode, Notice, Notices, PartitionCall, ProcessId, Reply, RequestedMode, ReturnCode, Wait,
@@ -48,8 +49,49 @@ fn enter_normal<S: Store>(store: &mut S, notices: &mut Notices)
     }
 }
 
-/// Carries out a call of a service of partition management.
+/// IDLE: stops every process for good, and tells nobody.
+fn enter_idle<S: Store>(store: &mut S)
+    requires few { length (S.roster store.old).records ≤ 32 }
+    ensures { S.roster store.new ≡ services.enter_idle (S.roster store.old) }
+{
+    store.set_mode(Mode::Idle);
+    for place in 0..store.process_count() {
+        store.stop(ProcessId::at(place as u8));
+    }
+}
+
+/// SET_PARTITION_MODE.
+fn set_partition_mode<S: Store>(
+    store: &mut S,
+    requested: RequestedMode,
+    notices: &mut Notices,
+) -> Reply
+    requires few { length (S.roster store.old).records ≤ 32 }
+    requires stamps { HasManyStamps (S.roster store.old) }
+    requires time { HasTime (S.roster store.old) }
+    requires quiet { notices.old ≡ [] }
+    ensures roster { S.roster store.new ≡ (services.set_partition_mode (S.roster store.old) requested).roster }
+    ensures reply { result ≡ (services.set_partition_mode (S.roster store.old) requested).reply }
+    ensures notices { notices.new ≡ (services.set_partition_mode (S.roster store.old) requested).notices }
+{
+    match requested {
+        RequestedMode::Idle => {
+            enter_idle(store);
+            Reply::Gone
+        }
+        RequestedMode::Normal => {
+            if store.mode() == Mode::Normal {
+                return Reply::Code(ReturnCode::NoAction);
+            }
+            enter_normal(store, notices);
+            Reply::Code(ReturnCode::NoError)
+        }
+    }
+}
+
+/// Carries out a call of a service of partition management in a partition of `cores` cores.
 pub(crate) fn serve_partition<S: Store>(
+    cores: u8,
     store: &mut S,
     call: &PartitionCall,
     notices: &mut Notices,
@@ -58,17 +100,16 @@ pub(crate) fn serve_partition<S: Store>(
     requires stamps { HasManyStamps (S.roster store.old) }
     requires time { HasTime (S.roster store.old) }
     requires quiet { notices.old ≡ [] }
-    ensures roster { S.roster store.new ≡ (services.partition_service (S.roster store.old) call.now).roster }
-    ensures reply { result ≡ (services.partition_service (S.roster store.old) call.now).reply }
-    ensures notices { notices.new ≡ (services.partition_service (S.roster store.old) call.now).notices }
+    ensures roster { S.roster store.new ≡ (services.partition_service cores (S.roster store.old) call.now).roster }
+    ensures reply { result ≡ (services.partition_service cores (S.roster store.old) call.now).reply }
+    ensures notices { notices.new ≡ (services.partition_service cores (S.roster store.old) call.now).notices }
 {
     match call {
-        PartitionCall::SetPartitionMode(RequestedMode::Normal) => {
-            if store.mode() == Mode::Normal {
-                return Reply::Code(ReturnCode::NoAction);
-            }
-            enter_normal(store, notices);
-            Reply::Code(ReturnCode::NoError)
+        PartitionCall::SetPartitionMode(requested) => {
+            set_partition_mode(store, *requested, notices)
+        }
+        PartitionCall::GetPartitionStatus => {
+            Reply::Status(mode_number(store.mode()), u64::from(cores))
         }
     }
 }

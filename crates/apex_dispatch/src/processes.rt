@@ -3,12 +3,17 @@ ghost use Rattle.apex_types.specs.Callers.{IsKnownCaller};
 ghost use Rattle.apex_types.specs.Dues.{HasTime};
 ghost use Rattle.apex_types.specs.Roster.{Roster};
 ghost use Rattle.apex_types.specs.Stamps.{HasStamps, start};
-ghost use Rattle.apex_types.specs.Table.{IsKnownToProcesses};
+ghost use Rattle.apex_types.specs.Table.{IsKnownProcess, IsKnownToProcesses};
 ghost use Rattle.apex_types.specs.ProcessServices as services;
 
+use crate::suspensions::{resume_process, stop_process, suspend_process};
+use crate::own::serve_own;
+use crate::statuses::{get_process_id, get_process_status};
+use crate::priorities::set_priority;
 use apex_store::Store;
 use apex_types::{
-    Caller, CoreId, Mode, Notice, Notices, ProcessCall, ProcessId, Reply, ReturnCode, Timeout,
+    Caller, CoreId, Mode, NamedProcess, Notice, Notices, ProcessCall, ProcessId, Reply, ReturnCode,
+    Timeout,
 };
 
 /// CREATE_PROCESS.
@@ -27,6 +32,26 @@ fn create<S: Store>(store: &S, created: &mut [bool], process: ProcessId) -> Repl
     }
     created[process.place()] = true;
     Reply::Code(ReturnCode::NoError)
+}
+
+/// CREATE_PROCESS of any name.
+fn create_named<S: Store>(store: &S, created: &mut [bool], named: &NamedProcess) -> Reply
+    requires known { IsKnownProcess (length created.old) named.now }
+    ensures created { created.new ≡ (services.create_named (S.roster store.now) created.old named.now).created }
+    ensures reply { result ≡ (services.create_named (S.roster store.now) created.old named.now).reply }
+    ensures quiet { (services.create_named (S.roster store.now) created.old named.now).notices ≡ [] }
+    ensures roster { (services.create_named (S.roster store.now) created.old named.now).roster ≡ S.roster store.now }
+{
+    match named {
+        NamedProcess::Known(process) => create(store, created, *process),
+        NamedProcess::Unknown(_) => {
+            if store.mode() == Mode::Normal {
+                Reply::Code(ReturnCode::InvalidMode)
+            } else {
+                Reply::Code(ReturnCode::InvalidConfig)
+            }
+        }
+    }
 }
 
 /// INITIALIZE_PROCESS_CORE_AFFINITY in a partition of `cores` cores.
@@ -105,36 +130,6 @@ fn start_process<S: Store>(
     Reply::Code(ReturnCode::NoError)
 }
 
-/// STOP_SELF.
-fn stop_self<S: Store>(store: &mut S, caller: &Caller) -> Reply
-    requires known { IsKnownCaller (length (S.roster store.old).records) caller.now }
-    ensures roster { (created : List Bool) → S.roster store.new ≡ (services.stop_self (S.roster store.old) created caller.now).roster }
-    ensures created { (created : List Bool) → (services.stop_self (S.roster store.old) created caller.now).created ≡ created }
-    ensures reply { (created : List Bool) → result ≡ (services.stop_self (S.roster store.old) created caller.now).reply }
-    ensures quiet { (created : List Bool) → (services.stop_self (S.roster store.old) created caller.now).notices ≡ [] }
-{
-    match caller {
-        Caller::Process(process) => {
-            store.stop(*process);
-            Reply::Gone
-        }
-        Caller::Init | Caller::Nobody => Reply::Code(ReturnCode::InvalidMode),
-    }
-}
-
-/// GET_MY_ID.
-fn get_my_id(caller: &Caller) -> Reply
-    ensures reply { (roster : Roster) (created : List Bool) → result ≡ (services.get_my_id roster created caller.now).reply }
-    ensures roster { (roster : Roster) (created : List Bool) → (services.get_my_id roster created caller.now).roster ≡ roster }
-    ensures created { (roster : Roster) (created : List Bool) → (services.get_my_id roster created caller.now).created ≡ created }
-    ensures quiet { (roster : Roster) (created : List Bool) → (services.get_my_id roster created caller.now).notices ≡ [] }
-{
-    match caller {
-        Caller::Process(process) => Reply::Value(u64::from(process.number())),
-        Caller::Init | Caller::Nobody => Reply::Code(ReturnCode::InvalidMode),
-    }
-}
-
 /// Carries out a call of a service of process management in a partition of `cores` cores.
 pub(crate) fn serve_process<S: Store>(
     cores: u8,
@@ -157,9 +152,12 @@ pub(crate) fn serve_process<S: Store>(
     ensures notices { notices.new ≡ (services.process_service cores (S.roster store.old) created.old caller.now call.now).notices }
 {
     match call {
-        ProcessCall::CreateProcess(process) => create(store, created, *process),
+        ProcessCall::CreateProcess(named) => create_named(store, created, named),
         ProcessCall::InitializeProcessCoreAffinity(process, core) => {
             initialize_core_affinity(cores, store, created, *process, *core)
+        }
+        ProcessCall::SetPriority(process, priority) => {
+            set_priority(store, created, *process, *priority)
         }
         ProcessCall::Start(process) => {
             start_process(store, created, *process, Timeout::Poll, notices)
@@ -167,7 +165,16 @@ pub(crate) fn serve_process<S: Store>(
         ProcessCall::DelayedStart(process, delay) => {
             start_process(store, created, *process, *delay, notices)
         }
-        ProcessCall::StopSelf => stop_self(store, caller),
-        ProcessCall::GetMyId => get_my_id(caller),
+        ProcessCall::Stop(process) => stop_process(store, created, caller, *process),
+        ProcessCall::Suspend(process) => suspend_process(store, created, caller, *process),
+        ProcessCall::Resume(process) => {
+            resume_process(store, created, caller, *process, notices)
+        }
+        ProcessCall::GetProcessId(named) => get_process_id(created, named),
+        ProcessCall::GetProcessStatus(process) => get_process_status(store, created, *process),
+        ProcessCall::StopSelf
+        | ProcessCall::SuspendSelf(_)
+        | ProcessCall::GetMyId
+        | ProcessCall::GetMyProcessorCoreId => serve_own(store, caller, call),
     }
 }

@@ -26,7 +26,8 @@ fn tick_goal<S: Store>(store: &S, n: u32) -> u64
     at_most(store.now() + u64::from(n), store.next_instant())
 }
 
-/// The wait of a process ends at its due, by what it waited for.
+/// The wait of a process ends at its due, by what it waited for; where it waits for nothing, its
+/// suspension of itself ends.
 fn end_wait<S: Store>(store: &mut S, process: ProcessId, wait: Option<Wait>, notices: &mut Notices)
     requires known { process < length (S.roster store.old).records }
     requires stamps { HasStamps (S.roster store.old) }

@@ -1,12 +1,13 @@
-ghost use Rattle.std.specs.Prelude.{◌≡◌, ◌+◌, ◌<◌, ◌≤◌, ◌++◌, length, flat_map, decimal, IfSome};
+ghost use Rattle.std.specs.Prelude.{◌≡◌, ◌+◌, ◌<◌, ◌≤◌, ◌++◌, length, flat_map, codes, decimal, IfSome};
 ghost use Rattle.arrayvec.specs.ArrayVec.{array_vec_len};
-ghost use Rattle.apex_types.specs.Table.{IsKnown, IsKnownToProcesses, IsKnownToSemaphores};
-ghost use Rattle.apex_types.specs.Lines.{id_text, code_text, timeout_text, mode_text, process_name, semaphore_name, partition_call_text, process_call_text, time_call_text, semaphore_call_text, call_text, no_call_text, asked_text, who_text, caller_text, reply_text, notice_text, noticed_text, line_of, IsPrintable};
+ghost use Rattle.apex_types.specs.Table.{IsKnown, IsKnownProcess, IsKnownSemaphore, IsKnownToProcesses, IsKnownToSemaphores};
+ghost use Rattle.apex_types.specs.Lines.{id_text, code_text, timeout_text, mode_text, process_name, semaphore_name, named_process_text, named_semaphore_text, partition_call_text, process_call_text, time_call_text, semaphore_call_text, call_text, no_call_text, asked_text, who_text, caller_text, reply_text, notice_text, noticed_text, line_of, IsPrintable};
 
 use apex_table::Table;
 use apex_types::{
-    Call, Caller, Entry, Notice, PartitionCall, ProcessCall, ProcessId, Reply, RequestedMode,
-    ReturnCode, SemaphoreCall, SemaphoreId, TimeCall, Timeout, Who,
+    Call, Caller, Entry, Name, NamedProcess, NamedSemaphore, Notice, PartitionCall, ProcessCall,
+    ProcessId, Reply, RequestedMode, ReturnCode, SemaphoreCall, SemaphoreId, TimeCall, Timeout,
+    Who,
 };
 use arrayvec::ArrayVec;
 use itoa::Buffer;
@@ -93,26 +94,93 @@ fn mode_word(mode: &RequestedMode) -> &'static str
     ensures short { length result.now ≤ 6 }
 {
     match mode {
+        RequestedMode::Idle => "IDLE",
         RequestedMode::Normal => "NORMAL",
     }
 }
 
-fn put_process(line: &mut Line, table: &Table, process: ProcessId)
-    requires known { process < length table.now.processes }
-    requires room { array_vec_len line.old + 30 ≤ 4096 }
-    ensures text { line.new.items ≡ line.old.items ++ process_name table.now process }
+fn put_name(line: &mut Line, name: &Name)
+    requires { array_vec_len line.old + 30 ≤ 4096 }
+    ensures text { line.new.items ≡ line.old.items ++ name.now }
     ensures short { array_vec_len line.new ≤ array_vec_len line.old + 30 }
 {
-    put_bytes(line, table.process(process).name().as_bytes());
+    put_bytes(line, name.as_bytes());
 }
 
-fn put_semaphore(line: &mut Line, table: &Table, semaphore: SemaphoreId)
-    requires known { semaphore < length table.now.semaphores }
-    requires room { array_vec_len line.old + 30 ≤ 4096 }
-    ensures text { line.new.items ≡ line.old.items ++ semaphore_name table.now semaphore }
-    ensures short { array_vec_len line.new ≤ array_vec_len line.old + 30 }
+// A service's word, with the space behind it, and the name of an entry.
+#[tactic(auto, using(std::proofs::Common::append_assoc))]
+fn put_with_process(line: &mut Line, table: &Table, service: &str, process: ProcessId)
+    requires known { process < length table.now.processes }
+    requires room { array_vec_len line.old + length service.now + 30 ≤ 4096 }
+    ensures text { line.new.items ≡ line.old.items ++ (service.now ++ process_name table.now process) }
+    ensures short { array_vec_len line.new ≤ array_vec_len line.old + length service.now + 30 }
 {
-    put_bytes(line, table.semaphore(semaphore).name().as_bytes());
+    put(line, service);
+    put_name(line, table.process(process).name());
+}
+
+// The same of a name that need not be an entry's.
+#[tactic(auto, using(std::proofs::Common::append_assoc))]
+fn put_with_named_process(line: &mut Line, table: &Table, service: &str, named: &NamedProcess)
+    requires known { IsKnownProcess (length table.now.processes) named.now }
+    requires room { array_vec_len line.old + length service.now + 30 ≤ 4096 }
+    ensures text { line.new.items ≡ line.old.items ++ (service.now ++ named_process_text table.now named.now) }
+    ensures short { array_vec_len line.new ≤ array_vec_len line.old + length service.now + 30 }
+{
+    match named {
+        NamedProcess::Known(process) => put_with_process(line, table, service, *process),
+        NamedProcess::Unknown(name) => {
+            put(line, service);
+            put_name(line, name);
+        }
+    }
+}
+
+#[tactic(auto, using(std::proofs::Common::append_assoc))]
+fn put_with_semaphore(line: &mut Line, table: &Table, service: &str, semaphore: SemaphoreId)
+    requires known { semaphore < length table.now.semaphores }
+    requires room { array_vec_len line.old + length service.now + 30 ≤ 4096 }
+    ensures text { line.new.items ≡ line.old.items ++ (service.now ++ semaphore_name table.now semaphore) }
+    ensures short { array_vec_len line.new ≤ array_vec_len line.old + length service.now + 30 }
+{
+    put(line, service);
+    put_name(line, table.semaphore(semaphore).name());
+}
+
+#[tactic(auto, using(std::proofs::Common::append_assoc))]
+fn put_with_named_semaphore(line: &mut Line, table: &Table, service: &str, named: &NamedSemaphore)
+    requires known { IsKnownSemaphore (length table.now.semaphores) named.now }
+    requires room { array_vec_len line.old + length service.now + 30 ≤ 4096 }
+    ensures text { line.new.items ≡ line.old.items ++ (service.now ++ named_semaphore_text table.now named.now) }
+    ensures short { array_vec_len line.new ≤ array_vec_len line.old + length service.now + 30 }
+{
+    match named {
+        NamedSemaphore::Known(semaphore) => put_with_semaphore(line, table, service, *semaphore),
+        NamedSemaphore::Unknown(name) => {
+            put(line, service);
+            put_name(line, name);
+        }
+    }
+}
+
+#[tactic(auto, using(std::proofs::Common::append_assoc))]
+fn put_spaced_number(line: &mut Line, number: u32)
+    requires { array_vec_len line.old + 11 ≤ 4096 }
+    ensures text { line.new.items ≡ line.old.items ++ (codes " " ++ decimal number) }
+    ensures short { array_vec_len line.new ≤ array_vec_len line.old + 11 }
+{
+    put(line, " ");
+    put_number(line, number);
+}
+
+#[tactic(auto, using(std::proofs::Common::append_assoc))]
+fn put_spaced_timeout(line: &mut Line, timeout: &Timeout)
+    requires { array_vec_len line.old + 11 ≤ 4096 }
+    ensures text { line.new.items ≡ line.old.items ++ (codes " " ++ timeout_text timeout.now) }
+    ensures short { array_vec_len line.new ≤ array_vec_len line.old + 11 }
+{
+    put(line, " ");
+    put_timeout(line, timeout);
 }
 
 #[tactic(auto, using(std::proofs::Common::append_assoc))]
@@ -126,39 +194,44 @@ fn put_partition_call(line: &mut Line, call: &PartitionCall)
             put(line, "SET_PARTITION_MODE ");
             put(line, mode_word(mode));
         }
+        PartitionCall::GetPartitionStatus => put(line, "GET_PARTITION_STATUS"),
     }
 }
 
-#[tactic(auto, using(std::proofs::Common::append_assoc))]
 fn put_process_call(line: &mut Line, table: &Table, call: &ProcessCall)
     requires known { IsKnownToProcesses (length table.now.processes) call.now }
     requires room { array_vec_len line.old + 80 ≤ 4096 }
     ensures text { line.new.items ≡ line.old.items ++ process_call_text table.now call.now }
     ensures short { array_vec_len line.new ≤ array_vec_len line.old + 80 }
 {
+    use ProcessCall::*;
     match call {
-        ProcessCall::CreateProcess(process) => {
-            put(line, "CREATE_PROCESS ");
-            put_process(line, table, *process);
+        CreateProcess(named) => put_with_named_process(line, table, "CREATE_PROCESS ", named),
+        InitializeProcessCoreAffinity(process, core) => {
+            put_with_process(line, table, "INITIALIZE_PROCESS_CORE_AFFINITY ", *process);
+            put_spaced_number(line, u32::from(*core));
         }
-        ProcessCall::InitializeProcessCoreAffinity(process, core) => {
-            put(line, "INITIALIZE_PROCESS_CORE_AFFINITY ");
-            put_process(line, table, *process);
-            put(line, " ");
-            put_number(line, u32::from(*core));
+        SetPriority(process, priority) => {
+            put_with_process(line, table, "SET_PRIORITY ", *process);
+            put_spaced_number(line, u32::from(*priority));
         }
-        ProcessCall::Start(process) => {
-            put(line, "START ");
-            put_process(line, table, *process);
+        Start(process) => put_with_process(line, table, "START ", *process),
+        DelayedStart(process, delay) => {
+            put_with_process(line, table, "DELAYED_START ", *process);
+            put_spaced_timeout(line, delay);
         }
-        ProcessCall::DelayedStart(process, delay) => {
-            put(line, "DELAYED_START ");
-            put_process(line, table, *process);
-            put(line, " ");
-            put_timeout(line, delay);
+        Stop(process) => put_with_process(line, table, "STOP ", *process),
+        StopSelf => put(line, "STOP_SELF"),
+        Suspend(process) => put_with_process(line, table, "SUSPEND ", *process),
+        Resume(process) => put_with_process(line, table, "RESUME ", *process),
+        SuspendSelf(timeout) => {
+            put(line, "SUSPEND_SELF ");
+            put_timeout(line, timeout);
         }
-        ProcessCall::StopSelf => put(line, "STOP_SELF"),
-        ProcessCall::GetMyId => put(line, "GET_MY_ID"),
+        GetMyId => put(line, "GET_MY_ID"),
+        GetMyProcessorCoreId => put(line, "GET_MY_PROCESSOR_CORE_ID"),
+        GetProcessId(named) => put_with_named_process(line, table, "GET_PROCESS_ID ", named),
+        GetProcessStatus(process) => put_with_process(line, table, "GET_PROCESS_STATUS ", *process),
     }
 }
 
@@ -177,32 +250,32 @@ fn put_time_call(line: &mut Line, call: &TimeCall)
     }
 }
 
-#[tactic(auto, using(std::proofs::Common::append_assoc))]
 fn put_semaphore_call(line: &mut Line, table: &Table, call: &SemaphoreCall)
     requires known { IsKnownToSemaphores (length table.now.semaphores) call.now }
     requires room { array_vec_len line.old + 80 ≤ 4096 }
     ensures text { line.new.items ≡ line.old.items ++ semaphore_call_text table.now call.now }
     ensures short { array_vec_len line.new ≤ array_vec_len line.old + 80 }
 {
+    use SemaphoreCall::*;
     match call {
-        SemaphoreCall::CreateSemaphore(semaphore) => {
-            put(line, "CREATE_SEMAPHORE ");
-            put_semaphore(line, table, *semaphore);
+        CreateSemaphore(named) => put_with_named_semaphore(line, table, "CREATE_SEMAPHORE ", named),
+        WaitSemaphore(semaphore, timeout) => {
+            put_with_semaphore(line, table, "WAIT_SEMAPHORE ", *semaphore);
+            put_spaced_timeout(line, timeout);
         }
-        SemaphoreCall::WaitSemaphore(semaphore, timeout) => {
-            put(line, "WAIT_SEMAPHORE ");
-            put_semaphore(line, table, *semaphore);
-            put(line, " ");
-            put_timeout(line, timeout);
-        }
-        SemaphoreCall::SignalSemaphore(semaphore) => {
-            put(line, "SIGNAL_SEMAPHORE ");
-            put_semaphore(line, table, *semaphore);
-        }
-        SemaphoreCall::GetSemaphoreStatus(semaphore) => {
-            put(line, "GET_SEMAPHORE_STATUS ");
-            put_semaphore(line, table, *semaphore);
-        }
+        SignalSemaphore(semaphore) => put_with_semaphore(
+            line,
+            table,
+            "SIGNAL_SEMAPHORE ",
+            *semaphore,
+        ),
+        GetSemaphoreId(named) => put_with_named_semaphore(line, table, "GET_SEMAPHORE_ID ", named),
+        GetSemaphoreStatus(semaphore) => put_with_semaphore(
+            line,
+            table,
+            "GET_SEMAPHORE_STATUS ",
+            *semaphore,
+        ),
     }
 }
 

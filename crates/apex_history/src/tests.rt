@@ -1,10 +1,11 @@
 mod lines;
+mod steps;
 mod ticks;
 
-ghost use Rattle.std.specs.Prelude.{◌≡◌, None};
+ghost use Rattle.std.specs.Prelude.{◌≡◌, [], None, Some};
 
 use crate::{Counted, FailAt, Log, Page, ReadFault, read_all};
-use apex_types::{Caller, CoreId, Entry, Notices, Reply, Who};
+use apex_types::{Call, Caller, CoreId, Entry, Notices, ProcessId, Reply, Who};
 use std::io::{ErrorKind, Read, Write};
 use std::test::Fail;
 
@@ -31,6 +32,22 @@ fn idle(number: u32) -> Entry
         process: Caller::Nobody,
         call: None,
         reply: Reply::Idle,
+        notices: Notices::new(),
+    }
+}
+
+// The entry of a call of this process at core 0.
+fn called(number: u32, now: u64, process: ProcessId, call: Call, reply: Reply) -> Entry
+    ensures call { result.call ≡ Some call }
+    ensures notices { result.notices ≡ [] }
+{
+    Entry {
+        number,
+        now,
+        who: Who::Core(CoreId::new(0)),
+        process: Caller::Process(process),
+        call: Some(call),
+        reply,
         notices: Notices::new(),
     }
 }

@@ -9,6 +9,6 @@ mod semaphores;
 mod tests;
 
 pub use semaphores::{
-    Semaphore, create_semaphore, get_semaphore_status, serve_semaphore, signal_semaphore,
-    wait_semaphore,
+    Semaphore, create_semaphore, get_semaphore_id, get_semaphore_status, serve_semaphore,
+    signal_semaphore, wait_semaphore,
 };

@@ -152,11 +152,26 @@ pub fn get_semaphore_status<S: Store>(store: &S, semaphore: &Semaphore, id: Sema
     Reply::Status(u64::from(semaphore.value), waiting as u64)
 }
 
+/// GET_SEMAPHORE_ID. INVALID_CONFIG where the semaphore isn't created.
+pub fn get_semaphore_id(semaphore: &Semaphore, id: SemaphoreId) -> Reply
+    ensures roster { (roster : Roster) → (services.get_semaphore_id roster semaphore.now id).roster ≡ roster }
+    ensures semaphore { (roster : Roster) → (services.get_semaphore_id roster semaphore.now id).semaphore ≡ semaphore.now }
+    ensures reply { (roster : Roster) → result ≡ (services.get_semaphore_id roster semaphore.now id).reply }
+    ensures notices { (roster : Roster) → (services.get_semaphore_id roster semaphore.now id).notices ≡ [] }
+{
+    if semaphore.created {
+        Reply::Value(u64::from(id.number()))
+    } else {
+        Reply::Code(ReturnCode::InvalidConfig)
+    }
+}
+
 /// Carries out a call of a service of this semaphore. INVALID_MODE where a wait has no process that
 /// calls.
 pub fn serve_semaphore<S: Store>(
     store: &mut S,
     semaphore: &mut Semaphore,
+    id: SemaphoreId,
     caller: &Caller,
     call: &SemaphoreCall,
     notices: &mut Notices,
@@ -165,18 +180,19 @@ pub fn serve_semaphore<S: Store>(
     requires stamps { HasStamps (S.roster store.old) }
     requires time { HasTime (S.roster store.old) }
     requires room { length notices.old < 64 }
-    ensures roster { S.roster store.new ≡ (services.semaphore_service (S.roster store.old) semaphore.old caller.now call.now).roster }
-    ensures semaphore { semaphore.new ≡ (services.semaphore_service (S.roster store.old) semaphore.old caller.now call.now).semaphore }
-    ensures reply { result ≡ (services.semaphore_service (S.roster store.old) semaphore.old caller.now call.now).reply }
-    ensures notices { notices.new ≡ notices.old ++ (services.semaphore_service (S.roster store.old) semaphore.old caller.now call.now).notices }
+    ensures roster { S.roster store.new ≡ (services.semaphore_service (S.roster store.old) semaphore.old id caller.now call.now).roster }
+    ensures semaphore { semaphore.new ≡ (services.semaphore_service (S.roster store.old) semaphore.old id caller.now call.now).semaphore }
+    ensures reply { result ≡ (services.semaphore_service (S.roster store.old) semaphore.old id caller.now call.now).reply }
+    ensures notices { notices.new ≡ notices.old ++ (services.semaphore_service (S.roster store.old) semaphore.old id caller.now call.now).notices }
 {
     match call {
         SemaphoreCall::CreateSemaphore(_) => create_semaphore(store, semaphore),
-        SemaphoreCall::WaitSemaphore(id, timeout) => match caller {
-            Caller::Process(process) => wait_semaphore(store, semaphore, *id, *process, *timeout),
+        SemaphoreCall::WaitSemaphore(_, timeout) => match caller {
+            Caller::Process(process) => wait_semaphore(store, semaphore, id, *process, *timeout),
             Caller::Init | Caller::Nobody => Reply::Code(ReturnCode::InvalidMode),
         },
-        SemaphoreCall::SignalSemaphore(id) => signal_semaphore(store, semaphore, *id, notices),
-        SemaphoreCall::GetSemaphoreStatus(id) => get_semaphore_status(store, semaphore, *id),
+        SemaphoreCall::SignalSemaphore(_) => signal_semaphore(store, semaphore, id, notices),
+        SemaphoreCall::GetSemaphoreId(_) => get_semaphore_id(semaphore, id),
+        SemaphoreCall::GetSemaphoreStatus(_) => get_semaphore_status(store, semaphore, id),
     }
 }

@@ -2,7 +2,7 @@ ghost use Rattle.std.specs.Prelude.{◌≡◌, pos, length, true, IfOk};
 ghost use Rattle.apex_types.specs.Roster.{is_cold_start};
 
 use crate::{
-    Semaphore, create_semaphore, get_semaphore_status, serve_semaphore, signal_semaphore,
+    Semaphore, create_semaphore, get_semaphore_id, get_semaphore_status, serve_semaphore, signal_semaphore,
     wait_semaphore,
 };
 use apex_store::{PlainStore, Store};
@@ -108,15 +108,17 @@ fn signal_wakes_the_first<S: Store>(rt: &impl Abort, store: &mut S)
     requires time { (S.roster store.old).now ≡ 0 }
 {
     let mut semaphore = created(rt, store);
+    let id = the_semaphore();
+    assert_eq!(rt; get_semaphore_id(&semaphore, id), Reply::Value(1));
     let mut notices = Notices::new();
     let wait = SemaphoreCall::WaitSemaphore(the_semaphore(), Timeout::Infinite);
     let (first, second) = (Caller::Process(slow()), Caller::Process(urgent()));
-    let waited = serve_semaphore(store, &mut semaphore, &first, &wait, &mut notices);
+    let waited = serve_semaphore(store, &mut semaphore, id, &first, &wait, &mut notices);
     assert_eq!(rt; waited, Reply::Blocked);
-    let waited = serve_semaphore(store, &mut semaphore, &second, &wait, &mut notices);
+    let waited = serve_semaphore(store, &mut semaphore, id, &second, &wait, &mut notices);
     assert_eq!(rt; waited, Reply::Blocked);
     let signal = SemaphoreCall::SignalSemaphore(the_semaphore());
-    let signalled = serve_semaphore(store, &mut semaphore, &second, &signal, &mut notices);
+    let signalled = serve_semaphore(store, &mut semaphore, id, &second, &signal, &mut notices);
     assert_eq!(rt; signalled, Reply::Code(ReturnCode::NoError));
     let woken = Notice::Woken(slow(), ReturnCode::NoError);
     assert_eq!(rt; notices.as_slice(), [woken].as_slice());

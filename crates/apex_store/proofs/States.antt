@@ -33,8 +33,9 @@ running_parts : (mode : Mode) (core : ℕ) (r : Record) → runs_on mode core r 
 unfolding runs_on
 running_parts mode core r e =
     let both = and_parts (is_eligible mode r) (r.core == core) e in
-    let eligible = and_parts (is_normal mode && r.started) (is_none r.wait) both.0 in
-    ((and_parts (is_normal mode) r.started eligible.0).1, both.0, eqb-true r.core core both.1)
+    let free = and_parts (is_normal mode && r.started && is_none r.suspended) (is_none r.wait) both.0 in
+    let begun = and_parts (is_normal mode && r.started) (is_none r.suspended) free.0 in
+    ((and_parts (is_normal mode) r.started begun.0).1, both.0, eqb-true r.core core both.1)
 
 chosen_parts : (roster : Roster) (core p : ℕ) → chosen roster core ≡ Some p → ((record_at roster p).started ≡ true) × (is_eligible roster.mode (record_at roster p) ≡ true) × ((record_at roster p).core ≡ core)
 chosen_parts roster core p e =

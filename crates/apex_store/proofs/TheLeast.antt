@@ -5,6 +5,9 @@ use Rattle.apex_types.specs.declared.records.Record.{Record}
 use Rattle.apex_types.specs.Roster.{Roster, nobody}
 use Rattle.apex_types.specs.Distinct.{HasDistinctStamps}
 use Rattle.apex_types.specs.Choice.{place_of_least}
+use Rattle.apex_types.specs.declared.records.Discipline.{Discipline}
+use Rattle.apex_types.specs.declared.records.Discipline.TheVariants.{Fifo, Priority}
+use Rattle.apex_types.specs.Waiters.{waits_before}
 use Rattle.apex_types.specs.Running.{is_before, is_older}
 use Rattle.apex_types.proofs.Choice.{IsStrict, IsTotalOn, place_is, place_least, place_none}
 use Rattle.apex_types.proofs.Orders.{older_total, before_total}
@@ -31,3 +34,7 @@ pub before_on : (roster : Roster) → HasDistinctStamps roster → IsTotalOn is_
 before_on roster distinct = record {
   total = λ p q r s here there apart. before_total r s (λ same. apart (distinct_at roster distinct p q r s here there same));
 }
+
+pub waits_on : (roster : Roster) (discipline : Discipline) → HasDistinctStamps roster → IsTotalOn (waits_before discipline) roster.records
+waits_on roster Fifo distinct = older_on roster distinct
+waits_on roster Priority distinct = before_on roster distinct

@@ -10,7 +10,7 @@ use Rattle.apex_types.specs.Distinct.{IsStamped}
 use Rattle.apex_types.specs.Dues.{first_due, next_instant}
 use Rattle.apex_types.specs.Running.{chosen, current_priority, is_before, is_eligible, is_older, process_state, runs_on}
 use Rattle.apex_types.specs.Stamps as stamps
-use Rattle.apex_types.specs.Waiters.{first_waiter, next_waiter, waits_behind, waits_in}
+use Rattle.apex_types.specs.Waiters.{discipline_of, first_waiter, next_waiter, waits_before, waits_behind, waits_in}
 
 -- who is found passes and is before every other that does; no second one is; and none is found only
 -- where none passes
@@ -24,15 +24,16 @@ abbrev pub ChosenIsFirst : Roster → ℕ → Type 0
 ChosenIsFirst roster core =
     IsTheLeast (runs_on roster.mode core) is_before roster.records (chosen roster core)
 
--- the first waiter is in the queue, for longer than every other one there
-abbrev pub FirstWaiterIsLongest : Roster → Wait → Type 0
-FirstWaiterIsLongest roster queue =
-    IsTheLeast (waits_in queue) is_older roster.records (first_waiter roster queue)
+-- the first waiter is in the queue, and before every other one there by the queue's discipline
+abbrev pub FirstWaiterIsFirst : Roster → Wait → Type 0
+FirstWaiterIsFirst roster queue =
+    IsTheLeast (waits_in queue) (waits_before (discipline_of roster queue)) roster.records (first_waiter roster queue)
 
 -- the next waiter is behind process p in the queue, and in front of every other one who is
 abbrev pub NextWaiterIsNext : Roster → Wait → ℕ → Type 0
 NextWaiterIsNext roster queue p =
-    IsTheLeast (waits_behind queue (record_at roster p)) is_older roster.records (next_waiter roster queue p)
+    let discipline = discipline_of roster queue in
+    IsTheLeast (waits_behind discipline queue (record_at roster p)) (waits_before discipline) roster.records (next_waiter roster queue p)
 
 -- process p is eligible and bound to the core
 pub record MayRun (roster : Roster) (core p : ℕ) : Type 0 where
@@ -90,6 +91,10 @@ pub record StampsStayDistinct (roster : Roster) : Type 0 where
   pub block : (p : ℕ) (wait : Wait) (due : Option ℕ) → p < length roster.records → IsStamped (stamps.block roster p wait due)
   pub unblock : (p : ℕ) → p < length roster.records → IsStamped (stamps.unblock roster p)
   pub release : (p : ℕ) → p < length roster.records → IsStamped (stamps.release roster p)
+  pub suspend : (p : ℕ) → p < length roster.records → IsStamped (stamps.suspend roster p)
+  pub suspend_self : (p : ℕ) (due : Option ℕ) → p < length roster.records → IsStamped (stamps.suspend_self roster p due)
+  pub resume : (p : ℕ) → p < length roster.records → IsStamped (stamps.resume roster p)
+  pub set_base : (p base : ℕ) → p < length roster.records → IsStamped (stamps.set_base roster p base)
   pub place_newest : (p : ℕ) → p < length roster.records → IsStamped (stamps.place_newest roster p)
   pub advance_to : (t : ℕ) → IsStamped (stamps.advance_to roster t)
   pub take_due : IsStamped (stamps.take_due roster)

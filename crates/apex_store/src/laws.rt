@@ -31,11 +31,11 @@ pub fn one_process_runs<S: Store>(store: &S)
     ensures { laws.RunsOneProcess (S.roster store.now) }
 {}
 
-/// Where no two stamps are the same, the first waiter of a queue waits in it for longer than every
-/// other one.
-pub fn first_waiter_is_longest<S: Store>(store: &S, queue: Wait)
+/// Where no two stamps are the same, the first waiter of a queue is before every other one there, by
+/// the queue's discipline.
+pub fn first_waiter_is_first<S: Store>(store: &S, queue: Wait)
     requires { HasDistinctStamps (S.roster store.now) }
-    ensures { laws.FirstWaiterIsLongest (S.roster store.now) queue }
+    ensures { laws.FirstWaiterIsFirst (S.roster store.now) queue }
 {}
 
 /// Where no two stamps are the same, the next waiter behind a process is the first of those behind it.

@@ -14,7 +14,7 @@ mod tests;
 mod timeouts;
 
 pub use laws::{
-    chosen_is_first, first_due_is_lowest, first_waiter_is_longest, most_urgent_runs,
+    chosen_is_first, first_due_is_lowest, first_waiter_is_first, most_urgent_runs,
     next_instant_is_least, next_waiter_is_next, one_process_runs, opens_with_distinct_stamps,
     running_is_chosen, stamps_stay_distinct, waits_in_one_queue,
 };

@@ -1,9 +1,10 @@
-ghost use Rattle.std.specs.Prelude.{◌≡◌, ◌+◌, ◌<◌, ◌≤◌, [], ◌∷◌, ◌++◌, length, vec_capacity, vec_len, IfOk};
+ghost use Rattle.std.specs.Prelude.{◌≡◌, ◌+◌, ◌<◌, ◌≤◌, [], ◌∷◌, ◌++◌, length, map, vec_capacity, vec_len, IfOk};
 ghost use Rattle.apex_types.specs.Places.{map_places};
 ghost use Rattle.apex_types.specs.Roster.{opening_record};
+ghost use Rattle.apex_types.specs.Table.{SemaphoreEntry};
 
 use apex_table::{Process, Table};
-use apex_types::{CoreId, ProcessId, Record};
+use apex_types::{CoreId, Discipline, ProcessId, Record, SemaphoreId};
 use std::alloc::{AllocError, Global};
 
 /// Adds the record of a process before any event: dormant on core 0, and as old as its place says.
@@ -20,6 +21,7 @@ fn push_opening(records: &mut Vec<Record>, place: usize, process: &Process)
         priority,
         base: priority,
         started: false,
+        suspended: None,
         wait: None,
         since: place as i64 + 1,
         due: None,
@@ -41,4 +43,16 @@ pub fn opening_records(alloc: Global, table: &Table) -> Result<Vec<Record>, Allo
         push_opening(&mut records, place, process);
     }
     Ok(records)
+}
+
+/// The discipline of each semaphore's queue.
+pub fn disciplines_of(alloc: Global, table: &Table) -> Result<Vec<Discipline>, AllocError>
+    ensures { IfOk result (λ disciplines. disciplines.items ≡ map (λ (s : SemaphoreEntry). s.discipline) table.now.semaphores) }
+{
+    let count = table.semaphore_count();
+    let mut disciplines = Vec::with_capacity(alloc, count)?;
+    for place in 0..count {
+        disciplines.push(table.semaphore(SemaphoreId::at(place as u8)).discipline())?;
+    }
+    Ok(disciplines)
 }

@@ -2,9 +2,9 @@ ghost use Rattle.std.specs.Prelude.{◌≡◌};
 ghost use Rattle.apex_types.specs.Roster.{is_normal};
 ghost use Rattle.apex_types.specs.Running.{current_priority, is_before, is_eligible, is_older, runs_on};
 ghost use Rattle.apex_types.specs.Dues.{by_number, is_due_at};
-ghost use Rattle.apex_types.specs.Waiters.{is_same_wait, is_wait_for, waits_behind, waits_in};
+ghost use Rattle.apex_types.specs.Waiters.{is_same_wait, is_wait_for, waits_before, waits_behind, waits_in};
 
-use apex_types::{CoreId, Mode, Record, Wait};
+use apex_types::{CoreId, Discipline, Mode, Record, Wait};
 
 /// The mode is NORMAL.
 pub fn is_normal(mode: Mode) -> bool
@@ -13,11 +13,11 @@ pub fn is_normal(mode: Mode) -> bool
     mode == Mode::Normal
 }
 
-/// The mode is NORMAL, and the process is started and waits for nothing.
+/// The mode is NORMAL, and the process is started, not suspended, and waits for nothing.
 pub fn is_eligible(mode: Mode, row: &Record) -> bool
     ensures { result ≡ is_eligible mode row.now }
 {
-    is_normal(mode) && row.started && row.wait.is_none()
+    is_normal(mode) && row.started && row.suspended.is_none() && row.wait.is_none()
 }
 
 /// The process is eligible and bound to the core.
@@ -66,12 +66,22 @@ pub fn waits_in(queue: Wait, row: &Record) -> bool
     }
 }
 
-/// The process waits in the queue, behind that one.
-#[tactic(auto, unfolding(apex_types::specs::Waiters::waits_behind))]
-pub fn waits_behind(queue: Wait, ahead: &Record, row: &Record) -> bool
-    ensures { result ≡ waits_behind queue ahead.now row.now }
+/// The first comes before the second in a queue of this discipline.
+pub fn waits_before(discipline: Discipline, first: &Record, second: &Record) -> bool
+    ensures { result ≡ waits_before discipline first.now second.now }
 {
-    waits_in(queue, row) && is_older(ahead, row)
+    match discipline {
+        Discipline::Fifo => is_older(first, second),
+        Discipline::Priority => is_before(first, second),
+    }
+}
+
+/// The process waits in the queue of this discipline, behind that one.
+#[tactic(auto, unfolding(apex_types::specs::Waiters::waits_behind))]
+pub fn waits_behind(discipline: Discipline, queue: Wait, ahead: &Record, row: &Record) -> bool
+    ensures { result ≡ waits_behind discipline queue ahead.now row.now }
+{
+    waits_in(queue, row) && waits_before(discipline, ahead, row)
 }
 
 /// The process's due is this instant, in ticks.

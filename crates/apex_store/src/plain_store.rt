@@ -1,15 +1,16 @@
-ghost use Rattle.std.specs.Prelude.{◌≡◌, ◌<◌, length, IfOk};
-ghost use Rattle.apex_types.specs.Roster.{opening_roster, with_record};
+ghost use Rattle.std.specs.Prelude.{◌≡◌, ℕ, ◌<◌, length, IfOk};
+ghost use Rattle.apex_types.specs.Roster.{Roster, opening_roster, record_at, with_record};
 ghost use Rattle.apex_types.specs.Running.{is_process};
 ghost use Rattle.apex_types.specs.Stamps as stamps;
+ghost use Rattle.apex_types.specs.Waiters.{discipline_of};
 
 use crate::dues::{earliest_due, start_due, start_wait};
-use crate::opening::opening_records;
+use crate::opening::{disciplines_of, opening_records};
 use crate::orders::{is_eligible, waits_in};
 use crate::scan::{Behind, Due, Runnable, Waiting, first_of};
 use crate::store::Store;
 use apex_table::Table;
-use apex_types::{CoreId, Mode, ProcessId, Record, State, Wait};
+use apex_types::{CoreId, Discipline, Mode, ProcessId, Record, State, Suspender, Wait};
 use std::alloc::{AllocError, Global};
 use std::marker::Model;
 
@@ -21,6 +22,8 @@ pub struct PlainStore {
     records: Vec<Record>,
     next_young: i64,
     next_old: i64,
+    /// The discipline of each semaphore's queue.
+    disciplines: Vec<Discipline>,
 }
 
 impl Model for PlainStore {
@@ -29,7 +32,7 @@ impl Model for PlainStore {
 
     ghost Value = { Roster };
 
-    ghost view = { λ a. record { mode = a.mode; now = a.time; records = a.records.items; young = a.next_young; old = a.next_old } };
+    ghost view = { λ a. record { mode = a.mode; now = a.time; records = a.records.items; young = a.next_young; old = a.next_old; disciplines = a.disciplines.items } };
 
     ghost invariant = { λ a. length a.records.items ≤ 64 };
 }
@@ -44,12 +47,45 @@ fn is_process(process: ProcessId, other: Option<ProcessId>) -> bool
     }
 }
 
+/// The process suspended itself.
+fn is_by_itself(suspended: Option<Suspender>) -> bool
+    ensures { result ≡ stamps.is_by_itself suspended }
+{
+    match suspended {
+        Some(suspender) => suspender == Suspender::Itself,
+        None => false,
+    }
+}
+
+/// A suspension by another process stays when the process wakes, and one by itself ends.
+fn suspension_awake(suspended: Option<Suspender>) -> Option<Suspender>
+    ensures { result ≡ stamps.suspension_awake suspended }
+{
+    match suspended {
+        Some(Suspender::Other) => Some(Suspender::Other),
+        Some(Suspender::Itself) | None => None,
+    }
+}
+
+/// The record of a process that wakes: it waits for nothing, and is not suspended by itself.
+fn awake(row: Record) -> Record
+    ensures { (roster : Roster) (p : ℕ) → record_at roster p ≡ row → result ≡ stamps.awake roster p }
+{
+    Record {
+        suspended: suspension_awake(row.suspended),
+        wait: None,
+        due: None,
+        ..row
+    }
+}
+
 impl PlainStore {
     /// The processes of the table before any event, in COLD_START. Fails only for want of memory.
     pub fn new(alloc: Global, table: &Table) -> Result<PlainStore, AllocError>
         ensures { IfOk result (λ store. store ≡ opening_roster table.now) }
     {
         let records = opening_records(alloc, table)?;
+        let disciplines = disciplines_of(alloc, table)?;
         let next_young = records.len() as i64 + 1;
         Ok(PlainStore {
             mode: Mode::ColdStart,
@@ -57,7 +93,21 @@ impl PlainStore {
             records,
             next_young,
             next_old: 0,
+            disciplines,
         })
+    }
+
+    /// The discipline of the queue: a semaphore's is the table's.
+    fn discipline(&self, queue: &Wait) -> Discipline
+        ensures { result ≡ discipline_of self.now queue.now }
+    {
+        match queue {
+            Wait::Semaphore(semaphore) => match self.disciplines.get(semaphore.place()) {
+                Some(discipline) => *discipline,
+                None => Discipline::Fifo,
+            },
+            Wait::Normal | Wait::Start | Wait::Time => Discipline::Fifo,
+        }
     }
 
     /// The process has this record from now on.
@@ -137,16 +187,31 @@ impl Store for PlainStore {
     }
 
     fn first(&self, queue: Wait) -> Option<ProcessId> {
-        first_of(&Waiting { queue }, &self.records)
+        let order = Waiting {
+            discipline: self.discipline(&queue),
+            queue,
+        };
+        first_of(&order, &self.records)
     }
 
     fn next_after(&self, queue: Wait, process: ProcessId) -> Option<ProcessId> {
-        let ahead = self.record(process);
-        first_of(&Behind { queue, ahead }, &self.records)
+        let order = Behind {
+            discipline: self.discipline(&queue),
+            queue,
+            ahead: self.record(process),
+        };
+        first_of(&order, &self.records)
     }
 
     fn next_instant(&self) -> Option<u64> {
         earliest_due(&self.records)
+    }
+
+    fn is_ranked(&self, process: ProcessId) -> bool {
+        match self.record(process).wait {
+            Some(queue) => self.discipline(&queue) == Discipline::Priority,
+            None => false,
+        }
     }
 
     fn waiting(&self, queue: Wait) -> usize {
@@ -161,6 +226,7 @@ impl Store for PlainStore {
         let started = Record {
             base: row.priority,
             started: true,
+            suspended: None,
             step: 0,
             wait: start_wait(self.mode, delay),
             due: start_due(self.mode, self.time, delay),
@@ -174,6 +240,7 @@ impl Store for PlainStore {
         let row = self.record(process);
         let stopped = Record {
             started: false,
+            suspended: None,
             wait: None,
             due: None,
             step: 0,
@@ -185,6 +252,7 @@ impl Store for PlainStore {
     fn block(&mut self, process: ProcessId, wait: Wait, due: Option<u64>) {
         let row = self.record(process);
         let blocked = Record {
+            suspended: suspension_awake(row.suspended),
             wait: Some(wait),
             due,
             ..row
@@ -194,22 +262,50 @@ impl Store for PlainStore {
 
     fn unblock(&mut self, process: ProcessId) {
         let row = self.record(process);
-        let woken = Record {
-            wait: None,
-            due: None,
-            ..row
-        };
-        self.put_readied(process, woken);
+        self.put_readied(process, awake(row));
     }
 
     fn release(&mut self, process: ProcessId) {
         let row = self.record(process);
-        let released = Record {
-            wait: None,
-            due: None,
+        self.put_readied(process, awake(row));
+    }
+
+    fn suspend(&mut self, process: ProcessId) {
+        let row = self.record(process);
+        let suspended = Record {
+            suspended: Some(Suspender::Other),
             ..row
         };
-        self.put_readied(process, released);
+        self.put(process, suspended);
+    }
+
+    fn suspend_self(&mut self, process: ProcessId, due: Option<u64>) {
+        let row = self.record(process);
+        let suspended = Record {
+            suspended: Some(Suspender::Itself),
+            wait: None,
+            due,
+            ..row
+        };
+        self.put_newest(process, suspended);
+    }
+
+    fn resume(&mut self, process: ProcessId) {
+        let row = self.record(process);
+        if is_by_itself(row.suspended) {
+            self.put_readied(process, awake(row));
+        } else {
+            let resumed = Record {
+                suspended: None,
+                ..row
+            };
+            self.put_readied(process, resumed);
+        }
+    }
+
+    fn set_base(&mut self, process: ProcessId, base: u8) {
+        let row = self.record(process);
+        self.put(process, Record { base, ..row });
     }
 
     fn place_newest(&mut self, process: ProcessId) {

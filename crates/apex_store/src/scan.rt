@@ -1,24 +1,24 @@
 ghost use Rattle.std.specs.Prelude.{◌≡◌, ◌<◌, ◌≤◌, Bool, length, IfSome};
 ghost use Rattle.apex_types.specs.declared.records.Record.{Record};
 ghost use Rattle.apex_types.specs.Choice.{place_of_least, stands_before};
-ghost use Rattle.apex_types.specs.Running.{is_before, is_older, runs_on};
+ghost use Rattle.apex_types.specs.Running.{is_before, runs_on};
 ghost use Rattle.apex_types.specs.Dues.{by_number, is_due_at};
-ghost use Rattle.apex_types.specs.Waiters.{waits_behind, waits_in};
+ghost use Rattle.apex_types.specs.Waiters.{waits_before, waits_behind, waits_in};
 
 use crate::orders;
-use apex_types::{CoreId, Mode, ProcessId, Record, Wait};
+use apex_types::{CoreId, Discipline, Mode, ProcessId, Record, Wait};
 
 /// Which processes a scan looks at, and which of two comes first.
 pub trait Order {
     ghost passes: { Self → Record → Bool };
 
-    ghost precedes: { Record → Record → Bool };
+    ghost precedes: { Self → Record → Record → Bool };
 
     fn passes(&self, row: &Record) -> bool
         ensures { result ≡ passes self.now row.now };
 
-    fn precedes(first: &Record, second: &Record) -> bool
-        ensures { result ≡ precedes first.now second.now };
+    fn precedes(&self, first: &Record, second: &Record) -> bool
+        ensures { result ≡ precedes self.now first.now second.now };
 }
 
 /// Those that a core may run, the most urgent first.
@@ -31,55 +31,57 @@ pub struct Runnable {
 impl Order for Runnable {
     ghost passes = { λ s. runs_on s.mode s.core };
 
-    ghost precedes = { is_before };
+    ghost precedes = { λ s. is_before };
 
     fn passes(&self, row: &Record) -> bool {
         orders::runs_on(self.mode, self.core, row)
     }
 
-    fn precedes(first: &Record, second: &Record) -> bool {
+    fn precedes(&self, first: &Record, second: &Record) -> bool {
         orders::is_before(first, second)
     }
 }
 
-/// Those that wait in a queue, who is longest there first.
+/// Those that wait in a queue of this discipline, who comes first there first.
 #[derive(Drop)]
 pub struct Waiting {
+    pub discipline: Discipline,
     pub queue: Wait,
 }
 
 impl Order for Waiting {
     ghost passes = { λ s. waits_in s.queue };
 
-    ghost precedes = { is_older };
+    ghost precedes = { λ s. waits_before s.discipline };
 
     fn passes(&self, row: &Record) -> bool {
         orders::waits_in(self.queue, row)
     }
 
-    fn precedes(first: &Record, second: &Record) -> bool {
-        orders::is_older(first, second)
+    fn precedes(&self, first: &Record, second: &Record) -> bool {
+        orders::waits_before(self.discipline, first, second)
     }
 }
 
-/// Those that wait in a queue behind one process, who is longest there first.
+/// Those that wait in a queue of this discipline behind one process, who comes first there first.
 #[derive(Drop)]
 pub struct Behind {
+    pub discipline: Discipline,
     pub queue: Wait,
     pub ahead: Record,
 }
 
 impl Order for Behind {
-    ghost passes = { λ s. waits_behind s.queue s.ahead };
+    ghost passes = { λ s. waits_behind s.discipline s.queue s.ahead };
 
-    ghost precedes = { is_older };
+    ghost precedes = { λ s. waits_before s.discipline };
 
     fn passes(&self, row: &Record) -> bool {
-        orders::waits_behind(self.queue, &self.ahead, row)
+        orders::waits_behind(self.discipline, self.queue, &self.ahead, row)
     }
 
-    fn precedes(first: &Record, second: &Record) -> bool {
-        orders::is_older(first, second)
+    fn precedes(&self, first: &Record, second: &Record) -> bool {
+        orders::waits_before(self.discipline, first, second)
     }
 }
 
@@ -92,23 +94,23 @@ pub struct Due {
 impl Order for Due {
     ghost passes = { λ s. is_due_at s.instant };
 
-    ghost precedes = { by_number };
+    ghost precedes = { λ s. by_number };
 
     fn passes(&self, row: &Record) -> bool {
         orders::is_due_at(self.instant, row)
     }
 
-    fn precedes(first: &Record, second: &Record) -> bool {
+    fn precedes(&self, first: &Record, second: &Record) -> bool {
         orders::by_number(first, second)
     }
 }
 
 /// What was found so far comes before the record.
-fn stands_before<O: Order>(found: &Option<(ProcessId, Record)>, row: &Record) -> bool
-    ensures { result ≡ stands_before O.precedes found.now row.now }
+fn stands_before<O: Order>(order: &O, found: &Option<(ProcessId, Record)>, row: &Record) -> bool
+    ensures { result ≡ stands_before (O.precedes order.now) found.now row.now }
 {
     match found {
-        Some((_, first)) => O::precedes(first, row),
+        Some((_, first)) => order.precedes(first, row),
         None => false,
     }
 }
@@ -117,13 +119,13 @@ fn stands_before<O: Order>(found: &Option<(ProcessId, Record)>, row: &Record) ->
 #[tactic(auto, using(apex_types::proofs::Choice::least_more))]
 pub fn first_of<O: Order>(order: &O, records: &[Record]) -> Option<ProcessId>
     requires { length records.now ≤ 64 }
-    ensures value { result ≡ place_of_least (O.passes order.now) O.precedes records.now }
+    ensures value { result ≡ place_of_least (O.passes order.now) (O.precedes order.now) records.now }
     ensures known { IfSome result (λ p. p < length records.now) }
 {
     let mut found: Option<(ProcessId, Record)> = None;
     for place in (0..records.len()).rev() {
         let row = &records[place];
-        if order.passes(row) && !stands_before::<O>(&found, row) {
+        if order.passes(row) && !stands_before(order, &found, row) {
             found = Some((ProcessId::at(place as u8), *row));
         }
     }

@@ -1,7 +1,7 @@
 ghost use Rattle.std.specs.Prelude.{◌≡◌, ◌+◌, ◌<◌, ◌≤◌, ◌^◌, length, IfSome};
 ghost use Rattle.apex_types.specs.Roster.{Roster, record_at};
 ghost use Rattle.apex_types.specs.Running.{chosen, process_state};
-ghost use Rattle.apex_types.specs.Waiters.{first_waiter, next_waiter, waiter_count};
+ghost use Rattle.apex_types.specs.Waiters.{first_waiter, is_ranked, next_waiter, waiter_count};
 ghost use Rattle.apex_types.specs.Dues.{next_instant, first_due, HasTime};
 ghost use Rattle.apex_types.specs.Stamps as stamps;
 
@@ -38,7 +38,7 @@ pub trait Store: Drop {
         requires known { process < length (roster self.now).records }
         ensures { result ≡ process_state (roster self.now) process };
 
-    /// Who has been in the queue for the longest time.
+    /// Who is first in the queue, by its discipline.
     fn first(&self, queue: Wait) -> Option<ProcessId>
         ensures value { result ≡ first_waiter (roster self.now) queue }
         ensures known { IfSome result (λ p. p < length (roster self.now).records) };
@@ -52,6 +52,11 @@ pub trait Store: Drop {
     /// The next instant at which a wait ends by itself: the least due of all processes.
     fn next_instant(&self) -> Option<u64>
         ensures { result ≡ next_instant (roster self.now) };
+
+    /// Whether the process waits in a queue in which the more urgent comes first.
+    fn is_ranked(&self, process: ProcessId) -> bool
+        requires known { process < length (roster self.now).records }
+        ensures { result ≡ is_ranked (roster self.now) (record_at (roster self.now) process).wait };
 
     /// How many wait in the queue.
     fn waiting(&self, queue: Wait) -> usize
@@ -75,7 +80,7 @@ pub trait Store: Drop {
         requires stamps { stamps.HasStamps (roster self.old) }
         ensures { roster self.new ≡ stamps.block (roster self.old) process wait due };
 
-    /// The process's wait ends.
+    /// The process's wait, or its suspension of itself, ends.
     fn unblock(&mut self, process: ProcessId)
         requires known { process < length (roster self.old).records }
         requires stamps { stamps.HasStamps (roster self.old) }
@@ -86,6 +91,28 @@ pub trait Store: Drop {
         requires known { process < length (roster self.old).records }
         requires stamps { stamps.HasStamps (roster self.old) }
         ensures { roster self.new ≡ stamps.release (roster self.old) process };
+
+    /// Another process suspends the process; a wait goes on.
+    fn suspend(&mut self, process: ProcessId)
+        requires known { process < length (roster self.old).records }
+        ensures { roster self.new ≡ stamps.suspend (roster self.old) process };
+
+    /// The process suspends itself, until the instant that is due where there is one.
+    fn suspend_self(&mut self, process: ProcessId, due: Option<u64>)
+        requires known { process < length (roster self.old).records }
+        requires stamps { stamps.HasStamps (roster self.old) }
+        ensures { roster self.new ≡ stamps.suspend_self (roster self.old) process due };
+
+    /// The process is suspended no more: one that suspended itself wakes, another one's wait goes on.
+    fn resume(&mut self, process: ProcessId)
+        requires known { process < length (roster self.old).records }
+        requires stamps { stamps.HasStamps (roster self.old) }
+        ensures { roster self.new ≡ stamps.resume (roster self.old) process };
+
+    /// Sets the base priority.
+    fn set_base(&mut self, process: ProcessId, base: u8)
+        requires known { process < length (roster self.old).records }
+        ensures { roster self.new ≡ stamps.set_base (roster self.old) process base };
 
     /// The process goes behind all others of its priority.
     fn place_newest(&mut self, process: ProcessId)

@@ -11,7 +11,7 @@ use Rattle.apex_table.specs.declared.fault.Place.{Place}
 use Rattle.apex_table.specs.declared.fault.TableFault.{TableFault}
 use Rattle.apex_table.specs.declared.fault.TableFault.TheVariants.{WrongType, OutOfRange, BadName, DoubleName, TooMany}
 use Rattle.apex_table.specs.Outcome.{some_or}
-use Rattle.apex_table.specs.Keys.{required, optional, text, in_range, number, number_at, number_or, at_most, well_formed, name_at}
+use Rattle.apex_table.specs.Keys.{required, optional, text_at, in_range, number, number_at, number_or, at_most, well_formed, name_at}
 use Rattle.apex_table.proofs.Results.{ok_then, ok_if, ok_unless}
 
 within : (low n high : ℕ) → (nat_le low n && nat_le n high) ≡ true → (low ≤ n) × (n ≤ high)
@@ -48,8 +48,7 @@ pub record IsNew (taken : List (List ℕ)) (name : List ℕ) : Type 0 where
 pub name_law : (at : Place) (taken : List (List ℕ)) (ms : Members) → IfOk (name_at at taken ms) (IsNew taken)
 unfolding name_at
 name_law at taken ms =
-    ok_then (required at (codes "name") ms) _ (IsNew taken) (λ d _.
-    ok_then (text at d) _ (IsNew taken) (λ t _.
+    ok_then (text_at at (codes "name") ms) _ (IsNew taken) (λ t _.
     ok_then (well_formed at t) _ (IsNew taken) (λ n e.
     ok_unless (list_any (bytes_eq n) taken) (DoubleName at) n (IsNew taken) (λ new.
-    record { good = IfOk-at_ok (λ n. IsTrue (is_name n)) e (ok_if (is_name t) (BadName at) t (λ n. IsTrue (is_name n)) (λ good. good)); new = new }))))
+    record { good = IfOk-at_ok (λ n. IsTrue (is_name n)) e (ok_if (is_name t) (BadName at) t (λ n. IsTrue (is_name n)) (λ good. good)); new = new })))

@@ -77,16 +77,9 @@ number_or at default low high key ms = optional default (number at low high) (ge
 abbrev pub truth_or : Place → Bool → List ℕ → Members → Result Bool TableFault
 truth_or at default key ms = optional default (truth at) (get_member key ms)
 
--- a text that is one of these words
-abbrev pub one_of : Place → List (List ℕ) → List ℕ → Result (List ℕ) TableFault
-one_of at words t = if list_any (bytes_eq t) words then Ok t else Err (OutOfRange at)
-
--- the text at a key without a default, which is one of these words
-unfoldable pub word_at : Place → List (List ℕ) → List ℕ → Members → Result (List ℕ) TableFault
-word_at at words key ms = do
-  d ← required at key ms
-  t ← text at d
-  one_of at words t
+-- the text at a key without a default
+abbrev pub text_at : Place → List ℕ → Members → Result (List ℕ) TableFault
+text_at at key ms = required at key ms >>= text at
 
 -- a text that a name may be
 abbrev pub well_formed : Place → List ℕ → Result (List ℕ) TableFault
@@ -99,7 +92,6 @@ unused at taken n = if list_any (bytes_eq n) taken then Err (DoubleName at) else
 -- the name of an entry; those of the entries before it in its section are taken
 unfoldable pub name_at : Place → List (List ℕ) → Members → Result (List ℕ) TableFault
 name_at at taken ms = do
-  d ← required at (codes "name") ms
-  t ← text at d
+  t ← text_at at (codes "name") ms
   n ← well_formed at t
   unused at taken n

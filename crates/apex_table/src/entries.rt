@@ -1,6 +1,6 @@
 ghost use Rattle.std.specs.Prelude.{◌≡◌, length, slice_get};
 
-use apex_types::{Call, CoreId, Name};
+use apex_types::{Call, CoreId, Discipline, Name};
 use std::marker::Model;
 
 /// A process as the table gives it (ARINC 653 Part 1, process management).
@@ -9,6 +9,7 @@ pub struct Process {
     name: Name,
     priority: u8,
     core: CoreId,
+    loops: bool,
     starts: bool,
     script: Vec<Call>,
 }
@@ -18,7 +19,7 @@ impl Model for Process {
 
     ghost Value = { ProcessEntry };
 
-    ghost view = { λ p. record { name = p.name; priority = p.priority; core = p.core; start = p.starts; script = p.script.items } };
+    ghost view = { λ p. record { name = p.name; priority = p.priority; core = p.core; loops = p.loops; start = p.starts; script = p.script.items } };
 }
 
 impl Process {
@@ -26,15 +27,17 @@ impl Process {
         name: Name,
         priority: u8,
         core: CoreId,
+        loops: bool,
         starts: bool,
         script: Vec<Call>,
     ) -> Process
-        ensures { result ≡ record { name = name; priority = priority; core = core; start = starts; script = script.items } }
+        ensures { result ≡ record { name = name; priority = priority; core = core; loops = loops; start = starts; script = script.items } }
     {
         Process {
             name,
             priority,
             core,
+            loops,
             starts,
             script,
         }
@@ -53,11 +56,18 @@ impl Process {
         self.priority
     }
 
-    /// The core on which the process runs.
+    /// The core that the default init list gives the process.
     pub fn core(&self) -> CoreId
         ensures { result ≡ self.now.core }
     {
         self.core
+    }
+
+    /// Whether the script begins anew after its last step.
+    pub fn loops(&self) -> bool
+        ensures { result ≡ self.now.loops }
+    {
+        self.loops
     }
 
     /// Whether the default init list starts the process.
@@ -88,6 +98,7 @@ pub struct Semaphore {
     name: Name,
     maximum: u16,
     initial: u16,
+    discipline: Discipline,
 }
 
 impl Model for Semaphore {
@@ -95,17 +106,18 @@ impl Model for Semaphore {
 
     ghost Value = { SemaphoreEntry };
 
-    ghost view = { λ s. record { name = s.name; maximum = s.maximum; initial = s.initial } };
+    ghost view = { λ s. record { name = s.name; maximum = s.maximum; initial = s.initial; discipline = s.discipline } };
 }
 
 impl Semaphore {
-    pub(crate) fn new(name: Name, maximum: u16, initial: u16) -> Semaphore
-        ensures { result ≡ record { name = name; maximum = maximum; initial = initial } }
+    pub(crate) fn new(name: Name, maximum: u16, initial: u16, discipline: Discipline) -> Semaphore
+        ensures { result ≡ record { name = name; maximum = maximum; initial = initial; discipline = discipline } }
     {
         Semaphore {
             name,
             maximum,
             initial,
+            discipline,
         }
     }
 
@@ -127,5 +139,12 @@ impl Semaphore {
         ensures { result ≡ self.now.initial }
     {
         self.initial
+    }
+
+    /// Who comes first among those that wait.
+    pub fn discipline(&self) -> Discipline
+        ensures { result ≡ self.now.discipline }
+    {
+        self.discipline
     }
 }

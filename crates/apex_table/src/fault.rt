@@ -12,6 +12,7 @@ pub enum Section {
     Top,
     Process,
     Semaphore,
+    Init,
 }
 
 impl Section {
@@ -22,6 +23,7 @@ impl Section {
             Section::Top => "top",
             Section::Process => "process",
             Section::Semaphore => "semaphore",
+            Section::Init => "init",
         }
     }
 }
@@ -57,7 +59,8 @@ pub enum TableFault {
     /// A value has another type than its key's.
     #[error("WrongType in {0}")]
     WrongType(Place),
-    /// A number is out of its range, or a text is none of its key's words.
+    /// A number is out of its range, a text is none of its key's words, or a script that begins anew
+    /// has no step.
     #[error("OutOfRange in {0}")]
     OutOfRange(Place),
     /// A name has no byte, more than 30, or one that is not visible.
@@ -78,7 +81,7 @@ pub enum TableFault {
     /// A step of the init list that only a script may have.
     #[error("BadInitStep in {0}")]
     BadInitStep(Place),
-    /// A section or a script is too long.
+    /// A section, a script or the init list is too long.
     #[error("TooMany in {0}")]
     TooMany(Place),
 }

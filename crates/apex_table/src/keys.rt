@@ -4,7 +4,7 @@ ghost use Rattle.std.specs.Str.{bytes_eq};
 ghost use Rattle.toml.specs.Data.{get_member};
 ghost use Rattle.toml.specs.View.{view, table_view};
 ghost use Rattle.apex_table.specs.Outcome.{Gives};
-ghost use Rattle.apex_table.specs.Keys.{has_only, known, required, text, truth, table, array, array_at, at_most, number, number_at, number_or, truth_or, word_at, well_formed, name_at};
+ghost use Rattle.apex_table.specs.Keys.{has_only, known, required, text, truth, table, array, array_at, at_most, number, number_at, number_or, truth_or, text_at, well_formed, name_at};
 
 use crate::fault::{Place, TableFault};
 use crate::named::{Named, has_name};
@@ -169,26 +169,15 @@ pub fn array_at<'a>(at: Place, table: &'a Table, name: &str) -> Result<&'a [Valu
     array(at, value)
 }
 
-/// The text at a key, which is one of these words.
-#[tactic(auto, unfolding(crate::specs::Keys::word_at))]
-pub fn word_at<'a>(
-    at: Place,
-    words: &[&str],
-    table: &'a Table,
-    name: &str,
-) -> Result<&'a str, TableFault>
-    ensures { Gives (λ t. t.now) result (word_at at (map (λ k. k.now) words.now) name.now (table_view table.now)) }
+/// The text at a key without a default.
+pub fn text_at<'a>(at: Place, table: &'a Table, name: &str) -> Result<&'a str, TableFault>
+    ensures { Gives (λ t. t.now) result (text_at at name.now (table_view table.now)) }
 {
     let value = required(at, table, name)?;
-    let word = text(at, value)?;
-    if is_one_of(words, word) {
-        Ok(word)
-    } else {
-        Err(TableFault::OutOfRange(at))
-    }
+    text(at, value)
 }
 
-fn well_formed(at: Place, text: &str) -> Result<Name, TableFault>
+pub fn well_formed(at: Place, text: &str) -> Result<Name, TableFault>
     ensures { Gives (λ n. n) result (well_formed at text.now) }
 {
     match Name::from_bytes(text.as_bytes()) {
@@ -202,8 +191,7 @@ fn well_formed(at: Place, text: &str) -> Result<Name, TableFault>
 pub fn name_at<T: Named>(at: Place, before: &[T], table: &Table) -> Result<Name, TableFault>
     ensures { Gives (λ n. n) result (name_at at (map T.name_of before.now) (table_view table.now)) }
 {
-    let value = required(at, table, "name")?;
-    let text = text(at, value)?;
+    let text = text_at(at, table, "name")?;
     let name = well_formed(at, text)?;
     if has_name(before, name.as_bytes()) {
         return Err(TableFault::DoubleName(at));

@@ -1,12 +1,16 @@
 //! The partition table: what is read of a table's text, or the first fault that it has.
 #![tactic(auto)]
 
+mod default_init;
 mod entries;
 mod fault;
 mod init;
 mod keys;
 mod named;
+mod processes;
 mod reading;
+mod scripts;
+mod semaphores;
 mod steps;
 mod table;
 

@@ -1,8 +1,11 @@
+mod init;
+mod steps;
+
 use crate::fault::TableFault;
 use crate::reading::read_table;
 use apex_types::{
-    Call, PartitionCall, ProcessCall, ProcessId, RequestedMode, SemaphoreCall, SemaphoreId,
-    TimeCall, Timeout,
+    Call, Discipline, NamedProcess, NamedSemaphore, PartitionCall, ProcessCall, ProcessId,
+    RequestedMode, SemaphoreCall, SemaphoreId, Timeout,
 };
 use std::alloc::{AllocError, Global};
 use std::test::Fail;
@@ -41,7 +44,7 @@ const CHANGES: &[(&str, &str, &str)] = &[
     ("cores = 2", "cores = 9", "OutOfRange in top 0"),
     ("cores = 2", "cores = 9223372036854775808", "NotToml"),
     ("cores = 2", "cores = 9\ntimer = 1", "UnknownKey in top 0"),
-    ("cores = 2", "cores = 2\ninit = []", "UnknownKey in top 0"),
+    ("cores = 2", "cores = 2\ninits = []", "UnknownKey in top 0"),
     (
         "cores = 2",
         "cores = 9\nhistory = \"x\"",
@@ -61,7 +64,7 @@ const CHANGES: &[(&str, &str, &str)] = &[
     ("name = \"P1\"", "", "MissingKey in process 1"),
     (
         "name = \"P1\"",
-        "name = \"P1\"\nloop = true",
+        "name = \"P1\"\nloops = true",
         "UnknownKey in process 1",
     ),
     (
@@ -93,6 +96,36 @@ const CHANGES: &[(&str, &str, &str)] = &[
     ),
     ("core = 1", "core = 2", "OutOfRange in process 2"),
     ("start = true", "start = 1", "WrongType in process 1"),
+    (
+        "start = true",
+        "start = true\nloop = \"true\"",
+        "WrongType in process 1",
+    ),
+    (
+        "core = 0\nstart = true",
+        "core = 2\nloop = 1",
+        "OutOfRange in process 1",
+    ),
+    (
+        "start = true\nscript = [\"WAIT_SEMAPHORE S infinite\"]",
+        "loop = true\nscript = []",
+        "OutOfRange in process 1",
+    ),
+    (
+        "start = true\nscript = [\"WAIT_SEMAPHORE S infinite\"]",
+        "loop = false\nscript = []",
+        "none",
+    ),
+    (
+        "start = true\nscript = [\"WAIT_SEMAPHORE S infinite\"]",
+        "loop = true",
+        "MissingKey in process 1",
+    ),
+    (
+        "start = true\nscript = [\"WAIT_SEMAPHORE S infinite\"]",
+        "loop = 1",
+        "WrongType in process 1",
+    ),
     (
         "script = [\"SIGNAL_SEMAPHORE S\"]",
         "",
@@ -144,7 +177,7 @@ const CHANGES: &[(&str, &str, &str)] = &[
     ),
     (
         "discipline = \"FIFO\"",
-        "discipline = \"PRIORITY\"",
+        "discipline = \"priority\"",
         "OutOfRange in semaphore 1",
     ),
     (
@@ -157,67 +190,6 @@ const CHANGES: &[(&str, &str, &str)] = &[
         "discipline = \"FIFO\"\n[[semaphore]]\nname = \"S\"",
         "DoubleName in semaphore 2",
     ),
-];
-
-/// A step of P1 in place of the one in the table above, and its fault.
-const STEPS: &[(&str, &str)] = &[
-    ("WAIT_SEMAPHORE X infinite", "UnknownName in process 1"),
-    ("WAIT_SEMAPHORE P1 infinite", "UnknownName in process 1"),
-    ("WAIT_SEMAPHORE S 05", "BadStep in process 1"),
-    ("WAIT_SEMAPHORE S 00", "BadStep in process 1"),
-    ("WAIT_SEMAPHORE X 05", "BadStep in process 1"),
-    ("WAIT_SEMAPHORE S", "BadStep in process 1"),
-    ("WAIT_SEMAPHORE S infinite 0", "BadStep in process 1"),
-    ("WAIT_SEMAPHORE  infinite", "BadStep in process 1"),
-    ("WAIT_SEMAPHORE  S infinite", "BadStep in process 1"),
-    (" STOP_SELF", "BadStep in process 1"),
-    ("STOP_SELF ", "BadStep in process 1"),
-    ("STOP_SELF\t", "BadStep in process 1"),
-    ("stop_self", "BadStep in process 1"),
-    ("", "BadStep in process 1"),
-    ("START", "BadStep in process 1"),
-    ("START S", "UnknownName in process 1"),
-    ("CREATE_SEMAPHORE S", "BadStep in process 1"),
-    ("SET_PARTITION_MODE NORMAL", "BadStep in process 1"),
-    ("WAIT_SEMAPHORE X 00", "BadStep in process 1"),
-    ("WAIT_SEMAPHORE S -1", "BadStep in process 1"),
-    ("WAIT_SEMAPHORE S +5", "BadStep in process 1"),
-    ("WAIT_SEMAPHORE S 5s", "BadStep in process 1"),
-    ("WAIT_SEMAPHORE S INFINITE", "BadStep in process 1"),
-    (
-        "WAIT_SEMAPHORE S 0100000000000000000000000000005",
-        "BadStep in process 1",
-    ),
-    ("TIMED_WAIT", "BadStep in process 1"),
-    ("TIMED_WAIT 05", "BadStep in process 1"),
-    ("TIMED_WAIT S 5", "BadStep in process 1"),
-    ("DELAYED_START P2", "BadStep in process 1"),
-    ("DELAYED_START 5", "BadStep in process 1"),
-    ("DELAYED_START X 05", "BadStep in process 1"),
-    ("GET_TIME 0", "BadStep in process 1"),
-    ("GET_MY_ID P1", "BadStep in process 1"),
-    ("GET_SEMAPHORE_STATUS", "BadStep in process 1"),
-    ("GET_SEMAPHORE_STATUS S 0", "BadStep in process 1"),
-    ("SUSPEND P2", "BadStep in process 1"),
-    ("GET_PROCESS_STATUS P2", "BadStep in process 1"),
-    ("SUSPEND_SELF 5", "BadStep in process 1"),
-    ("WAIT_SEMAPHORE S 4294967296", "OutOfRange in process 1"),
-    (
-        "WAIT_SEMAPHORE S 18446744073709551617",
-        "OutOfRange in process 1",
-    ),
-    ("DELAYED_START P2 4294967296", "OutOfRange in process 1"),
-    (
-        "TIMED_WAIT 100000000000000000000000000005",
-        "OutOfRange in process 1",
-    ),
-    ("WAIT_SEMAPHORE X 4294967296", "UnknownName in process 1"),
-    (
-        "DELAYED_START X 100000000000000000000000000005",
-        "UnknownName in process 1",
-    ),
-    ("DELAYED_START S 5", "UnknownName in process 1"),
-    ("GET_SEMAPHORE_STATUS P1", "UnknownName in process 1"),
 ];
 
 /// A whole text, and its fault.
@@ -267,76 +239,6 @@ fn a_change_has_its_fault(rt: HostRuntime) -> Result<(), Fail> {
         let text = SIGNAL_WAKES_WAITER.replacen(rt.alloc(), *old, new, 1)?;
         let told = fault_of(rt.alloc(), text.as_bytes())?;
         assert_eq!(rt; told.as_str(), *want, "with {new}");
-    }
-    Ok(())
-}
-
-/// The table above with this step of P1.
-fn with_step(alloc: Global, step: &str) -> Result<String, AllocError> {
-    SIGNAL_WAKES_WAITER.replacen(alloc, "WAIT_SEMAPHORE S infinite", step, 1)
-}
-
-#[test]
-fn a_step_has_its_fault(rt: HostRuntime) -> Result<(), Fail> {
-    for (step, want) in STEPS {
-        let text = with_step(rt.alloc(), step)?;
-        let told = fault_of(rt.alloc(), text.as_bytes())?;
-        assert_eq!(rt; told.as_str(), *want, "of {step}");
-    }
-    Ok(())
-}
-
-#[test]
-fn a_step_is_read_as_its_call(rt: HostRuntime) -> Result<(), Fail> {
-    let p2 = ProcessId::at(1);
-    let s = SemaphoreId::at(0);
-    for (step, call) in [
-        (
-            "DELAYED_START P2 0",
-            Call::Process(ProcessCall::DelayedStart(p2, Timeout::Poll)),
-        ),
-        (
-            "DELAYED_START P2 infinite",
-            Call::Process(ProcessCall::DelayedStart(p2, Timeout::Infinite)),
-        ),
-        (
-            "DELAYED_START P2 1",
-            Call::Process(ProcessCall::DelayedStart(p2, Timeout::Ticks(1))),
-        ),
-        ("GET_MY_ID", Call::Process(ProcessCall::GetMyId)),
-        (
-            "TIMED_WAIT 0",
-            Call::Time(TimeCall::TimedWait(Timeout::Poll)),
-        ),
-        (
-            "TIMED_WAIT 10",
-            Call::Time(TimeCall::TimedWait(Timeout::Ticks(10))),
-        ),
-        (
-            "TIMED_WAIT infinite",
-            Call::Time(TimeCall::TimedWait(Timeout::Infinite)),
-        ),
-        ("GET_TIME", Call::Time(TimeCall::GetTime)),
-        (
-            "WAIT_SEMAPHORE S 0",
-            Call::Semaphore(SemaphoreCall::WaitSemaphore(s, Timeout::Poll)),
-        ),
-        (
-            "WAIT_SEMAPHORE S 4294967295",
-            Call::Semaphore(SemaphoreCall::WaitSemaphore(s, Timeout::Ticks(4294967295))),
-        ),
-        (
-            "GET_SEMAPHORE_STATUS S",
-            Call::Semaphore(SemaphoreCall::GetSemaphoreStatus(s)),
-        ),
-    ] {
-        let text = with_step(rt.alloc(), step)?;
-        let table = read_table(rt.alloc(), text.as_bytes())?;
-        assert_eq!(rt;
-            table.process(ProcessId::at(0)).step(0),
-            Some(call),
-            "of {step}"
-        );
     }
     Ok(())
 }
@@ -424,7 +326,7 @@ fn an_accepted_table_is_read_field_by_field(rt: HostRuntime) -> Result<(), Fail>
         assert_eq!(rt; process.name().as_bytes(), name.as_bytes());
         assert_eq!(rt; process.priority(), priority);
         assert_eq!(rt; process.core().number(), place);
-        assert!(rt; process.starts());
+        assert!(rt; process.starts() && !process.loops());
         assert_eq!(rt; process.step_count(), 1);
         assert_eq!(rt; process.step(0), Some(Call::Semaphore(step)));
         assert_eq!(rt; process.step(1), None);
@@ -433,13 +335,14 @@ fn an_accepted_table_is_read_field_by_field(rt: HostRuntime) -> Result<(), Fail>
     assert_eq!(rt; semaphore.name().as_bytes(), b"S".as_slice());
     assert_eq!(rt; semaphore.maximum(), 1);
     assert_eq!(rt; semaphore.initial(), 0);
+    assert_eq!(rt; semaphore.discipline(), Discipline::Fifo);
     let p = ProcessId::at(0);
     let q = ProcessId::at(1);
     for (place, call) in [
-        Call::Semaphore(SemaphoreCall::CreateSemaphore(s)),
-        Call::Process(ProcessCall::CreateProcess(p)),
+        Call::Semaphore(SemaphoreCall::CreateSemaphore(NamedSemaphore::Known(s))),
+        Call::Process(ProcessCall::CreateProcess(NamedProcess::Known(p))),
         Call::Process(ProcessCall::InitializeProcessCoreAffinity(p, 0)),
-        Call::Process(ProcessCall::CreateProcess(q)),
+        Call::Process(ProcessCall::CreateProcess(NamedProcess::Known(q))),
         Call::Process(ProcessCall::InitializeProcessCoreAffinity(q, 1)),
         Call::Process(ProcessCall::Start(p)),
         Call::Process(ProcessCall::Start(q)),
@@ -474,6 +377,21 @@ fn defaults_are_given_where_a_key_is_absent(rt: HostRuntime) -> Result<(), Fail>
 }
 
 #[test]
+fn a_loop_and_a_discipline_are_read(rt: HostRuntime) -> Result<(), Fail> {
+    let text = SIGNAL_WAKES_WAITER.replacen(rt.alloc(), "start = true", "loop = true", 1)?;
+    let text = text.replacen(rt.alloc(), "FIFO", "PRIORITY", 1)?;
+    let table = read_table(rt.alloc(), text.as_bytes())?;
+    let process = table.process(ProcessId::at(0));
+    assert!(rt; process.loops() && !process.starts());
+    assert!(rt; !table.process(ProcessId::at(1)).loops());
+    assert_eq!(rt;
+        table.semaphore(SemaphoreId::at(0)).discipline(),
+        Discipline::Priority
+    );
+    Ok(())
+}
+
+#[test]
 fn a_cut_text_is_a_table_or_has_a_fault(rt: HostRuntime) -> Result<(), Fail> {
     let text = SIGNAL_WAKES_WAITER.as_bytes();
     for end in 0..text.len() {
@@ -491,6 +409,7 @@ fn a_refused_growth_is_memory(rt: HostRuntime) -> Result<(), Fail> {
         "cores = 9",
         "cores = 1\nprocess = [{name = \"P\", priority = 1, script = [\"?\"]}]",
         "cores = 1\nprocess = [{name = \"P\", priority = 1, script = [\"DELAYED_START P 1\", \"TIMED_WAIT 4294967296\"]}]",
+        "cores = 1\ninit = [\"START P\", \"GET_PROCESS_ID ->\", \"STOP_SELF\"]\nprocess = [{name = \"P\", priority = 1, script = []}]",
     ] {
         let one = read_table(rt.alloc(), text.as_bytes());
         let other = read_table(rt.alloc(), text.as_bytes());

@@ -9,12 +9,12 @@ use Rattle.apex_types.specs.declared.records.Wait.{Wait}
 use Rattle.apex_types.specs.Roster.{Roster, record_at, with_record, nobody, opening_record, opening_roster}
 use Rattle.apex_types.specs.Table.{Table, no_process}
 use Rattle.apex_types.specs.Running.{is_eligible}
-use Rattle.apex_types.specs.Stamps.{newest, readied, start, stop, block, unblock, release, place_newest, advance_to, without_due, without_due_of, take_due, set_mode, set_core, set_step}
+use Rattle.apex_types.specs.Stamps.{newest, readied, start, stop, suspend, suspend_self, is_by_itself, resume, set_base, awake, block, unblock, release, place_newest, advance_to, without_due, without_due_of, take_due, set_mode, set_core, set_step}
 use Rattle.apex_types.specs.Distinct.{IsStamped}
 use Rattle.apex_types.specs.Dues.{is_due_at, by_number, first_due}
 use Rattle.apex_types.proofs.Choice.{place_within}
 use Rattle.apex_types.proofs.Places.{length-map_places, get_or-map_places}
-use Rattle.apex_types.proofs.Rosters.{changes_record, changes_newest, at_record, at_newest, started, awake, waiting}
+use Rattle.apex_types.proofs.Rosters.{changes_record, changes_newest, at_record, at_newest, started, self_suspended, unsuspended, waiting}
 
 module _ (roster : Roster) (p : ℕ) (known : p < length roster.records) (stamped : IsStamped roster) where
   -- a change that gives no stamp
@@ -96,6 +96,20 @@ module _ (roster : Roster) (p : ℕ) (known : p < length roster.records) (stampe
 
   pub stamped_block : (wait : Wait) (due : Option ℕ) → IsStamped (block roster p wait due)
   stamped_block wait due = stamped_newest (waiting roster p wait due)
+
+  pub stamped_suspend : IsStamped (suspend roster p)
+  stamped_suspend = stamped_record _ refl
+
+  pub stamped_suspend_self : (due : Option ℕ) → IsStamped (suspend_self roster p due)
+  stamped_suspend_self due = stamped_newest (self_suspended roster p due)
+
+  pub stamped_resume : IsStamped (resume roster p)
+  stamped_resume =
+      cond_both {A = Roster} (is_by_itself (record_at roster p).suspended) _ _ IsStamped
+      (λ _. stamped_readied (awake roster p) refl) (λ _. stamped_readied (unsuspended roster p) refl)
+
+  pub stamped_set_base : (base : ℕ) → IsStamped (set_base roster p base)
+  stamped_set_base base = stamped_record _ refl
 
   pub stamped_place_newest : IsStamped (place_newest roster p)
   stamped_place_newest = stamped_newest (record_at roster p)

@@ -3,6 +3,9 @@ use Rattle.std.proofs.Common.{◌≡◌, ◌≢◌, true, false, arith}
 use Rattle.std.proofs.lemmas.Bool.Decides.{nat_tests}
 use Rattle.std.proofs.lemmas.Int.{ints}
 use Rattle.apex_types.specs.declared.records.Record.{Record}
+use Rattle.apex_types.specs.declared.records.Discipline.{Discipline}
+use Rattle.apex_types.specs.declared.records.Discipline.TheVariants.{Fifo, Priority}
+use Rattle.apex_types.specs.Waiters.{waits_before}
 use Rattle.apex_types.specs.Running.{is_before, is_older}
 use Rattle.apex_types.proofs.Choice.{IsStrict}
 
@@ -23,3 +26,8 @@ older_total r s apart e = grind (arith, ints)
 
 pub before_total : (r s : Record) → r.since ≢ s.since → is_before r s ≡ false → is_before s r ≡ true
 before_total r s apart e = grind (arith, ints, nat_tests)
+
+-- so is the order of a queue of any discipline
+pub waits_strict : (discipline : Discipline) → IsStrict (waits_before discipline)
+waits_strict Fifo = older_strict
+waits_strict Priority = before_strict

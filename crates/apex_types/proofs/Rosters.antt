@@ -4,10 +4,11 @@ use Rattle.std.proofs.lemmas.Bool.{cond_both}
 use Rattle.std.proofs.lemmas.Int.{ints}
 use Rattle.std.proofs.lemmas.List.{get_or-set_other, get_or-set_same, length-set}
 use Rattle.apex_types.specs.declared.records.Record.{Record}
+use Rattle.apex_types.specs.declared.records.Suspender.TheVariants.{Itself, Other}
 use Rattle.apex_types.specs.declared.records.Wait.{Wait}
 use Rattle.apex_types.specs.Roster.{Roster, nobody, record_at, with_record}
 use Rattle.apex_types.specs.Running.{is_eligible}
-use Rattle.apex_types.specs.Stamps.{newest, readied, start_wait, start_due, start, stop, block, unblock, release, place_newest, without_due, set_core, set_step}
+use Rattle.apex_types.specs.Stamps.{newest, readied, start_wait, start_due, start, stopped, stop, is_by_itself, suspend, suspend_self, resume, set_base, suspension_awake, awake, block, unblock, release, place_newest, without_due, set_core, set_step}
 
 -- process p may have another record, and the next stamp may be one greater; all else stays
 pub record ChangesOne (before after : Roster) (p : ℕ) : Type 0 where
@@ -23,19 +24,26 @@ abbrev pub started : Roster → ℕ → ℕ → Record
 started roster p delay = record (record_at roster p) {
   base = (record_at roster p).priority;
   started = true;
+  suspended = None;
   step = 0;
   wait = start_wait roster.mode delay;
   due = start_due roster delay;
   delay = delay;
 }
 
--- the record of process p without its wait
-abbrev pub awake : Roster → ℕ → Record
-awake roster p = record (record_at roster p) { wait = None; due = None }
+-- the record of process p, suspended by itself until this due
+abbrev pub self_suspended : Roster → ℕ → Option ℕ → Record
+self_suspended roster p due = record (record_at roster p) { suspended = Some Itself; wait = None; due = due }
+
+-- the record of process p, suspended no more
+abbrev pub unsuspended : Roster → ℕ → Record
+unsuspended roster p = record (record_at roster p) { suspended = None }
 
 -- the record of process p with this wait and due
 abbrev pub waiting : Roster → ℕ → Wait → Option ℕ → Record
-waiting roster p wait due = record (record_at roster p) { wait = Some wait; due = due }
+waiting roster p wait due =
+    let r = record_at roster p in
+    record r { suspended = suspension_awake r.suspended; wait = Some wait; due = due }
 
 -- the record r with the stamp that it gets where it is eligible
 abbrev pub stamped_if_ready : Roster → Record → Record
@@ -79,6 +87,20 @@ module _ (roster : Roster) (p : ℕ) where
   pub changes_block : (wait : Wait) (due : Option ℕ) → ChangesOne roster (block roster p wait due) p
   changes_block wait due = changes_newest (waiting roster p wait due)
 
+  pub changes_suspend : ChangesOne roster (suspend roster p) p
+  changes_suspend = changes_record _
+
+  pub changes_suspend_self : (due : Option ℕ) → ChangesOne roster (suspend_self roster p due) p
+  changes_suspend_self due = changes_newest (self_suspended roster p due)
+
+  pub changes_resume : ChangesOne roster (resume roster p) p
+  changes_resume =
+      cond_both {A = Roster} (is_by_itself (record_at roster p).suspended) _ _ (λ after. ChangesOne roster after p)
+      (λ _. changes_readied (awake roster p)) (λ _. changes_readied (unsuspended roster p))
+
+  pub changes_set_base : (base : ℕ) → ChangesOne roster (set_base roster p base) p
+  changes_set_base base = changes_record _
+
   pub changes_place_newest : ChangesOne roster (place_newest roster p) p
   changes_place_newest = changes_newest (record_at roster p)
 
@@ -115,11 +137,20 @@ module _ (roster : Roster) (p : ℕ) (known : p < length roster.records) where
   pub at_start : (delay : ℕ) → record_at (start roster p delay) p ≡ record (started roster p delay) { since = roster.young }
   at_start delay = at_newest (started roster p delay)
 
-  pub at_stop : record_at (stop roster p) p ≡ record (record_at roster p) { started = false; wait = None; due = None; step = 0 }
+  pub at_stop : record_at (stop roster p) p ≡ stopped (record_at roster p)
   at_stop = at_record _
 
   pub at_block : (wait : Wait) (due : Option ℕ) → record_at (block roster p wait due) p ≡ record (waiting roster p wait due) { since = roster.young }
   at_block wait due = at_newest (waiting roster p wait due)
+
+  pub at_suspend : record_at (suspend roster p) p ≡ record (record_at roster p) { suspended = Some Other }
+  at_suspend = at_record _
+
+  pub at_suspend_self : (due : Option ℕ) → record_at (suspend_self roster p due) p ≡ record (self_suspended roster p due) { since = roster.young }
+  at_suspend_self due = at_newest (self_suspended roster p due)
+
+  pub at_set_base : (base : ℕ) → record_at (set_base roster p base) p ≡ record (record_at roster p) { base = base }
+  at_set_base base = at_record _
 
   pub at_place_newest : record_at (place_newest roster p) p ≡ record (record_at roster p) { since = roster.young }
   at_place_newest = at_newest (record_at roster p)

@@ -3,6 +3,8 @@ use Rattle.std.specs.Prelude.{ℕ, ◌+◌, ◌-◌, Bool, true, false, List, []
 use Rattle.std.specs.List.{list_any}
 use Rattle.apex_types.specs.declared.calls.Call.{Call}
 use Rattle.apex_types.specs.declared.calls.Call.TheVariants.{Process as ToProcess, Semaphore}
+use Rattle.apex_types.specs.declared.calls.NamedProcess.TheVariants as process
+use Rattle.apex_types.specs.declared.calls.NamedSemaphore.TheVariants as semaphore
 use Rattle.apex_types.specs.declared.calls.ProcessCall.{ProcessCall}
 use Rattle.apex_types.specs.declared.calls.ProcessCall.TheVariants.{CreateProcess}
 use Rattle.apex_types.specs.declared.calls.SemaphoreCall.{SemaphoreCall}
@@ -96,7 +98,7 @@ semaphore_value initial s history = initial + count_by (is_accepted_signal s) hi
 
 -- the entry created process p
 abbrev pub is_process_create : ℕ → ProcessCall → Bool
-is_process_create p (CreateProcess q) = p == q
+is_process_create p (CreateProcess (process.Known q)) = p == q
 is_process_create p _ = false
 
 abbrev pub is_creation_of_process : ℕ → Option Call → Bool
@@ -108,7 +110,7 @@ creates_process p e = is_creation_of_process p e.call && is_accepted e.reply
 
 -- the entry created semaphore s
 abbrev pub is_semaphore_create : ℕ → SemaphoreCall → Bool
-is_semaphore_create s (CreateSemaphore t) = s == t
+is_semaphore_create s (CreateSemaphore (semaphore.Known t)) = s == t
 is_semaphore_create s _ = false
 
 abbrev pub is_creation_of_semaphore : ℕ → Option Call → Bool

@@ -2,14 +2,18 @@
 use Rattle.std.specs.Prelude.{ℕ, ◌+◌, List, ◌++◌, flat_map, Option, None, Some, IfSome, codes, decimal}
 use Rattle.apex_types.specs.declared.calls.Call.{Call}
 use Rattle.apex_types.specs.declared.calls.Call.TheVariants.{Partition, Process, Time, Semaphore}
+use Rattle.apex_types.specs.declared.calls.NamedProcess.{NamedProcess}
+use Rattle.apex_types.specs.declared.calls.NamedProcess.TheVariants as process
+use Rattle.apex_types.specs.declared.calls.NamedSemaphore.{NamedSemaphore}
+use Rattle.apex_types.specs.declared.calls.NamedSemaphore.TheVariants as semaphore
 use Rattle.apex_types.specs.declared.calls.PartitionCall.{PartitionCall}
-use Rattle.apex_types.specs.declared.calls.PartitionCall.TheVariants.{SetPartitionMode}
+use Rattle.apex_types.specs.declared.calls.PartitionCall.TheVariants.{SetPartitionMode, GetPartitionStatus}
 use Rattle.apex_types.specs.declared.calls.ProcessCall.{ProcessCall}
-use Rattle.apex_types.specs.declared.calls.ProcessCall.TheVariants.{CreateProcess, InitializeProcessCoreAffinity, Start, DelayedStart, StopSelf, GetMyId}
+use Rattle.apex_types.specs.declared.calls.ProcessCall.TheVariants.{CreateProcess, InitializeProcessCoreAffinity, SetPriority, Start, DelayedStart, Stop, StopSelf, Suspend, Resume, SuspendSelf, GetMyId, GetMyProcessorCoreId, GetProcessId, GetProcessStatus}
 use Rattle.apex_types.specs.declared.calls.RequestedMode.{RequestedMode}
-use Rattle.apex_types.specs.declared.calls.RequestedMode.TheVariants.{Normal}
+use Rattle.apex_types.specs.declared.calls.RequestedMode.TheVariants.{Idle, Normal}
 use Rattle.apex_types.specs.declared.calls.SemaphoreCall.{SemaphoreCall}
-use Rattle.apex_types.specs.declared.calls.SemaphoreCall.TheVariants.{CreateSemaphore, WaitSemaphore, SignalSemaphore, GetSemaphoreStatus}
+use Rattle.apex_types.specs.declared.calls.SemaphoreCall.TheVariants.{CreateSemaphore, WaitSemaphore, SignalSemaphore, GetSemaphoreId, GetSemaphoreStatus}
 use Rattle.apex_types.specs.declared.calls.TimeCall.{TimeCall}
 use Rattle.apex_types.specs.declared.calls.TimeCall.TheVariants.{TimedWait, GetTime}
 use Rattle.apex_types.specs.declared.calls.Timeout.{Timeout}
@@ -20,7 +24,7 @@ use Rattle.apex_types.specs.declared.entries.Entry.{Entry}
 use Rattle.apex_types.specs.declared.entries.Notice.{Notice}
 use Rattle.apex_types.specs.declared.entries.Notice.TheVariants.{Woken, Released}
 use Rattle.apex_types.specs.declared.entries.Reply.{Reply}
-use Rattle.apex_types.specs.declared.entries.Reply.TheVariants.{Code, Value, Status, Blocked, Gone, Idle, Advanced}
+use Rattle.apex_types.specs.declared.entries.Reply.TheVariants.{Code, Value, Status, Blocked, Gone, Idle as IdleTurn, Advanced}
 use Rattle.apex_types.specs.declared.entries.ReturnCode.{ReturnCode}
 use Rattle.apex_types.specs.declared.entries.ReturnCode.TheVariants.{NoError, NoAction, NotAvailable, InvalidParam, InvalidConfig, InvalidMode, TimedOut}
 use Rattle.apex_types.specs.declared.entries.Who.{Who}
@@ -49,6 +53,7 @@ timeout_text Infinite = codes "infinite"
 
 -- the mode that is asked for
 abbrev pub mode_text : RequestedMode → List ℕ
+mode_text Idle = codes "IDLE"
 mode_text Normal = codes "NORMAL"
 
 -- the name that the table gives a process
@@ -62,17 +67,35 @@ semaphore_name table s = (semaphore_entry table s).name
 -- a step of partition management
 abbrev pub partition_call_text : PartitionCall → List ℕ
 partition_call_text (SetPartitionMode mode) = codes "SET_PARTITION_MODE " ++ mode_text mode
+partition_call_text GetPartitionStatus = codes "GET_PARTITION_STATUS"
+
+-- the name that a step gives
+abbrev pub named_process_text : Table → NamedProcess → List ℕ
+named_process_text table (process.Known p) = process_name table p
+named_process_text table (process.Unknown name) = name
+
+abbrev pub named_semaphore_text : Table → NamedSemaphore → List ℕ
+named_semaphore_text table (semaphore.Known s) = semaphore_name table s
+named_semaphore_text table (semaphore.Unknown name) = name
 
 -- a step of process management
 abbrev pub process_call_text : Table → ProcessCall → List ℕ
-process_call_text table (CreateProcess p) = codes "CREATE_PROCESS " ++ process_name table p
+process_call_text table (CreateProcess named) = codes "CREATE_PROCESS " ++ named_process_text table named
 process_call_text table (InitializeProcessCoreAffinity p core) =
     codes "INITIALIZE_PROCESS_CORE_AFFINITY " ++ process_name table p ++ codes " " ++ decimal core
+process_call_text table (SetPriority p priority) = codes "SET_PRIORITY " ++ process_name table p ++ codes " " ++ decimal priority
 process_call_text table (Start p) = codes "START " ++ process_name table p
 process_call_text table (DelayedStart p delay) =
     codes "DELAYED_START " ++ process_name table p ++ codes " " ++ timeout_text delay
+process_call_text table (Stop p) = codes "STOP " ++ process_name table p
 process_call_text table StopSelf = codes "STOP_SELF"
+process_call_text table (Suspend p) = codes "SUSPEND " ++ process_name table p
+process_call_text table (Resume p) = codes "RESUME " ++ process_name table p
+process_call_text table (SuspendSelf timeout) = codes "SUSPEND_SELF " ++ timeout_text timeout
 process_call_text table GetMyId = codes "GET_MY_ID"
+process_call_text table GetMyProcessorCoreId = codes "GET_MY_PROCESSOR_CORE_ID"
+process_call_text table (GetProcessId named) = codes "GET_PROCESS_ID " ++ named_process_text table named
+process_call_text table (GetProcessStatus p) = codes "GET_PROCESS_STATUS " ++ process_name table p
 
 -- a step of time management
 abbrev pub time_call_text : TimeCall → List ℕ
@@ -81,10 +104,11 @@ time_call_text GetTime = codes "GET_TIME"
 
 -- a step of semaphores
 abbrev pub semaphore_call_text : Table → SemaphoreCall → List ℕ
-semaphore_call_text table (CreateSemaphore s) = codes "CREATE_SEMAPHORE " ++ semaphore_name table s
+semaphore_call_text table (CreateSemaphore named) = codes "CREATE_SEMAPHORE " ++ named_semaphore_text table named
 semaphore_call_text table (WaitSemaphore s timeout) =
     codes "WAIT_SEMAPHORE " ++ semaphore_name table s ++ codes " " ++ timeout_text timeout
 semaphore_call_text table (SignalSemaphore s) = codes "SIGNAL_SEMAPHORE " ++ semaphore_name table s
+semaphore_call_text table (GetSemaphoreId named) = codes "GET_SEMAPHORE_ID " ++ named_semaphore_text table named
 semaphore_call_text table (GetSemaphoreStatus s) = codes "GET_SEMAPHORE_STATUS " ++ semaphore_name table s
 
 -- a step as the table writes it
@@ -122,7 +146,7 @@ reply_text (Value value) = codes "VALUE " ++ decimal value
 reply_text (Status first second) = codes "STATUS " ++ decimal first ++ codes " " ++ decimal second
 reply_text Blocked = codes "BLOCKED"
 reply_text Gone = codes "GONE"
-reply_text Idle = codes "IDLE"
+reply_text IdleTurn = codes "IDLE"
 reply_text (Advanced asked went) = codes "ADVANCED " ++ decimal went
 
 -- what the event did to a process

@@ -3,6 +3,7 @@ use Rattle.std.specs.Prelude.{ℕ, ◌+◌, ◌-◌, false, List, [], ◌∷◌,
 use Rattle.apex_types.specs.declared.calls.Call.{Call}
 use Rattle.apex_types.specs.declared.calls.Call.TheVariants.{Partition, Process as ToProcess, Time, Semaphore}
 use Rattle.apex_types.specs.declared.calls.ProcessCall.TheVariants.{StopSelf}
+use Rattle.apex_types.specs.declared.calls.SemaphoreCall.{SemaphoreCall}
 use Rattle.apex_types.specs.declared.entries.Caller.{Caller}
 use Rattle.apex_types.specs.declared.entries.Caller.TheVariants.{Process, Init, Nobody}
 use Rattle.apex_types.specs.declared.entries.Entry.{Entry}
@@ -10,15 +11,16 @@ use Rattle.apex_types.specs.declared.entries.Event.{Event}
 use Rattle.apex_types.specs.declared.entries.Event.TheVariants.{Turn, Tick}
 use Rattle.apex_types.specs.declared.entries.Notice.{Notice}
 use Rattle.apex_types.specs.declared.entries.Reply.{Reply}
-use Rattle.apex_types.specs.declared.entries.Reply.TheVariants.{Idle, Advanced}
+use Rattle.apex_types.specs.declared.entries.Reply.TheVariants.{Code, Idle, Advanced}
+use Rattle.apex_types.specs.declared.entries.ReturnCode.{ReturnCode}
 use Rattle.apex_types.specs.declared.entries.Who.{Who}
 use Rattle.apex_types.specs.declared.entries.Who.TheVariants.{Core, Ticker}
-use Rattle.apex_types.specs.Table.{Table, process_entry}
+use Rattle.apex_types.specs.Table.{Table, ProcessEntry, process_entry}
 use Rattle.apex_types.specs.Roster.{Roster, record_at, is_cold_start, opening_roster}
 use Rattle.apex_types.specs.Running.{chosen}
 use Rattle.apex_types.specs.Stamps.{set_step}
 use Rattle.apex_types.specs.History.{Objects, SemaphoreObject, objects_after, next_init_call}
-use Rattle.apex_types.specs.SemaphoreServices.{SemaphoreOutcome, semaphore_service, semaphore_of}
+use Rattle.apex_types.specs.SemaphoreServices.{SemaphoreOutcome, semaphore_service, semaphore_of, no_semaphore_code}
 use Rattle.apex_types.specs.ProcessServices.{ProcessOutcome, process_service}
 use Rattle.apex_types.specs.TimeServices.{TimeOutcome, time_service}
 use Rattle.apex_types.specs.Ticks.{tick_goal, pass_time}
@@ -77,15 +79,23 @@ after_time objects outcome = record {
   notices = [];
 }
 
+-- a call of no semaphore's name changes nothing
+abbrev pub refused : Roster → Objects → ReturnCode → Outcome
+refused roster objects code = record { roster = roster; objects = objects; reply = Code code; notices = [] }
+
+-- a call of this semaphore, or of a name that is no entry's
+abbrev pub semaphore_deed : Roster → Objects → Caller → SemaphoreCall → Option ℕ → Outcome
+semaphore_deed roster objects caller call (Some s) =
+    after_semaphore objects s (semaphore_service roster (semaphore_at objects s) s caller call)
+semaphore_deed roster objects caller call None = refused roster objects (no_semaphore_code roster call)
+
 -- service: what the caller's call does in a partition of this many cores
 abbrev pub service : ℕ → Roster → Objects → Caller → Call → Outcome
-service cores roster objects caller (Partition call) = after_partition objects (partition_service roster call)
+service cores roster objects caller (Partition call) = after_partition objects (partition_service cores roster call)
 service cores roster objects caller (ToProcess call) =
     after_process objects (process_service cores roster objects.processes caller call)
 service cores roster objects caller (Time call) = after_time objects (time_service roster caller call)
-service cores roster objects caller (Semaphore call) =
-    after_semaphore objects (semaphore_of call)
-    (semaphore_service roster (semaphore_at objects (semaphore_of call)) caller call)
+service cores roster objects caller (Semaphore call) = semaphore_deed roster objects caller call (semaphore_of call)
 
 -- a call that was carried out, or none at an idle turn and a tick
 pub record Deed : Type 0 where
@@ -98,12 +108,15 @@ abbrev pub served : ℕ → Roster → Objects → Caller → Call → Deed
 served cores roster objects caller call =
     record { caller = caller; call = Some call; outcome = service cores roster objects caller call }
 
--- process p carries out its step: every step moves the place by one first; the end of a script is
--- STOP_SELF
+-- the place after this one: a looping script is at its first step again after its last one
+abbrev pub next_place : ProcessEntry → ℕ → ℕ
+next_place entry step = if entry.loops && step + 1 == length entry.script then 0 else step + 1
+
+-- process p carries out its step: every step moves the place first; the end of a script is STOP_SELF
 abbrev pub script_deed : Table → Roster → Objects → ℕ → Option Call → Deed
 script_deed table roster objects p None = served table.cores roster objects (Process p) (ToProcess StopSelf)
 script_deed table roster objects p (Some call) =
-    served table.cores (set_step roster p ((record_at roster p).step + 1)) objects (Process p) call
+    served table.cores (set_step roster p (next_place (process_entry table p) (record_at roster p).step)) objects (Process p) call
 
 -- the step of process p
 abbrev pub step_of : Table → Roster → ℕ → Option Call

@@ -1,18 +1,19 @@
 -- The services of partition management, row by row (ARINC 653 Part 1, partition management; the
 -- order of releases is this profile's).
-use Rattle.std.specs.Prelude.{ℕ, ◌+◌, List, [], length, Option, Some, ◌==◌, if◌then◌else◌}
+use Rattle.std.specs.Prelude.{ℕ, ◌+◌, List, [], length, map, Option, Some, ◌==◌, if◌then◌else◌}
 use Rattle.apex_types.specs.declared.calls.PartitionCall.{PartitionCall}
-use Rattle.apex_types.specs.declared.calls.PartitionCall.TheVariants.{SetPartitionMode}
+use Rattle.apex_types.specs.declared.calls.PartitionCall.TheVariants.{SetPartitionMode, GetPartitionStatus}
 use Rattle.apex_types.specs.declared.calls.RequestedMode.{RequestedMode}
 use Rattle.apex_types.specs.declared.calls.RequestedMode.TheVariants as requested
 use Rattle.apex_types.specs.declared.entries.Notice.{Notice}
 use Rattle.apex_types.specs.declared.entries.Reply.{Reply}
-use Rattle.apex_types.specs.declared.entries.Reply.TheVariants.{Code}
+use Rattle.apex_types.specs.declared.entries.Reply.TheVariants.{Code, Status, Gone}
 use Rattle.apex_types.specs.declared.entries.ReturnCode.TheVariants.{NoError, NoAction}
+use Rattle.apex_types.specs.declared.records.Mode.{Mode}
 use Rattle.apex_types.specs.declared.records.Mode.TheVariants as mode
 use Rattle.apex_types.specs.declared.records.Wait.TheVariants as wait
 use Rattle.apex_types.specs.Roster.{Roster, record_at, is_normal}
-use Rattle.apex_types.specs.Stamps.{block, set_mode}
+use Rattle.apex_types.specs.Stamps.{block, set_mode, stopped}
 use Rattle.apex_types.specs.Waiters.{first_waiter}
 use Rattle.apex_types.specs.InTurn.{Changed, in_turn}
 use Rattle.apex_types.specs.Ticks.{released}
@@ -43,12 +44,24 @@ enter_normal roster = in_turn first_to_start begin_start (length roster.records)
 abbrev pub entered_normal : Changed → PartitionOutcome
 entered_normal changed = record { roster = changed.roster; reply = Code NoError; notices = changed.notices }
 
+-- IDLE: every process is stopped for good, and nobody is told
+abbrev pub enter_idle : Roster → Roster
+enter_idle roster = record roster { mode = mode.Idle; records = map stopped roster.records }
+
 -- SET_PARTITION_MODE
 abbrev pub set_partition_mode : Roster → RequestedMode → PartitionOutcome
+set_partition_mode roster requested.Idle = record { roster = enter_idle roster; reply = Gone; notices = [] }
 set_partition_mode roster requested.Normal =
     if is_normal roster.mode then record { roster = roster; reply = Code NoAction; notices = [] }
     else entered_normal (enter_normal roster)
 
--- any service of partition management
-abbrev pub partition_service : Roster → PartitionCall → PartitionOutcome
-partition_service roster (SetPartitionMode requested) = set_partition_mode roster requested
+-- the number of a mode (ARINC 653 Part 1)
+abbrev pub mode_number : Mode → ℕ
+mode_number mode.Idle = 0
+mode_number mode.ColdStart = 1
+mode_number mode.Normal = 3
+
+-- any service of partition management, in a partition of this many cores
+abbrev pub partition_service : ℕ → Roster → PartitionCall → PartitionOutcome
+partition_service cores roster (SetPartitionMode requested) = set_partition_mode roster requested
+partition_service cores roster GetPartitionStatus = record { roster = roster; reply = Status (mode_number roster.mode) cores; notices = [] }

@@ -1,22 +1,25 @@
 -- What a contract sees of the processes: mode, time, one record each, and the two counters of stamps.
-use Rattle.std.specs.Prelude.{ℕ, ◌+◌, Bool, true, false, List, length, slice_index_or, slice_set, ℤ, pos, None}
+use Rattle.std.specs.Prelude.{ℕ, ◌+◌, Bool, true, false, List, length, map, slice_index_or, slice_set, ℤ, pos, None}
 use Rattle.apex_types.specs.declared.records.Mode.{Mode}
 use Rattle.apex_types.specs.declared.records.Mode.TheVariants.{Idle, ColdStart, Normal}
+use Rattle.apex_types.specs.declared.records.Discipline.{Discipline}
 use Rattle.apex_types.specs.declared.records.Record.{Record}
 use Rattle.apex_types.specs.Places.{map_places}
-use Rattle.apex_types.specs.Table.{Table, ProcessEntry}
+use Rattle.apex_types.specs.Table.{Table, ProcessEntry, SemaphoreEntry}
 
--- the processes of a partition at one moment
+-- the processes of a partition at one moment, and the disciplines of its semaphores' queues, which
+-- stay
 pub record Roster : Type 0 where
   pub mode : Mode
   pub now : ℕ
   pub records : List Record
   pub young : ℤ
   pub old : ℤ
+  pub disciplines : List Discipline
 
 -- a record that no process has, for a place past the end
 abbrev pub nobody : Record
-nobody = record { core = 0; priority = 0; base = 0; started = false; wait = None; since = pos 0; due = None; delay = 0; step = 0 }
+nobody = record { core = 0; priority = 0; base = 0; started = false; suspended = None; wait = None; since = pos 0; due = None; delay = 0; step = 0 }
 
 -- the record of process p
 abbrev pub record_at : Roster → ℕ → Record
@@ -45,6 +48,7 @@ opening_record p entry = record {
   priority = entry.priority;
   base = entry.priority;
   started = false;
+  suspended = None;
   wait = None;
   since = pos (p + 1);
   due = None;
@@ -60,4 +64,5 @@ opening_roster table = record {
   records = map_places opening_record 0 table.processes;
   young = pos (length table.processes + 1);
   old = pos 0;
+  disciplines = map (λ (s : SemaphoreEntry). s.discipline) table.semaphores;
 }

@@ -7,9 +7,9 @@ use Rattle.apex_types.specs.declared.records.State.TheVariants.{Dormant, Ready, 
 use Rattle.apex_types.specs.Roster.{Roster, record_at, is_normal}
 use Rattle.apex_types.specs.Choice.{place_of_least}
 
--- eligible: the mode is NORMAL, and the process is started and waits for nothing
+-- eligible: the mode is NORMAL, and the process is started, not suspended, and waits for nothing
 abbrev pub is_eligible : Mode → Record → Bool
-is_eligible mode r = is_normal mode && r.started && is_none r.wait
+is_eligible mode r = is_normal mode && r.started && is_none r.suspended && is_none r.wait
 
 -- the current priority; a greater one is more urgent
 abbrev pub current_priority : Record → ℕ

@@ -1,8 +1,10 @@
 -- The services of semaphores, row by row: the first guard that holds answers and changes nothing
 -- (ARINC 653 Part 1, semaphores; the guards are this profile's).
 use Rattle.std.specs.Prelude.{ℕ, ◌+◌, ◌-◌, true, List, [], ◌∷◌, Option, None, Some, nat_lt, not, if◌then◌else◌}
+use Rattle.apex_types.specs.declared.calls.NamedSemaphore.{NamedSemaphore}
+use Rattle.apex_types.specs.declared.calls.NamedSemaphore.TheVariants.{Known, Unknown}
 use Rattle.apex_types.specs.declared.calls.SemaphoreCall.{SemaphoreCall}
-use Rattle.apex_types.specs.declared.calls.SemaphoreCall.TheVariants.{CreateSemaphore, WaitSemaphore, SignalSemaphore, GetSemaphoreStatus}
+use Rattle.apex_types.specs.declared.calls.SemaphoreCall.TheVariants.{CreateSemaphore, WaitSemaphore, SignalSemaphore, GetSemaphoreId, GetSemaphoreStatus}
 use Rattle.apex_types.specs.declared.calls.Timeout.{Timeout}
 use Rattle.apex_types.specs.declared.calls.Timeout.TheVariants.{Poll, Ticks, Infinite}
 use Rattle.apex_types.specs.declared.entries.Caller.{Caller}
@@ -10,9 +12,9 @@ use Rattle.apex_types.specs.declared.entries.Caller.TheVariants.{Process, Init, 
 use Rattle.apex_types.specs.declared.entries.Notice.{Notice}
 use Rattle.apex_types.specs.declared.entries.Notice.TheVariants.{Woken}
 use Rattle.apex_types.specs.declared.entries.Reply.{Reply}
-use Rattle.apex_types.specs.declared.entries.Reply.TheVariants.{Code, Status, Blocked}
+use Rattle.apex_types.specs.declared.entries.Reply.TheVariants.{Code, Value, Status, Blocked}
 use Rattle.apex_types.specs.declared.entries.ReturnCode.{ReturnCode}
-use Rattle.apex_types.specs.declared.entries.ReturnCode.TheVariants.{NoError, NoAction, NotAvailable, InvalidParam, InvalidMode}
+use Rattle.apex_types.specs.declared.entries.ReturnCode.TheVariants.{NoError, NoAction, NotAvailable, InvalidParam, InvalidConfig, InvalidMode}
 use Rattle.apex_types.specs.declared.records.Wait.TheVariants.{Semaphore}
 use Rattle.apex_types.specs.Roster.{Roster, is_normal}
 use Rattle.apex_types.specs.History.{SemaphoreObject}
@@ -89,16 +91,34 @@ get_semaphore_status roster semaphore s =
     if not semaphore.created then refused_semaphore roster semaphore InvalidParam
     else record { roster = roster; semaphore = semaphore; reply = Status semaphore.value (waiter_count roster (Semaphore s)); notices = [] }
 
--- any service of a semaphore
-abbrev pub semaphore_service : Roster → SemaphoreObject → Caller → SemaphoreCall → SemaphoreOutcome
-semaphore_service roster semaphore caller (CreateSemaphore s) = create_semaphore roster semaphore
-semaphore_service roster semaphore caller (WaitSemaphore s timeout) = wait_by roster semaphore s caller timeout
-semaphore_service roster semaphore caller (SignalSemaphore s) = signal_semaphore roster semaphore s
-semaphore_service roster semaphore caller (GetSemaphoreStatus s) = get_semaphore_status roster semaphore s
+-- GET_SEMAPHORE_ID: users see the place counted from 1
+abbrev pub get_semaphore_id : Roster → SemaphoreObject → ℕ → SemaphoreOutcome
+get_semaphore_id roster semaphore s =
+    if not semaphore.created then refused_semaphore roster semaphore InvalidConfig
+    else record { roster = roster; semaphore = semaphore; reply = Value (s + 1); notices = [] }
 
--- the semaphore that the call names
-abbrev pub semaphore_of : SemaphoreCall → ℕ
-semaphore_of (CreateSemaphore s) = s
-semaphore_of (WaitSemaphore s timeout) = s
-semaphore_of (SignalSemaphore s) = s
-semaphore_of (GetSemaphoreStatus s) = s
+-- any service of a semaphore, which is the s-th; of a name that is no entry's there is none
+abbrev pub semaphore_service : Roster → SemaphoreObject → ℕ → Caller → SemaphoreCall → SemaphoreOutcome
+semaphore_service roster semaphore s caller (CreateSemaphore named) = create_semaphore roster semaphore
+semaphore_service roster semaphore s caller (WaitSemaphore t timeout) = wait_by roster semaphore s caller timeout
+semaphore_service roster semaphore s caller (SignalSemaphore t) = signal_semaphore roster semaphore s
+semaphore_service roster semaphore s caller (GetSemaphoreId named) = get_semaphore_id roster semaphore s
+semaphore_service roster semaphore s caller (GetSemaphoreStatus t) = get_semaphore_status roster semaphore s
+
+-- the semaphore of a name, where an entry has it
+abbrev pub known_semaphore : NamedSemaphore → Option ℕ
+known_semaphore (Known s) = Some s
+known_semaphore (Unknown name) = None
+
+-- the semaphore that the call names, where it is an entry's
+abbrev pub semaphore_of : SemaphoreCall → Option ℕ
+semaphore_of (CreateSemaphore named) = known_semaphore named
+semaphore_of (WaitSemaphore s timeout) = Some s
+semaphore_of (SignalSemaphore s) = Some s
+semaphore_of (GetSemaphoreId named) = known_semaphore named
+semaphore_of (GetSemaphoreStatus s) = Some s
+
+-- what a call of a name that is no entry's is answered: CREATE_SEMAPHORE tests the mode first
+abbrev pub no_semaphore_code : Roster → SemaphoreCall → ReturnCode
+no_semaphore_code roster (CreateSemaphore named) = if is_normal roster.mode then InvalidMode else InvalidConfig
+no_semaphore_code roster _ = InvalidConfig

@@ -1,7 +1,9 @@
 -- How records change and when a process takes a new stamp (this profile).
-use Rattle.std.specs.Prelude.{ℕ, ◌+◌, true, false, Option, None, Some, pos, ◌+ℤ◌, ◌<ℤ◌, ◌^◌, ◌==◌, ◌&&◌, not, slice_set, if◌then◌else◌}
+use Rattle.std.specs.Prelude.{◌≡◌, ℕ, ◌+◌, Bool, true, false, Option, None, Some, pos, ◌+ℤ◌, ◌<ℤ◌, ◌^◌, ◌==◌, ◌&&◌, not, slice_set, if◌then◌else◌}
 use Rattle.apex_types.specs.declared.records.Mode.{Mode}
 use Rattle.apex_types.specs.declared.records.Record.{Record}
+use Rattle.apex_types.specs.declared.records.Suspender.{Suspender}
+use Rattle.apex_types.specs.declared.records.Suspender.TheVariants.{Itself, Other}
 use Rattle.apex_types.specs.declared.records.Wait.{Wait}
 use Rattle.apex_types.specs.declared.records.Wait.TheVariants.{Normal, Start}
 use Rattle.apex_types.specs.Roster.{Roster, record_at, with_record, is_normal}
@@ -39,27 +41,69 @@ start roster p delay =
     newest roster p (record r {
       base = r.priority;
       started = true;
+      suspended = None;
       step = 0;
       wait = start_wait roster.mode delay;
       due = start_due roster delay;
       delay = delay;
     })
 
--- a stop: not started, waits for nothing, at the first step; stamps nobody
+-- a stop: not started, not suspended, waits for nothing, at the first step
+abbrev pub stopped : Record → Record
+stopped r = record r { started = false; suspended = None; wait = None; due = None; step = 0 }
+
+-- the process is stopped; this stamps nobody
 abbrev pub stop : Roster → ℕ → Roster
-stop roster p = with_record roster p (record (record_at roster p) { started = false; wait = None; due = None; step = 0 })
+stop roster p = with_record roster p (stopped (record_at roster p))
 
--- the process begins to wait, until the due where there is one
-abbrev pub block : Roster → ℕ → Wait → Option ℕ → Roster
-block roster p wait due = newest roster p (record (record_at roster p) { wait = Some wait; due = due })
+-- a suspension by another process stays when the process wakes, and one by itself ends
+abbrev pub suspension_awake : Option Suspender → Option Suspender
+suspension_awake (Some Other) = Some Other
+suspension_awake _ = None
 
--- the process's wait ends
+-- the record of process p when it wakes: it waits for nothing, and is not suspended by itself
+abbrev pub awake : Roster → ℕ → Record
+awake roster p =
+    let r = record_at roster p in
+    record r { suspended = suspension_awake r.suspended; wait = None; due = None }
+
+-- the process's wait, or its suspension of itself, ends
 abbrev pub unblock : Roster → ℕ → Roster
-unblock roster p = readied roster p (record (record_at roster p) { wait = None; due = None })
+unblock roster p = readied roster p (awake roster p)
 
 -- a release: the process waits no more
 abbrev pub release : Roster → ℕ → Roster
-release roster p = readied roster p (record (record_at roster p) { wait = None; due = None })
+release roster p = readied roster p (awake roster p)
+
+-- the process begins to wait, until the due where there is one; who suspended itself waits for nothing
+-- else
+abbrev pub block : Roster → ℕ → Wait → Option ℕ → Roster
+block roster p wait due =
+    let r = record_at roster p in
+    newest roster p (record r { suspended = suspension_awake r.suspended; wait = Some wait; due = due })
+
+-- the process suspended itself
+abbrev pub is_by_itself : Option Suspender → Bool
+is_by_itself (Some Itself) = true
+is_by_itself _ = false
+
+-- another process suspends the process; this stamps nobody, and a wait goes on
+abbrev pub suspend : Roster → ℕ → Roster
+suspend roster p = with_record roster p (record (record_at roster p) { suspended = Some Other })
+
+-- the process suspends itself, until the due where there is one
+abbrev pub suspend_self : Roster → ℕ → Option ℕ → Roster
+suspend_self roster p due = newest roster p (record (record_at roster p) { suspended = Some Itself; wait = None; due = due })
+
+-- the process is suspended no more: one that suspended itself wakes, another one's wait goes on
+abbrev pub resume : Roster → ℕ → Roster
+resume roster p =
+    let r = record_at roster p in
+    if is_by_itself r.suspended then unblock roster p else readied roster p (record r { suspended = None })
+
+-- the process has this base priority
+abbrev pub set_base : Roster → ℕ → ℕ → Roster
+set_base roster p base = with_record roster p (record (record_at roster p) { base = base })
 
 -- the process goes behind all others of its priority
 abbrev pub place_newest : Roster → ℕ → Roster
@@ -93,3 +137,7 @@ set_core roster p core = with_record roster p (record (record_at roster p) { cor
 -- the process's next step is this one, counted from 0
 abbrev pub set_step : Roster → ℕ → ℕ → Roster
 set_step roster p step = with_record roster p (record (record_at roster p) { step = step })
+
+-- who suspended itself waits for nothing else
+abbrev pub WaitsForOne : Roster → Type 0
+WaitsForOne roster = (p : ℕ) → is_by_itself (record_at roster p).suspended ≡ true → (record_at roster p).wait ≡ None

@@ -1,13 +1,19 @@
 -- A partition table as every contract sees it, and what holds of each accepted one.
-use Rattle.std.specs.Prelude.{ℕ, ◌<◌, ◌≤◌, Bool, false, List, [], length, slice_index_or, map, IsTrue}
+use Rattle.std.specs.Prelude.{◌≡◌, ℕ, ◌<◌, ◌≤◌, Bool, true, false, List, [], length, slice_index_or, map, IsTrue}
 use Rattle.std.specs.List.{IsDistinct}
 use Rattle.std.specs.Str.{bytes_eq}
 use Rattle.apex_types.specs.declared.calls.Call.{Call}
 use Rattle.apex_types.specs.declared.calls.Call.TheVariants.{Partition, Process, Time, Semaphore}
 use Rattle.apex_types.specs.declared.calls.ProcessCall.{ProcessCall}
-use Rattle.apex_types.specs.declared.calls.ProcessCall.TheVariants.{CreateProcess, InitializeProcessCoreAffinity, Start, DelayedStart, StopSelf, GetMyId}
+use Rattle.apex_types.specs.declared.calls.ProcessCall.TheVariants.{CreateProcess, InitializeProcessCoreAffinity, SetPriority, Start, DelayedStart, Stop, StopSelf, Suspend, Resume, SuspendSelf, GetMyId, GetMyProcessorCoreId, GetProcessId, GetProcessStatus}
 use Rattle.apex_types.specs.declared.calls.SemaphoreCall.{SemaphoreCall}
-use Rattle.apex_types.specs.declared.calls.SemaphoreCall.TheVariants.{CreateSemaphore, WaitSemaphore, SignalSemaphore, GetSemaphoreStatus}
+use Rattle.apex_types.specs.declared.calls.SemaphoreCall.TheVariants.{CreateSemaphore, WaitSemaphore, SignalSemaphore, GetSemaphoreId, GetSemaphoreStatus}
+use Rattle.apex_types.specs.declared.calls.NamedProcess.{NamedProcess}
+use Rattle.apex_types.specs.declared.calls.NamedProcess.TheVariants as process
+use Rattle.apex_types.specs.declared.calls.NamedSemaphore.{NamedSemaphore}
+use Rattle.apex_types.specs.declared.calls.NamedSemaphore.TheVariants as semaphore
+use Rattle.apex_types.specs.declared.records.Discipline.{Discipline}
+use Rattle.apex_types.specs.declared.records.Discipline.TheVariants.{Fifo}
 use Rattle.apex_types.specs.Name.{is_name}
 
 -- a process as the table gives it
@@ -15,6 +21,7 @@ pub record ProcessEntry : Type 0 where
   pub name : List ℕ
   pub priority : ℕ
   pub core : ℕ
+  pub loops : Bool
   pub start : Bool
   pub script : List Call
 
@@ -23,6 +30,7 @@ pub record SemaphoreEntry : Type 0 where
   pub name : List ℕ
   pub maximum : ℕ
   pub initial : ℕ
+  pub discipline : Discipline
 
 -- a partition table; the limit is how many entries its history may have
 pub record Table : Type 0 where
@@ -34,10 +42,10 @@ pub record Table : Type 0 where
 
 -- an entry that no table has, for a place past the end
 abbrev pub no_process : ProcessEntry
-no_process = record { name = []; priority = 0; core = 0; start = false; script = [] }
+no_process = record { name = []; priority = 0; core = 0; loops = false; start = false; script = [] }
 
 abbrev pub no_semaphore : SemaphoreEntry
-no_semaphore = record { name = []; maximum = 0; initial = 0 }
+no_semaphore = record { name = []; maximum = 0; initial = 0; discipline = Fifo }
 
 -- the entry at a place, counted from 0
 abbrev pub process_entry : Table → ℕ → ProcessEntry
@@ -51,19 +59,37 @@ semaphore_entry table s = slice_index_or table.semaphores s no_semaphore
 abbrev pub call_at : List Call → ℕ → Call
 call_at steps k = slice_index_or steps k (Process StopSelf)
 
+-- a name that is an entry's is one of so many
+abbrev pub IsKnownProcess : ℕ → NamedProcess → Type 0
+IsKnownProcess many (process.Known p) = p < many
+IsKnownProcess many (process.Unknown name) = Unit {0}
+
+abbrev pub IsKnownSemaphore : ℕ → NamedSemaphore → Type 0
+IsKnownSemaphore many (semaphore.Known s) = s < many
+IsKnownSemaphore many (semaphore.Unknown name) = Unit {0}
+
 -- every id that the call names is an entry's
 abbrev pub IsKnownToProcesses : ℕ → ProcessCall → Type 0
-IsKnownToProcesses many (CreateProcess p) = p < many
+IsKnownToProcesses many (CreateProcess named) = IsKnownProcess many named
 IsKnownToProcesses many (InitializeProcessCoreAffinity p core) = p < many
+IsKnownToProcesses many (SetPriority p priority) = p < many
 IsKnownToProcesses many (Start p) = p < many
 IsKnownToProcesses many (DelayedStart p delay) = p < many
+IsKnownToProcesses many (Stop p) = p < many
 IsKnownToProcesses many StopSelf = Unit {0}
+IsKnownToProcesses many (Suspend p) = p < many
+IsKnownToProcesses many (Resume p) = p < many
+IsKnownToProcesses many (SuspendSelf timeout) = Unit {0}
 IsKnownToProcesses many GetMyId = Unit {0}
+IsKnownToProcesses many GetMyProcessorCoreId = Unit {0}
+IsKnownToProcesses many (GetProcessId named) = IsKnownProcess many named
+IsKnownToProcesses many (GetProcessStatus p) = p < many
 
 abbrev pub IsKnownToSemaphores : ℕ → SemaphoreCall → Type 0
-IsKnownToSemaphores many (CreateSemaphore s) = s < many
+IsKnownToSemaphores many (CreateSemaphore named) = IsKnownSemaphore many named
 IsKnownToSemaphores many (WaitSemaphore s timeout) = s < many
 IsKnownToSemaphores many (SignalSemaphore s) = s < many
+IsKnownToSemaphores many (GetSemaphoreId named) = IsKnownSemaphore many named
 IsKnownToSemaphores many (GetSemaphoreStatus s) = s < many
 
 abbrev pub IsKnown : Table → Call → Type 0
@@ -78,6 +104,7 @@ pub record IsLawfulProcess (table : Table) (entry : ProcessEntry) : Type 0 where
   pub priority : (1 ≤ entry.priority) × (entry.priority ≤ 239)
   pub core : entry.core < table.cores
   pub steps : length entry.script ≤ 64
+  pub looping : entry.loops ≡ true → 1 ≤ length entry.script
   pub known : (k : ℕ) → k < length entry.script → IsKnown table (call_at entry.script k)
 
 -- what holds of a semaphore of an accepted table

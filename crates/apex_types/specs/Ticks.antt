@@ -27,7 +27,8 @@ woken roster p code = record { roster = unblock roster p; notices = Woken p code
 abbrev pub released : Roster → ℕ → Changed
 released roster p = record { roster = release roster p; notices = Released p ∷ [] }
 
--- the wait of process p ends at its due, by what it waited for
+-- the wait of process p ends at its due, by what it waited for; a process that waits for nothing and has
+-- a due suspended itself
 abbrev pub wait_over : Roster → ℕ → Option Wait → Changed
 wait_over roster p (Some Time) = woken roster p NoError
 wait_over roster p (Some Start) = released roster p

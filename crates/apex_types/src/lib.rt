@@ -13,10 +13,11 @@ mod numbers;
 mod records;
 
 pub use calls::{
-    Call, PartitionCall, ProcessCall, RequestedMode, SemaphoreCall, TimeCall, Timeout,
+    Call, NamedProcess, NamedSemaphore, PartitionCall, ProcessCall, RequestedMode, SemaphoreCall,
+    TimeCall, Timeout,
 };
 pub use entries::{Caller, Entry, Event, Full, Notice, Notices, Reply, ReturnCode, Who};
 pub use identifiers::{CoreId, ProcessId, SemaphoreId};
 pub use names::Name;
 pub use numbers::{number, number_at_most};
-pub use records::{Mode, Record, State, Wait};
+pub use records::{Discipline, Mode, Record, State, Suspender, Wait};

@@ -1,25 +1,52 @@
-ghost use Rattle.std.specs.Prelude.{◌≡◌, true, false, IsNone, IfSome};
+ghost use Rattle.std.specs.Prelude.{◌≡◌, ◌≤◌, true, false, IsNone, IfSome, length};
 ghost use Rattle.std.specs.List.{list_all};
-ghost use Rattle.apex_types.specs.Name.{is_visible, is_name};
+ghost use Rattle.std.specs.Str.{bytes_eq};
+ghost use Rattle.std.specs.Cmp.{partial_equiv_from_equiv};
+ghost use Rattle.std.specs.Cmp.Lexicographic.{nat_list_eq_equiv};
+ghost use Rattle.apex_types.specs.Name.{is_visible, is_name, padded};
 
-use arrayvec::ArrayVec;
 use std::marker::Model;
 
 /// The name of a process or of an object: 1 to 30 bytes from 0x21 to 0x7E, compared byte by byte.
-#[derive(Debug, Drop)]
+#[derive(Clone, Copy, Debug)]
 pub struct Name {
-    bytes: ArrayVec<u8, 30>,
+    /// The name's bytes, and zeros behind them: so a name has one form alone.
+    bytes: [u8; 30],
+    /// How many of the bytes are the name's.
+    used: u8,
 }
 
 impl Model for Name {
-    ghost use Rattle.std.specs.Prelude.{ℕ, List, IsTrue};
-    ghost use Rattle.apex_types.specs.Name.{is_name};
+    ghost use Rattle.std.specs.Prelude.{ℕ, List, take, length};
+    ghost use Rattle.apex_types.specs.Name.{padded, IsNameIn};
+    ghost use Rattle.std.proofs.Common.{sym, length-take-le};
 
     ghost Value = { List ℕ };
 
-    ghost view = { λ a. a.bytes.items };
+    ghost view = { λ n. take n.used n.bytes };
 
-    ghost invariant = { λ a. IsTrue (is_name a.bytes.items) };
+    ghost invariant = { λ n. IsNameIn n.used n.bytes };
+
+    ghost inverse = { λ name. record { bytes = padded name; used = length name } };
+
+    ghost inverse_ok = { λ n h i. record {
+      bytes = sym h.zeros i;
+      used = length-take-le n.used n.bytes h.within i;
+    } };
+}
+
+impl PartialEq for Name {
+    ghost eq = { bytes_eq };
+
+    ghost laws = { partial_equiv_from_equiv nat_list_eq_equiv };
+
+    fn eq(&self, other: &Name) -> bool {
+        self.as_bytes() == other.as_bytes()
+    }
+}
+
+impl Eq for Name {
+    ghost laws = { nat_list_eq_equiv };
 }
 
 fn is_visible(byte: u8) -> bool
@@ -40,6 +67,15 @@ fn is_name(text: &[u8]) -> bool
     1 <= text.len() && text.len() <= 30 && all_visible(text)
 }
 
+fn padded(name: &[u8]) -> [u8; 30]
+    requires { length name.now ≤ 30 }
+    ensures { result ≡ padded name.now }
+{
+    let mut bytes = [0; 30];
+    bytes[..name.len()].copy_from_slice(name);
+    bytes
+}
+
 impl Name {
     /// The name of these bytes, or none where they are no name. Takes no memory.
     pub fn from_bytes(text: &[u8]) -> Option<Name>
@@ -49,11 +85,10 @@ impl Name {
         if !is_name(text) {
             return None;
         }
-        let mut bytes = ArrayVec::new();
-        match bytes.try_extend_from_slice(text) {
-            Ok(()) => Some(Name { bytes }),
-            Err(_) => None,
-        }
+        Some(Name {
+            bytes: padded(text),
+            used: text.len() as u8,
+        })
     }
 
     /// The name's bytes.
@@ -61,6 +96,6 @@ impl Name {
         ensures value { result.now ≡ self.now }
         ensures name { is_name result.now ≡ true }
     {
-        self.bytes.as_slice()
+        &self.bytes[..usize::from(self.used)]
     }
 }

@@ -29,6 +29,22 @@ pub enum Wait {
     Semaphore(SemaphoreId),
 }
 
+/// Who suspended a process.
+#[derive(Clone, Copy, Debug, PartialEq, Eq)]
+pub enum Suspender {
+    Itself,
+    Other,
+}
+
+/// Who comes first in a semaphore's queue (ARINC 653 Part 1, semaphores).
+#[derive(Clone, Copy, Debug, PartialEq, Eq)]
+pub enum Discipline {
+    /// Who waits longest.
+    Fifo,
+    /// The most urgent, and among equals who waits longest.
+    Priority,
+}
+
 /// What the partition keeps of a process.
 #[derive(Clone, Copy, Debug)]
 pub struct Record {
@@ -38,13 +54,15 @@ pub struct Record {
     /// The base priority, 1 to 239; a greater one is more urgent.
     pub base: u8,
     pub started: bool,
+    pub suspended: Option<Suspender>,
     pub wait: Option<Wait>,
     /// The stamp of its last coming into a ready or a wait queue: the smaller, the longer it is there.
     pub since: i64,
-    /// The instant in ticks at which its wait ends by itself, if it does.
+    /// The instant in ticks at which its wait, or its suspension of itself, ends if it does so of its
+    /// own.
     pub due: Option<u64>,
     /// The delay in ticks of its last start, which begins to run with the entry into NORMAL.
     pub delay: u32,
-    /// How many steps of its script it has asked for since its start.
+    /// The place of its next step in its script, counted from 0.
     pub step: u8,
 }

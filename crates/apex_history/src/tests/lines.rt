@@ -6,8 +6,9 @@ use super::{idle, paper};
 use crate::{Counted, Log, Page, print_entry, print_history};
 use apex_table::{Table, read_table};
 use apex_types::{
-    Call, Caller, CoreId, Entry, Notice, Notices, PartitionCall, ProcessCall, ProcessId, Reply,
-    RequestedMode, ReturnCode, SemaphoreCall, SemaphoreId, Timeout, Who,
+    Call, Caller, CoreId, Entry, NamedProcess, NamedSemaphore, Notice, Notices, PartitionCall,
+    ProcessCall, ProcessId, Reply, RequestedMode, ReturnCode, SemaphoreCall, SemaphoreId, Timeout,
+    Who,
 };
 use std::test::Fail;
 
@@ -93,12 +94,17 @@ fn add_init(log: &mut Log, table: &Table)
     ensures after { All (IsPrintable table.now) log.new.entries }
 {
     let (first, second) = (ProcessId::at(0), ProcessId::at(1));
-    let create = Call::Semaphore(SemaphoreCall::CreateSemaphore(SemaphoreId::at(0)));
+    let create = Call::Semaphore(SemaphoreCall::CreateSemaphore(NamedSemaphore::Known(
+        SemaphoreId::at(0),
+    )));
     add(log, table, of_init(1, create));
     add(
         log,
         table,
-        of_init(2, of_process(ProcessCall::CreateProcess(first))),
+        of_init(
+            2,
+            of_process(ProcessCall::CreateProcess(NamedProcess::Known(first))),
+        ),
     );
     add(
         log,
@@ -111,7 +117,10 @@ fn add_init(log: &mut Log, table: &Table)
     add(
         log,
         table,
-        of_init(4, of_process(ProcessCall::CreateProcess(second))),
+        of_init(
+            4,
+            of_process(ProcessCall::CreateProcess(NamedProcess::Known(second))),
+        ),
     );
     add(
         log,

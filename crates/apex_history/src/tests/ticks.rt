@@ -1,11 +1,11 @@
-ghost use Rattle.std.specs.Prelude.{◌≡◌, [], None, Some};
+ghost use Rattle.std.specs.Prelude.{◌≡◌, [], None};
 
-use super::paper;
+use super::{called, paper};
 use crate::{Counted, print_entry};
 use apex_table::read_table;
 use apex_types::{
-    Call, Caller, CoreId, Entry, Notice, Notices, ProcessCall, ProcessId, Reply, ReturnCode,
-    SemaphoreCall, SemaphoreId, TimeCall, Timeout, Who,
+    Call, Caller, Entry, Notice, Notices, ProcessCall, ProcessId, Reply, ReturnCode, SemaphoreCall,
+    SemaphoreId, TimeCall, Timeout, Who,
 };
 use std::test::Fail;
 
@@ -48,21 +48,6 @@ const WIDEST: &str = "\
 65536 68719476736 ticker - tick 1048576 -> ADVANCED 1048576
 65536 68719476736 core0 2 GET_TIME -> VALUE 68719476736
 ";
-
-// The entry of a call of this process at core 0.
-fn called(number: u32, now: u64, process: ProcessId, call: Call, reply: Reply) -> Entry
-    ensures { result.call ≡ Some call }
-{
-    Entry {
-        number,
-        now,
-        who: Who::Core(CoreId::new(0)),
-        process: Caller::Process(process),
-        call: Some(call),
-        reply,
-        notices: Notices::new(),
-    }
-}
 
 // The entry of a tick with no notice.
 fn ticked(number: u32, now: u64, asked: u32, went: u32) -> Entry

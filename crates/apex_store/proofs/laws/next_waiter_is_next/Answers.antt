@@ -1,6 +1,7 @@
-use Rattle.apex_types.proofs.Orders.{older_strict}
-use Rattle.apex_store.proofs.TheLeast.{the_least, older_on}
+use Rattle.apex_types.specs.Waiters.{discipline_of}
+use Rattle.apex_types.proofs.Orders.{waits_strict}
+use Rattle.apex_store.proofs.TheLeast.{the_least, waits_on}
 use Rattle.apex_store.proofs.laws.next_waiter_is_next.Goals as goal
 
 pub returns : goal.returns
-returns g c = the_least _ _ older_strict _ (older_on (g.S.Store.roster c.args.store.now) c.requires)
+returns g c = the_least _ _ (waits_strict (discipline_of (g.S.Store.roster c.args.store.now) c.args.queue)) _ (waits_on (g.S.Store.roster c.args.store.now) (discipline_of (g.S.Store.roster c.args.store.now) c.args.queue) c.requires)
