@@ -1,5 +1,5 @@
 -- What each service does to who waits, and to the objects that are read off the history.
-use Rattle.std.proofs.Common.{◌≡◌, ◌≢◌, ℕ, ◌<◌, true, false, List, [], ◌∷◌, length, Option, None, Some, nat_lt, ◌&&◌, not, ◌⊎◌, refl, sym, ◌∙◌, ap, arith, inl, inr, set, get_or}
+use Rattle.std.proofs.Common.{◌≡◌, ◌≢◌, ℕ, ◌<◌, Bool, true, false, List, [], ◌∷◌, length, Option, None, Some, nat_lt, ◌&&◌, not, ◌⊎◌, refl, sym, ◌∙◌, ap, arith, inl, inr, set, get_or}
 use Rattle.std.specs.List.{list_any}
 use Rattle.std.proofs.lemmas.List.{get_or-set_other, get_or_past, length-set}
 use Rattle.std.proofs.lemmas.Option.{none-some, same_Some}
@@ -150,9 +150,9 @@ pub kept_blocked : (p : ℕ) (call : Call) (wait : Wait) (due : Option ℕ) (ros
     → ((s : ℕ) → is_wait_on s (Some call) ≡ is_same_wait (Semaphore s) wait)
     → WaitsKept (Process p) call roster (block roster p wait due) Blocked []
 kept_blocked p call wait due roster plain asks =
-    let r : Record = record (record_at roster p) { wait = Some wait; due = due; since = roster.young } in
-    kept_waiting p call wait r roster (block roster p wait due) refl
-    (ap (λ a. or_suspended a (is_by_itself (record_at roster p).suspended)) plain) asks
+    let suspended : Option Suspender = suspension_awake (record_at roster p).suspended in
+    let r : Record = record (record_at roster p) { suspended = suspended; wait = Some wait; due = due; since = roster.young } in
+    kept_waiting p call wait r roster (block roster p wait due) refl (ap (λ a. or_suspended a (is_by_itself suspended)) plain) asks
 
 -- a change of the record of process p, which then waits for nothing that it asked for
 pub freed_readied : (roster : Roster) (p : ℕ) (r : Record) → awaited r ≡ None

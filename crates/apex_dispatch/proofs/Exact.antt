@@ -1,5 +1,5 @@
 -- The objects that a service leaves are those that the history then gives.
-use Rattle.std.proofs.Common.{◌≡◌, ℕ, ◌+◌, ◌<◌, Bool, true, false, cond, not, ◌==◌, List, [], ◌∷◌, ◌++◌, length, None, Some, nat_lt, nat_le, is_some, is_none, Option, if◌then◌else◌, refl, sym, ◌∙◌, arith, set, get_or, inl, inr, ap}
+use Rattle.std.proofs.Common.{◌≡◌, ℕ, ◌+◌, ◌<◌, Bool, true, false, cond, not, ◌&&◌, ◌==◌, List, [], ◌∷◌, ◌++◌, length, None, Some, nat_lt, nat_le, is_some, is_none, Option, if◌then◌else◌, refl, sym, ◌∙◌, arith, set, get_or, inl, inr, ap}
 use Rattle.std.proofs.lemmas.Option.{none-some, same_Some}
 use Rattle.std.proofs.lemmas.Bool.{eq-eqb, cases_eq, both_ways}
 use Rattle.apex_types.specs.declared.Call.{Call}

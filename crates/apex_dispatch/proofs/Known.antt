@@ -1,5 +1,5 @@
 -- What the steps of an accepted table name is there.
-use Rattle.std.proofs.Common.{◌≡◌, ℕ, ◌<◌, List, length, slice_get, Some, subst}
+use Rattle.std.proofs.Common.{◌≡◌, ℕ, ◌<◌, Bool, true, false, List, length, slice_get, Option, Some, None, cond, subst}
 use Rattle.std.proofs.lemmas.Option.{slice_get_within, get_or_from_slice_get}
 use Rattle.apex_types.specs.declared.Call.{Call}
 use Rattle.apex_types.specs.declared.Call.TheVariants.{Partition, Process, Time, Semaphore}
@@ -29,3 +29,9 @@ known_step table steps k call all e =
 pub known_script_step : (table : Table) (p k : ℕ) (call : Call) → IsLawful table → p < length table.processes
     → slice_get (process_entry table p).script k ≡ Some call → IsKnown table call
 known_script_step table p k call lawful h e = known_step table _ k call (lawful.processes p h).known e
+
+-- the init step that is due
+pub known_due : (table : Table) (k : ℕ) → IsLawful table → (due : Bool) (call : Call)
+    → cond {A = Option Call} due (slice_get table.init k) None ≡ Some call → IsKnown table call
+known_due table k lawful true call e = known_step table table.init k call lawful.init e
+known_due table k lawful false call e = cc

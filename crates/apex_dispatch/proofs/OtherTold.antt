@@ -1,12 +1,12 @@
 -- The services of processes and of the partition leave the semaphores alone: whom they wake had waited
 -- for time.
-use Rattle.std.proofs.Common.{◌≡◌, ◌≢◌, ℕ, zero, suc, ◌+◌, ◌==◌, set, Bool, true, false, cond, ◌&&◌, ◌||◌, not, List, [], ◌∷◌, map, get_or, length, Option, None, Some, is_some, is_none, nat_lt, nat_le, if◌then◌else◌, refl, ap, sym, ◌∙◌}
+use Rattle.std.proofs.Common.{◌≡◌, ℕ, zero, suc, ◌+◌, ◌==◌, set, Bool, true, false, cond, ◌&&◌, ◌||◌, not, List, [], ◌∷◌, map, get_or, length, Option, None, Some, is_some, is_none, nat_lt, nat_le, if◌then◌else◌, refl, ap, sym, ◌∙◌}
 use Rattle.std.specs.List.{list_any}
 use Rattle.std.proofs.lemmas.Option.{none-some}
-use Rattle.std.proofs.lemmas.Bool.{both_ways, cond_both, eqb-true, and_parts}
+use Rattle.std.proofs.lemmas.Bool.{both_ways, eqb-true}
 use Rattle.std.proofs.lemmas.List.Folds.{list_any-append}
 use Rattle.apex_types.specs.declared.Call.{Call}
-use Rattle.apex_types.specs.declared.Call.TheVariants.{Partition, Process as ToProcess}
+use Rattle.apex_types.specs.declared.Call.TheVariants.{Process as ToProcess}
 use Rattle.apex_types.specs.declared.NamedProcess.{NamedProcess}
 use Rattle.apex_types.specs.declared.NamedProcess.TheVariants.{Known, Unknown}
 use Rattle.apex_types.specs.declared.PartitionCall.{PartitionCall}
@@ -22,8 +22,7 @@ use Rattle.apex_types.specs.declared.Notice.TheVariants.{Woken, Released}
 use Rattle.apex_types.specs.declared.Record.{Record}
 use Rattle.apex_types.specs.declared.Reply.{Reply}
 use Rattle.apex_types.specs.declared.Reply.TheVariants.{Code, Value, Status, Gone}
-use Rattle.apex_types.specs.declared.ReturnCode.{ReturnCode}
-use Rattle.apex_types.specs.declared.ReturnCode.TheVariants.{NoError, NoAction, InvalidParam, InvalidConfig, InvalidMode}
+use Rattle.apex_types.specs.declared.ReturnCode.TheVariants.{NoError, NoAction, InvalidParam, InvalidMode}
 use Rattle.apex_types.specs.declared.Suspender.TheVariants.{Other}
 use Rattle.apex_types.specs.declared.Wait.{Wait}
 use Rattle.apex_types.specs.declared.Wait.TheVariants.{Normal, Start, Time, Semaphore}
@@ -119,10 +118,8 @@ enter_spares roster =
 -- in IDLE nobody waits
 stopped_free : (rs : List Record) (p : ℕ) → awaited (get_or (map stamps.stopped rs) p nobody) ≡ None
 stopped_free [] p = refl
-stopped_free (r ∷ rs) p = at_place p where
-  at_place : (p : ℕ) → awaited (get_or (map stamps.stopped (r ∷ rs)) p nobody) ≡ None
-  at_place zero = refl
-  at_place (suc p) = stopped_free rs p
+stopped_free (r ∷ rs) zero = refl
+stopped_free (r ∷ rs) (suc p) = stopped_free rs p
 
 idle_spares : (roster : Roster) → Spares roster (partitions.enter_idle roster) []
 idle_spares roster = record {

@@ -13,7 +13,6 @@ use Rattle.apex_types.specs.declared.Caller.TheVariants.{Process, Init, Nobody}
 use Rattle.apex_types.specs.declared.Entry.{Entry}
 use Rattle.apex_types.specs.declared.Notice.{Notice}
 use Rattle.apex_types.specs.declared.Notice.TheVariants.{Woken}
-use Rattle.apex_types.specs.declared.Record.{Record}
 use Rattle.apex_types.specs.declared.Reply.{Reply}
 use Rattle.apex_types.specs.declared.Reply.TheVariants.{Code, Value, Status, Blocked}
 use Rattle.apex_types.specs.declared.ReturnCode.{ReturnCode}
@@ -21,9 +20,8 @@ use Rattle.apex_types.specs.declared.ReturnCode.TheVariants.{NoError, NoAction, 
 use Rattle.apex_types.specs.declared.Wait.TheVariants.{Semaphore}
 use Rattle.apex_types.specs.declared.Who.{Who}
 use Rattle.apex_types.specs.Dues.{due_after}
-use Rattle.apex_types.specs.Roster.{Roster, record_at, with_record, is_normal}
-use Rattle.apex_types.specs.Running.{is_eligible}
-use Rattle.apex_types.specs.Stamps.{unblock, newest}
+use Rattle.apex_types.specs.Roster.{Roster, record_at, is_normal}
+use Rattle.apex_types.specs.Stamps.{unblock}
 use Rattle.apex_types.specs.Table.{SemaphoreEntry}
 use Rattle.apex_types.specs.Waiters.{first_waiter, waiter_count}
 use Rattle.apex_types.specs.History.{is_no_error, satisfied_waits, semaphore_after, semaphore_value, SemaphoreObject}

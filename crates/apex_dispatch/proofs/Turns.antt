@@ -9,6 +9,7 @@ use Rattle.apex_types.specs.declared.Caller.{Caller}
 use Rattle.apex_types.specs.declared.Caller.TheVariants.{Process, Init, Nobody}
 use Rattle.apex_types.specs.declared.Entry.{Entry}
 use Rattle.apex_types.specs.declared.Notice.{Notice}
+use Rattle.apex_types.specs.declared.Record.{Record}
 use Rattle.apex_types.specs.declared.Reply.{Reply}
 use Rattle.apex_types.specs.declared.Suspender.{Suspender}
 use Rattle.apex_types.specs.declared.Wait.{Wait}

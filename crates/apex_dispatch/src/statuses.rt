@@ -52,11 +52,7 @@ pub(crate) fn get_process_id(created: &[bool], named: &NamedProcess) -> Reply
 
 /// GET_PROCESS_STATUS: the state's number and the current priority. INVALID_PARAM where the process
 /// isn't created.
-pub(crate) fn get_process_status<S: Store>(
-    store: &S,
-    created: &[bool],
-    process: ProcessId,
-) -> Reply
+pub(crate) fn get_process_status<S: Store>(store: &S, created: &[bool], process: ProcessId) -> Reply
     requires process { process < length created.now }
     requires known { process < length (S.roster store.now).records }
     ensures roster { (services.get_process_status (S.roster store.now) created.now process).roster ≡ S.roster store.now }

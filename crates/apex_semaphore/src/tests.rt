@@ -2,8 +2,8 @@ ghost use Rattle.std.specs.Prelude.{◌≡◌, pos, length, true, IfOk};
 ghost use Rattle.apex_types.specs.Roster.{is_cold_start};
 
 use crate::{
-    Semaphore, create_semaphore, get_semaphore_id, get_semaphore_status, serve_semaphore, signal_semaphore,
-    wait_semaphore,
+    Semaphore, create_semaphore, get_semaphore_id, get_semaphore_status, serve_semaphore,
+    signal_semaphore, wait_semaphore,
 };
 use apex_store::{PlainStore, Store};
 use apex_table::read_table;

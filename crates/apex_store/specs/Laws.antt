@@ -8,7 +8,7 @@ use Rattle.apex_types.specs.Roster.{Roster, record_at}
 use Rattle.apex_types.specs.Choice.{IsLeast}
 use Rattle.apex_types.specs.Distinct.{IsStamped}
 use Rattle.apex_types.specs.Dues.{first_due, next_instant}
-use Rattle.apex_types.specs.Running.{chosen, current_priority, is_before, is_eligible, is_older, process_state, runs_on}
+use Rattle.apex_types.specs.Running.{chosen, current_priority, is_before, is_eligible, process_state, runs_on}
 use Rattle.apex_types.specs.Stamps as stamps
 use Rattle.apex_types.specs.Waiters.{discipline_of, first_waiter, next_waiter, waits_before, waits_behind, waits_in}
 

@@ -1,9 +1,11 @@
-use Rattle.std.proofs.Common.{◌≡◌, ◌+◌, is_some, if◌then◌else◌, rules, refl, ◌∙◌, arith}
+use Rattle.std.proofs.Common.{◌≡◌, ◌+◌, ◌&&◌, ◌==◌, is_some, if◌then◌else◌, rules, refl, sym, ◌∙◌, arith}
 use Rattle.apex_types.specs.History.{process_after, semaphore_after}
 use Rattle.apex_types.specs.declared.Who.TheVariants.{Core}
 use Rattle.apex_types.specs.Machine.{Machine, due_init_call, turn_deed, after_deed}
 use Rattle.apex_types.proofs.Places.{length-map_places}
 use Rattle.apex_dispatch.specs.Kernel.{Running}
+use Rattle.apex_types.specs.Roster.{is_cold_start}
+use Rattle.apex_dispatch.proofs.Known.{known_due}
 use Rattle.apex_dispatch.proofs.Kept.{kept_by, turn_is}
 use Rattle.apex_dispatch.proofs.kernels.Kernel.turn.Goals as goal
 
@@ -14,6 +16,11 @@ carry_out-deed-requires-clause-processes g c =
 pub carry_out-deed-requires-clause-semaphores : goal.carry_out-deed-requires-clause-semaphores
 carry_out-deed-requires-clause-semaphores g c =
     rw c.self.invariant.sound.objects (length-map_places (semaphore_after c.self.inside.log.entries) 0 c.self.inside.table.semaphores)
+
+pub carry_out-deed-requires-clause-due : goal.carry_out-deed-requires-clause-due
+carry_out-deed-requires-clause-due g c call e =
+    let due = is_cold_start (g.S.Store.roster c.self.inside.store).mode && c.args.core == 0 in
+    known_due c.self.inside.table c.self.inside.init_made c.self.invariant.sound.lawful due call (sym c.due_call-due.ensures ∙ e)
 
 pub carry_out-deed-requires-clause-time : goal.carry_out-deed-requires-clause-time
 carry_out-deed-requires-clause-time g c =
