@@ -11,4 +11,5 @@ pub mod Exact
 pub mod Turns
 pub mod TickTold
 pub mod Kept
+pub mod States
 pub mod Runs

@@ -2,5 +2,6 @@ pub mod Callers
 pub mod OpenWaits
 pub mod Kernel
 pub mod Events
+pub mod States
 pub mod Laws
 pub mod Worked

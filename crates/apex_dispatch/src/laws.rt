@@ -2,6 +2,7 @@
 
 ghost use Rattle.apex_store.specs.Laws.{RunsMostUrgent, FirstWaiterIsFirst};
 ghost use Rattle.apex_dispatch.specs.Laws.{ValuesStayInRange, RunsCompose, RunsStayWithin, TimeGoesForward};
+ghost use Rattle.apex_dispatch.specs.States.{EachHasOneState};
 ghost use Rattle.apex_dispatch.specs.Worked.{SignalWakesWaiter, SignalBeforeWait, EmptyScriptStopsItself, TimedOutWaiterGetsNoSignal, TickHaltsAtTheNextInstant, DelayedStartReleasesAtItsTime};
 
 use crate::kernels::Kernel;
@@ -25,6 +26,14 @@ pub fn first_waiter_is_first<S: Store>(kernel: &Kernel<S>, queue: Wait)
 {
     kernel.holds();
     apex_store::first_waiter_is_first(kernel.store(), queue);
+}
+
+/// In every run each process is in exactly one of the four states, and those that run are exactly the
+/// chosen ones (ARINC 653 Part 1, process management).
+pub fn each_has_one_state(table: &Table)
+    ensures { EachHasOneState table.now }
+{
+    let _table = table;
 }
 
 /// In every run on an accepted table each semaphore's value stays from 0 to its maximum.
