@@ -39,7 +39,6 @@ use Rattle.apex_types.specs.PartitionServices as partitions
 use Rattle.apex_types.specs.Ticks as ticks
 use Rattle.apex_types.proofs.Choice.{place_passes}
 use Rattle.apex_types.proofs.InTurn.{holds_in_turn}
-use Rattle.apex_types.proofs.Rosters.{started, self_suspended, unsuspended}
 use Rattle.apex_dispatch.specs.OpenWaits.{asked_of, or_suspended, awaited}
 use Rattle.apex_dispatch.proofs.Effects.{AreQuiet, WaitsKept, IsIdle, Frees, frees_none, frees_then, frees_changed, frees_moved, frees_unblock, freed_unblock, frees_lessened, awake_free, kept_freed, kept_woken, kept_waiting}
 
@@ -170,7 +169,7 @@ module _ (roster : Roster) (created : List Bool) where
 
   after_spares : (p delay : ℕ) → SparesAll (processes.started_after roster created p delay)
   after_spares p delay = record {
-    frees = frees_changed roster (stamps.start roster p delay) p (record (started roster p delay) { since = roster.young }) refl
+    frees = frees_changed roster (stamps.start roster p delay) p (record (stamps.started roster p delay) { since = roster.young }) refl
         (start_free (is_normal roster.mode) (delay == 0));
     quiet = start_quiet (is_normal roster.mode && delay == 0) p;
   }
@@ -242,7 +241,7 @@ module _ (roster : Roster) (created : List Bool) where
 resume_keeps : (caller : Caller) (roster : Roster) → IsIdle caller roster → stamps.WaitsForOne roster → (p : ℕ) (by_itself : Bool)
     → stamps.is_by_itself (record_at roster p).suspended ≡ by_itself
     → Keeps caller (ToProcess (Resume p)) roster
-    (cond by_itself (stamps.unblock roster p) (stamps.readied roster p (unsuspended roster p))) (Code NoError)
+    (cond by_itself (stamps.unblock roster p) (stamps.readied roster p (stamps.unsuspended roster p))) (Code NoError)
     (cond by_itself (Woken p NoError ∷ []) [])
 resume_keeps caller roster idle one p true is = record {
   waits = kept_woken caller (ToProcess (Resume p)) roster idle (Code NoError) p (stamps.unblock roster p) (freed_unblock roster p);
@@ -255,8 +254,8 @@ resume_keeps caller roster idle one p true is = record {
   only true h = refl
   only false h = h
 resume_keeps caller roster idle one p false is =
-    keeps_spared caller (ToProcess (Resume p)) roster (stamps.readied roster p (unsuspended roster p)) (Code NoError) [] idle
-    (record { frees = frees_lessened roster p (unsuspended roster p) (λ w h. rw is h); quiet = λ q. refl })
+    keeps_spared caller (ToProcess (Resume p)) roster (stamps.readied roster p (stamps.unsuspended roster p)) (Code NoError) [] idle
+    (record { frees = frees_lessened roster p (stamps.unsuspended roster p) (λ w h. rw is h); quiet = λ q. refl })
 
 -- any service of process management
 module _ (cores : ℕ) (roster : Roster) (created : List Bool) (one : stamps.WaitsForOne roster) where
@@ -284,7 +283,7 @@ module _ (cores : ℕ) (roster : Roster) (created : List Bool) (one : stamps.Wai
   keeps_suspended : (p : ℕ) (timeout : Timeout) → IsIdle (Process p) roster
       → KeepsAll (Process p) (SuspendSelf timeout) (processes.suspended_for roster created p timeout)
   keeps_suspended p timeout idle = record {
-    waits = kept_waiting p (ToProcess (SuspendSelf timeout)) Time (record (self_suspended roster p (due_after roster timeout)) { since = roster.young })
+    waits = kept_waiting p (ToProcess (SuspendSelf timeout)) Time (record (stamps.self_suspended roster p (due_after roster timeout)) { since = roster.young })
         roster (stamps.suspend_self roster p (due_after roster timeout)) refl refl (λ s. refl);
     closed = λ q woken. absurd (both_ways false refl woken);
   }

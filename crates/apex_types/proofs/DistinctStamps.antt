@@ -9,12 +9,12 @@ use Rattle.apex_types.specs.declared.records.Wait.{Wait}
 use Rattle.apex_types.specs.Roster.{Roster, record_at, with_record, nobody, opening_record, opening_roster}
 use Rattle.apex_types.specs.Table.{Table, no_process}
 use Rattle.apex_types.specs.Running.{is_eligible}
-use Rattle.apex_types.specs.Stamps.{newest, readied, start, stop, suspend, suspend_self, is_by_itself, resume, set_base, awake, block, unblock, release, place_newest, advance_to, without_due, without_due_of, take_due, set_mode, set_core, set_step}
+use Rattle.apex_types.specs.Stamps.{newest, readied, started, start, stop, suspend, self_suspended, suspend_self, is_by_itself, unsuspended, resume, set_base, awake, waiting, block, unblock, release, place_newest, advance_to, without_due, without_due_of, take_due, set_mode, set_core, set_step}
 use Rattle.apex_types.specs.Distinct.{IsStamped}
 use Rattle.apex_types.specs.Dues.{is_due_at, by_number, first_due}
 use Rattle.apex_types.proofs.Choice.{place_within}
 use Rattle.apex_types.proofs.Places.{length-map_places, get_or-map_places}
-use Rattle.apex_types.proofs.Rosters.{changes_record, changes_newest, at_record, at_newest, started, self_suspended, unsuspended, waiting}
+use Rattle.apex_types.proofs.Rosters.{changes_record, changes_newest, at_record, at_newest}
 
 module _ (roster : Roster) (p : ℕ) (known : p < length roster.records) (stamped : IsStamped roster) where
   -- a change that gives no stamp

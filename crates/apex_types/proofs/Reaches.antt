@@ -14,10 +14,10 @@ use Rattle.apex_types.specs.Roster.{Roster, nobody, record_at, with_record, is_n
 use Rattle.apex_types.specs.Running.{is_eligible}
 use Rattle.apex_types.specs.Dues.{HasNoPastDue}
 use Rattle.apex_types.specs.Distinct.{IsStamped}
-use Rattle.apex_types.specs.Stamps.{WaitsForOne, suspension_awake, newest, readied, start, stop, stopped, is_by_itself, suspend, suspend_self, resume, set_base, awake, block, unblock, release, place_newest, without_due, set_mode, set_core, set_step}
+use Rattle.apex_types.specs.Stamps.{WaitsForOne, suspension_awake, newest, readied, started, start, stop, stopped, is_by_itself, suspend, self_suspended, suspend_self, unsuspended, resume, set_base, awake, waiting, block, unblock, release, place_newest, without_due, set_mode, set_core, set_step}
 use Rattle.apex_types.specs.PartitionServices.{enter_idle}
 use Rattle.apex_types.specs.InTurn.{Changed, next_and, in_turn}
-use Rattle.apex_types.proofs.Rosters.{changes_record, changes_newest, at_record, started, self_suspended, unsuspended, waiting}
+use Rattle.apex_types.proofs.Rosters.{changes_record, changes_newest, at_record}
 use Rattle.apex_types.proofs.DistinctStamps.{stamped_record, stamped_newest, stamped_set_mode}
 
 -- as many records, the same time, at most so many stamps given; and stamps that differ, dues that are

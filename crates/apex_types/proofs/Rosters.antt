@@ -4,11 +4,11 @@ use Rattle.std.proofs.lemmas.Bool.{cond_both}
 use Rattle.std.proofs.lemmas.Int.{ints}
 use Rattle.std.proofs.lemmas.List.{get_or-set_other, get_or-set_same, length-set}
 use Rattle.apex_types.specs.declared.records.Record.{Record}
-use Rattle.apex_types.specs.declared.records.Suspender.TheVariants.{Itself, Other}
+use Rattle.apex_types.specs.declared.records.Suspender.TheVariants.{Other}
 use Rattle.apex_types.specs.declared.records.Wait.{Wait}
 use Rattle.apex_types.specs.Roster.{Roster, nobody, record_at, with_record}
 use Rattle.apex_types.specs.Running.{is_eligible}
-use Rattle.apex_types.specs.Stamps.{newest, readied, start_wait, start_due, start, stopped, stop, is_by_itself, suspend, suspend_self, resume, set_base, suspension_awake, awake, block, unblock, release, place_newest, without_due, set_core, set_step}
+use Rattle.apex_types.specs.Stamps.{newest, readied, started, start, stopped, stop, is_by_itself, suspend, self_suspended, suspend_self, unsuspended, resume, set_base, awake, waiting, block, unblock, release, place_newest, without_due, set_core, set_step}
 
 -- process p may have another record, and the next stamp may be one greater; all else stays
 pub record ChangesOne (before after : Roster) (p : ℕ) : Type 0 where
@@ -18,32 +18,6 @@ pub record ChangesOne (before after : Roster) (p : ℕ) : Type 0 where
   pub others : (q : ℕ) → q ≢ p → record_at after q ≡ record_at before q
   pub more : before.young ≤ℤ after.young
   pub one_more : after.young ≤ℤ (before.young +ℤ pos 1)
-
--- the record of process p as a start after a delay leaves it, but for the stamp
-abbrev pub started : Roster → ℕ → ℕ → Record
-started roster p delay = record (record_at roster p) {
-  base = (record_at roster p).priority;
-  started = true;
-  suspended = None;
-  step = 0;
-  wait = start_wait roster.mode delay;
-  due = start_due roster delay;
-  delay = delay;
-}
-
--- the record of process p, suspended by itself until this due
-abbrev pub self_suspended : Roster → ℕ → Option ℕ → Record
-self_suspended roster p due = record (record_at roster p) { suspended = Some Itself; wait = None; due = due }
-
--- the record of process p, suspended no more
-abbrev pub unsuspended : Roster → ℕ → Record
-unsuspended roster p = record (record_at roster p) { suspended = None }
-
--- the record of process p with this wait and due
-abbrev pub waiting : Roster → ℕ → Wait → Option ℕ → Record
-waiting roster p wait due =
-    let r = record_at roster p in
-    record r { suspended = suspension_awake r.suspended; wait = Some wait; due = due }
 
 -- the record r with the stamp that it gets where it is eligible
 abbrev pub stamped_if_ready : Roster → Record → Record

@@ -33,12 +33,12 @@ start_wait mode delay = if not (is_normal mode) then Some Normal else if delay =
 abbrev pub start_due : Roster → ℕ → Option ℕ
 start_due roster delay = if is_normal roster.mode && not (delay == 0) then Some (roster.now + delay) else None
 
--- START, after a delay: back to the base priority and the first step; in NORMAL released at once where
--- there is no delay
-abbrev pub start : Roster → ℕ → ℕ → Roster
-start roster p delay =
+-- the record of process p when it starts after a delay: back at the table's priority and at the first
+-- step
+abbrev pub started : Roster → ℕ → ℕ → Record
+started roster p delay =
     let r = record_at roster p in
-    newest roster p (record r {
+    record r {
       base = r.priority;
       started = true;
       suspended = None;
@@ -46,7 +46,11 @@ start roster p delay =
       wait = start_wait roster.mode delay;
       due = start_due roster delay;
       delay = delay;
-    })
+    }
+
+-- START, after a delay; in NORMAL released at once where there is no delay
+abbrev pub start : Roster → ℕ → ℕ → Roster
+start roster p delay = newest roster p (started roster p delay)
 
 -- a stop: not started, not suspended, waits for nothing, at the first step
 abbrev pub stopped : Record → Record
@@ -75,12 +79,16 @@ unblock roster p = readied roster p (awake roster p)
 abbrev pub release : Roster → ℕ → Roster
 release roster p = readied roster p (awake roster p)
 
--- the process begins to wait, until the due where there is one; who suspended itself waits for nothing
--- else
-abbrev pub block : Roster → ℕ → Wait → Option ℕ → Roster
-block roster p wait due =
+-- the record of process p when it waits, until the due where there is one; who suspended itself waits
+-- for nothing else
+abbrev pub waiting : Roster → ℕ → Wait → Option ℕ → Record
+waiting roster p wait due =
     let r = record_at roster p in
-    newest roster p (record r { suspended = suspension_awake r.suspended; wait = Some wait; due = due })
+    record r { suspended = suspension_awake r.suspended; wait = Some wait; due = due }
+
+-- the process begins to wait
+abbrev pub block : Roster → ℕ → Wait → Option ℕ → Roster
+block roster p wait due = newest roster p (waiting roster p wait due)
 
 -- the process suspended itself
 abbrev pub is_by_itself : Option Suspender → Bool
@@ -91,15 +99,22 @@ is_by_itself _ = false
 abbrev pub suspend : Roster → ℕ → Roster
 suspend roster p = with_record roster p (record (record_at roster p) { suspended = Some Other })
 
--- the process suspends itself, until the due where there is one
+-- the record of process p, suspended by itself, until the due where there is one
+abbrev pub self_suspended : Roster → ℕ → Option ℕ → Record
+self_suspended roster p due = record (record_at roster p) { suspended = Some Itself; wait = None; due = due }
+
+-- the process suspends itself
 abbrev pub suspend_self : Roster → ℕ → Option ℕ → Roster
-suspend_self roster p due = newest roster p (record (record_at roster p) { suspended = Some Itself; wait = None; due = due })
+suspend_self roster p due = newest roster p (self_suspended roster p due)
+
+-- the record of process p, suspended no more; its wait goes on
+abbrev pub unsuspended : Roster → ℕ → Record
+unsuspended roster p = record (record_at roster p) { suspended = None }
 
 -- the process is suspended no more: one that suspended itself wakes, another one's wait goes on
 abbrev pub resume : Roster → ℕ → Roster
 resume roster p =
-    let r = record_at roster p in
-    if is_by_itself r.suspended then unblock roster p else readied roster p (record r { suspended = None })
+    if is_by_itself (record_at roster p).suspended then unblock roster p else readied roster p (unsuspended roster p)
 
 -- the process has this base priority
 abbrev pub set_base : Roster → ℕ → ℕ → Roster
