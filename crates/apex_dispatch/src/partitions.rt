@@ -80,7 +80,7 @@ fn set_partition_mode<S: Store>(
             Reply::Gone
         }
         RequestedMode::Normal => {
-            if store.mode() == Mode::Normal {
+            if store.mode().is_normal() {
                 return Reply::Code(ReturnCode::NoAction);
             }
             enter_normal(store, notices);

@@ -1,17 +1,9 @@
 ghost use Rattle.std.specs.Prelude.{◌≡◌, ◌<◌, [], length};
 ghost use Rattle.apex_types.specs.ProcessServices as services;
-ghost use Rattle.apex_types.specs.Running.{is_eligible};
 ghost use Rattle.apex_types.specs.Stamps.{HasStamps};
 
 use apex_store::Store;
-use apex_types::{Mode, ProcessId, Record, Reply, ReturnCode};
-
-/// The mode is NORMAL, and the process is started, not suspended, and waits for nothing.
-fn is_eligible(mode: Mode, row: &Record) -> bool
-    ensures { result ≡ is_eligible mode row.now }
-{
-    mode == Mode::Normal && row.started && row.suspended.is_none() && row.wait.is_none()
-}
+use apex_types::{ProcessId, Reply, ReturnCode};
 
 /// Sets the base priority. A process that is ready or running becomes the newest, and so does a
 /// waiter whose queue goes by priority.
@@ -20,7 +12,7 @@ fn change_priority<S: Store>(store: &mut S, process: ProcessId, priority: u8)
     requires stamps { HasStamps (S.roster store.old) }
     ensures { S.roster store.new ≡ services.with_priority (S.roster store.old) process priority }
 {
-    let eligible = is_eligible(store.mode(), &store.record(process));
+    let eligible = store.record(process).is_eligible(store.mode());
     let ranked = store.is_ranked(process);
     store.set_base(process, priority);
     if eligible || ranked {

@@ -12,7 +12,7 @@ use crate::statuses::{get_process_id, get_process_status};
 use crate::suspensions::{resume_process, stop_process, suspend_process};
 use apex_store::Store;
 use apex_types::{
-    Caller, CoreId, Mode, NamedProcess, Notice, Notices, ProcessCall, ProcessId, Reply, ReturnCode,
+    Caller, CoreId, NamedProcess, Notice, Notices, ProcessCall, ProcessId, Reply, ReturnCode,
     Timeout,
 };
 
@@ -24,7 +24,7 @@ fn create<S: Store>(store: &S, created: &mut [bool], process: ProcessId) -> Repl
     ensures quiet { (services.create_process (S.roster store.now) created.old process).notices ≡ [] }
     ensures roster { (services.create_process (S.roster store.now) created.old process).roster ≡ S.roster store.now }
 {
-    if store.mode() == Mode::Normal {
+    if store.mode().is_normal() {
         return Reply::Code(ReturnCode::InvalidMode);
     }
     if created[process.place()] {
@@ -45,7 +45,7 @@ fn create_named<S: Store>(store: &S, created: &mut [bool], named: &NamedProcess)
     match named {
         NamedProcess::Known(process) => create(store, created, *process),
         NamedProcess::Unknown(_) => {
-            if store.mode() == Mode::Normal {
+            if store.mode().is_normal() {
                 Reply::Code(ReturnCode::InvalidMode)
             } else {
                 Reply::Code(ReturnCode::InvalidConfig)
@@ -70,7 +70,7 @@ fn initialize_core_affinity<S: Store>(
     ensures reply { result ≡ (services.initialize_core_affinity cores (S.roster store.old) created.now process core).reply }
     ensures quiet { (services.initialize_core_affinity cores (S.roster store.old) created.now process core).notices ≡ [] }
 {
-    if store.mode() == Mode::Normal {
+    if store.mode().is_normal() {
         return Reply::Code(ReturnCode::InvalidMode);
     }
     if !created[process.place()] {
@@ -92,7 +92,7 @@ fn start_after<S: Store>(store: &mut S, process: ProcessId, delay: u32, notices:
     ensures roster { S.roster store.new ≡ start (S.roster store.old) process delay }
     ensures notices { notices.new ≡ services.start_notices (S.roster store.old) process delay }
 {
-    if store.mode() == Mode::Normal && delay == 0 {
+    if store.mode().is_normal() && delay == 0 {
         notices.push(Notice::Released(process));
     }
     store.start(process, delay);

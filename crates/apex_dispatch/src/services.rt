@@ -13,16 +13,14 @@ use crate::processes::serve_process;
 use crate::times::serve_time;
 use apex_semaphore::serve_semaphore;
 use apex_store::Store;
-use apex_types::{Call, Caller, Mode, Notices, Reply, ReturnCode, SemaphoreCall};
+use apex_types::{Call, Caller, Notices, Reply, ReturnCode, SemaphoreCall};
 
 /// What a call is answered whose name no semaphore has: CREATE_SEMAPHORE tests the mode first.
 fn no_semaphore_code<S: Store>(store: &S, call: &SemaphoreCall) -> ReturnCode
     ensures { result ≡ no_semaphore_code (S.roster store.now) call.now }
 {
     match call {
-        SemaphoreCall::CreateSemaphore(_) if store.mode() == Mode::Normal => {
-            ReturnCode::InvalidMode
-        }
+        SemaphoreCall::CreateSemaphore(_) if store.mode().is_normal() => { ReturnCode::InvalidMode }
         _ => ReturnCode::InvalidConfig,
     }
 }

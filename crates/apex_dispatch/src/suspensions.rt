@@ -1,9 +1,9 @@
 ghost use Rattle.std.specs.Prelude.{◌≡◌, ◌<◌, [], length};
 ghost use Rattle.apex_types.specs.ProcessServices as services;
-ghost use Rattle.apex_types.specs.Stamps.{HasStamps, is_by_itself};
+ghost use Rattle.apex_types.specs.Stamps.{HasStamps};
 
 use apex_store::Store;
-use apex_types::{Caller, Notice, Notices, ProcessId, Reply, ReturnCode, Suspender};
+use apex_types::{Caller, Notice, Notices, ProcessId, Reply, ReturnCode};
 
 /// The process calls.
 fn is_caller(process: ProcessId, caller: &Caller) -> bool
@@ -69,16 +69,6 @@ pub(crate) fn suspend_process<S: Store>(
     Reply::Code(ReturnCode::NoError)
 }
 
-/// The process suspended itself.
-fn is_by_itself(suspended: Option<Suspender>) -> bool
-    ensures { result ≡ is_by_itself suspended }
-{
-    match suspended {
-        Some(suspender) => suspender == Suspender::Itself,
-        None => false,
-    }
-}
-
 /// RESUME of another process, which is woken where it had suspended itself. INVALID_PARAM where it
 /// is the caller or isn't created, INVALID_MODE where it is dormant, NO_ACTION where it is not
 /// suspended.
@@ -108,7 +98,7 @@ pub(crate) fn resume_process<S: Store>(
     if row.suspended.is_none() {
         return Reply::Code(ReturnCode::NoAction);
     }
-    if is_by_itself(row.suspended) {
+    if row.is_suspended_by_itself() {
         notices.push(Notice::Woken(process, ReturnCode::NoError));
     }
     store.resume(process);

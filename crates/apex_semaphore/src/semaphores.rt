@@ -7,8 +7,8 @@ ghost use Rattle.apex_types.specs.SemaphoreServices as services;
 
 use apex_store::{Store, due_after};
 use apex_types::{
-    Caller, Mode, Notice, Notices, ProcessId, Reply, ReturnCode, SemaphoreCall, SemaphoreId,
-    Timeout, Wait,
+    Caller, Notice, Notices, ProcessId, Reply, ReturnCode, SemaphoreCall, SemaphoreId, Timeout,
+    Wait,
 };
 use std::marker::Model;
 
@@ -50,7 +50,7 @@ pub fn create_semaphore<S: Store>(store: &S, semaphore: &mut Semaphore) -> Reply
     ensures reply { result ≡ (services.create_semaphore (S.roster store.now) semaphore.old).reply }
     ensures notices { (services.create_semaphore (S.roster store.now) semaphore.old).notices ≡ [] }
 {
-    if store.mode() == Mode::Normal {
+    if store.mode().is_normal() {
         return Reply::Code(ReturnCode::InvalidMode);
     }
     if semaphore.created {

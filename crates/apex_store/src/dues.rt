@@ -3,7 +3,6 @@ ghost use Rattle.apex_types.specs.Roster.{Roster};
 ghost use Rattle.apex_types.specs.Dues.{earliest_due, sooner};
 ghost use Rattle.apex_types.specs.Stamps.{start_due, start_wait};
 
-use crate::orders::is_normal;
 use apex_types::{Mode, Record, Wait};
 
 /// The sooner of two instants.
@@ -32,7 +31,7 @@ pub fn earliest_due(records: &[Record]) -> Option<u64>
 pub fn start_wait(mode: Mode, delay: u32) -> Option<Wait>
     ensures { result ≡ start_wait mode delay }
 {
-    if !is_normal(mode) {
+    if !mode.is_normal() {
         Some(Wait::Normal)
     } else if delay == 0 {
         None
@@ -46,7 +45,7 @@ pub fn start_due(mode: Mode, now: u64, delay: u32) -> Option<u64>
     requires { now ≤ 2 ^ 36 }
     ensures { (roster : Roster) → roster.mode ≡ mode → roster.now ≡ now → result ≡ start_due roster delay }
 {
-    if is_normal(mode) && delay != 0 {
+    if mode.is_normal() && delay != 0 {
         Some(now + u64::from(delay))
     } else {
         None

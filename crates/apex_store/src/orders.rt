@@ -1,31 +1,16 @@
 ghost use Rattle.std.specs.Prelude.{◌≡◌};
-ghost use Rattle.apex_types.specs.Roster.{is_normal};
-ghost use Rattle.apex_types.specs.Running.{current_priority, is_before, is_eligible, is_older, runs_on};
+ghost use Rattle.apex_types.specs.Running.{current_priority, is_before, is_older, runs_on};
 ghost use Rattle.apex_types.specs.Dues.{by_number, is_due_at};
 ghost use Rattle.apex_types.specs.Waiters.{is_same_wait, is_wait_for, waits_before, waits_behind, waits_in};
 
 use apex_types::{CoreId, Discipline, Mode, Record, Wait};
-
-/// The mode is NORMAL.
-pub fn is_normal(mode: Mode) -> bool
-    ensures { result ≡ is_normal mode }
-{
-    mode == Mode::Normal
-}
-
-/// The mode is NORMAL, and the process is started, not suspended, and waits for nothing.
-pub fn is_eligible(mode: Mode, row: &Record) -> bool
-    ensures { result ≡ is_eligible mode row.now }
-{
-    is_normal(mode) && row.started && row.suspended.is_none() && row.wait.is_none()
-}
 
 /// The process is eligible and bound to the core.
 #[tactic(auto, unfolding(apex_types::specs::Running::runs_on))]
 pub fn runs_on(mode: Mode, core: CoreId, row: &Record) -> bool
     ensures { result ≡ runs_on mode core row.now }
 {
-    is_eligible(mode, row) && row.core == core
+    row.is_eligible(mode) && row.core == core
 }
 
 fn current_priority(row: &Record) -> u8

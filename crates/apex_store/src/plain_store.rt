@@ -6,7 +6,7 @@ ghost use Rattle.apex_types.specs.Waiters.{discipline_of};
 
 use crate::dues::{earliest_due, start_due, start_wait};
 use crate::opening::{disciplines_of, opening_records};
-use crate::orders::{is_eligible, waits_in};
+use crate::orders::waits_in;
 use crate::scan::{Behind, Due, Runnable, Waiting, first_of};
 use crate::store::Store;
 use apex_table::Table;
@@ -43,16 +43,6 @@ fn is_process(process: ProcessId, other: Option<ProcessId>) -> bool
 {
     match other {
         Some(other) => process == other,
-        None => false,
-    }
-}
-
-/// The process suspended itself.
-fn is_by_itself(suspended: Option<Suspender>) -> bool
-    ensures { result ≡ stamps.is_by_itself suspended }
-{
-    match suspended {
-        Some(suspender) => suspender == Suspender::Itself,
         None => false,
     }
 }
@@ -138,7 +128,7 @@ impl PlainStore {
         requires stamps { stamps.HasStamps self.old }
         ensures { self.new ≡ stamps.readied self.old process row }
     {
-        if is_eligible(self.mode, &row) {
+        if row.is_eligible(self.mode) {
             self.put_newest(process, row);
         } else {
             self.put(process, row);
@@ -177,7 +167,7 @@ impl Store for PlainStore {
         let row = self.record(process);
         if !row.started {
             State::Dormant
-        } else if !is_eligible(self.mode, &row) {
+        } else if !row.is_eligible(self.mode) {
             State::Waiting
         } else if is_process(process, self.chosen(row.core)) {
             State::Running
@@ -292,7 +282,7 @@ impl Store for PlainStore {
 
     fn resume(&mut self, process: ProcessId) {
         let row = self.record(process);
-        if is_by_itself(row.suspended) {
+        if row.is_suspended_by_itself() {
             self.put_readied(process, awake(row));
         } else {
             let resumed = Record {

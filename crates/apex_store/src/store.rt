@@ -139,7 +139,7 @@ pub trait Store: Drop {
         requires known { process < length (roster self.old).records }
         ensures { roster self.new ≡ stamps.set_core (roster self.old) process core };
 
-    /// Sets how many steps of its script the process has asked for.
+    /// Sets the process's place in its script, counted from 0.
     fn set_step(&mut self, process: ProcessId, step: u8)
         requires known { process < length (roster self.old).records }
         ensures { roster self.new ≡ stamps.set_step (roster self.old) process step };

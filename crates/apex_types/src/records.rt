@@ -1,3 +1,8 @@
+ghost use Rattle.std.specs.Prelude.{◌≡◌};
+ghost use Rattle.apex_types.specs.Roster.{is_normal};
+ghost use Rattle.apex_types.specs.Running.{is_eligible};
+ghost use Rattle.apex_types.specs.Stamps.{is_by_itself};
+
 use crate::identifiers::{CoreId, SemaphoreId};
 
 /// The partition's operating mode (ARINC 653 Part 1, partition management).
@@ -6,6 +11,14 @@ pub enum Mode {
     Idle,
     ColdStart,
     Normal,
+}
+
+impl Mode {
+    pub fn is_normal(self) -> bool
+        ensures { result ≡ is_normal self }
+    {
+        self == Mode::Normal
+    }
 }
 
 /// A process's state (ARINC 653 Part 1, process management).
@@ -65,4 +78,22 @@ pub struct Record {
     pub delay: u32,
     /// The place of its next step in its script, counted from 0.
     pub step: u8,
+}
+
+impl Record {
+    /// The mode is NORMAL, and the process is started, not suspended, and waits for nothing.
+    pub fn is_eligible(&self, mode: Mode) -> bool
+        ensures { result ≡ is_eligible mode self.now }
+    {
+        mode.is_normal() && self.started && self.suspended.is_none() && self.wait.is_none()
+    }
+
+    pub fn is_suspended_by_itself(&self) -> bool
+        ensures { result ≡ is_by_itself self.now.suspended }
+    {
+        match self.suspended {
+            Some(suspender) => suspender == Suspender::Itself,
+            None => false,
+        }
+    }
 }
