@@ -1,15 +1,15 @@
 -- Worked histories: small tables and events, and the lines that the definitions give for them.
 use Rattle.std.specs.Prelude.{◌≡◌, ℕ, true, false, List, [], ◌∷◌, codes, replicate, ◌++◌}
 use Rattle.apex_types.specs.declared.Call.TheVariants.{Partition, Process, Time, Semaphore}
-use Rattle.apex_types.specs.declared.Discipline.TheVariants.{Fifo}
+use Rattle.apex_types.specs.declared.Discipline.TheVariants.{Fifo, Priority}
 use Rattle.apex_types.specs.declared.NamedProcess.TheVariants as process
 use Rattle.apex_types.specs.declared.NamedSemaphore.TheVariants as semaphore
 use Rattle.apex_types.specs.declared.PartitionCall.TheVariants.{SetPartitionMode}
-use Rattle.apex_types.specs.declared.RequestedMode.TheVariants.{Normal}
-use Rattle.apex_types.specs.declared.ProcessCall.TheVariants.{CreateProcess, InitializeProcessCoreAffinity, Start, DelayedStart, GetMyId}
+use Rattle.apex_types.specs.declared.RequestedMode.TheVariants.{Idle, Normal}
+use Rattle.apex_types.specs.declared.ProcessCall.TheVariants.{CreateProcess, InitializeProcessCoreAffinity, SetPriority, Start, DelayedStart, Suspend, Resume, SuspendSelf, GetMyId, GetProcessStatus}
 use Rattle.apex_types.specs.declared.SemaphoreCall.TheVariants.{CreateSemaphore, WaitSemaphore, SignalSemaphore, GetSemaphoreStatus}
 use Rattle.apex_types.specs.declared.TimeCall.TheVariants.{TimedWait, GetTime}
-use Rattle.apex_types.specs.declared.Timeout.TheVariants.{Ticks, Infinite}
+use Rattle.apex_types.specs.declared.Timeout.TheVariants.{Poll, Ticks, Infinite}
 use Rattle.apex_types.specs.declared.Event.{Event}
 use Rattle.apex_types.specs.declared.Event.TheVariants.{Turn, Tick}
 use Rattle.apex_types.specs.Table.{Table}
@@ -140,3 +140,114 @@ abbrev pub DelayedStartReleasesAtItsTime : Type 0
 DelayedStartReleasesAtItsTime =
     history_lines delayed_starter (replicate 7 (Turn 0) ++ Tick 5 ∷ Turn 0 ∷ [])
     ≡ codes "1 0 core0 init CREATE_PROCESS A -> NO_ERROR\n2 0 core0 init INITIALIZE_PROCESS_CORE_AFFINITY A 0 -> NO_ERROR\n3 0 core0 init CREATE_PROCESS B -> NO_ERROR\n4 0 core0 init INITIALIZE_PROCESS_CORE_AFFINITY B 0 -> NO_ERROR\n5 0 core0 init START A -> NO_ERROR\n6 0 core0 init SET_PARTITION_MODE NORMAL -> NO_ERROR | released 1\n7 0 core0 1 DELAYED_START B 3 -> NO_ERROR\n8 3 ticker - tick 5 -> ADVANCED 3 | released 2\n9 3 core0 2 GET_TIME -> VALUE 3\n"
+
+-- two waiters in a queue by priority, and a process that makes the first one as urgent as the second one
+-- before it signals
+abbrev pub ranked_waiters : Table
+ranked_waiters = record {
+  cores = 2;
+  limit = 4096;
+  processes =
+      (record { name = codes "A"; priority = 10; core = 0; loops = false; start = true; script = Semaphore (WaitSemaphore 0 Infinite) ∷ [] })
+      ∷ (record { name = codes "B"; priority = 20; core = 1; loops = false; start = true; script = Semaphore (WaitSemaphore 0 Infinite) ∷ [] })
+      ∷ (record {
+        name = codes "D";
+        priority = 5;
+        core = 0;
+        loops = false;
+        start = true;
+        script = Process (SetPriority 0 20) ∷ Semaphore (SignalSemaphore 0) ∷ [];
+      }) ∷ [];
+  semaphores = (record { name = codes "Q"; maximum = 1; initial = 0; discipline = Priority }) ∷ [];
+  init =
+      Semaphore (CreateSemaphore (semaphore.Known 0))
+      ∷ Process (CreateProcess (process.Known 0)) ∷ Process (InitializeProcessCoreAffinity 0 0)
+      ∷ Process (CreateProcess (process.Known 1)) ∷ Process (InitializeProcessCoreAffinity 1 1)
+      ∷ Process (CreateProcess (process.Known 2)) ∷ Process (InitializeProcessCoreAffinity 2 0)
+      ∷ Process (Start 0) ∷ Process (Start 1) ∷ Process (Start 2)
+      ∷ Partition (SetPartitionMode Normal) ∷ [];
+}
+
+-- a new priority puts a waiter behind those of the same priority
+abbrev pub PriorityChangeMovesPriorityWaiter : Type 0
+PriorityChangeMovesPriorityWaiter =
+    history_lines ranked_waiters (replicate 12 (Turn 0) ++ Turn 1 ∷ Turn 0 ∷ Turn 0 ∷ [])
+    ≡ codes "1 0 core0 init CREATE_SEMAPHORE Q -> NO_ERROR\n2 0 core0 init CREATE_PROCESS A -> NO_ERROR\n3 0 core0 init INITIALIZE_PROCESS_CORE_AFFINITY A 0 -> NO_ERROR\n4 0 core0 init CREATE_PROCESS B -> NO_ERROR\n5 0 core0 init INITIALIZE_PROCESS_CORE_AFFINITY B 1 -> NO_ERROR\n6 0 core0 init CREATE_PROCESS D -> NO_ERROR\n7 0 core0 init INITIALIZE_PROCESS_CORE_AFFINITY D 0 -> NO_ERROR\n8 0 core0 init START A -> NO_ERROR\n9 0 core0 init START B -> NO_ERROR\n10 0 core0 init START D -> NO_ERROR\n11 0 core0 init SET_PARTITION_MODE NORMAL -> NO_ERROR | released 1 | released 2 | released 3\n12 0 core0 1 WAIT_SEMAPHORE Q infinite -> BLOCKED\n13 0 core1 2 WAIT_SEMAPHORE Q infinite -> BLOCKED\n14 0 core0 3 SET_PRIORITY A 20 -> NO_ERROR\n15 0 core0 3 SIGNAL_SEMAPHORE Q -> NO_ERROR | woken 2 NO_ERROR\n"
+
+-- a waiter, and a process that suspends it, signals, and resumes it
+abbrev pub suspended_waiter : Table
+suspended_waiter = record {
+  cores = 2;
+  limit = 4096;
+  processes =
+      (record { name = codes "P1"; priority = 10; core = 0; loops = false; start = true; script = Semaphore (WaitSemaphore 0 Infinite) ∷ [] })
+      ∷ (record {
+        name = codes "P2";
+        priority = 10;
+        core = 1;
+        loops = false;
+        start = true;
+        script =
+            Process (Suspend 0) ∷ Semaphore (SignalSemaphore 0) ∷ Process (GetProcessStatus 0)
+            ∷ Process (Resume 0) ∷ Process (GetProcessStatus 0) ∷ [];
+      }) ∷ [];
+  semaphores = (record { name = codes "S"; maximum = 1; initial = 0; discipline = Fifo }) ∷ [];
+  init = waiter_and_signaller.init;
+}
+
+-- a suspended waiter gets the signal, and runs when it is resumed
+abbrev pub SuspendedWaiterIsWokenAndStaysWaiting : Type 0
+SuspendedWaiterIsWokenAndStaysWaiting =
+    history_lines suspended_waiter (replicate 9 (Turn 0) ++ replicate 5 (Turn 1))
+    ≡ init_lines ++ codes "9 0 core0 1 WAIT_SEMAPHORE S infinite -> BLOCKED\n10 0 core1 2 SUSPEND P1 -> NO_ERROR\n11 0 core1 2 SIGNAL_SEMAPHORE S -> NO_ERROR | woken 1 NO_ERROR\n12 0 core1 2 GET_PROCESS_STATUS P1 -> STATUS 3 10\n13 0 core1 2 RESUME P1 -> NO_ERROR\n14 0 core1 2 GET_PROCESS_STATUS P1 -> STATUS 2 10\n"
+
+-- a process that suspends itself for 3 ticks, and then for none
+abbrev pub self_suspender : Table
+self_suspender = record {
+  cores = 1;
+  limit = 4096;
+  processes =
+      (record {
+        name = codes "A";
+        priority = 10;
+        core = 0;
+        loops = false;
+        start = true;
+        script = Process (SuspendSelf (Ticks 3)) ∷ Process (SuspendSelf Poll) ∷ [];
+      }) ∷ [];
+  semaphores = [];
+  init = empty_script.init;
+}
+
+-- a suspension of itself ends when its time is over
+abbrev pub SuspensionOfItselfEnds : Type 0
+SuspensionOfItselfEnds =
+    history_lines self_suspender (replicate 5 (Turn 0) ++ Tick 3 ∷ Turn 0 ∷ [])
+    ≡ codes "1 0 core0 init CREATE_PROCESS A -> NO_ERROR\n2 0 core0 init INITIALIZE_PROCESS_CORE_AFFINITY A 0 -> NO_ERROR\n3 0 core0 init START A -> NO_ERROR\n4 0 core0 init SET_PARTITION_MODE NORMAL -> NO_ERROR | released 1\n5 0 core0 1 SUSPEND_SELF 3 -> BLOCKED\n6 3 ticker - tick 3 -> ADVANCED 3 | woken 1 TIMED_OUT\n7 3 core0 1 SUSPEND_SELF 0 -> NO_ERROR\n"
+
+-- an init list with refused steps, and a process that ends the partition
+abbrev pub own_init_list : Table
+own_init_list = record {
+  cores = 1;
+  limit = 4096;
+  processes =
+      (record {
+        name = codes "P";
+        priority = 10;
+        core = 0;
+        loops = false;
+        start = true;
+        script = Process (CreateProcess (process.Known 0)) ∷ Partition (SetPartitionMode Idle) ∷ [];
+      }) ∷ [];
+  semaphores = [];
+  init =
+      Process (CreateProcess (process.Known 0)) ∷ Process (CreateProcess (process.Known 0))
+      ∷ Process (CreateProcess (process.Unknown (codes "Q"))) ∷ Process (InitializeProcessCoreAffinity 0 1)
+      ∷ Process (Start 0) ∷ Partition (SetPartitionMode Normal) ∷ [];
+}
+
+-- refused init steps change nothing, and in IDLE nothing runs
+abbrev pub InitListOfTheTable : Type 0
+InitListOfTheTable =
+    history_lines own_init_list (replicate 9 (Turn 0))
+    ≡ codes "1 0 core0 init CREATE_PROCESS P -> NO_ERROR\n2 0 core0 init CREATE_PROCESS P -> NO_ACTION\n3 0 core0 init CREATE_PROCESS Q -> INVALID_CONFIG\n4 0 core0 init INITIALIZE_PROCESS_CORE_AFFINITY P 1 -> INVALID_CONFIG\n5 0 core0 init START P -> NO_ERROR\n6 0 core0 init SET_PARTITION_MODE NORMAL -> NO_ERROR | released 1\n7 0 core0 1 CREATE_PROCESS P -> INVALID_MODE\n8 0 core0 1 SET_PARTITION_MODE IDLE -> GONE\n9 0 core0 - idle -> IDLE\n"

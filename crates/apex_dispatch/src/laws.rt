@@ -3,7 +3,7 @@
 ghost use Rattle.apex_store.specs.Laws.{RunsMostUrgent, FirstWaiterIsFirst};
 ghost use Rattle.apex_dispatch.specs.Laws.{ValuesStayInRange, RunsCompose, RunsStayWithin, TimeGoesForward};
 ghost use Rattle.apex_dispatch.specs.States.{EachHasOneState};
-ghost use Rattle.apex_dispatch.specs.Worked.{SignalWakesWaiter, SignalBeforeWait, EmptyScriptStopsItself, TimedOutWaiterGetsNoSignal, TickHaltsAtTheNextInstant, DelayedStartReleasesAtItsTime};
+ghost use Rattle.apex_dispatch.specs.Worked.{SignalWakesWaiter, SignalBeforeWait, EmptyScriptStopsItself, TimedOutWaiterGetsNoSignal, TickHaltsAtTheNextInstant, DelayedStartReleasesAtItsTime, PriorityChangeMovesPriorityWaiter, SuspendedWaiterIsWokenAndStaysWaiting, SuspensionOfItselfEnds, InitListOfTheTable};
 
 use crate::kernels::Kernel;
 use apex_store::Store;
@@ -73,4 +73,8 @@ pub fn worked_histories()
     ensures timed_out_waiter_gets_no_signal { TimedOutWaiterGetsNoSignal }
     ensures tick_halts_at_the_next_instant { TickHaltsAtTheNextInstant }
     ensures delayed_start_releases_at_its_time { DelayedStartReleasesAtItsTime }
+    ensures priority_change_moves_priority_waiter { PriorityChangeMovesPriorityWaiter }
+    ensures suspended_waiter_is_woken_and_stays_waiting { SuspendedWaiterIsWokenAndStaysWaiting }
+    ensures suspension_of_itself_ends { SuspensionOfItselfEnds }
+    ensures init_list_of_the_table { InitListOfTheTable }
 {}

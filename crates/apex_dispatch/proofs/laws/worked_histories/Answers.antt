@@ -31,3 +31,19 @@ returns-clause-tick_halts_at_the_next_instant c = refl
 pub returns-clause-delayed_start_releases_at_its_time : goal.returns-clause-delayed_start_releases_at_its_time
 unfolding turn tick pass_time enter_normal runs_on waits_in is_due_at digits
 returns-clause-delayed_start_releases_at_its_time c = refl
+
+pub returns-clause-priority_change_moves_priority_waiter : goal.returns-clause-priority_change_moves_priority_waiter
+unfolding turn tick pass_time enter_normal runs_on waits_in is_due_at digits
+returns-clause-priority_change_moves_priority_waiter c = refl
+
+pub returns-clause-suspended_waiter_is_woken_and_stays_waiting : goal.returns-clause-suspended_waiter_is_woken_and_stays_waiting
+unfolding turn tick pass_time enter_normal runs_on waits_in is_due_at digits
+returns-clause-suspended_waiter_is_woken_and_stays_waiting c = refl
+
+pub returns-clause-suspension_of_itself_ends : goal.returns-clause-suspension_of_itself_ends
+unfolding turn tick pass_time enter_normal runs_on waits_in is_due_at digits
+returns-clause-suspension_of_itself_ends c = refl
+
+pub returns-clause-init_list_of_the_table : goal.returns-clause-init_list_of_the_table
+unfolding turn tick pass_time enter_normal runs_on waits_in is_due_at digits
+returns-clause-init_list_of_the_table c = refl
