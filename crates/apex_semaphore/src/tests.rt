@@ -8,8 +8,8 @@ use crate::{
 use apex_store::{PlainStore, Store};
 use apex_table::read_table;
 use apex_types::{
-    Caller, Notice, Notices, ProcessId, Reply, ReturnCode, SemaphoreCall, SemaphoreId, Timeout,
-    Wait,
+    Caller, NamedSemaphore, Notice, Notices, ProcessId, Reply, ReturnCode, SemaphoreCall,
+    SemaphoreId, Timeout,
 };
 use std::alloc::Global;
 use std::process::Abort;
@@ -27,6 +27,18 @@ script = []
 name = \"URGENT\"
 priority = 20
 script = []
+
+[[semaphore]]
+name = \"IN_TURN\"
+maximum = 32767
+initial = 0
+discipline = \"FIFO\"
+
+[[semaphore]]
+name = \"RANKED\"
+maximum = 32767
+initial = 0
+discipline = \"PRIORITY\"
 ";
 
 fn slow() -> ProcessId
@@ -45,6 +57,13 @@ fn the_semaphore() -> SemaphoreId
     ensures { result ≡ 0 }
 {
     SemaphoreId::at(0)
+}
+
+/// The semaphore in whose queue the more urgent comes first.
+fn the_ranked_semaphore() -> SemaphoreId
+    ensures { result ≡ 1 }
+{
+    SemaphoreId::at(1)
 }
 
 fn two_processes(rt: &impl Abort, alloc: Global) -> Result<PlainStore, Fail>
@@ -109,7 +128,6 @@ fn signal_wakes_the_first<S: Store>(rt: &impl Abort, store: &mut S)
 {
     let mut semaphore = created(rt, store);
     let id = the_semaphore();
-    assert_eq!(rt; get_semaphore_id(&semaphore, id), Reply::Value(1));
     let mut notices = Notices::new();
     let wait = SemaphoreCall::WaitSemaphore(the_semaphore(), Timeout::Infinite);
     let (first, second) = (Caller::Process(slow()), Caller::Process(urgent()));
@@ -126,8 +144,51 @@ fn signal_wakes_the_first<S: Store>(rt: &impl Abort, store: &mut S)
     assert_eq!(rt; status, Reply::Status(0, 1));
 }
 
+/// In a PRIORITY queue the most urgent is woken, and not who has waited for the longest time.
+fn signal_wakes_the_most_urgent<S: Store>(rt: &impl Abort, store: &mut S)
+    requires records { length (S.roster store.old).records ≡ 2 }
+    requires stamps { (S.roster store.old).young ≡ pos 3 }
+    requires mode { is_cold_start (S.roster store.old).mode ≡ true }
+    requires time { (S.roster store.old).now ≡ 0 }
+{
+    let mut semaphore = created(rt, store);
+    let (id, timeout) = (the_ranked_semaphore(), Timeout::Infinite);
+    let waited = wait_semaphore(store, &mut semaphore, id, slow(), timeout);
+    assert_eq!(rt; waited, Reply::Blocked);
+    let waited = wait_semaphore(store, &mut semaphore, id, urgent(), timeout);
+    assert_eq!(rt; waited, Reply::Blocked);
+    let mut notices = Notices::new();
+    let signalled = signal_semaphore(store, &mut semaphore, id, &mut notices);
+    assert_eq!(rt; signalled, Reply::Code(ReturnCode::NoError));
+    let woken = Notice::Woken(urgent(), ReturnCode::NoError);
+    assert_eq!(rt; notices.as_slice(), [woken].as_slice());
+}
+
+#[test]
+fn an_id_is_told_of_a_created_semaphore(rt: HostRuntime) -> Result<(), Fail> {
+    let mut store = two_processes(&rt, rt.alloc())?;
+    let mut semaphore = Semaphore::new(1, 0);
+    let mut notices = Notices::new();
+    let id = the_ranked_semaphore();
+    let ask = SemaphoreCall::GetSemaphoreId(NamedSemaphore::Known(id));
+    let early = serve_semaphore(
+        &mut store,
+        &mut semaphore,
+        id,
+        &Caller::Init,
+        &ask,
+        &mut notices,
+    );
+    assert_eq!(rt; early, Reply::Code(ReturnCode::InvalidConfig));
+    let created = create_semaphore(&store, &mut semaphore);
+    assert_eq!(rt; created, Reply::Code(ReturnCode::NoError));
+    assert_eq!(rt; get_semaphore_id(&semaphore, id), Reply::Value(2));
+    Ok(())
+}
+
 #[test]
 fn services_serve_over_the_plain_store(rt: HostRuntime) -> Result<(), Fail> {
     signal_wakes_the_first(&rt, &mut two_processes(&rt, rt.alloc())?);
+    signal_wakes_the_most_urgent(&rt, &mut two_processes(&rt, rt.alloc())?);
     Ok(())
 }

@@ -20,6 +20,18 @@ script = []
 name = \"URGENT\"
 priority = 20
 script = []
+
+[[semaphore]]
+name = \"IN_TURN\"
+maximum = 1
+initial = 0
+discipline = \"FIFO\"
+
+[[semaphore]]
+name = \"RANKED\"
+maximum = 1
+initial = 0
+discipline = \"PRIORITY\"
 ";
 
 fn slow() -> ProcessId
@@ -34,8 +46,14 @@ fn urgent() -> ProcessId
     ProcessId::at(1)
 }
 
-fn semaphore() -> Wait {
+/// The queue of a semaphore in which who waits longest comes first.
+fn in_turn() -> Wait {
     Wait::Semaphore(SemaphoreId::at(0))
+}
+
+/// The queue of a semaphore in which the more urgent comes first.
+fn ranked() -> Wait {
+    Wait::Semaphore(SemaphoreId::at(1))
 }
 
 fn two_processes(rt: &impl Abort, alloc: Global) -> Result<PlainStore, Fail>
@@ -99,11 +117,11 @@ fn cores_go_to_the_next<S: Store>(rt: &impl Abort, store: &mut S)
     store.set_mode(Mode::Normal);
     store.start(slow(), 0);
     store.start(urgent(), 0);
-    store.block(urgent(), semaphore(), None);
+    store.block(urgent(), in_turn(), None);
     assert_eq!(rt; store.chosen(CoreId::new(0)), Some(slow()));
-    assert_eq!(rt; store.first(semaphore()), Some(urgent()));
+    assert_eq!(rt; store.first(in_turn()), Some(urgent()));
     store.unblock(urgent());
-    assert_eq!(rt; store.waiting(semaphore()), 0);
+    assert_eq!(rt; store.waiting(in_turn()), 0);
     assert_eq!(rt; store.chosen(CoreId::new(0)), Some(urgent()));
     store.stop(urgent());
     assert_eq!(rt; store.state(urgent()), State::Dormant);
@@ -134,7 +152,7 @@ fn dues_come_by_instant_and_number<S: Store>(rt: &impl Abort, store: &mut S)
     store.start(slow(), 0);
     store.start(urgent(), 0);
     store.block(urgent(), Wait::Time, Some(4));
-    store.block(slow(), semaphore(), Some(9));
+    store.block(slow(), in_turn(), Some(9));
     assert_eq!(rt; store.next_instant(), Some(4));
     assert_eq!(rt; store.take_due(), None);
     store.advance_to(4);
@@ -142,7 +160,7 @@ fn dues_come_by_instant_and_number<S: Store>(rt: &impl Abort, store: &mut S)
     assert_eq!(rt; store.take_due(), Some(urgent()));
     assert_eq!(rt; store.record(urgent()).wait, Some(Wait::Time));
     store.block(urgent(), Wait::Time, Some(9));
-    store.block(slow(), semaphore(), Some(9));
+    store.block(slow(), in_turn(), Some(9));
     store.advance_to(9);
     assert_eq!(rt; store.take_due(), Some(slow()));
     assert_eq!(rt; store.take_due(), Some(urgent()));
@@ -189,6 +207,106 @@ fn newest_goes_last<S: Store>(rt: &impl Abort, store: &mut S)
     assert_eq!(rt; store.next_after(Wait::Normal, urgent()), Some(slow()));
 }
 
+/// Another process's suspension lets a wait go on, and lasts until the process is resumed.
+fn suspension_outlasts_a_wake<S: Store>(rt: &impl Abort, store: &mut S)
+    requires records { length (S.roster store.old).records ≡ 2 }
+    requires stamps { (S.roster store.old).young <ℤ pos 100 }
+    requires time { (S.roster store.old).now ≡ 0 }
+{
+    store.set_mode(Mode::Normal);
+    store.start(urgent(), 0);
+    store.block(urgent(), in_turn(), Some(9));
+    store.suspend(urgent());
+    assert_eq!(rt; store.first(in_turn()), Some(urgent()));
+    store.resume(urgent());
+    assert_eq!(rt; store.state(urgent()), State::Waiting);
+    assert_eq!(rt;
+        (store.first(in_turn()), store.next_instant()),
+        (Some(urgent()), Some(9))
+    );
+    store.suspend(urgent());
+    store.unblock(urgent());
+    assert_eq!(rt; store.state(urgent()), State::Waiting);
+    assert_eq!(rt; store.next_instant(), None);
+    store.resume(urgent());
+    assert_eq!(rt; store.state(urgent()), State::Running);
+}
+
+/// A suspension of itself ends with a RESUME, a wait or a START, and the core goes to another one
+/// meanwhile.
+fn suspension_of_itself_ends<S: Store>(rt: &impl Abort, store: &mut S)
+    requires records { length (S.roster store.old).records ≡ 2 }
+    requires stamps { (S.roster store.old).young <ℤ pos 100 }
+    requires time { (S.roster store.old).now ≡ 0 }
+{
+    store.set_mode(Mode::Normal);
+    store.start(slow(), 0);
+    store.start(urgent(), 0);
+    store.suspend_self(urgent(), Some(4));
+    assert_eq!(rt; store.state(urgent()), State::Waiting);
+    assert_eq!(rt;
+        (store.record(urgent()).wait, store.next_instant()),
+        (None, Some(4))
+    );
+    assert_eq!(rt; store.chosen(CoreId::new(0)), Some(slow()));
+    store.resume(urgent());
+    assert_eq!(rt;
+        (store.state(urgent()), store.next_instant()),
+        (State::Running, None)
+    );
+    store.suspend_self(urgent(), None);
+    store.block(urgent(), in_turn(), None);
+    store.unblock(urgent());
+    assert_eq!(rt; store.state(urgent()), State::Running);
+    store.suspend(urgent());
+    store.stop(urgent());
+    store.start(urgent(), 0);
+    assert_eq!(rt; store.state(urgent()), State::Running);
+}
+
+/// A base priority stands until the next START, which goes back to the table's.
+fn base_decides_until_a_start<S: Store>(rt: &impl Abort, store: &mut S)
+    requires records { length (S.roster store.old).records ≡ 2 }
+    requires stamps { (S.roster store.old).young <ℤ pos 100 }
+    requires time { (S.roster store.old).now ≡ 0 }
+{
+    store.set_mode(Mode::Normal);
+    store.start(slow(), 0);
+    store.start(urgent(), 0);
+    store.set_base(slow(), 30);
+    store.set_step(slow(), 3);
+    assert_eq!(rt; store.chosen(CoreId::new(0)), Some(slow()));
+    store.stop(slow());
+    let stopped = store.record(slow());
+    assert_eq!(rt; (stopped.base, stopped.since, stopped.step), (30, 3, 0));
+    store.start(slow(), 0);
+    assert_eq!(rt; store.record(slow()).base, 10);
+    assert_eq!(rt; store.chosen(CoreId::new(0)), Some(urgent()));
+}
+
+/// Who waits longest is first in a FIFO queue, and the more urgent in a PRIORITY queue.
+fn queues_have_their_disciplines<S: Store>(rt: &impl Abort, store: &mut S)
+    requires records { length (S.roster store.old).records ≡ 2 }
+    requires stamps { (S.roster store.old).young <ℤ pos 100 }
+    requires time { (S.roster store.old).now ≡ 0 }
+{
+    store.set_mode(Mode::Normal);
+    store.start(slow(), 0);
+    store.start(urgent(), 0);
+    store.block(slow(), in_turn(), None);
+    store.block(urgent(), in_turn(), None);
+    assert_eq!(rt; store.first(in_turn()), Some(slow()));
+    assert_eq!(rt; store.next_after(in_turn(), slow()), Some(urgent()));
+    assert_eq!(rt; store.is_ranked(slow()), false);
+    store.block(slow(), ranked(), None);
+    store.block(urgent(), ranked(), None);
+    assert_eq!(rt; store.first(ranked()), Some(urgent()));
+    assert_eq!(rt; store.next_after(ranked(), urgent()), Some(slow()));
+    assert_eq!(rt; store.is_ranked(slow()), true);
+    store.set_base(slow(), 20);
+    assert_eq!(rt; store.first(ranked()), Some(slow()));
+}
+
 #[test]
 fn plain_store_serves_the_trait(rt: HostRuntime) -> Result<(), Fail> {
     released_run_by_priority(&rt, &mut two_processes(&rt, rt.alloc())?);
@@ -197,5 +315,9 @@ fn plain_store_serves_the_trait(rt: HostRuntime) -> Result<(), Fail> {
     dues_come_by_instant_and_number(&rt, &mut two_processes(&rt, rt.alloc())?);
     delays_run_in_normal(&rt, &mut two_processes(&rt, rt.alloc())?);
     newest_goes_last(&rt, &mut two_processes(&rt, rt.alloc())?);
+    suspension_outlasts_a_wake(&rt, &mut two_processes(&rt, rt.alloc())?);
+    suspension_of_itself_ends(&rt, &mut two_processes(&rt, rt.alloc())?);
+    base_decides_until_a_start(&rt, &mut two_processes(&rt, rt.alloc())?);
+    queues_have_their_disciplines(&rt, &mut two_processes(&rt, rt.alloc())?);
     Ok(())
 }
