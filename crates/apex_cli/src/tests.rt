@@ -1,3 +1,4 @@
+mod processes;
 mod ticks;
 
 use crate::program::run_on;
@@ -113,6 +114,23 @@ struct Case<'a> {
     status: u8,
     written: &'a [&'a str],
     fault: &'a str,
+}
+
+// A replay that is played to its end.
+fn played<'a>(
+    name: &'a str,
+    words: &'a [&'a str],
+    table: &'a [&'a str],
+    written: &'a [&'a str],
+) -> Case<'a> {
+    Case {
+        name,
+        words,
+        table,
+        status: 0,
+        written,
+        fault: "",
+    }
 }
 
 // A table that is refused.

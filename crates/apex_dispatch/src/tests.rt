@@ -1,9 +1,15 @@
 ghost use Rattle.std.specs.Prelude.{◌≡◌, ◌<◌, IfOk};
 
-use crate::Kernel;
+use crate::{
+    Kernel, each_has_one_state, first_waiter_is_first, most_urgent_runs, runs_compose,
+    runs_stay_within, time_goes_forward, values_stay_in_range, worked_histories,
+};
 use apex_store::{PlainStore, Store};
 use apex_table::read_table;
-use apex_types::{Caller, CoreId, Event, Full, Mode, Notice, ProcessId, Reply, ReturnCode, Who};
+use apex_types::{
+    Caller, CoreId, Event, Full, Mode, Notice, ProcessId, Reply, ReturnCode, SemaphoreId, State,
+    Wait, Who,
+};
 use std::alloc::Global;
 use std::process::Abort;
 use std::test::Fail;
@@ -94,5 +100,56 @@ fn a_tick_lets_time_go_on(rt: HostRuntime) -> Result<(), Fail> {
     let entry = &kernel.entries()[0];
     assert_eq!(rt; entry.who, Who::Ticker);
     assert_eq!(rt; entry.reply, Reply::Advanced(1_048_576, 1_048_576));
+    Ok(())
+}
+
+/// The states of both processes.
+fn states<S: Store>(rt: &impl Abort, kernel: &Kernel<S>) -> (State, State) {
+    let store = kernel.store();
+    assert!(rt; store.process_count() == 2);
+    (store.state(ProcessId::at(0)), store.state(ProcessId::at(1)))
+}
+
+#[test]
+fn each_process_is_in_one_state(rt: HostRuntime) -> Result<(), Fail> {
+    let mut kernel = booted(rt.alloc())?;
+    let (first, second) = (CoreId::new(0), CoreId::new(1));
+    for (turns, core, want) in [
+        (5, first, (State::Dormant, State::Dormant)),
+        (1, first, (State::Waiting, State::Dormant)),
+        (1, first, (State::Waiting, State::Waiting)),
+        (1, first, (State::Running, State::Running)),
+        (1, first, (State::Waiting, State::Running)),
+        (1, second, (State::Running, State::Running)),
+        (1, second, (State::Running, State::Dormant)),
+    ] {
+        for _turn in 0..turns {
+            assert_eq!(rt; turn_of(&rt, &mut kernel, core), Ok(()));
+        }
+        let made = kernel.entries().len();
+        assert_eq!(rt; states(&rt, &kernel), want, "after {made}");
+    }
+    Ok(())
+}
+
+#[test]
+fn laws_hold_of_a_kernel_over_the_plain_store(rt: HostRuntime) -> Result<(), Fail> {
+    let mut kernel = booted(rt.alloc())?;
+    let core = CoreId::new(0);
+    assert_eq!(rt; turn_of(&rt, &mut kernel, core), Ok(()));
+    assert_eq!(rt; tick_of(&rt, &mut kernel, 1), Ok(()));
+    kernel.holds();
+    let is_near = kernel.now() <= 1 << 36;
+    prove!(is_near);
+    let has_kept_the_limit = kernel.entries().len() <= kernel.table().limit() as usize;
+    prove!(has_kept_the_limit);
+    most_urgent_runs(&kernel, core);
+    first_waiter_is_first(&kernel, Wait::Semaphore(SemaphoreId::at(0)));
+    each_has_one_state(kernel.table());
+    values_stay_in_range(kernel.table());
+    runs_compose(&kernel);
+    runs_stay_within(kernel.table());
+    time_goes_forward(kernel.table());
+    worked_histories();
     Ok(())
 }

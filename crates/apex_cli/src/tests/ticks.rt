@@ -1,5 +1,5 @@
 use super::{
-    Case, IDLER, SEMAPHORE, SIGNALLER, STARTED, TWO_CORES, USAGE, WAITER, check, run_with,
+    IDLER, SEMAPHORE, SIGNALLER, STARTED, TWO_CORES, USAGE, WAITER, check, played, run_with,
 };
 use std::test::Fail;
 
@@ -120,27 +120,10 @@ const THREE_STARTED: &str = "1 0 core0 init CREATE_PROCESS A -> NO_ERROR
 10 0 core0 init SET_PARTITION_MODE NORMAL -> NO_ERROR | released 1 | released 2 | released 3
 ";
 
-// A replay that is done.
-fn done<'a>(
-    name: &'a str,
-    words: &'a [&'a str],
-    table: &'a [&'a str],
-    written: &'a [&'a str],
-) -> Case<'a> {
-    Case {
-        name,
-        words,
-        table,
-        status: 0,
-        written,
-        fault: "",
-    }
-}
-
 #[test]
 fn time_passes_by_ticks(rt: HostRuntime) -> Result<(), Fail> {
     let cases = [
-        done(
+        played(
             "timed_wait_zero_yields",
             &["replay", "--schedule", "0*16"],
             &[YIELDING],
@@ -154,7 +137,7 @@ fn time_passes_by_ticks(rt: HostRuntime) -> Result<(), Fail> {
                 "16 0 core0 1 GET_MY_ID -> VALUE 1\n",
             ],
         ),
-        done(
+        played(
             "tick_halts_at_the_next_instant",
             &["replay", "--schedule", "0*13 t9 t9 0"],
             &[SLEEPING],
@@ -168,7 +151,7 @@ fn time_passes_by_ticks(rt: HostRuntime) -> Result<(), Fail> {
                 "16 9 core0 1 GET_MY_ID -> VALUE 1\n",
             ],
         ),
-        done(
+        played(
             "delayed_start_releases_at_its_time",
             &["replay", "--schedule", "0*7 t5 0"],
             &[DELAYED],
@@ -184,7 +167,7 @@ fn time_passes_by_ticks(rt: HostRuntime) -> Result<(), Fail> {
                 "9 3 core0 2 GET_TIME -> VALUE 3\n",
             ],
         ),
-        done(
+        played(
             "longest_tick",
             &["replay", "--schedule", "t1048576 t1"],
             &["cores = 1\n", IDLER],
@@ -203,7 +186,7 @@ fn time_passes_by_ticks(rt: HostRuntime) -> Result<(), Fail> {
 #[test]
 fn semaphores_are_waited_for_in_time(rt: HostRuntime) -> Result<(), Fail> {
     let cases = [
-        done(
+        played(
             "timed_out_waiter_gets_no_signal",
             &["replay", "--schedule", "0*9 t5 1*2"],
             &[TWO_CORES, FIVE_TICKS, LATE_SIGNALLER, SEMAPHORE],
@@ -215,7 +198,7 @@ fn semaphores_are_waited_for_in_time(rt: HostRuntime) -> Result<(), Fail> {
                 "12 5 core1 2 GET_SEMAPHORE_STATUS S -> STATUS 1 0\n",
             ],
         ),
-        done(
+        played(
             "signal_at_maximum_is_no_action",
             &["replay", "--schedule", "0*7"],
             &[AT_MAXIMUM],
