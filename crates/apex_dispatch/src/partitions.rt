@@ -1,4 +1,4 @@
-ghost use Rattle.std.specs.Prelude.{◌≡◌, ◌<◌, ◌≤◌, [], ◌++◌, length};
+ghost use Rattle.std.specs.Prelude.{◌≡◌, ◌<◌, ◌≤◌, [], ◌++◌, length, IfSome};
 ghost use Rattle.apex_types.specs.Dues.{HasTime};
 ghost use Rattle.apex_types.specs.Stamps.{HasStamps};
 ghost use Rattle.apex_types.specs.PartitionServices as services;
@@ -30,6 +30,14 @@ fn begin_start<S: Store>(store: &mut S, process: ProcessId, notices: &mut Notice
     }
 }
 
+/// Who has waited for NORMAL for the longest time.
+fn first_to_start<S: Store>(store: &S) -> Option<ProcessId>
+    ensures value { result ≡ services.first_to_start (S.roster store.now) }
+    ensures known { IfSome result (λ p. p < length (S.roster store.now).records) }
+{
+    store.first(Wait::Normal)
+}
+
 /// The entry into NORMAL: begins the starts of all who wait for it, who waits longest first.
 #[tactic(auto, unfolding(apex_types::specs::PartitionServices::enter_normal))]
 fn enter_normal<S: Store>(store: &mut S, notices: &mut Notices)
@@ -42,7 +50,7 @@ fn enter_normal<S: Store>(store: &mut S, notices: &mut Notices)
 {
     store.set_mode(Mode::Normal);
     for turn in 0..store.process_count() {
-        match store.first(Wait::Normal) {
+        match first_to_start(store) {
             Some(process) => begin_start(store, process, notices),
             None => return,
         }

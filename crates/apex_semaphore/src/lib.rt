@@ -1,7 +1,7 @@
 //! The services of semaphores (ARINC 653 Part 1, intrapartition communication), over any store.
 //!
-//! Each service takes the store and the semaphore that its call names, answers a reply, and appends
-//! what it did to other processes to the notices.
+//! Each service takes the semaphore that its call names and what it needs of the store, answers a
+//! reply, and appends what it did to other processes to the notices.
 #![tactic(auto)]
 
 mod semaphores;

@@ -86,7 +86,7 @@ pub trait Store: Drop {
         requires stamps { stamps.HasStamps (roster self.old) }
         ensures { roster self.new ≡ stamps.unblock (roster self.old) process };
 
-    /// Releases a process that waits for its start.
+    /// Releases a process that waits for its start or for NORMAL.
     fn release(&mut self, process: ProcessId)
         requires known { process < length (roster self.old).records }
         requires stamps { stamps.HasStamps (roster self.old) }

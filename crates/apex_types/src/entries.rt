@@ -48,11 +48,11 @@ pub enum Caller {
 #[derive(Clone, Copy, Debug, PartialEq, Eq)]
 pub enum Reply {
     Code(ReturnCode),
-    /// What the caller asked for: a time in ticks or an id.
+    /// What the caller asked for: a time in ticks, an id or a core.
     Value(u64),
     /// The two numbers of a status.
     Status(u64, u64),
-    /// The caller waits; a later `woken` notice has its code.
+    /// The caller waits, or suspended itself; a later `woken` notice has its code.
     Blocked,
     /// The caller is no longer started.
     Gone,
@@ -65,7 +65,7 @@ pub enum Reply {
 /// What an event did to a process other than its caller.
 #[derive(Clone, Copy, Debug, PartialEq, Eq)]
 pub enum Notice {
-    /// The process's wait ended with this code.
+    /// The process's wait, or its suspension of itself, ended with this code.
     Woken(ProcessId, ReturnCode),
     /// The process was released to run.
     Released(ProcessId),

@@ -33,7 +33,7 @@ pub enum State {
 /// What a process waits for.
 #[derive(Clone, Copy, Debug, PartialEq, Eq)]
 pub enum Wait {
-    /// The partition's entry into NORMAL, after a START.
+    /// The partition's entry into NORMAL, after a START or a DELAYED_START before it.
     Normal,
     /// The instant of its start, after a DELAYED_START.
     Start,
