@@ -381,6 +381,8 @@ fn a_loop_and_a_discipline_are_read(rt: HostRuntime) -> Result<(), Fail> {
     let text = SIGNAL_WAKES_WAITER.replacen(rt.alloc(), "start = true", "loop = true", 1)?;
     let text = text.replacen(rt.alloc(), "FIFO", "PRIORITY", 1)?;
     let table = read_table(rt.alloc(), text.as_bytes())?;
+    assert_eq!(rt; table.process_count(), 2);
+    assert_eq!(rt; table.semaphore_count(), 1);
     let process = table.process(ProcessId::at(0));
     assert!(rt; process.loops() && !process.starts());
     assert!(rt; !table.process(ProcessId::at(1)).loops());

@@ -1,4 +1,5 @@
 use crate::reading::read_table;
+use crate::tests::steps::name;
 use crate::tests::{SIGNAL_WAKES_WAITER, fault_of, repeated};
 use apex_types::{
     Call, NamedProcess, NamedSemaphore, PartitionCall, ProcessCall, ProcessId, RequestedMode,
@@ -49,6 +50,7 @@ const FAULTS: &[(&str, &[&str])] = &[
             "TIMED_WAIT 4294967296",
             "WAIT_SEMAPHORE S 4294967296",
             "SUSPEND_SELF 4294967296",
+            "SET_PRIORITY P1 65536",
             "INITIALIZE_PROCESS_CORE_AFFINITY P1 256",
         ],
     ),
@@ -154,13 +156,15 @@ fn an_init_list_is_too_long(rt: HostRuntime) -> Result<(), Fail> {
 #[test]
 fn an_init_list_is_read_step_by_step(rt: HostRuntime) -> Result<(), Fail> {
     let p2 = ProcessId::at(1);
-    let process = NamedProcess::Known(p2);
     let s = SemaphoreId::at(0);
-    let semaphore = NamedSemaphore::Known(s);
     for (step, call) in [
         (
             "CREATE_PROCESS P2",
-            Call::Process(ProcessCall::CreateProcess(process)),
+            Call::Process(ProcessCall::CreateProcess(NamedProcess::Known(p2))),
+        ),
+        (
+            "CREATE_PROCESS Q",
+            Call::Process(ProcessCall::CreateProcess(NamedProcess::Unknown(name(b"Q")))),
         ),
         (
             "INITIALIZE_PROCESS_CORE_AFFINITY P2 255",
@@ -178,7 +182,7 @@ fn an_init_list_is_read_step_by_step(rt: HostRuntime) -> Result<(), Fail> {
         ("STOP P2", Call::Process(ProcessCall::Stop(p2))),
         (
             "GET_PROCESS_ID P2",
-            Call::Process(ProcessCall::GetProcessId(process)),
+            Call::Process(ProcessCall::GetProcessId(NamedProcess::Known(p2))),
         ),
         (
             "GET_PROCESS_STATUS P2",
@@ -187,7 +191,7 @@ fn an_init_list_is_read_step_by_step(rt: HostRuntime) -> Result<(), Fail> {
         ("GET_TIME", Call::Time(TimeCall::GetTime)),
         (
             "CREATE_SEMAPHORE S",
-            Call::Semaphore(SemaphoreCall::CreateSemaphore(semaphore)),
+            Call::Semaphore(SemaphoreCall::CreateSemaphore(NamedSemaphore::Known(s))),
         ),
         (
             "SIGNAL_SEMAPHORE S",
@@ -195,7 +199,7 @@ fn an_init_list_is_read_step_by_step(rt: HostRuntime) -> Result<(), Fail> {
         ),
         (
             "GET_SEMAPHORE_ID S",
-            Call::Semaphore(SemaphoreCall::GetSemaphoreId(semaphore)),
+            Call::Semaphore(SemaphoreCall::GetSemaphoreId(NamedSemaphore::Known(s))),
         ),
         (
             "GET_SEMAPHORE_STATUS S",

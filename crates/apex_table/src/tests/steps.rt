@@ -145,7 +145,7 @@ fn call_of(alloc: Global, step: &str) -> Result<Option<Call>, Fail> {
     Ok(table.process(ProcessId::at(0)).step(0))
 }
 
-fn name(text: &[u8]) -> Name
+pub(super) fn name(text: &[u8]) -> Name
     requires { is_name text.now ≡ true }
 {
     Name::from_bytes(text).unwrap()
@@ -154,9 +154,11 @@ fn name(text: &[u8]) -> Name
 #[test]
 fn a_step_of_a_process_is_read_as_its_call(rt: HostRuntime) -> Result<(), Fail> {
     let p2 = ProcessId::at(1);
-    let known = NamedProcess::Known(p2);
     for (step, call) in [
-        ("CREATE_PROCESS P2", ProcessCall::CreateProcess(known)),
+        (
+            "CREATE_PROCESS P2",
+            ProcessCall::CreateProcess(NamedProcess::Known(p2)),
+        ),
         (
             "CREATE_PROCESS S",
             ProcessCall::CreateProcess(NamedProcess::Unknown(name(b"S"))),
@@ -198,7 +200,10 @@ fn a_step_of_a_process_is_read_as_its_call(rt: HostRuntime) -> Result<(), Fail> 
             "GET_MY_PROCESSOR_CORE_ID",
             ProcessCall::GetMyProcessorCoreId,
         ),
-        ("GET_PROCESS_ID P2", ProcessCall::GetProcessId(known)),
+        (
+            "GET_PROCESS_ID P2",
+            ProcessCall::GetProcessId(NamedProcess::Known(p2)),
+        ),
         (
             "GET_PROCESS_ID ->",
             ProcessCall::GetProcessId(NamedProcess::Unknown(name(b"->"))),
@@ -214,7 +219,6 @@ fn a_step_of_a_process_is_read_as_its_call(rt: HostRuntime) -> Result<(), Fail> 
 #[test]
 fn a_step_of_another_kind_is_read_as_its_call(rt: HostRuntime) -> Result<(), Fail> {
     let s = SemaphoreId::at(0);
-    let known = NamedSemaphore::Known(s);
     for (step, call) in [
         (
             "SET_PARTITION_MODE NORMAL",
@@ -243,7 +247,7 @@ fn a_step_of_another_kind_is_read_as_its_call(rt: HostRuntime) -> Result<(), Fai
         ("GET_TIME", Call::Time(TimeCall::GetTime)),
         (
             "CREATE_SEMAPHORE S",
-            Call::Semaphore(SemaphoreCall::CreateSemaphore(known)),
+            Call::Semaphore(SemaphoreCall::CreateSemaphore(NamedSemaphore::Known(s))),
         ),
         (
             "WAIT_SEMAPHORE S 0",
@@ -259,7 +263,7 @@ fn a_step_of_another_kind_is_read_as_its_call(rt: HostRuntime) -> Result<(), Fai
         ),
         (
             "GET_SEMAPHORE_ID S",
-            Call::Semaphore(SemaphoreCall::GetSemaphoreId(known)),
+            Call::Semaphore(SemaphoreCall::GetSemaphoreId(NamedSemaphore::Known(s))),
         ),
         (
             "GET_SEMAPHORE_ID P1",
