@@ -13,3 +13,4 @@ pub mod TickTold
 pub mod Kept
 pub mod States
 pub mod Runs
+pub mod Replays

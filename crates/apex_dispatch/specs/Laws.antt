@@ -5,7 +5,7 @@ use Rattle.apex_types.specs.declared.Entry.{Entry}
 use Rattle.apex_types.specs.Dues.{HasNoPastDue}
 use Rattle.apex_types.specs.Table.{Table, semaphore_entry}
 use Rattle.apex_types.specs.History.{satisfied_waits, semaphore_value}
-use Rattle.apex_types.specs.Machine.{Machine, run, opening}
+use Rattle.apex_types.specs.Machine.{Machine, run, opening, events_of}
 use Rattle.apex_dispatch.specs.OpenWaits.{signals}
 
 -- semaphore s never served more waits than its start and its signals allow, and its value is at most
@@ -27,6 +27,11 @@ RunsCompose table machine = (first rest : List Event)
 -- the history never grows past its limit
 abbrev pub RunsStayWithin : Table → Type 0
 RunsStayWithin table = (events : List Event) → length (run table (opening table) events).history ≤ table.limit
+
+-- the events that the history of a run tells, run anew, give the same state and the same history
+abbrev pub HistoriesReplay : Table → Type 0
+HistoriesReplay table = (events : List Event) →
+    let machine = run table (opening table) events in run table (opening table) (events_of machine.history) ≡ machine
 
 -- in every run time never goes back, and no due that stands is below now
 pub record TimeGoesForward (table : Table) : Type 0 where

@@ -1,7 +1,7 @@
 //! Laws of the machine's definitions. Each is the contract of a function that changes nothing.
 
 ghost use Rattle.apex_store.specs.Laws.{RunsMostUrgent, FirstWaiterIsFirst};
-ghost use Rattle.apex_dispatch.specs.Laws.{ValuesStayInRange, RunsCompose, RunsStayWithin, TimeGoesForward};
+ghost use Rattle.apex_dispatch.specs.Laws.{ValuesStayInRange, RunsCompose, RunsStayWithin, HistoriesReplay, TimeGoesForward};
 ghost use Rattle.apex_dispatch.specs.States.{EachHasOneState};
 ghost use Rattle.apex_dispatch.specs.Worked.{SignalWakesWaiter, SignalBeforeWait, EmptyScriptStopsItself, TimedOutWaiterGetsNoSignal, TickHaltsAtTheNextInstant, DelayedStartReleasesAtItsTime, PriorityChangeMovesPriorityWaiter, SuspendedWaiterIsWokenAndStaysWaiting, SuspensionOfItselfEnds, InitListOfTheTable};
 
@@ -55,6 +55,14 @@ pub fn runs_stay_within(table: &Table)
     ensures { RunsStayWithin table.now }
 {
     table.lawful();
+}
+
+/// The events that the history of a run tells, run anew, give the same state and the same history: so
+/// a history can be replayed from its lines alone.
+pub fn histories_replay(table: &Table)
+    ensures { HistoriesReplay table.now }
+{
+    let _table = table;
 }
 
 /// In every run time never goes back, and no due that stands is below now: no wait outlasts its due

@@ -1,8 +1,8 @@
 ghost use Rattle.std.specs.Prelude.{◌≡◌, ◌<◌, IfOk};
 
 use crate::{
-    Kernel, each_has_one_state, first_waiter_is_first, most_urgent_runs, runs_compose,
-    runs_stay_within, time_goes_forward, values_stay_in_range, worked_histories,
+    Kernel, each_has_one_state, first_waiter_is_first, histories_replay, most_urgent_runs,
+    runs_compose, runs_stay_within, time_goes_forward, values_stay_in_range, worked_histories,
 };
 use apex_store::{PlainStore, Store};
 use apex_table::read_table;
@@ -149,6 +149,7 @@ fn laws_hold_of_a_kernel_over_the_plain_store(rt: HostRuntime) -> Result<(), Fai
     values_stay_in_range(kernel.table());
     runs_compose(&kernel);
     runs_stay_within(kernel.table());
+    histories_replay(kernel.table());
     time_goes_forward(kernel.table());
     worked_histories();
     Ok(())
