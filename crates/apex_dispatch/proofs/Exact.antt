@@ -26,10 +26,10 @@ use Rattle.apex_types.specs.declared.Who.{Who}
 use Rattle.apex_types.specs.Places.{map_places}
 use Rattle.apex_types.specs.Roster.{Roster, record_at, is_normal}
 use Rattle.apex_types.specs.Table.{Table, ProcessEntry, SemaphoreEntry, no_process, no_semaphore, semaphore_entry, IsKnown, IsKnownProcess, IsKnownToProcesses, IsKnownToSemaphores}
-use Rattle.apex_types.specs.History.{is_no_error, is_wait_on, is_process_create, creates_process, creates_semaphore, is_process_created, is_accepted_signal, process_after, semaphore_after, objects_after, Objects, SemaphoreObject}
+use Rattle.apex_types.specs.History.{is_by_process, is_no_error, is_wait_on, is_process_create, creates_process, creates_semaphore, is_process_created, is_accepted_signal, process_after, semaphore_after, objects_after, Objects, SemaphoreObject}
 use Rattle.apex_types.specs.Stamps.{WaitsForOne}
 use Rattle.apex_types.specs.SemaphoreServices.{semaphore_service, semaphore_of, no_semaphore_code}
-use Rattle.apex_types.specs.ProcessServices.{ProcessOutcome, process_service, refused_process, create_process, create_named, initialize_core_affinity, started_by, start_process, set_priority, is_caller, stop_process, suspend_process, resume_process, suspend_self, get_process_id, get_process_status, own_service, own_service_by, is_created}
+use Rattle.apex_types.specs.ProcessServices.{ProcessOutcome, process_service, refused_process, create_process, create_named, initialize_core_affinity, started_by, start_process, set_priority, stop_process, suspend_process, resume_process, suspend_self, get_process_id, get_process_status, own_service, own_service_by, is_created}
 use Rattle.apex_types.specs.PartitionServices.{partition_service}
 use Rattle.apex_types.specs.TimeServices.{time_service}
 use Rattle.apex_types.specs.Machine.{Outcome, service, after_semaphore, refused, semaphore_deed, semaphore_at, no_object}
@@ -152,17 +152,17 @@ module _ (number now : ℕ) (who : Who) (caller : Caller) (history : List Entry)
 
     stays_stop : (by : Caller) (p : ℕ) → (stop_process roster flags by p).created ≡ flags
     stays_stop by p =
-        stays_if (is_caller p by) _ _ refl (stays_if (not (is_created flags p)) _ _ refl
+        stays_if (is_by_process p by) _ _ refl (stays_if (not (is_created flags p)) _ _ refl
         (stays_if (not (record_at roster p).started) _ _ refl refl))
 
     stays_suspend : (by : Caller) (p : ℕ) → (suspend_process roster flags by p).created ≡ flags
     stays_suspend by p =
-        stays_if (is_caller p by) _ _ refl (stays_if (not (is_created flags p)) _ _ refl
+        stays_if (is_by_process p by) _ _ refl (stays_if (not (is_created flags p)) _ _ refl
         (stays_if (not (record_at roster p).started) _ _ refl (stays_if (is_some (record_at roster p).suspended) _ _ refl refl)))
 
     stays_resume : (by : Caller) (p : ℕ) → (resume_process roster flags by p).created ≡ flags
     stays_resume by p =
-        stays_if (is_caller p by) _ _ refl (stays_if (not (is_created flags p)) _ _ refl
+        stays_if (is_by_process p by) _ _ refl (stays_if (not (is_created flags p)) _ _ refl
         (stays_if (not (record_at roster p).started) _ _ refl (stays_if (is_none (record_at roster p).suspended) _ _ refl refl)))
 
     stays_id : (named : NamedProcess) → (get_process_id roster flags named).created ≡ flags

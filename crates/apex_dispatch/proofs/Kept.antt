@@ -22,7 +22,7 @@ use Rattle.apex_types.proofs.Places.{length-map_places}
 use Rattle.apex_types.proofs.DistinctStamps.{stamped_opening, stamped_advance_to}
 use Rattle.apex_types.proofs.Dues.{goal_forward, goal_near, goal_not_past}
 use Rattle.apex_types.proofs.Reaches.{Reaches}
-use Rattle.apex_dispatch.specs.Kernel.{Running, IsSound, IsKept, running}
+use Rattle.apex_dispatch.specs.Kernel.{KernelState, IsSound, IsKept, kernel_in}
 use Rattle.apex_dispatch.specs.OpenWaits.{awaited}
 use Rattle.apex_dispatch.proofs.Known.{known_script_step}
 use Rattle.apex_dispatch.proofs.Reach.{reach_turn, reach_serve_dues}
@@ -52,13 +52,13 @@ init_count-push history e b h =
     sum_by-append (λ (x : Entry). if is_by_init x.process then 1 else 0) history (e ∷ []) ∙ rw h (omega arith)
 
 -- what each kernel keeps after one more deed, by what the deed owes
-sound_deed : (table : Table) (machine : Machine) (who : Who) (deed : Deed) (init_made room : ℕ) (made : Bool) → IsSound (running table machine) init_made room
+sound_deed : (table : Table) (machine : Machine) (who : Who) (deed : Deed) (init_made room : ℕ) (made : Bool) → IsSound (kernel_in table machine) init_made room
     → is_by_init deed.caller ≡ made
     → length deed.outcome.roster.records ≡ length machine.roster.records
     → deed.outcome.roster.young ≤ℤ (machine.roster.young +ℤ pos 64)
     → IsStamped deed.outcome.roster → HasNoPastDue deed.outcome.roster → WaitsForOne deed.outcome.roster
     → IsDeedExact table machine.history (length machine.history + 1) who deed
-    → IsSound (running table (after_deed machine who deed)) (init_made + (if made then 1 else 0)) room
+    → IsSound (kernel_in table (after_deed machine who deed)) (init_made + (if made then 1 else 0)) room
 sound_deed table machine who deed init_made room made sound by many few stamped dues one exact =
     let history = machine.history in
     let e = entry_of (length history + 1) who deed in
@@ -79,7 +79,7 @@ sound_deed table machine who deed init_made room made sound by many few stamped 
     }
 
 -- a turn reaches the roster that it leaves
-turn_reaches : (table : Table) (machine : Machine) (core init_made room : ℕ) → IsSound (running table machine) init_made room
+turn_reaches : (table : Table) (machine : Machine) (core init_made room : ℕ) → IsSound (kernel_in table machine) init_made room
     → Reaches 64 machine.roster (deed_of table machine core).outcome.roster
 turn_reaches table machine core init_made room sound =
     let roster = machine.roster in
@@ -89,8 +89,8 @@ turn_reaches table machine core init_made room sound =
     core (due_init_call table machine core) (due_known table machine core sound.lawful)
 
 -- after a turn
-pub sound_turn : (table : Table) (machine : Machine) (core init_made room : ℕ) → IsSound (running table machine) init_made room
-    → IsSound (running table (turn table machine core))
+pub sound_turn : (table : Table) (machine : Machine) (core init_made room : ℕ) → IsSound (kernel_in table machine) init_made room
+    → IsSound (kernel_in table (turn table machine core))
     (init_made + (if is_some (due_init_call table machine core) then 1 else 0)) room
 unfolding turn
 sound_turn table machine core init_made room sound =
@@ -101,7 +101,7 @@ sound_turn table machine core init_made room sound =
     reaches.many reaches.stamps (reaches.stamped sound.stamped) (reaches.dues sound.dues) (reaches.one sound.one)
     (exact_deed table machine core sound.lawful sound.records sound.enough sound.bounded sound.waiting sound.one)
 
-pub now_turn : (table : Table) (machine : Machine) (core init_made room : ℕ) → IsSound (running table machine) init_made room
+pub now_turn : (table : Table) (machine : Machine) (core init_made room : ℕ) → IsSound (kernel_in table machine) init_made room
     → (turn table machine core).roster.now ≡ machine.roster.now
 unfolding turn
 now_turn table machine core init_made room sound = (turn_reaches table machine core init_made room sound).time
@@ -111,8 +111,8 @@ tick_reaches : (roster : Roster) (n : ℕ) → Reaches (length roster.records) (
 unfolding pass_time
 tick_reaches roster n = reach_serve_dues (advance_to roster (tick_goal roster n))
 
-pub sound_tick : (table : Table) (machine : Machine) (n init_made room : ℕ) → IsSound (running table machine) init_made room
-    → IsSound (running table (tick table machine n)) init_made room
+pub sound_tick : (table : Table) (machine : Machine) (n init_made room : ℕ) → IsSound (kernel_in table machine) init_made room
+    → IsSound (kernel_in table (tick table machine n)) init_made room
 unfolding tick
 sound_tick table machine n init_made room sound =
     let roster = machine.roster in
@@ -144,31 +144,31 @@ unfolding tick
 length-tick table machine n = rw length-append refl
 
 -- what each kernel keeps, with its time
-pub kept_turn : (table : Table) (machine : Machine) (core init_made room : ℕ) → IsKept (running table machine) init_made room
-    → IsKept (running table (turn table machine core))
+pub kept_turn : (table : Table) (machine : Machine) (core init_made room : ℕ) → IsKept (kernel_in table machine) init_made room
+    → IsKept (kernel_in table (turn table machine core))
     (init_made + (if is_some (due_init_call table machine core) then 1 else 0)) room
 kept_turn table machine core init_made room kept = record {
   sound = sound_turn table machine core init_made room kept.sound;
   time = rw (length-turn table machine core, now_turn table machine core init_made room kept.sound) (omega (arith, kept.time));
 }
 
-pub kept_tick : (table : Table) (machine : Machine) (n init_made room : ℕ) → n ≤ 1048576 → IsKept (running table machine) init_made room
-    → IsKept (running table (tick table machine n)) init_made room
+pub kept_tick : (table : Table) (machine : Machine) (n init_made room : ℕ) → n ≤ 1048576 → IsKept (kernel_in table machine) init_made room
+    → IsKept (kernel_in table (tick table machine n)) init_made room
 kept_tick table machine n init_made room few kept = record {
   sound = sound_tick table machine n init_made room kept.sound;
   time = rw (length-tick table machine n) (omega (arith, kept.time, few, (now_tick table machine n kept.sound.dues).1));
 }
 
 -- a kernel's running values are those of its history
-pub kept_running : (kernel : Running) (init_made room : ℕ) → IsKept kernel init_made room → kernel ≡ running kernel.table kernel.machine
-kept_running kernel init_made room kept = ap (λ (o : Objects). let k : Running = record kernel { objects = o } in k) kept.sound.objects
+pub kept_running : (kernel : KernelState) (init_made room : ℕ) → IsKept kernel init_made room → kernel ≡ kernel_in kernel.table kernel.machine
+kept_running kernel init_made room kept = ap (λ (o : Objects). let k : KernelState = record kernel { objects = o } in k) kept.sound.objects
 
 -- what a turn leaves, where its deed was carried out on the running values
 pub turn_is : (table : Table) (machine : Machine) (objects : Objects) (core init_made room : ℕ)
     → IsKept (record { table = table; machine = machine; objects = objects }) init_made room
     → let deed = turn_deed table machine.roster objects core (due_init_call table machine core) in
-    let after : Running = record { table = table; machine = after_deed machine (Core core) deed; objects = deed.outcome.objects } in
-    after ≡ running table (turn table machine core)
+    let after : KernelState = record { table = table; machine = after_deed machine (Core core) deed; objects = deed.outcome.objects } in
+    after ≡ kernel_in table (turn table machine core)
 unfolding turn
 turn_is table machine objects core init_made room kept =
     let sound = kept.sound in
@@ -178,7 +178,7 @@ turn_is table machine objects core init_made room kept =
 -- the same of a kernel that is the one after a turn
 pub kept_by : (table : Table) (machine : Machine) (objects : Objects) (core init_made room : ℕ)
     → IsKept (record { table = table; machine = machine; objects = objects }) init_made room
-    → (new : Running) (new_made new_room : ℕ) → new ≡ running table (turn table machine core)
+    → (new : KernelState) (new_made new_room : ℕ) → new ≡ kernel_in table (turn table machine core)
     → new_made ≡ init_made + (if is_some (due_init_call table machine core) then 1 else 0)
     → new_room ≡ room → IsKept new new_made new_room
 kept_by table machine objects core init_made room kept new new_made new_room is made same =
@@ -188,8 +188,8 @@ kept_by table machine objects core init_made room kept new new_made new_room is 
 pub tick_is : (table : Table) (machine : Machine) (objects : Objects) (n init_made room : ℕ)
     → IsKept (record { table = table; machine = machine; objects = objects }) init_made room
     → let deed = tick_deed machine.roster objects n in
-    let after : Running = record { table = table; machine = after_deed machine Ticker deed; objects = objects } in
-    after ≡ running table (tick table machine n)
+    let after : KernelState = record { table = table; machine = after_deed machine Ticker deed; objects = objects } in
+    after ≡ kernel_in table (tick table machine n)
 unfolding tick
 tick_is table machine objects n init_made room kept =
     let sound = kept.sound in
@@ -198,11 +198,11 @@ tick_is table machine objects n init_made room kept =
 
 pub kept_by_tick : (table : Table) (machine : Machine) (objects : Objects) (n init_made room : ℕ) → n ≤ 1048576
     → IsKept (record { table = table; machine = machine; objects = objects }) init_made room
-    → (new : Running) (new_room : ℕ) → new ≡ running table (tick table machine n) → new_room ≡ room → IsKept new init_made new_room
+    → (new : KernelState) (new_room : ℕ) → new ≡ kernel_in table (tick table machine n) → new_room ≡ room → IsKept new init_made new_room
 kept_by_tick table machine objects n init_made room few kept new new_room is same =
     rw (is, same) (kept_tick table machine n init_made room few (rw kept.sound.objects at kept))
 
-pub sound_opening : (table : Table) → IsLawful table → IsSound (running table (opening table)) 0 table.limit
+pub sound_opening : (table : Table) → IsLawful table → IsSound (kernel_in table (opening table)) 0 table.limit
 sound_opening table lawful =
     let size = length-map_places opening_record 0 table.processes in
     let count = lawful.process_count in
@@ -230,5 +230,5 @@ sound_opening table lawful =
       opening_free (e ∷ entries) q zero w h = none-some w h
       opening_free (e ∷ entries) q (suc p) w h = opening_free entries (q + 1) p w h
 
-pub kept_opening : (table : Table) → IsLawful table → IsKept (running table (opening table)) 0 table.limit
+pub kept_opening : (table : Table) → IsLawful table → IsKept (kernel_in table (opening table)) 0 table.limit
 kept_opening table lawful = record { sound = sound_opening table lawful; time = omega arith }

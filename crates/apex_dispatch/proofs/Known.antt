@@ -6,7 +6,7 @@ use Rattle.apex_types.specs.declared.Call.TheVariants.{Partition, Process, Time,
 use Rattle.apex_types.specs.declared.ProcessCall.TheVariants.{StopSelf}
 use Rattle.apex_types.specs.Table.{Table, IsLawful, IsKnown, call_at, process_entry}
 use Rattle.apex_types.specs.History.{Objects}
-use Rattle.apex_dispatch.specs.Callers.{IsKnownTo}
+use Rattle.apex_dispatch.specs.Premises.{IsKnownTo}
 
 -- the objects are as many as the table's entries
 pub known_to : (table : Table) (objects : Objects) (call : Call)

@@ -33,7 +33,7 @@ use Rattle.apex_types.specs.Roster.{Roster, nobody, record_at, is_normal}
 use Rattle.apex_types.specs.Running.{is_eligible, process_state, current_priority}
 use Rattle.apex_types.specs.Waiters.{is_ranked, is_wait_for, waits_in, waits_before, discipline_of}
 use Rattle.apex_types.specs.Stamps as stamps
-use Rattle.apex_types.specs.History.{is_waking}
+use Rattle.apex_types.specs.History.{is_by_process, is_waking}
 use Rattle.apex_types.specs.ProcessServices as processes
 use Rattle.apex_types.specs.PartitionServices as partitions
 use Rattle.apex_types.specs.Ticks as ticks
@@ -192,7 +192,7 @@ module _ (roster : Roster) (created : List Bool) where
 
   stop_spares : (caller : Caller) (p : ℕ) → SparesAll (processes.stop_process roster created caller p)
   stop_spares caller p =
-      spares_if (processes.is_caller p caller) _ _ same (spares_if (not (processes.is_created created p)) _ _ same
+      spares_if (is_by_process p caller) _ _ same (spares_if (not (processes.is_created created p)) _ _ same
       (spares_if (not (record_at roster p).started) _ _ same (stopped_spares p)))
 
   -- who is suspended by another waits for no more than before
@@ -206,7 +206,7 @@ module _ (roster : Roster) (created : List Bool) where
   suspend_spares : (caller : Caller) (p : ℕ) → SparesAll (processes.suspend_process roster created caller p)
   suspend_spares caller p =
       let r = record_at roster p in
-      spares_if (processes.is_caller p caller) _ _ same (spares_if (not (processes.is_created created p)) _ _ same
+      spares_if (is_by_process p caller) _ _ same (spares_if (not (processes.is_created created p)) _ _ same
       (spares_if (not r.started) _ _ same (spares_if (is_some r.suspended) _ _ same
       (moved (stamps.suspend roster p) p (record r { suspended = Some Other }) refl
       (suspended_less r.wait (stamps.is_by_itself r.suspended))))))
@@ -274,7 +274,7 @@ module _ (cores : ℕ) (roster : Roster) (created : List Bool) (one : stamps.Wai
   keeps_resume caller idle p =
       let call = Resume p in
       let r = record_at roster p in
-      keeps_if caller call (processes.is_caller p caller) _ _ (keeps_same caller call (Code InvalidParam) idle)
+      keeps_if caller call (is_by_process p caller) _ _ (keeps_same caller call (Code InvalidParam) idle)
       (keeps_if caller call (not (processes.is_created created p)) _ _ (keeps_same caller call (Code InvalidParam) idle)
       (keeps_if caller call (not r.started) _ _ (keeps_same caller call (Code InvalidMode) idle)
       (keeps_if caller call (is_none r.suspended) _ _ (keeps_same caller call (Code NoAction) idle)

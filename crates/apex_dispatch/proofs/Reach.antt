@@ -31,7 +31,7 @@ use Rattle.apex_types.specs.Running.{runs_on, is_before, is_eligible, chosen}
 use Rattle.apex_types.specs.Waiters.{waits_in, waits_before, discipline_of, is_ranked, first_waiter}
 use Rattle.apex_types.specs.Stamps as stamps
 use Rattle.apex_types.specs.Table.{Table, process_entry, IsKnown, IsKnownToProcesses}
-use Rattle.apex_types.specs.History.{Objects, SemaphoreObject}
+use Rattle.apex_types.specs.History.{is_by_process, Objects, SemaphoreObject}
 use Rattle.apex_types.specs.SemaphoreServices as semaphores
 use Rattle.apex_types.specs.ProcessServices as processes
 use Rattle.apex_types.specs.TimeServices as times
@@ -138,20 +138,20 @@ module _ (cores : ℕ) (roster : Roster) (created : List Bool) where
 
   reach_stop : (caller : Caller) (p : ℕ) → p < length roster.records → ReachesWith (processes.stop_process roster created caller p)
   reach_stop caller p known =
-      process_if (processes.is_caller p caller) _ _ unmoved (process_if (not (processes.is_created created p)) _ _ unmoved
+      process_if (is_by_process p caller) _ _ unmoved (process_if (not (processes.is_created created p)) _ _ unmoved
       (process_if (not (record_at roster p).started) _ _ unmoved (few (reaches_stop roster p known))))
 
   reach_suspend : (caller : Caller) (p : ℕ) → p < length roster.records → ReachesWith (processes.suspend_process roster created caller p)
   reach_suspend caller p known =
       let r = record_at roster p in
-      process_if (processes.is_caller p caller) _ _ unmoved (process_if (not (processes.is_created created p)) _ _ unmoved
+      process_if (is_by_process p caller) _ _ unmoved (process_if (not (processes.is_created created p)) _ _ unmoved
       (process_if (not r.started) _ _ unmoved (process_if (is_some r.suspended) _ _ unmoved
       (reaches_more 0 64 (lit≤ tt) (reaches_suspend roster p known)))))
 
   reach_resume : (caller : Caller) (p : ℕ) → p < length roster.records → ReachesWith (processes.resume_process roster created caller p)
   reach_resume caller p known =
       let r = record_at roster p in
-      process_if (processes.is_caller p caller) _ _ unmoved (process_if (not (processes.is_created created p)) _ _ unmoved
+      process_if (is_by_process p caller) _ _ unmoved (process_if (not (processes.is_created created p)) _ _ unmoved
       (process_if (not r.started) _ _ unmoved (process_if (is_none r.suspended) _ _ unmoved (few (reaches_resume roster p known)))))
 
   reach_id : (named : NamedProcess) → ReachesWith (processes.get_process_id roster created named)

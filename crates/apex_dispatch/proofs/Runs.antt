@@ -6,7 +6,7 @@ use Rattle.apex_types.specs.declared.Event.{Event}
 use Rattle.apex_types.specs.declared.Event.TheVariants.{Turn, Tick}
 use Rattle.apex_types.specs.Table.{Table, IsLawful}
 use Rattle.apex_types.specs.Machine.{Machine, happen, accept, run, opening}
-use Rattle.apex_dispatch.specs.Kernel.{IsSound, running}
+use Rattle.apex_dispatch.specs.Kernel.{IsSound, kernel_in}
 use Rattle.apex_dispatch.proofs.Kept.{length-turn, length-tick, sound_turn, sound_tick, now_turn, now_tick, sound_opening}
 use Rattle.std.proofs.lemmas.Bool.{cond_both, ltb-true}
 
@@ -45,14 +45,14 @@ run-step table machine new events i event end within here room is before =
     let taken : run table (happen table machine event) (drop (i + 1) events) ≡ end = rw (← accept-room table machine event room) (rw next at before) in
     rw is taken
 
-sound_happen : (table : Table) (machine : Machine) (event : Event) → (made : ℕ) × IsSound (running table machine) made table.limit
-    → (made : ℕ) × IsSound (running table (happen table machine event)) made table.limit
+sound_happen : (table : Table) (machine : Machine) (event : Event) → (made : ℕ) × IsSound (kernel_in table machine) made table.limit
+    → (made : ℕ) × IsSound (kernel_in table (happen table machine event)) made table.limit
 sound_happen table machine (Turn core) sound = (_, sound_turn table machine core sound.0 table.limit sound.1)
 sound_happen table machine (Tick n) sound = (_, sound_tick table machine n sound.0 table.limit sound.1)
 
 -- the kernel in this state keeps what each kernel keeps but for its time, and its history is within the limit
 pub record IsWell (table : Table) (machine : Machine) : Type 0 where
-  pub sound : (made : ℕ) × IsSound (running table machine) made table.limit
+  pub sound : (made : ℕ) × IsSound (kernel_in table machine) made table.limit
   pub within : length machine.history ≤ table.limit
 
 well_accept : (table : Table) (machine : Machine) (event : Event) → IsWell table machine → IsWell table (accept table machine event)

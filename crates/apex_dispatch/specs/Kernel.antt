@@ -9,25 +9,25 @@ use Rattle.apex_types.specs.Stamps.{WaitsForOne}
 use Rattle.apex_dispatch.specs.OpenWaits.{AreEnough, AreBounded, AreOpen}
 
 -- a kernel: its table, the machine's state, and the running values of its objects
-pub record Running : Type 0 where
+pub record KernelState : Type 0 where
   pub table : Table
   pub machine : Machine
   pub objects : Objects
 
 -- the kernel in this state: its running values are those that the history gives
-abbrev pub running : Table → Machine → Running
-running table machine = record {
+abbrev pub kernel_in : Table → Machine → KernelState
+kernel_in table machine = record {
   table = table;
   machine = machine;
   objects = objects_after table machine.history;
 }
 
--- what each kernel keeps: the running values are the history's, stamps differ, stamps are left for all
--- that the history's limit still admits, no due that stands is past, and who suspended itself waits for
--- nothing else
-pub record IsSound (kernel : Running) (init_made room : ℕ) : Type 0 where
+-- what holds of a kernel after every list of events: the running values are the history's, stamps differ,
+-- stamps are left for all that the history's limit still admits, no due that stands is past, and who
+-- suspended itself waits for nothing else
+pub record IsSound (kernel : KernelState) (init_made log_limit : ℕ) : Type 0 where
   pub lawful : IsLawful kernel.table
-  pub limit : room ≡ kernel.table.limit
+  pub limit : log_limit ≡ kernel.table.limit
   pub init : init_made ≡ init_count kernel.machine.history
   pub records : length kernel.machine.roster.records ≡ length kernel.table.processes
   pub objects : kernel.objects ≡ objects_after kernel.table kernel.machine.history
@@ -39,7 +39,8 @@ pub record IsSound (kernel : Running) (init_made room : ℕ) : Type 0 where
   pub bounded : AreBounded kernel.table kernel.machine.history
   pub waiting : AreOpen kernel.machine.roster kernel.machine.history
 
--- and as ticks are of 1,048,576 at the most, so is the time for each entry of the history
-pub record IsKept (kernel : Running) (init_made room : ℕ) : Type 0 where
-  pub sound : IsSound kernel init_made room
+-- what each kernel keeps: that, and as its ticks are of 1,048,576 at the most, so is the time for each
+-- entry of the history
+pub record IsKept (kernel : KernelState) (init_made log_limit : ℕ) : Type 0 where
+  pub sound : IsSound kernel init_made log_limit
   pub time : kernel.machine.roster.now ≤ 1048576 * length kernel.machine.history

@@ -1,4 +1,4 @@
-pub mod Callers
+pub mod Premises
 pub mod OpenWaits
 pub mod Kernel
 pub mod Events

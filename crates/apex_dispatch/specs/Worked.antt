@@ -1,5 +1,6 @@
 -- Worked histories: small tables and events, and the lines that the definitions give for them.
-use Rattle.std.specs.Prelude.{◌≡◌, ℕ, true, false, List, [], ◌∷◌, codes, replicate, ◌++◌}
+use Rattle.std.specs.Prelude.{◌≡◌, ℕ, true, false, List, [], ◌∷◌, codes, flat_map, replicate, ◌++◌}
+use Rattle.apex_types.specs.declared.Call.{Call}
 use Rattle.apex_types.specs.declared.Call.TheVariants.{Partition, Process, Time, Semaphore}
 use Rattle.apex_types.specs.declared.Discipline.TheVariants.{Fifo, Priority}
 use Rattle.apex_types.specs.declared.NamedProcess.TheVariants as process
@@ -12,9 +13,14 @@ use Rattle.apex_types.specs.declared.TimeCall.TheVariants.{TimedWait, GetTime}
 use Rattle.apex_types.specs.declared.Timeout.TheVariants.{Poll, Ticks, Infinite}
 use Rattle.apex_types.specs.declared.Event.{Event}
 use Rattle.apex_types.specs.declared.Event.TheVariants.{Turn, Tick}
-use Rattle.apex_types.specs.Table.{Table}
+use Rattle.apex_types.specs.Table.{Table, ProcessEntry}
 use Rattle.apex_types.specs.Machine.{run, opening}
 use Rattle.apex_types.specs.Lines.{lines_of}
+
+-- a process that the init list starts, with a script that ends
+abbrev pub starts : List ℕ → ℕ → ℕ → List Call → ProcessEntry
+starts name priority core script =
+    record { name = name; priority = priority; core = core; loops = false; start = true; script = script }
 
 -- a waiter on core 0 and a signaller on core 1, with one semaphore of value 0
 abbrev pub waiter_and_signaller : Table
@@ -22,8 +28,8 @@ waiter_and_signaller = record {
   cores = 2;
   limit = 4096;
   processes =
-      (record { name = codes "P1"; priority = 10; core = 0; loops = false; start = true; script = Semaphore (WaitSemaphore 0 Infinite) ∷ [] })
-      ∷ (record { name = codes "P2"; priority = 10; core = 1; loops = false; start = true; script = Semaphore (SignalSemaphore 0) ∷ [] }) ∷ [];
+      starts (codes "P1") 10 0 (Semaphore (WaitSemaphore 0 Infinite) ∷ [])
+      ∷ starts (codes "P2") 10 1 (Semaphore (SignalSemaphore 0) ∷ []) ∷ [];
   semaphores = (record { name = codes "S"; maximum = 1; initial = 0; discipline = Fifo }) ∷ [];
   init =
       Semaphore (CreateSemaphore (semaphore.Known 0))
@@ -38,12 +44,16 @@ abbrev pub empty_script : Table
 empty_script = record {
   cores = 1;
   limit = 4096;
-  processes = (record { name = codes "P"; priority = 10; core = 0; loops = false; start = true; script = [] }) ∷ [];
+  processes = starts (codes "P") 10 0 [] ∷ [];
   semaphores = [];
   init =
       Process (CreateProcess (process.Known 0)) ∷ Process (InitializeProcessCoreAffinity 0 0) ∷ Process (Start 0)
       ∷ Partition (SetPartitionMode Normal) ∷ [];
 }
+
+-- lines, each with its line feed
+abbrev pub text : List (List ℕ) → List ℕ
+text = flat_map (λ line. line ++ codes "\n")
 
 -- the lines of the history that these events make
 abbrev pub history_lines : Table → List Event → List ℕ
@@ -51,25 +61,43 @@ history_lines table events = lines_of table (run table (opening table) events).h
 
 -- the lines of the init list of the waiter and the signaller
 abbrev pub init_lines : List ℕ
-init_lines = codes "1 0 core0 init CREATE_SEMAPHORE S -> NO_ERROR\n2 0 core0 init CREATE_PROCESS P1 -> NO_ERROR\n3 0 core0 init INITIALIZE_PROCESS_CORE_AFFINITY P1 0 -> NO_ERROR\n4 0 core0 init CREATE_PROCESS P2 -> NO_ERROR\n5 0 core0 init INITIALIZE_PROCESS_CORE_AFFINITY P2 1 -> NO_ERROR\n6 0 core0 init START P1 -> NO_ERROR\n7 0 core0 init START P2 -> NO_ERROR\n8 0 core0 init SET_PARTITION_MODE NORMAL -> NO_ERROR | released 1 | released 2\n"
+init_lines = text (
+    codes "1 0 core0 init CREATE_SEMAPHORE S -> NO_ERROR"
+    ∷ codes "2 0 core0 init CREATE_PROCESS P1 -> NO_ERROR"
+    ∷ codes "3 0 core0 init INITIALIZE_PROCESS_CORE_AFFINITY P1 0 -> NO_ERROR"
+    ∷ codes "4 0 core0 init CREATE_PROCESS P2 -> NO_ERROR"
+    ∷ codes "5 0 core0 init INITIALIZE_PROCESS_CORE_AFFINITY P2 1 -> NO_ERROR"
+    ∷ codes "6 0 core0 init START P1 -> NO_ERROR"
+    ∷ codes "7 0 core0 init START P2 -> NO_ERROR"
+    ∷ codes "8 0 core0 init SET_PARTITION_MODE NORMAL -> NO_ERROR | released 1 | released 2" ∷ [])
 
 -- a signal wakes the process that waits
 abbrev pub SignalWakesWaiter : Type 0
 SignalWakesWaiter =
     history_lines waiter_and_signaller (replicate 8 (Turn 0) ++ Turn 0 ∷ Turn 1 ∷ [])
-    ≡ init_lines ++ codes "9 0 core0 1 WAIT_SEMAPHORE S infinite -> BLOCKED\n10 0 core1 2 SIGNAL_SEMAPHORE S -> NO_ERROR | woken 1 NO_ERROR\n"
+    ≡ init_lines ++ text (
+    codes "9 0 core0 1 WAIT_SEMAPHORE S infinite -> BLOCKED"
+    ∷ codes "10 0 core1 2 SIGNAL_SEMAPHORE S -> NO_ERROR | woken 1 NO_ERROR" ∷ [])
 
 -- a signal that comes first is kept for the wait
 abbrev pub SignalBeforeWait : Type 0
 SignalBeforeWait =
     history_lines waiter_and_signaller (replicate 8 (Turn 0) ++ Turn 1 ∷ Turn 0 ∷ [])
-    ≡ init_lines ++ codes "9 0 core1 2 SIGNAL_SEMAPHORE S -> NO_ERROR\n10 0 core0 1 WAIT_SEMAPHORE S infinite -> NO_ERROR\n"
+    ≡ init_lines ++ text (
+    codes "9 0 core1 2 SIGNAL_SEMAPHORE S -> NO_ERROR"
+    ∷ codes "10 0 core0 1 WAIT_SEMAPHORE S infinite -> NO_ERROR" ∷ [])
 
 -- the end of a script stops its process, and the core is idle then
 abbrev pub EmptyScriptStopsItself : Type 0
 EmptyScriptStopsItself =
     history_lines empty_script (replicate 6 (Turn 0))
-    ≡ codes "1 0 core0 init CREATE_PROCESS P -> NO_ERROR\n2 0 core0 init INITIALIZE_PROCESS_CORE_AFFINITY P 0 -> NO_ERROR\n3 0 core0 init START P -> NO_ERROR\n4 0 core0 init SET_PARTITION_MODE NORMAL -> NO_ERROR | released 1\n5 0 core0 1 STOP_SELF -> GONE\n6 0 core0 - idle -> IDLE\n"
+    ≡ text (
+    codes "1 0 core0 init CREATE_PROCESS P -> NO_ERROR"
+    ∷ codes "2 0 core0 init INITIALIZE_PROCESS_CORE_AFFINITY P 0 -> NO_ERROR"
+    ∷ codes "3 0 core0 init START P -> NO_ERROR"
+    ∷ codes "4 0 core0 init SET_PARTITION_MODE NORMAL -> NO_ERROR | released 1"
+    ∷ codes "5 0 core0 1 STOP_SELF -> GONE"
+    ∷ codes "6 0 core0 - idle -> IDLE" ∷ [])
 
 -- a process that waits on a semaphore for 5 ticks, and one that signals and asks for the value
 abbrev pub timed_waiter : Table
@@ -77,15 +105,8 @@ timed_waiter = record {
   cores = 2;
   limit = 4096;
   processes =
-      (record { name = codes "P1"; priority = 10; core = 0; loops = false; start = true; script = Semaphore (WaitSemaphore 0 (Ticks 5)) ∷ [] })
-      ∷ (record {
-        name = codes "P2";
-        priority = 10;
-        core = 1;
-        loops = false;
-        start = true;
-        script = Semaphore (SignalSemaphore 0) ∷ Semaphore (GetSemaphoreStatus 0) ∷ [];
-      }) ∷ [];
+      starts (codes "P1") 10 0 (Semaphore (WaitSemaphore 0 (Ticks 5)) ∷ [])
+      ∷ starts (codes "P2") 10 1 (Semaphore (SignalSemaphore 0) ∷ Semaphore (GetSemaphoreStatus 0) ∷ []) ∷ [];
   semaphores = (record { name = codes "S"; maximum = 1; initial = 0; discipline = Fifo }) ∷ [];
   init = waiter_and_signaller.init;
 }
@@ -94,7 +115,11 @@ timed_waiter = record {
 abbrev pub TimedOutWaiterGetsNoSignal : Type 0
 TimedOutWaiterGetsNoSignal =
     history_lines timed_waiter (replicate 9 (Turn 0) ++ Tick 5 ∷ Turn 1 ∷ Turn 1 ∷ [])
-    ≡ init_lines ++ codes "9 0 core0 1 WAIT_SEMAPHORE S 5 -> BLOCKED\n10 5 ticker - tick 5 -> ADVANCED 5 | woken 1 TIMED_OUT\n11 5 core1 2 SIGNAL_SEMAPHORE S -> NO_ERROR\n12 5 core1 2 GET_SEMAPHORE_STATUS S -> STATUS 1 0\n"
+    ≡ init_lines ++ text (
+    codes "9 0 core0 1 WAIT_SEMAPHORE S 5 -> BLOCKED"
+    ∷ codes "10 5 ticker - tick 5 -> ADVANCED 5 | woken 1 TIMED_OUT"
+    ∷ codes "11 5 core1 2 SIGNAL_SEMAPHORE S -> NO_ERROR"
+    ∷ codes "12 5 core1 2 GET_SEMAPHORE_STATUS S -> STATUS 1 0" ∷ [])
 
 -- two processes that wait for 9 ticks, and one that waits for 4
 abbrev pub three_timers : Table
@@ -102,9 +127,9 @@ three_timers = record {
   cores = 1;
   limit = 4096;
   processes =
-      (record { name = codes "A"; priority = 10; core = 0; loops = false; start = true; script = Time (TimedWait (Ticks 9)) ∷ Process GetMyId ∷ [] })
-      ∷ (record { name = codes "B"; priority = 10; core = 0; loops = false; start = true; script = Time (TimedWait (Ticks 9)) ∷ [] })
-      ∷ (record { name = codes "C"; priority = 5; core = 0; loops = false; start = true; script = Time (TimedWait (Ticks 4)) ∷ [] }) ∷ [];
+      starts (codes "A") 10 0 (Time (TimedWait (Ticks 9)) ∷ Process GetMyId ∷ [])
+      ∷ starts (codes "B") 10 0 (Time (TimedWait (Ticks 9)) ∷ [])
+      ∷ starts (codes "C") 5 0 (Time (TimedWait (Ticks 4)) ∷ []) ∷ [];
   semaphores = [];
   init =
       Process (CreateProcess (process.Known 0)) ∷ Process (InitializeProcessCoreAffinity 0 0)
@@ -118,7 +143,23 @@ three_timers = record {
 abbrev pub TickHaltsAtTheNextInstant : Type 0
 TickHaltsAtTheNextInstant =
     history_lines three_timers (replicate 13 (Turn 0) ++ Tick 9 ∷ Tick 9 ∷ Turn 0 ∷ [])
-    ≡ codes "1 0 core0 init CREATE_PROCESS A -> NO_ERROR\n2 0 core0 init INITIALIZE_PROCESS_CORE_AFFINITY A 0 -> NO_ERROR\n3 0 core0 init CREATE_PROCESS B -> NO_ERROR\n4 0 core0 init INITIALIZE_PROCESS_CORE_AFFINITY B 0 -> NO_ERROR\n5 0 core0 init CREATE_PROCESS C -> NO_ERROR\n6 0 core0 init INITIALIZE_PROCESS_CORE_AFFINITY C 0 -> NO_ERROR\n7 0 core0 init START A -> NO_ERROR\n8 0 core0 init START B -> NO_ERROR\n9 0 core0 init START C -> NO_ERROR\n10 0 core0 init SET_PARTITION_MODE NORMAL -> NO_ERROR | released 1 | released 2 | released 3\n11 0 core0 1 TIMED_WAIT 9 -> BLOCKED\n12 0 core0 2 TIMED_WAIT 9 -> BLOCKED\n13 0 core0 3 TIMED_WAIT 4 -> BLOCKED\n14 4 ticker - tick 9 -> ADVANCED 4 | woken 3 NO_ERROR\n15 9 ticker - tick 9 -> ADVANCED 5 | woken 1 NO_ERROR | woken 2 NO_ERROR\n16 9 core0 1 GET_MY_ID -> VALUE 1\n"
+    ≡ text (
+    codes "1 0 core0 init CREATE_PROCESS A -> NO_ERROR"
+    ∷ codes "2 0 core0 init INITIALIZE_PROCESS_CORE_AFFINITY A 0 -> NO_ERROR"
+    ∷ codes "3 0 core0 init CREATE_PROCESS B -> NO_ERROR"
+    ∷ codes "4 0 core0 init INITIALIZE_PROCESS_CORE_AFFINITY B 0 -> NO_ERROR"
+    ∷ codes "5 0 core0 init CREATE_PROCESS C -> NO_ERROR"
+    ∷ codes "6 0 core0 init INITIALIZE_PROCESS_CORE_AFFINITY C 0 -> NO_ERROR"
+    ∷ codes "7 0 core0 init START A -> NO_ERROR"
+    ∷ codes "8 0 core0 init START B -> NO_ERROR"
+    ∷ codes "9 0 core0 init START C -> NO_ERROR"
+    ∷ codes "10 0 core0 init SET_PARTITION_MODE NORMAL -> NO_ERROR | released 1 | released 2 | released 3"
+    ∷ codes "11 0 core0 1 TIMED_WAIT 9 -> BLOCKED"
+    ∷ codes "12 0 core0 2 TIMED_WAIT 9 -> BLOCKED"
+    ∷ codes "13 0 core0 3 TIMED_WAIT 4 -> BLOCKED"
+    ∷ codes "14 4 ticker - tick 9 -> ADVANCED 4 | woken 3 NO_ERROR"
+    ∷ codes "15 9 ticker - tick 9 -> ADVANCED 5 | woken 1 NO_ERROR | woken 2 NO_ERROR"
+    ∷ codes "16 9 core0 1 GET_MY_ID -> VALUE 1" ∷ [])
 
 -- a process that starts another one after 3 ticks
 abbrev pub delayed_starter : Table
@@ -126,7 +167,7 @@ delayed_starter = record {
   cores = 1;
   limit = 4096;
   processes =
-      (record { name = codes "A"; priority = 10; core = 0; loops = false; start = true; script = Process (DelayedStart 1 (Ticks 3)) ∷ [] })
+      starts (codes "A") 10 0 (Process (DelayedStart 1 (Ticks 3)) ∷ [])
       ∷ (record { name = codes "B"; priority = 20; core = 0; loops = false; start = false; script = Time GetTime ∷ [] }) ∷ [];
   semaphores = [];
   init =
@@ -139,7 +180,16 @@ delayed_starter = record {
 abbrev pub DelayedStartReleasesAtItsTime : Type 0
 DelayedStartReleasesAtItsTime =
     history_lines delayed_starter (replicate 7 (Turn 0) ++ Tick 5 ∷ Turn 0 ∷ [])
-    ≡ codes "1 0 core0 init CREATE_PROCESS A -> NO_ERROR\n2 0 core0 init INITIALIZE_PROCESS_CORE_AFFINITY A 0 -> NO_ERROR\n3 0 core0 init CREATE_PROCESS B -> NO_ERROR\n4 0 core0 init INITIALIZE_PROCESS_CORE_AFFINITY B 0 -> NO_ERROR\n5 0 core0 init START A -> NO_ERROR\n6 0 core0 init SET_PARTITION_MODE NORMAL -> NO_ERROR | released 1\n7 0 core0 1 DELAYED_START B 3 -> NO_ERROR\n8 3 ticker - tick 5 -> ADVANCED 3 | released 2\n9 3 core0 2 GET_TIME -> VALUE 3\n"
+    ≡ text (
+    codes "1 0 core0 init CREATE_PROCESS A -> NO_ERROR"
+    ∷ codes "2 0 core0 init INITIALIZE_PROCESS_CORE_AFFINITY A 0 -> NO_ERROR"
+    ∷ codes "3 0 core0 init CREATE_PROCESS B -> NO_ERROR"
+    ∷ codes "4 0 core0 init INITIALIZE_PROCESS_CORE_AFFINITY B 0 -> NO_ERROR"
+    ∷ codes "5 0 core0 init START A -> NO_ERROR"
+    ∷ codes "6 0 core0 init SET_PARTITION_MODE NORMAL -> NO_ERROR | released 1"
+    ∷ codes "7 0 core0 1 DELAYED_START B 3 -> NO_ERROR"
+    ∷ codes "8 3 ticker - tick 5 -> ADVANCED 3 | released 2"
+    ∷ codes "9 3 core0 2 GET_TIME -> VALUE 3" ∷ [])
 
 -- two waiters in a queue by priority, and a process that makes the first one as urgent as the second one
 -- before it signals
@@ -148,16 +198,9 @@ ranked_waiters = record {
   cores = 2;
   limit = 4096;
   processes =
-      (record { name = codes "A"; priority = 10; core = 0; loops = false; start = true; script = Semaphore (WaitSemaphore 0 Infinite) ∷ [] })
-      ∷ (record { name = codes "B"; priority = 20; core = 1; loops = false; start = true; script = Semaphore (WaitSemaphore 0 Infinite) ∷ [] })
-      ∷ (record {
-        name = codes "D";
-        priority = 5;
-        core = 0;
-        loops = false;
-        start = true;
-        script = Process (SetPriority 0 20) ∷ Semaphore (SignalSemaphore 0) ∷ [];
-      }) ∷ [];
+      starts (codes "A") 10 0 (Semaphore (WaitSemaphore 0 Infinite) ∷ [])
+      ∷ starts (codes "B") 20 1 (Semaphore (WaitSemaphore 0 Infinite) ∷ [])
+      ∷ starts (codes "D") 5 0 (Process (SetPriority 0 20) ∷ Semaphore (SignalSemaphore 0) ∷ []) ∷ [];
   semaphores = (record { name = codes "Q"; maximum = 1; initial = 0; discipline = Priority }) ∷ [];
   init =
       Semaphore (CreateSemaphore (semaphore.Known 0))
@@ -172,7 +215,22 @@ ranked_waiters = record {
 abbrev pub PriorityChangeMovesPriorityWaiter : Type 0
 PriorityChangeMovesPriorityWaiter =
     history_lines ranked_waiters (replicate 12 (Turn 0) ++ Turn 1 ∷ Turn 0 ∷ Turn 0 ∷ [])
-    ≡ codes "1 0 core0 init CREATE_SEMAPHORE Q -> NO_ERROR\n2 0 core0 init CREATE_PROCESS A -> NO_ERROR\n3 0 core0 init INITIALIZE_PROCESS_CORE_AFFINITY A 0 -> NO_ERROR\n4 0 core0 init CREATE_PROCESS B -> NO_ERROR\n5 0 core0 init INITIALIZE_PROCESS_CORE_AFFINITY B 1 -> NO_ERROR\n6 0 core0 init CREATE_PROCESS D -> NO_ERROR\n7 0 core0 init INITIALIZE_PROCESS_CORE_AFFINITY D 0 -> NO_ERROR\n8 0 core0 init START A -> NO_ERROR\n9 0 core0 init START B -> NO_ERROR\n10 0 core0 init START D -> NO_ERROR\n11 0 core0 init SET_PARTITION_MODE NORMAL -> NO_ERROR | released 1 | released 2 | released 3\n12 0 core0 1 WAIT_SEMAPHORE Q infinite -> BLOCKED\n13 0 core1 2 WAIT_SEMAPHORE Q infinite -> BLOCKED\n14 0 core0 3 SET_PRIORITY A 20 -> NO_ERROR\n15 0 core0 3 SIGNAL_SEMAPHORE Q -> NO_ERROR | woken 2 NO_ERROR\n"
+    ≡ text (
+    codes "1 0 core0 init CREATE_SEMAPHORE Q -> NO_ERROR"
+    ∷ codes "2 0 core0 init CREATE_PROCESS A -> NO_ERROR"
+    ∷ codes "3 0 core0 init INITIALIZE_PROCESS_CORE_AFFINITY A 0 -> NO_ERROR"
+    ∷ codes "4 0 core0 init CREATE_PROCESS B -> NO_ERROR"
+    ∷ codes "5 0 core0 init INITIALIZE_PROCESS_CORE_AFFINITY B 1 -> NO_ERROR"
+    ∷ codes "6 0 core0 init CREATE_PROCESS D -> NO_ERROR"
+    ∷ codes "7 0 core0 init INITIALIZE_PROCESS_CORE_AFFINITY D 0 -> NO_ERROR"
+    ∷ codes "8 0 core0 init START A -> NO_ERROR"
+    ∷ codes "9 0 core0 init START B -> NO_ERROR"
+    ∷ codes "10 0 core0 init START D -> NO_ERROR"
+    ∷ codes "11 0 core0 init SET_PARTITION_MODE NORMAL -> NO_ERROR | released 1 | released 2 | released 3"
+    ∷ codes "12 0 core0 1 WAIT_SEMAPHORE Q infinite -> BLOCKED"
+    ∷ codes "13 0 core1 2 WAIT_SEMAPHORE Q infinite -> BLOCKED"
+    ∷ codes "14 0 core0 3 SET_PRIORITY A 20 -> NO_ERROR"
+    ∷ codes "15 0 core0 3 SIGNAL_SEMAPHORE Q -> NO_ERROR | woken 2 NO_ERROR" ∷ [])
 
 -- a waiter, and a process that suspends it, signals, and resumes it
 abbrev pub suspended_waiter : Table
@@ -180,17 +238,8 @@ suspended_waiter = record {
   cores = 2;
   limit = 4096;
   processes =
-      (record { name = codes "P1"; priority = 10; core = 0; loops = false; start = true; script = Semaphore (WaitSemaphore 0 Infinite) ∷ [] })
-      ∷ (record {
-        name = codes "P2";
-        priority = 10;
-        core = 1;
-        loops = false;
-        start = true;
-        script =
-            Process (Suspend 0) ∷ Semaphore (SignalSemaphore 0) ∷ Process (GetProcessStatus 0)
-            ∷ Process (Resume 0) ∷ Process (GetProcessStatus 0) ∷ [];
-      }) ∷ [];
+      starts (codes "P1") 10 0 (Semaphore (WaitSemaphore 0 Infinite) ∷ [])
+      ∷ starts (codes "P2") 10 1 (Process (Suspend 0) ∷ Semaphore (SignalSemaphore 0) ∷ Process (GetProcessStatus 0) ∷ Process (Resume 0) ∷ Process (GetProcessStatus 0) ∷ []) ∷ [];
   semaphores = (record { name = codes "S"; maximum = 1; initial = 0; discipline = Fifo }) ∷ [];
   init = waiter_and_signaller.init;
 }
@@ -199,7 +248,13 @@ suspended_waiter = record {
 abbrev pub SuspendedWaiterIsWokenAndStaysWaiting : Type 0
 SuspendedWaiterIsWokenAndStaysWaiting =
     history_lines suspended_waiter (replicate 9 (Turn 0) ++ replicate 5 (Turn 1))
-    ≡ init_lines ++ codes "9 0 core0 1 WAIT_SEMAPHORE S infinite -> BLOCKED\n10 0 core1 2 SUSPEND P1 -> NO_ERROR\n11 0 core1 2 SIGNAL_SEMAPHORE S -> NO_ERROR | woken 1 NO_ERROR\n12 0 core1 2 GET_PROCESS_STATUS P1 -> STATUS 3 10\n13 0 core1 2 RESUME P1 -> NO_ERROR\n14 0 core1 2 GET_PROCESS_STATUS P1 -> STATUS 2 10\n"
+    ≡ init_lines ++ text (
+    codes "9 0 core0 1 WAIT_SEMAPHORE S infinite -> BLOCKED"
+    ∷ codes "10 0 core1 2 SUSPEND P1 -> NO_ERROR"
+    ∷ codes "11 0 core1 2 SIGNAL_SEMAPHORE S -> NO_ERROR | woken 1 NO_ERROR"
+    ∷ codes "12 0 core1 2 GET_PROCESS_STATUS P1 -> STATUS 3 10"
+    ∷ codes "13 0 core1 2 RESUME P1 -> NO_ERROR"
+    ∷ codes "14 0 core1 2 GET_PROCESS_STATUS P1 -> STATUS 2 10" ∷ [])
 
 -- a process that suspends itself for 3 ticks, and then for none
 abbrev pub self_suspender : Table
@@ -207,14 +262,7 @@ self_suspender = record {
   cores = 1;
   limit = 4096;
   processes =
-      (record {
-        name = codes "A";
-        priority = 10;
-        core = 0;
-        loops = false;
-        start = true;
-        script = Process (SuspendSelf (Ticks 3)) ∷ Process (SuspendSelf Poll) ∷ [];
-      }) ∷ [];
+      starts (codes "A") 10 0 (Process (SuspendSelf (Ticks 3)) ∷ Process (SuspendSelf Poll) ∷ []) ∷ [];
   semaphores = [];
   init = empty_script.init;
 }
@@ -223,7 +271,14 @@ self_suspender = record {
 abbrev pub SuspensionOfItselfEnds : Type 0
 SuspensionOfItselfEnds =
     history_lines self_suspender (replicate 5 (Turn 0) ++ Tick 3 ∷ Turn 0 ∷ [])
-    ≡ codes "1 0 core0 init CREATE_PROCESS A -> NO_ERROR\n2 0 core0 init INITIALIZE_PROCESS_CORE_AFFINITY A 0 -> NO_ERROR\n3 0 core0 init START A -> NO_ERROR\n4 0 core0 init SET_PARTITION_MODE NORMAL -> NO_ERROR | released 1\n5 0 core0 1 SUSPEND_SELF 3 -> BLOCKED\n6 3 ticker - tick 3 -> ADVANCED 3 | woken 1 TIMED_OUT\n7 3 core0 1 SUSPEND_SELF 0 -> NO_ERROR\n"
+    ≡ text (
+    codes "1 0 core0 init CREATE_PROCESS A -> NO_ERROR"
+    ∷ codes "2 0 core0 init INITIALIZE_PROCESS_CORE_AFFINITY A 0 -> NO_ERROR"
+    ∷ codes "3 0 core0 init START A -> NO_ERROR"
+    ∷ codes "4 0 core0 init SET_PARTITION_MODE NORMAL -> NO_ERROR | released 1"
+    ∷ codes "5 0 core0 1 SUSPEND_SELF 3 -> BLOCKED"
+    ∷ codes "6 3 ticker - tick 3 -> ADVANCED 3 | woken 1 TIMED_OUT"
+    ∷ codes "7 3 core0 1 SUSPEND_SELF 0 -> NO_ERROR" ∷ [])
 
 -- an init list with refused steps, and a process that ends the partition
 abbrev pub own_init_list : Table
@@ -231,14 +286,7 @@ own_init_list = record {
   cores = 1;
   limit = 4096;
   processes =
-      (record {
-        name = codes "P";
-        priority = 10;
-        core = 0;
-        loops = false;
-        start = true;
-        script = Process (CreateProcess (process.Known 0)) ∷ Partition (SetPartitionMode Idle) ∷ [];
-      }) ∷ [];
+      starts (codes "P") 10 0 (Process (CreateProcess (process.Known 0)) ∷ Partition (SetPartitionMode Idle) ∷ []) ∷ [];
   semaphores = [];
   init =
       Process (CreateProcess (process.Known 0)) ∷ Process (CreateProcess (process.Known 0))
@@ -250,4 +298,13 @@ own_init_list = record {
 abbrev pub InitListOfTheTable : Type 0
 InitListOfTheTable =
     history_lines own_init_list (replicate 9 (Turn 0))
-    ≡ codes "1 0 core0 init CREATE_PROCESS P -> NO_ERROR\n2 0 core0 init CREATE_PROCESS P -> NO_ACTION\n3 0 core0 init CREATE_PROCESS Q -> INVALID_CONFIG\n4 0 core0 init INITIALIZE_PROCESS_CORE_AFFINITY P 1 -> INVALID_CONFIG\n5 0 core0 init START P -> NO_ERROR\n6 0 core0 init SET_PARTITION_MODE NORMAL -> NO_ERROR | released 1\n7 0 core0 1 CREATE_PROCESS P -> INVALID_MODE\n8 0 core0 1 SET_PARTITION_MODE IDLE -> GONE\n9 0 core0 - idle -> IDLE\n"
+    ≡ text (
+    codes "1 0 core0 init CREATE_PROCESS P -> NO_ERROR"
+    ∷ codes "2 0 core0 init CREATE_PROCESS P -> NO_ACTION"
+    ∷ codes "3 0 core0 init CREATE_PROCESS Q -> INVALID_CONFIG"
+    ∷ codes "4 0 core0 init INITIALIZE_PROCESS_CORE_AFFINITY P 1 -> INVALID_CONFIG"
+    ∷ codes "5 0 core0 init START P -> NO_ERROR"
+    ∷ codes "6 0 core0 init SET_PARTITION_MODE NORMAL -> NO_ERROR | released 1"
+    ∷ codes "7 0 core0 1 CREATE_PROCESS P -> INVALID_MODE"
+    ∷ codes "8 0 core0 1 SET_PARTITION_MODE IDLE -> GONE"
+    ∷ codes "9 0 core0 - idle -> IDLE" ∷ [])

@@ -3,7 +3,7 @@ ghost use Rattle.std.specs.Option.{ForSome};
 ghost use Rattle.apex_types.specs.Dues.{HasTime};
 ghost use Rattle.apex_types.specs.Table.{IsKnown};
 ghost use Rattle.apex_types.specs.Machine.{chosen_deed, next_place, turn_deed};
-ghost use Rattle.apex_dispatch.specs.Callers.{HasManyStamps};
+ghost use Rattle.apex_dispatch.specs.Premises.{HasManyStamps};
 
 use crate::objects::Objects;
 use crate::services::serve;

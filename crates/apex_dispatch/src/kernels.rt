@@ -4,7 +4,7 @@ ghost use Rattle.apex_types.specs.Machine.{opening, turn, tick, happen, run};
 ghost use Rattle.apex_types.specs.Table.{IsLawful};
 ghost use Rattle.apex_types.specs.Distinct.{HasDistinctStamps};
 ghost use Rattle.apex_dispatch.specs.Events.{IsWithin};
-ghost use Rattle.apex_dispatch.specs.Kernel.{running};
+ghost use Rattle.apex_dispatch.specs.Kernel.{kernel_in};
 
 use crate::deeds::{Deed, carry_out};
 use crate::objects::Objects;
@@ -28,9 +28,9 @@ pub struct Kernel<S: Store> {
 }
 
 impl<S: Store> Model for Kernel<S> {
-    ghost use Rattle.apex_dispatch.specs.Kernel.{Running, IsKept};
+    ghost use Rattle.apex_dispatch.specs.Kernel.{KernelState, IsKept};
 
-    ghost Value = { Running };
+    ghost Value = { KernelState };
 
     ghost view = { λ k. record { table = k.table; machine = record { roster = S.roster k.store; history = k.log.entries }; objects = k.objects } };
 
@@ -56,7 +56,7 @@ fn steps_in(due: &Option<Call>) -> usize
 }
 
 /// Refuses an event where the history has no room for its entry.
-fn has_room(log: &Log) -> Result<(), Full>
+fn refuse_full(log: &Log) -> Result<(), Full>
     ensures accepted { IsOk result ↔ (length log.now.entries < log.now.limit) }
     ensures full { IfErr result (λ e. (e.entries ≡ length log.now.entries) × (e.entries ≡ log.now.limit)) }
 {
@@ -101,7 +101,7 @@ impl<S: Store> Kernel<S> {
     /// only for want of memory.
     pub fn boot(alloc: Global, table: Table, store: S) -> Result<Kernel<S>, AllocError>
         requires { S.roster store ≡ opening_roster table }
-        ensures { IfOk result (λ kernel. kernel ≡ running table (opening table)) }
+        ensures { IfOk result (λ kernel. kernel ≡ kernel_in table (opening table)) }
     {
         table.lawful();
         let objects = Objects::new(alloc, &table)?;
@@ -119,11 +119,11 @@ impl<S: Store> Kernel<S> {
     pub fn turn(&mut self, core: CoreId) -> Result<(), Full>
         requires { core < self.old.table.cores }
         ensures accepted { IsOk result ↔ (length self.old.machine.history < self.old.table.limit) }
-        ensures done { OnOk result (self.new ≡ running self.old.table (turn self.old.table self.old.machine core)) }
+        ensures done { OnOk result (self.new ≡ kernel_in self.old.table (turn self.old.table self.old.machine core)) }
         ensures refused { OnErr result (self.new ≡ self.old) }
         ensures full { IfErr result (λ e. (e.entries ≡ length self.old.machine.history) × (e.entries ≡ self.old.table.limit)) }
     {
-        has_room(&self.log)?;
+        refuse_full(&self.log)?;
         let due = due_call(&self.table, &self.store, self.init_made, core);
         let mut notices = Notices::new();
         let deed = carry_out(
@@ -144,11 +144,11 @@ impl<S: Store> Kernel<S> {
     pub fn tick(&mut self, n: u32) -> Result<(), Full>
         requires range { (1 ≤ n) × (n ≤ 1048576) }
         ensures accepted { IsOk result ↔ (length self.old.machine.history < self.old.table.limit) }
-        ensures done { OnOk result (self.new ≡ running self.old.table (tick self.old.table self.old.machine n)) }
+        ensures done { OnOk result (self.new ≡ kernel_in self.old.table (tick self.old.table self.old.machine n)) }
         ensures refused { OnErr result (self.new ≡ self.old) }
         ensures full { IfErr result (λ e. (e.entries ≡ length self.old.machine.history) × (e.entries ≡ self.old.table.limit)) }
     {
-        has_room(&self.log)?;
+        refuse_full(&self.log)?;
         let mut notices = Notices::new();
         let went = pass_time(&mut self.store, n, &mut notices);
         let deed = Deed {
@@ -164,7 +164,7 @@ impl<S: Store> Kernel<S> {
     fn accept(&mut self, event: Event) -> Result<(), Full>
         requires { IsWithin self.old.table.cores event }
         ensures accepted { IsOk result ↔ (length self.old.machine.history < self.old.table.limit) }
-        ensures done { OnOk result (self.new ≡ running self.old.table (happen self.old.table self.old.machine event)) }
+        ensures done { OnOk result (self.new ≡ kernel_in self.old.table (happen self.old.table self.old.machine event)) }
         ensures refused { OnErr result (self.new ≡ self.old) }
         ensures full { IfErr result (λ e. (e.entries ≡ length self.old.machine.history) × (e.entries ≡ self.old.table.limit)) }
     {
@@ -178,7 +178,7 @@ impl<S: Store> Kernel<S> {
     /// before it stand.
     pub fn run(&mut self, events: &[Event]) -> Result<(), Full>
         requires { All (IsWithin self.old.table.cores) events.now }
-        ensures done { self.new ≡ running self.old.table (run self.old.table self.old.machine events.now) }
+        ensures done { self.new ≡ kernel_in self.old.table (run self.old.table self.old.machine events.now) }
         ensures accepted { IsOk result ↔ (length self.old.machine.history + length events.now ≤ self.old.table.limit) }
         ensures full { IfErr result (λ e. e.entries ≡ self.old.table.limit) }
     {
@@ -193,7 +193,7 @@ impl<S: Store> Kernel<S> {
     /// is within the table's limit, its time is at most 2^36 ticks, and no two of its processes have
     /// the same stamp.
     pub fn holds(&self)
-        ensures values { self.now ≡ running self.now.table self.now.machine }
+        ensures values { self.now ≡ kernel_in self.now.table self.now.machine }
         ensures within { length self.now.machine.history ≤ self.now.table.limit }
         ensures time { self.now.machine.roster.now ≤ 2 ^ 36 }
         ensures lawful { IsLawful self.now.table }

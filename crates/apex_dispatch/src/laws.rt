@@ -1,4 +1,5 @@
-//! Laws of the machine's definitions. Each is the contract of a function that changes nothing.
+//! What holds of every run and of every kernel. Each law is the contract of a function that changes
+//! nothing.
 
 ghost use Rattle.apex_store.specs.Laws.{RunsMostUrgent, FirstWaiterIsFirst};
 ghost use Rattle.apex_dispatch.specs.Laws.{ValuesStayInRange, RunsCompose, RunsStayWithin, HistoriesReplay, TimeGoesForward};

@@ -5,13 +5,13 @@ mod deeds;
 mod kernels;
 mod laws;
 mod objects;
+mod others;
 mod own;
 mod partitions;
 mod priorities;
 mod processes;
 mod services;
 mod statuses;
-mod suspensions;
 #[cfg(test)]
 mod tests;
 mod ticks;

@@ -29,7 +29,7 @@ fn suspend_self<S: Store>(store: &mut S, process: ProcessId, timeout: Timeout) -
     }
 }
 
-/// Such a service, by a process.
+/// A service that the process asks for itself.
 fn serve_process_itself<S: Store>(store: &mut S, process: ProcessId, call: &ProcessCall) -> Reply
     requires known { process < length (S.roster store.old).records }
     requires stamps { HasStamps (S.roster store.old) }
@@ -53,7 +53,7 @@ fn serve_process_itself<S: Store>(store: &mut S, process: ProcessId, call: &Proc
     }
 }
 
-/// Carries out such a service. INVALID_MODE where no process calls.
+/// Carries out a service that the caller asks for itself. INVALID_MODE where no process calls.
 pub(crate) fn serve_own<S: Store>(store: &mut S, caller: &Caller, call: &ProcessCall) -> Reply
     requires known { IsKnownCaller (length (S.roster store.old).records) caller.now }
     requires stamps { HasStamps (S.roster store.old) }

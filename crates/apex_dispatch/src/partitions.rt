@@ -2,7 +2,7 @@ ghost use Rattle.std.specs.Prelude.{◌≡◌, ◌<◌, ◌≤◌, [], ◌++◌,
 ghost use Rattle.apex_types.specs.Dues.{HasTime};
 ghost use Rattle.apex_types.specs.Stamps.{HasStamps};
 ghost use Rattle.apex_types.specs.PartitionServices as services;
-ghost use Rattle.apex_dispatch.specs.Callers.{HasManyStamps};
+ghost use Rattle.apex_dispatch.specs.Premises.{HasManyStamps};
 
 use crate::statuses::mode_number;
 use apex_store::Store;

@@ -6,10 +6,10 @@ ghost use Rattle.apex_types.specs.Stamps.{HasStamps, start};
 ghost use Rattle.apex_types.specs.Table.{IsKnownProcess, IsKnownToProcesses};
 ghost use Rattle.apex_types.specs.ProcessServices as services;
 
+use crate::others::{resume_process, stop_process, suspend_process};
 use crate::own::serve_own;
 use crate::priorities::set_priority;
 use crate::statuses::{get_process_id, get_process_status};
-use crate::suspensions::{resume_process, stop_process, suspend_process};
 use apex_store::Store;
 use apex_types::{
     Caller, CoreId, NamedProcess, Notice, Notices, ProcessCall, ProcessId, Reply, ReturnCode,

@@ -5,7 +5,7 @@ ghost use Rattle.apex_types.specs.Stamps.{HasStamps};
 ghost use Rattle.apex_types.specs.Table.{IsKnownToSemaphores};
 ghost use Rattle.apex_types.specs.Callers.{IsKnownCaller};
 ghost use Rattle.apex_types.specs.Dues.{HasTime};
-ghost use Rattle.apex_dispatch.specs.Callers.{IsKnownTo, HasManyStamps};
+ghost use Rattle.apex_dispatch.specs.Premises.{IsKnownTo, HasManyStamps};
 
 use crate::objects::Objects;
 use crate::partitions::serve_partition;

@@ -3,14 +3,14 @@ ghost use Rattle.apex_types.specs.Dues.{HasNoPastDue, HasTime};
 ghost use Rattle.apex_types.specs.Roster.{record_at};
 ghost use Rattle.apex_types.specs.Stamps.{HasStamps};
 ghost use Rattle.apex_types.specs.Ticks as ticks;
-ghost use Rattle.apex_dispatch.specs.Callers.{HasManyStamps};
+ghost use Rattle.apex_dispatch.specs.Premises.{HasManyStamps};
 
 use apex_store::Store;
 use apex_types::{Notice, Notices, ProcessId, ReturnCode, Wait};
 
 /// The smaller of an instant and the next one, where there is one.
-fn at_most(instant: u64, next: Option<u64>) -> u64
-    ensures { result ≡ ticks.at_most instant next }
+fn not_beyond(instant: u64, next: Option<u64>) -> u64
+    ensures { result ≡ ticks.not_beyond instant next }
 {
     match next {
         Some(next) => instant.min(next),
@@ -23,7 +23,7 @@ fn tick_goal<S: Store>(store: &S, n: u32) -> u64
     requires time { HasTime (S.roster store.now) }
     ensures { result ≡ ticks.tick_goal (S.roster store.now) n }
 {
-    at_most(store.now() + u64::from(n), store.next_instant())
+    not_beyond(store.now() + u64::from(n), store.next_instant())
 }
 
 /// The wait of a process ends at its due, by what it waited for; where it waits for nothing, its

@@ -4,7 +4,7 @@ ghost use Rattle.apex_types.specs.Dues.{HasTime};
 ghost use Rattle.apex_types.specs.Stamps.{HasStamps};
 ghost use Rattle.apex_types.specs.TimeServices as services;
 
-use apex_store::Store;
+use apex_store::{Store, due_after};
 use apex_types::{Caller, ProcessId, Reply, ReturnCode, TimeCall, Timeout, Wait};
 
 /// TIMED_WAIT by a process.
@@ -20,9 +20,9 @@ fn timed_wait<S: Store>(store: &mut S, process: ProcessId, timeout: Timeout) -> 
             store.place_newest(process);
             Reply::Code(ReturnCode::NoError)
         }
-        Timeout::Ticks(ticks) => {
-            let due = store.now() + u64::from(ticks);
-            store.block(process, Wait::Time, Some(due));
+        Timeout::Ticks(_) => {
+            let due = due_after(store, timeout);
+            store.block(process, Wait::Time, due);
             Reply::Blocked
         }
         Timeout::Infinite => Reply::Code(ReturnCode::InvalidParam),

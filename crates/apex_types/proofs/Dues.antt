@@ -9,7 +9,7 @@ use Rattle.apex_types.specs.Roster.{Roster, nobody, record_at}
 use Rattle.apex_types.specs.Choice.{better, least}
 use Rattle.apex_types.specs.Dues.{sooner, earliest_due, next_instant, is_instant, is_due_at, by_number, first_due, HasNoPastDue}
 use Rattle.apex_types.specs.Stamps.{advance_to}
-use Rattle.apex_types.specs.Ticks.{at_most, tick_goal}
+use Rattle.apex_types.specs.Ticks.{not_beyond, tick_goal}
 use Rattle.apex_types.proofs.Choice.{place_none, place_passes, place_within}
 
 -- the sooner of two is no later than the one
@@ -80,15 +80,15 @@ advanced_not_past roster t within p u due =
     let least = earliest_is_least roster.records p u due in omega (arith, least.2, within least.0 least.1)
 
 -- the smaller of an instant and the next one
-at_most_forward : (now t : ℕ) (next : Option ℕ) → now ≤ t → ((u : ℕ) → next ≡ Some u → now ≤ u) → now ≤ at_most t next
+at_most_forward : (now t : ℕ) (next : Option ℕ) → now ≤ t → ((u : ℕ) → next ≡ Some u → now ≤ u) → now ≤ not_beyond t next
 at_most_forward now t None here later = here
 at_most_forward now t (Some u) here later = omega (arith, later u refl)
 
-at_most_near : (t : ℕ) (next : Option ℕ) → at_most t next ≤ t
+at_most_near : (t : ℕ) (next : Option ℕ) → not_beyond t next ≤ t
 at_most_near t None = omega arith
 at_most_near t (Some u) = omega arith
 
-at_most_next : (t : ℕ) (next : Option ℕ) (u : ℕ) → next ≡ Some u → at_most t next ≤ u
+at_most_next : (t : ℕ) (next : Option ℕ) (u : ℕ) → next ≡ Some u → not_beyond t next ≤ u
 at_most_next t None u e = absurd (none-some u e)
 at_most_next t (Some s) u e = omega (arith, same_Some s u e)
 

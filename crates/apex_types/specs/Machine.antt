@@ -136,7 +136,7 @@ abbrev pub turn_deed : Table → Roster → Objects → ℕ → Option Call → 
 turn_deed table roster objects core (Some call) = served table.cores roster objects Init call
 turn_deed table roster objects core None = chosen_deed table roster objects (chosen roster core)
 
--- the init step that is due in a turn of the core: before NORMAL core 0 carries out the next one
+-- the init step that is due in a turn of the core: in COLD_START core 0 carries out the next one
 abbrev pub due_init_call : Table → Machine → ℕ → Option Call
 due_init_call table machine core =
     if is_cold_start machine.roster.mode && core == 0 then next_init_call table machine.history else None

@@ -21,6 +21,7 @@ use Rattle.apex_types.specs.declared.records.State.TheVariants as state
 use Rattle.apex_types.specs.Running.{is_eligible, current_priority, process_state}
 use Rattle.apex_types.specs.Waiters.{is_ranked}
 use Rattle.apex_types.specs.Dues.{due_after}
+use Rattle.apex_types.specs.History.{is_by_process}
 use Rattle.apex_types.specs.Stamps as stamps
 
 -- what a service of process management leaves and answers; created says which processes are created
@@ -106,16 +107,10 @@ set_priority roster created p priority =
     else if not (record_at roster p).started then refused_process roster created InvalidMode
     else done_process (with_priority roster p priority) created
 
--- process p calls
-abbrev pub is_caller : ℕ → Caller → Bool
-is_caller p (Process q) = p == q
-is_caller p Init = false
-is_caller p Nobody = false
-
 -- STOP of another process
 abbrev pub stop_process : Roster → List Bool → Caller → ℕ → ProcessOutcome
 stop_process roster created caller p =
-    if is_caller p caller then refused_process roster created InvalidParam
+    if is_by_process p caller then refused_process roster created InvalidParam
     else if not (is_created created p) then refused_process roster created InvalidParam
     else if not (record_at roster p).started then refused_process roster created NoAction
     else done_process (stamps.stop roster p) created
@@ -123,7 +118,7 @@ stop_process roster created caller p =
 -- SUSPEND of another process
 abbrev pub suspend_process : Roster → List Bool → Caller → ℕ → ProcessOutcome
 suspend_process roster created caller p =
-    if is_caller p caller then refused_process roster created InvalidParam
+    if is_by_process p caller then refused_process roster created InvalidParam
     else if not (is_created created p) then refused_process roster created InvalidParam
     else if not (record_at roster p).started then refused_process roster created InvalidMode
     else if is_some (record_at roster p).suspended then refused_process roster created NoAction
@@ -136,7 +131,7 @@ resume_notices roster p = if stamps.is_by_itself (record_at roster p).suspended 
 -- RESUME of another process
 abbrev pub resume_process : Roster → List Bool → Caller → ℕ → ProcessOutcome
 resume_process roster created caller p =
-    if is_caller p caller then refused_process roster created InvalidParam
+    if is_by_process p caller then refused_process roster created InvalidParam
     else if not (is_created created p) then refused_process roster created InvalidParam
     else if not (record_at roster p).started then refused_process roster created InvalidMode
     else if is_none (record_at roster p).suspended then refused_process roster created NoAction

@@ -11,13 +11,13 @@ use Rattle.apex_types.specs.Stamps.{unblock, release, advance_to, without_due}
 use Rattle.apex_types.specs.InTurn.{Changed, in_turn}
 
 -- the smaller of an instant and the next one, where there is one
-abbrev pub at_most : ℕ → Option ℕ → ℕ
-at_most t None = t
-at_most t (Some next) = min t next
+abbrev pub not_beyond : ℕ → Option ℕ → ℕ
+not_beyond t None = t
+not_beyond t (Some next) = min t next
 
 -- where a tick of n goes: to the smaller of now + n and the next instant
 abbrev pub tick_goal : Roster → ℕ → ℕ
-tick_goal roster n = at_most (roster.now + n) (next_instant roster)
+tick_goal roster n = not_beyond (roster.now + n) (next_instant roster)
 
 -- process p is woken with this code
 abbrev pub woken : Roster → ℕ → ReturnCode → Changed

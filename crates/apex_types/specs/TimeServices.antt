@@ -1,6 +1,6 @@
 -- The services of time management, row by row: the first guard that holds answers and changes nothing
 -- (ARINC 653 Part 1, time management; the guards are this profile's).
-use Rattle.std.specs.Prelude.{ℕ, ◌+◌, Some}
+use Rattle.std.specs.Prelude.{ℕ}
 use Rattle.apex_types.specs.declared.calls.TimeCall.{TimeCall}
 use Rattle.apex_types.specs.declared.calls.TimeCall.TheVariants.{TimedWait, GetTime}
 use Rattle.apex_types.specs.declared.calls.Timeout.{Timeout}
@@ -12,6 +12,7 @@ use Rattle.apex_types.specs.declared.entries.Reply.TheVariants.{Code, Value, Blo
 use Rattle.apex_types.specs.declared.entries.ReturnCode.TheVariants.{NoError, InvalidParam, InvalidMode}
 use Rattle.apex_types.specs.declared.records.Wait.TheVariants as wait
 use Rattle.apex_types.specs.Roster.{Roster}
+use Rattle.apex_types.specs.Dues.{due_after}
 use Rattle.apex_types.specs.Stamps.{block, place_newest}
 
 -- what a service of time management leaves and answers; it tells no notices
@@ -22,7 +23,7 @@ pub record TimeOutcome : Type 0 where
 -- TIMED_WAIT by process p: a wait of 0 ticks lets the others of its priority go first
 abbrev pub timed_wait : Roster → ℕ → Timeout → TimeOutcome
 timed_wait roster p Poll = record { roster = place_newest roster p; reply = Code NoError }
-timed_wait roster p (Ticks n) = record { roster = block roster p wait.Time (Some (roster.now + n)); reply = Blocked }
+timed_wait roster p (Ticks n) = record { roster = block roster p wait.Time (due_after roster (Ticks n)); reply = Blocked }
 timed_wait roster p Infinite = record { roster = roster; reply = Code InvalidParam }
 
 -- TIMED_WAIT; it needs a process that calls, and no init step asks for it

@@ -47,7 +47,7 @@ const PRIORITIES_AND_STOPS: &str = "\
 const STATUSES: &str = "\
 12 0 core0 2 GET_PROCESS_STATUS P1 -> STATUS 3 10
 13 0 core0 2 GET_MY_PROCESSOR_CORE_ID -> VALUE 0
-14 0 core0 2 GET_PARTITION_STATUS -> STATUS 2 2
+14 0 core0 2 GET_PARTITION_STATUS -> STATUS 3 2
 15 0 core0 2 SET_PARTITION_MODE IDLE -> GONE
 ";
 
@@ -146,7 +146,7 @@ fn statuses_and_the_idle_mode(rt: HostRuntime) -> Result<(), Fail> {
         &mut writer,
     )?;
     let status = Call::Partition(PartitionCall::GetPartitionStatus);
-    let reply = Reply::Status(2, 2);
+    let reply = Reply::Status(3, 2);
     print_entry(&table, &called(14, 0, p2, status, reply), &mut writer)?;
     let idle = Call::Partition(PartitionCall::SetPartitionMode(RequestedMode::Idle));
     print_entry(&table, &called(15, 0, p2, idle, Reply::Gone), &mut writer)?;

@@ -3,7 +3,7 @@ use Rattle.apex_types.specs.History.{process_after, semaphore_after}
 use Rattle.apex_types.specs.declared.Who.TheVariants.{Core}
 use Rattle.apex_types.specs.Machine.{Machine, due_init_call, turn_deed, after_deed}
 use Rattle.apex_types.proofs.Places.{length-map_places}
-use Rattle.apex_dispatch.specs.Kernel.{Running}
+use Rattle.apex_dispatch.specs.Kernel.{KernelState}
 use Rattle.apex_types.specs.Roster.{is_cold_start}
 use Rattle.apex_dispatch.proofs.Known.{known_due}
 use Rattle.apex_dispatch.proofs.Kept.{kept_by, turn_is}
@@ -25,7 +25,7 @@ carry_out-deed-requires-clause-due g c call e =
 pub carry_out-deed-requires-clause-time : goal.carry_out-deed-requires-clause-time
 carry_out-deed-requires-clause-time g c =
     let within = c.self.invariant.sound.lawful.limit in
-    omega (arith, c.self.invariant.time, within, c.self.invariant.sound.limit, c.in_ok-has_room.ensures.accepted.0 refl)
+    omega (arith, c.self.invariant.time, within, c.self.invariant.sound.limit, c.in_ok-refuse_full.ensures.accepted.0 refl)
 
 pub invariant_of-self : goal.invariant_of-self
 invariant_of-self g c =
@@ -34,12 +34,12 @@ invariant_of-self g c =
     let objects = c.self.inside.objects in
     let core = c.args.core in
     let deed = turn_deed table machine.roster objects core (due_init_call table machine core) in
-    let new : Running = record {
+    let new : KernelState = record {
       table = c.self.inside.table;
       machine = record { roster = g.S.Store.roster c.carry_out-deed.new.store; history = c.append.new.log.entries };
       objects = c.carry_out-deed.new.objects;
     } in
-    let after : Running = record { table = table; machine = after_deed machine (Core core) deed; objects = deed.outcome.objects } in
+    let after : KernelState = record { table = table; machine = after_deed machine (Core core) deed; objects = deed.outcome.objects } in
     let step : new ≡ after = search rules in
     let is = step ∙ turn_is table machine objects core c.self.inside.init_made c.self.inside.log.limit c.self.invariant in
     let made : c.self.inside.init_made + c.steps_in.result ≡ c.self.inside.init_made + (if is_some (due_init_call table machine core) then 1 else 0) = rw (c.steps_in.ensures, c.due_call-due.ensures, c.self.invariant.sound.init) refl in
@@ -53,12 +53,12 @@ returns-clause-done g c =
     let objects = c.self.inside.objects in
     let core = c.args.core in
     let deed = turn_deed table machine.roster objects core (due_init_call table machine core) in
-    let new : Running = record {
+    let new : KernelState = record {
       table = c.self.inside.table;
       machine = record { roster = g.S.Store.roster c.carry_out-deed.new.store; history = c.append.new.log.entries };
       objects = c.carry_out-deed.new.objects;
     } in
-    let after : Running = record { table = table; machine = after_deed machine (Core core) deed; objects = deed.outcome.objects } in
+    let after : KernelState = record { table = table; machine = after_deed machine (Core core) deed; objects = deed.outcome.objects } in
     let step : new ≡ after = search rules in
     let is = step ∙ turn_is table machine objects core c.self.inside.init_made c.self.inside.log.limit c.self.invariant in
     rw (← c.self.view_is) is

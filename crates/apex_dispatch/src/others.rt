@@ -1,13 +1,16 @@
+//! The services that are asked for another process.
+
 ghost use Rattle.std.specs.Prelude.{◌≡◌, ◌<◌, [], length};
+ghost use Rattle.apex_types.specs.History.{is_by_process};
 ghost use Rattle.apex_types.specs.ProcessServices as services;
 ghost use Rattle.apex_types.specs.Stamps.{HasStamps};
 
 use apex_store::Store;
 use apex_types::{Caller, Notice, Notices, ProcessId, Reply, ReturnCode};
 
-/// The process calls.
-fn is_caller(process: ProcessId, caller: &Caller) -> bool
-    ensures { result ≡ services.is_caller process caller.now }
+/// The process is the caller.
+fn is_by_process(process: ProcessId, caller: &Caller) -> bool
+    ensures { result ≡ is_by_process process caller.now }
 {
     match caller {
         Caller::Process(other) => process == *other,
@@ -30,7 +33,7 @@ pub(crate) fn stop_process<S: Store>(
     ensures reply { result ≡ (services.stop_process (S.roster store.old) created.now caller.now process).reply }
     ensures quiet { (services.stop_process (S.roster store.old) created.now caller.now process).notices ≡ [] }
 {
-    if is_caller(process, caller) || !created[process.place()] {
+    if is_by_process(process, caller) || !created[process.place()] {
         return Reply::Code(ReturnCode::InvalidParam);
     }
     if !store.record(process).started {
@@ -55,7 +58,7 @@ pub(crate) fn suspend_process<S: Store>(
     ensures reply { result ≡ (services.suspend_process (S.roster store.old) created.now caller.now process).reply }
     ensures quiet { (services.suspend_process (S.roster store.old) created.now caller.now process).notices ≡ [] }
 {
-    if is_caller(process, caller) || !created[process.place()] {
+    if is_by_process(process, caller) || !created[process.place()] {
         return Reply::Code(ReturnCode::InvalidParam);
     }
     let row = store.record(process);
@@ -88,7 +91,7 @@ pub(crate) fn resume_process<S: Store>(
     ensures reply { result ≡ (services.resume_process (S.roster store.old) created.now caller.now process).reply }
     ensures notices { notices.new ≡ (services.resume_process (S.roster store.old) created.now caller.now process).notices }
 {
-    if is_caller(process, caller) || !created[process.place()] {
+    if is_by_process(process, caller) || !created[process.place()] {
         return Reply::Code(ReturnCode::InvalidParam);
     }
     let row = store.record(process);
