@@ -1,5 +1,7 @@
 -- The init list of a table that gives none.
-use Rattle.std.specs.Prelude.{ℕ, ◌+◌, if◌then◌else◌, List, [], ◌∷◌, ◌++◌}
+use Rattle.std.specs.Prelude.{ℕ, if◌then◌else◌, List, [], ◌∷◌, ◌++◌}
+use Rattle.std.specs.List.{flat_map}
+use Rattle.apex_types.specs.Places.{map_places}
 use Rattle.apex_types.specs.Table.{ProcessEntry, SemaphoreEntry}
 use Rattle.apex_types.specs.declared.calls.Call.{Call}
 use Rattle.apex_types.specs.declared.calls.Call.TheVariants.{Partition, Process, Semaphore}
@@ -10,25 +12,26 @@ use Rattle.apex_types.specs.declared.calls.SemaphoreCall.TheVariants.{CreateSema
 use Rattle.apex_types.specs.declared.calls.NamedProcess.TheVariants as process
 use Rattle.apex_types.specs.declared.calls.NamedSemaphore.TheVariants as semaphore
 
--- CREATE_SEMAPHORE of the semaphores from place s on
-abbrev pub created_semaphores : ℕ → List SemaphoreEntry → List Call
-created_semaphores s [] = []
-created_semaphores s (entry ∷ rest) = Semaphore (CreateSemaphore (semaphore.Known s)) ∷ created_semaphores (s + 1) rest
+-- for the semaphore at place s its CREATE_SEMAPHORE
+abbrev pub creates_semaphore : ℕ → SemaphoreEntry → Call
+creates_semaphore s entry = Semaphore (CreateSemaphore (semaphore.Known s))
 
--- CREATE_PROCESS and INITIALIZE_PROCESS_CORE_AFFINITY of the processes from place p on
-abbrev pub created_processes : ℕ → List ProcessEntry → List Call
-created_processes p [] = []
-created_processes p (entry ∷ rest) =
-    Process (CreateProcess (process.Known p)) ∷ (Process (InitializeProcessCoreAffinity p entry.core) ∷ created_processes (p + 1) rest)
+-- for the process at place p its CREATE_PROCESS and its INITIALIZE_PROCESS_CORE_AFFINITY
+abbrev pub creates_process : ℕ → ProcessEntry → List Call
+creates_process p entry = Process (CreateProcess (process.Known p)) ∷ Process (InitializeProcessCoreAffinity p entry.core) ∷ []
 
--- START of those of the processes from place p on that start
-abbrev pub started_processes : ℕ → List ProcessEntry → List Call
-started_processes p [] = []
-started_processes p (entry ∷ rest) =
-    if entry.start then Process (Start p) ∷ started_processes (p + 1) rest else started_processes (p + 1) rest
+-- for the process at place p, if it starts, its START
+abbrev pub starts_process : ℕ → ProcessEntry → List Call
+starts_process p entry = if entry.start then Process (Start p) ∷ [] else []
+
+-- the calls of one element after the other
+abbrev pub joined : List (List Call) → List Call
+joined calls = flat_map (λ cs. cs) calls
 
 -- creates everything, starts what starts, and enters NORMAL
 abbrev pub default_init : List ProcessEntry → List SemaphoreEntry → List Call
 default_init processes semaphores =
-    created_semaphores 0 semaphores ++ created_processes 0 processes ++ started_processes 0 processes
+    map_places creates_semaphore 0 semaphores
+    ++ joined (map_places creates_process 0 processes)
+    ++ joined (map_places starts_process 0 processes)
     ++ Partition (SetPartitionMode Normal) ∷ []

@@ -1,5 +1,6 @@
-ghost use Rattle.std.specs.Prelude.{◌≡◌, Some};
+ghost use Rattle.std.specs.Prelude.{◌≡◌, ◌+◌, ◌<◌, Some};
 ghost use Rattle.apex_table.specs.Fault.{section_word};
+ghost use Rattle.apex_table.specs.Outcome.{place};
 ghost use Rattle.apex_table.specs.declared.fault.TableFault.TheVariants.{Memory};
 
 use std::alloc::{AllocError, AllocFailed};
@@ -42,6 +43,26 @@ impl fmt::Display for Section {
 pub struct Place {
     pub section: Section,
     pub number: u32,
+}
+
+impl Place {
+    /// The section as a whole.
+    pub(crate) fn of(section: Section) -> Place
+        ensures { result ≡ place section 0 }
+    {
+        Place { section, number: 0 }
+    }
+
+    /// The entry after so many of the section.
+    pub(crate) fn next(section: Section, count: usize) -> Place
+        requires { count < 512 }
+        ensures { result ≡ place section (count + 1) }
+    {
+        Place {
+            section,
+            number: count as u32 + 1,
+        }
+    }
 }
 
 /// Why a text is no table: the first of its faults in the order of the checks, or want of memory.

@@ -26,10 +26,7 @@ fn next_text<'a>(before: &[&'a str], value: &'a Value) -> Result<&'a str, TableF
     requires { length before.now < 512 }
     ensures { Gives (λ t. t.now) result (next_text (map (λ t. t.now) before.now) (view value.now)) }
 {
-    let at = Place {
-        section: Section::Init,
-        number: before.len() as u32 + 1,
-    };
+    let at = Place::next(Section::Init, before.len());
     keys::text(at, value)
 }
 
@@ -50,10 +47,7 @@ fn given_texts<'a>(alloc: Global, value: &'a Value) -> Result<Vec<&'a str>, Tabl
     ensures gives { Gives (λ v. map (λ t. t.now) v.items) result (given_texts (view value.now)) }
     ensures count { IfOk result (λ v. length v.items ≤ 512) }
 {
-    let at = Place {
-        section: Section::Init,
-        number: 0,
-    };
+    let at = Place::of(Section::Init);
     let items = keys::array(at, value)?;
     keys::at_most(at, 512, items)?;
     texts(alloc, items)
@@ -160,10 +154,7 @@ fn next_init_step(
     requires few { length before.now < 512 }
     ensures { Gives (λ c. c) result (next_init_step (entry_names processes.now) (semaphore_names semaphores.now) before.now text.now) }
 {
-    let at = Place {
-        section: Section::Init,
-        number: before.len() as u32 + 1,
-    };
+    let at = Place::next(Section::Init, before.len());
     init_step(alloc, at, processes, semaphores, text)
 }
 

@@ -16,12 +16,7 @@ pub trait Named {
 pub fn has_name<T: Named>(entries: &[T], name: &[u8]) -> bool
     ensures { result ≡ list_any (bytes_eq name.now) (map T.name_of entries.now) }
 {
-    for entry in entries {
-        if name == entry.name().as_bytes() {
-            return true;
-        }
-    }
-    false
+    place_of(entries, name).is_some()
 }
 
 /// The place, counted from 0, of the first entry of this name.

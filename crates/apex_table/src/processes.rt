@@ -37,10 +37,7 @@ pub fn some_process(items: &[Value]) -> Result<(), TableFault>
     ensures { Gives (λ _. map view items.now) result (some_process (map view items.now)) }
 {
     if items.is_empty() {
-        return Err(TableFault::MissingKey(Place {
-            section: Section::Process,
-            number: 0,
-        }));
+        return Err(TableFault::MissingKey(Place::of(Section::Process)));
     }
     Ok(())
 }
@@ -120,10 +117,7 @@ fn next_process<'a>(
     requires few { length before.now < 32 }
     ensures { Gives draft_seen result (next_process cores (map draft_seen before.now) (view value.now)) }
 {
-    let at = Place {
-        section: Section::Process,
-        number: before.len() as u32 + 1,
-    };
+    let at = Place::next(Section::Process, before.len());
     process(alloc, cores, at, before, value)
 }
 

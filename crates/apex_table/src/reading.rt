@@ -37,7 +37,7 @@ fn entries<'a>(
     ensures gives { Gives (λ s. map view s.now) result (entries section most (option_map (λ v. view v.now) value.entry)) }
     ensures bound { IfOk result (λ s. length s.now ≤ most) }
 {
-    let at = Place { section, number: 0 };
+    let at = Place::of(section);
     match value {
         Some(value) => {
             let items = keys::array(at, value)?;
@@ -52,10 +52,7 @@ fn entries<'a>(
 fn read_parts(alloc: Global, tree: &toml::Table) -> Result<Parts, TableFault>
     ensures { Gives parts_seen result (reading (table_view tree.now)) }
 {
-    let at = Place {
-        section: Section::Top,
-        number: 0,
-    };
+    let at = Place::of(Section::Top);
     keys::only(at, TOP_KEYS, tree)?;
     let cores = keys::number_at(at, 1, 8, tree, "cores")?;
     let limit = keys::number_or(at, 4096, 1, 65536, tree, "history")?;

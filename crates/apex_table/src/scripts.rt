@@ -58,10 +58,7 @@ fn next_entry(
     requires few { length before.now < 32 }
     ensures { Gives (λ p. p) result (next_entry (process_names (map draft_seen drafts.now)) (semaphore_names semaphores.now) before.now (draft_seen draft.now)) }
 {
-    let at = Place {
-        section: Section::Process,
-        number: before.len() as u32 + 1,
-    };
+    let at = Place::next(Section::Process, before.len());
     let script = script_of(alloc, at, drafts, semaphores, draft)?;
     Ok(Process::new(
         draft.name,

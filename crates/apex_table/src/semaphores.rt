@@ -50,10 +50,7 @@ fn next_semaphore(before: &[Semaphore], value: &Value) -> Result<Semaphore, Tabl
     requires { length before.now < 32 }
     ensures { Gives (λ s. s) result (next_semaphore before.now (view value.now)) }
 {
-    let at = Place {
-        section: Section::Semaphore,
-        number: before.len() as u32 + 1,
-    };
+    let at = Place::next(Section::Semaphore, before.len());
     semaphore(at, before, value)
 }
 

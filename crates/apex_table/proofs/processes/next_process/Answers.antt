@@ -6,4 +6,4 @@ use Rattle.apex_table.proofs.processes.next_process.Goals as goal
 
 pub returns : goal.returns
 unfolding next_process
-returns c = rw (draft_names c.args.before.now, length-map c.args.before.now draft_seen) c.process.ensures
+returns c = rw (draft_names c.args.before.now, length-map c.args.before.now draft_seen, ← c.next-at.ensures) c.process.ensures
