@@ -69,12 +69,13 @@ pub struct Record {
     pub started: bool,
     pub suspended: Option<Suspender>,
     pub wait: Option<Wait>,
-    /// The stamp of its last coming into a ready or a wait queue: the smaller, the longer it is there.
+    /// Its stamp: the smaller, the longer it is in its queue.
     pub since: i64,
     /// The instant in ticks at which its wait, or its suspension of itself, ends if it does so of its
     /// own.
     pub due: Option<u64>,
-    /// The delay in ticks of its last start, which begins to run with the entry into NORMAL.
+    /// The delay in ticks of its last start, which begins to run at once in NORMAL, else with the entry
+    /// into NORMAL.
     pub delay: u32,
     /// The place of its next step in its script, counted from 0.
     pub step: u8,
