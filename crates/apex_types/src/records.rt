@@ -1,6 +1,6 @@
 ghost use Rattle.std.specs.Prelude.{◌≡◌};
 ghost use Rattle.apex_types.specs.Roster.{is_normal};
-ghost use Rattle.apex_types.specs.Running.{is_eligible};
+ghost use Rattle.apex_types.specs.Running.{current_priority, is_eligible};
 ghost use Rattle.apex_types.specs.Stamps.{is_by_itself};
 
 use crate::identifiers::{CoreId, SemaphoreId};
@@ -87,6 +87,13 @@ impl Record {
         ensures { result ≡ is_eligible mode self.now }
     {
         mode.is_normal() && self.started && self.suspended.is_none() && self.wait.is_none()
+    }
+
+    /// The current priority; a greater one is more urgent.
+    pub fn current_priority(&self) -> u8
+        ensures { result ≡ current_priority self.now }
+    {
+        self.base
     }
 
     pub fn is_suspended_by_itself(&self) -> bool
