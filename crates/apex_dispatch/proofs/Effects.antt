@@ -163,9 +163,6 @@ freed_readied roster p r free =
     (λ _. freed roster (newest roster p r) p (record r { since = roster.young }) refl free)
     (λ _. freed roster (with_record roster p r) p r refl free)
 
-pub frees_readied : (roster : Roster) (p : ℕ) (r : Record) → awaited r ≡ None → Frees roster (readied roster p r)
-frees_readied roster p r free = record { still = λ q w h. (freed_readied roster p r free q w h).1 }
-
 -- a change of the record of process p, which waits for no more than before
 pub frees_lessened : (roster : Roster) (p : ℕ) (r : Record) → ((w : Wait) → awaited r ≡ Some w → awaited (record_at roster p) ≡ Some w)
     → Frees roster (readied roster p r)

@@ -1,5 +1,5 @@
 -- Each kernel keeps what it keeps: at its opening, at each turn, and at each tick.
-use Rattle.std.proofs.Common.{◌≡◌, ℕ, zero, suc, ◌+◌, ◌≤◌, Bool, false, List, [], ◌∷◌, ◌++◌, length, get_or, Option, None, Some, is_some, pos, ◌+ℤ◌, ◌≤ℤ◌, refl, sym, ◌∙◌, ap, arith, length-append, if◌then◌else◌}
+use Rattle.std.proofs.Common.{◌≡◌, ℕ, zero, suc, ◌+◌, ◌≤◌, Bool, false, List, [], ◌∷◌, ◌++◌, length, get_or, Option, None, Some, is_some, pos, ◌+ℤ◌, ◌≤ℤ◌, refl, sym, ◌∙◌, arith, length-append, if◌then◌else◌}
 use Rattle.std.proofs.lemmas.Int.{ints}
 use Rattle.std.proofs.lemmas.Option.{none-some}
 use Rattle.std.proofs.lemmas.List.Sums.{sum_by-append}
@@ -158,10 +158,6 @@ kept_tick table machine n init_made room few kept = record {
   sound = sound_tick table machine n init_made room kept.sound;
   time = rw (length-tick table machine n) (omega (arith, kept.time, few, (now_tick table machine n kept.sound.dues).1));
 }
-
--- a kernel's running values are those of its history
-pub kept_running : (kernel : KernelState) (init_made room : ℕ) → IsKept kernel init_made room → kernel ≡ kernel_in kernel.table kernel.machine
-kept_running kernel init_made room kept = ap (λ (o : Objects). let k : KernelState = record kernel { objects = o } in k) kept.sound.objects
 
 -- what a turn leaves, where its deed was carried out on the running values
 pub turn_is : (table : Table) (machine : Machine) (objects : Objects) (core init_made room : ℕ)

@@ -64,5 +64,5 @@ pub(crate) fn get_process_status<S: Store>(store: &S, created: &[bool], process:
         return Reply::Code(ReturnCode::InvalidParam);
     }
     let state = state_number(store.state(process));
-    Reply::Status(state, u64::from(store.record(process).base))
+    Reply::Status(state, u64::from(store.record(process).current_priority()))
 }

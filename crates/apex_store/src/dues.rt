@@ -1,9 +1,11 @@
+//! When waits end by themselves, and what a start waits for.
 ghost use Rattle.std.specs.Prelude.{◌≡◌, ◌≤◌, ◌^◌, length};
 ghost use Rattle.apex_types.specs.Roster.{Roster};
-ghost use Rattle.apex_types.specs.Dues.{earliest_due, sooner};
+ghost use Rattle.apex_types.specs.Dues.{HasTime, due_after, earliest_due, sooner};
 ghost use Rattle.apex_types.specs.Stamps.{start_due, start_wait};
 
-use apex_types::{Mode, Record, Wait};
+use crate::store::Store;
+use apex_types::{Mode, Record, Timeout, Wait};
 
 /// The sooner of two instants.
 fn sooner(one: Option<u64>, other: Option<u64>) -> Option<u64>
@@ -25,6 +27,17 @@ pub fn earliest_due(records: &[Record]) -> Option<u64>
         earliest = sooner(records[place].due, earliest);
     }
     earliest
+}
+
+/// The instant in ticks at which a wait that begins now ends by itself, if it does.
+pub fn due_after<S: Store>(store: &S, timeout: Timeout) -> Option<u64>
+    requires time { HasTime (S.roster store.now) }
+    ensures { result ≡ due_after (S.roster store.now) timeout }
+{
+    match timeout {
+        Timeout::Poll | Timeout::Infinite => None,
+        Timeout::Ticks(ticks) => Some(store.now() + u64::from(ticks)),
+    }
 }
 
 /// What a process waits for after a start with this delay in ticks.

@@ -11,8 +11,8 @@ mod scan;
 mod store;
 #[cfg(test)]
 mod tests;
-mod timeouts;
 
+pub use dues::due_after;
 pub use laws::{
     chosen_is_first, first_due_is_lowest, first_waiter_is_first, most_urgent_runs,
     next_instant_is_least, next_waiter_is_next, one_process_runs, opens_with_distinct_stamps,
@@ -20,4 +20,3 @@ pub use laws::{
 };
 pub use plain_store::PlainStore;
 pub use store::Store;
-pub use timeouts::due_after;

@@ -1,5 +1,5 @@
 ghost use Rattle.std.specs.Prelude.{◌≡◌};
-ghost use Rattle.apex_types.specs.Running.{current_priority, is_before, is_older, runs_on};
+ghost use Rattle.apex_types.specs.Running.{is_before, is_older, runs_on};
 ghost use Rattle.apex_types.specs.Dues.{by_number, is_due_at};
 ghost use Rattle.apex_types.specs.Waiters.{is_same_wait, is_wait_for, waits_before, waits_behind, waits_in};
 
@@ -13,12 +13,6 @@ pub fn runs_on(mode: Mode, core: CoreId, row: &Record) -> bool
     row.is_eligible(mode) && row.core == core
 }
 
-fn current_priority(row: &Record) -> u8
-    ensures { result ≡ current_priority row.now }
-{
-    row.base
-}
-
 /// The first has been in its queue for longer.
 pub fn is_older(first: &Record, second: &Record) -> bool
     ensures { result ≡ is_older first.now second.now }
@@ -30,7 +24,7 @@ pub fn is_older(first: &Record, second: &Record) -> bool
 pub fn is_before(first: &Record, second: &Record) -> bool
     ensures { result ≡ is_before first.now second.now }
 {
-    let (mine, other) = (current_priority(first), current_priority(second));
+    let (mine, other) = (first.current_priority(), second.current_priority());
     other < mine || (mine == other && is_older(first, second))
 }
 

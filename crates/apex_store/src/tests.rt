@@ -1,7 +1,14 @@
-ghost use Rattle.std.specs.Prelude.{◌≡◌, ◌<ℤ◌, pos, length, IfOk};
+ghost use Rattle.std.specs.Prelude.{◌≡◌, IfOk};
+ghost use Rattle.apex_types.specs.Distinct.{IsStamped};
+ghost use Rattle.apex_store.specs.Opened.{IsJustOpened};
 
 use crate::plain_store::PlainStore;
 use crate::store::Store;
+use crate::{
+    chosen_is_first, first_due_is_lowest, first_waiter_is_first, most_urgent_runs,
+    next_instant_is_least, next_waiter_is_next, one_process_runs, opens_with_distinct_stamps,
+    running_is_chosen, stamps_stay_distinct, waits_in_one_queue,
+};
 use apex_table::read_table;
 use apex_types::{CoreId, Mode, ProcessId, SemaphoreId, State, Wait};
 use std::alloc::Global;
@@ -57,12 +64,12 @@ fn ranked() -> Wait {
 }
 
 fn two_processes(rt: &impl Abort, alloc: Global) -> Result<PlainStore, Fail>
-    ensures records { IfOk result (λ store. length store.records ≡ 2) }
-    ensures stamps { IfOk result (λ store. store.young ≡ pos 3) }
-    ensures time { IfOk result (λ store. store.now ≡ 0) }
+    ensures opened { IfOk result IsJustOpened }
+    ensures stamped { IfOk result IsStamped }
 {
     let table = read_table(alloc, TWO_PROCESSES.as_bytes())?;
     assert_eq!(rt; table.process_count(), 2);
+    opens_with_distinct_stamps(&table);
     let store = PlainStore::new(alloc, &table)?;
     assert_eq!(rt; store.process_count(), 2);
     Ok(store)
@@ -89,9 +96,7 @@ fn opens_dormant(rt: HostRuntime) -> Result<(), Fail> {
 
 /// Both are started before NORMAL and released with the entry into it: they run by priority.
 fn released_run_by_priority<S: Store>(rt: &impl Abort, store: &mut S)
-    requires records { length (S.roster store.old).records ≡ 2 }
-    requires stamps { (S.roster store.old).young <ℤ pos 100 }
-    requires time { (S.roster store.old).now ≡ 0 }
+    requires { IsJustOpened (S.roster store.old) }
 {
     store.start(slow(), 0);
     store.start(urgent(), 0);
@@ -110,9 +115,7 @@ fn released_run_by_priority<S: Store>(rt: &impl Abort, store: &mut S)
 
 /// Who waits leaves its core to others until it is woken, and who stops leaves it for good.
 fn cores_go_to_the_next<S: Store>(rt: &impl Abort, store: &mut S)
-    requires records { length (S.roster store.old).records ≡ 2 }
-    requires stamps { (S.roster store.old).young <ℤ pos 100 }
-    requires time { (S.roster store.old).now ≡ 0 }
+    requires { IsJustOpened (S.roster store.old) }
 {
     store.set_mode(Mode::Normal);
     store.start(slow(), 0);
@@ -129,9 +132,7 @@ fn cores_go_to_the_next<S: Store>(rt: &impl Abort, store: &mut S)
 
 /// A process runs on the core that it is bound to, and its step is kept.
 fn runs_on_its_core<S: Store>(rt: &impl Abort, store: &mut S)
-    requires records { length (S.roster store.old).records ≡ 2 }
-    requires stamps { (S.roster store.old).young <ℤ pos 100 }
-    requires time { (S.roster store.old).now ≡ 0 }
+    requires { IsJustOpened (S.roster store.old) }
 {
     store.set_mode(Mode::Normal);
     store.start(slow(), 0);
@@ -144,9 +145,7 @@ fn runs_on_its_core<S: Store>(rt: &impl Abort, store: &mut S)
 
 /// Time goes on to the least due, and who is due at the same instant goes by number, not by stamp.
 fn dues_come_by_instant_and_number<S: Store>(rt: &impl Abort, store: &mut S)
-    requires records { length (S.roster store.old).records ≡ 2 }
-    requires stamps { (S.roster store.old).young <ℤ pos 100 }
-    requires time { (S.roster store.old).now ≡ 0 }
+    requires { IsJustOpened (S.roster store.old) }
 {
     store.set_mode(Mode::Normal);
     store.start(slow(), 0);
@@ -170,9 +169,7 @@ fn dues_come_by_instant_and_number<S: Store>(rt: &impl Abort, store: &mut S)
 
 /// The delay of a start runs from the start in NORMAL, and before NORMAL it is only kept.
 fn delays_run_in_normal<S: Store>(rt: &impl Abort, store: &mut S)
-    requires records { length (S.roster store.old).records ≡ 2 }
-    requires stamps { (S.roster store.old).young <ℤ pos 100 }
-    requires time { (S.roster store.old).now ≡ 0 }
+    requires { IsJustOpened (S.roster store.old) }
 {
     store.advance_to(2);
     store.start(slow(), 3);
@@ -196,9 +193,7 @@ fn delays_run_in_normal<S: Store>(rt: &impl Abort, store: &mut S)
 
 /// Who is placed newest goes behind the other one, which was started later.
 fn newest_goes_last<S: Store>(rt: &impl Abort, store: &mut S)
-    requires records { length (S.roster store.old).records ≡ 2 }
-    requires stamps { (S.roster store.old).young <ℤ pos 100 }
-    requires time { (S.roster store.old).now ≡ 0 }
+    requires { IsJustOpened (S.roster store.old) }
 {
     store.start(slow(), 0);
     store.start(urgent(), 0);
@@ -209,9 +204,7 @@ fn newest_goes_last<S: Store>(rt: &impl Abort, store: &mut S)
 
 /// Another process's suspension lets a wait go on, and lasts until the process is resumed.
 fn suspension_outlasts_a_wake<S: Store>(rt: &impl Abort, store: &mut S)
-    requires records { length (S.roster store.old).records ≡ 2 }
-    requires stamps { (S.roster store.old).young <ℤ pos 100 }
-    requires time { (S.roster store.old).now ≡ 0 }
+    requires { IsJustOpened (S.roster store.old) }
 {
     store.set_mode(Mode::Normal);
     store.start(urgent(), 0);
@@ -235,9 +228,7 @@ fn suspension_outlasts_a_wake<S: Store>(rt: &impl Abort, store: &mut S)
 /// A suspension of itself ends with a RESUME, a wait or a START, and the core goes to another one
 /// meanwhile.
 fn suspension_of_itself_ends<S: Store>(rt: &impl Abort, store: &mut S)
-    requires records { length (S.roster store.old).records ≡ 2 }
-    requires stamps { (S.roster store.old).young <ℤ pos 100 }
-    requires time { (S.roster store.old).now ≡ 0 }
+    requires { IsJustOpened (S.roster store.old) }
 {
     store.set_mode(Mode::Normal);
     store.start(slow(), 0);
@@ -266,9 +257,7 @@ fn suspension_of_itself_ends<S: Store>(rt: &impl Abort, store: &mut S)
 
 /// A base priority stands until the next START, which goes back to the table's.
 fn base_decides_until_a_start<S: Store>(rt: &impl Abort, store: &mut S)
-    requires records { length (S.roster store.old).records ≡ 2 }
-    requires stamps { (S.roster store.old).young <ℤ pos 100 }
-    requires time { (S.roster store.old).now ≡ 0 }
+    requires { IsJustOpened (S.roster store.old) }
 {
     store.set_mode(Mode::Normal);
     store.start(slow(), 0);
@@ -286,9 +275,7 @@ fn base_decides_until_a_start<S: Store>(rt: &impl Abort, store: &mut S)
 
 /// Who waits longest is first in a FIFO queue, and the more urgent in a PRIORITY queue.
 fn queues_have_their_disciplines<S: Store>(rt: &impl Abort, store: &mut S)
-    requires records { length (S.roster store.old).records ≡ 2 }
-    requires stamps { (S.roster store.old).young <ℤ pos 100 }
-    requires time { (S.roster store.old).now ≡ 0 }
+    requires { IsJustOpened (S.roster store.old) }
 {
     store.set_mode(Mode::Normal);
     store.start(slow(), 0);
@@ -319,5 +306,28 @@ fn plain_store_serves_the_trait(rt: HostRuntime) -> Result<(), Fail> {
     suspension_of_itself_ends(&rt, &mut two_processes(&rt, rt.alloc())?);
     base_decides_until_a_start(&rt, &mut two_processes(&rt, rt.alloc())?);
     queues_have_their_disciplines(&rt, &mut two_processes(&rt, rt.alloc())?);
+    Ok(())
+}
+
+/// Each law, of a store whose stamps are distinct.
+fn laws_hold<S: Store>(store: &S)
+    requires { IsStamped (S.roster store.now) }
+{
+    let core = CoreId::new(0);
+    chosen_is_first(store, core);
+    most_urgent_runs(store, core);
+    running_is_chosen(store, slow());
+    one_process_runs(store);
+    first_waiter_is_first(store, in_turn());
+    next_waiter_is_next(store, in_turn(), slow());
+    waits_in_one_queue(store, slow());
+    next_instant_is_least(store);
+    first_due_is_lowest(store);
+    stamps_stay_distinct(store);
+}
+
+#[test]
+fn laws_hold_of_the_plain_store(rt: HostRuntime) -> Result<(), Fail> {
+    laws_hold(&two_processes(&rt, rt.alloc())?);
     Ok(())
 }

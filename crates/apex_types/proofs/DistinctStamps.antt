@@ -1,15 +1,13 @@
 -- Each change of a roster leaves it with distinct stamps, all given before the next one.
 use Rattle.std.proofs.Common.{◌≡◌, ◌≢◌, ℕ, ◌+◌, ◌<◌, ◌<ℤ◌, pos, Option, None, Some, length, refl, sym, ◌∙◌, ap, inl, inr, arith}
-use Rattle.std.proofs.lemmas.Bool.{cases_eq, cond_both}
+use Rattle.std.proofs.lemmas.Bool.{cases_eq}
 use Rattle.std.proofs.lemmas.Int.{ints}
 use Rattle.std.proofs.lemmas.List.{length-set}
 use Rattle.apex_types.specs.declared.records.Mode.{Mode}
 use Rattle.apex_types.specs.declared.records.Record.{Record}
-use Rattle.apex_types.specs.declared.records.Wait.{Wait}
 use Rattle.apex_types.specs.Roster.{Roster, record_at, with_record, nobody, opening_record, opening_roster}
 use Rattle.apex_types.specs.Table.{Table, no_process}
-use Rattle.apex_types.specs.Running.{is_eligible}
-use Rattle.apex_types.specs.Stamps.{newest, readied, started, start, stop, suspend, self_suspended, suspend_self, is_by_itself, unsuspended, resume, set_base, awake, waiting, block, unblock, release, place_newest, advance_to, without_due, without_due_of, take_due, set_mode, set_core, set_step}
+use Rattle.apex_types.specs.Stamps.{newest, advance_to, without_due_of, take_due, set_mode}
 use Rattle.apex_types.specs.Distinct.{IsStamped}
 use Rattle.apex_types.specs.Dues.{is_due_at, by_number, first_due}
 use Rattle.apex_types.proofs.Choice.{place_within}
@@ -84,51 +82,6 @@ module _ (roster : Roster) (p : ℕ) (known : p < length roster.records) (stampe
     distinct = record { distinct = distinct_newest r };
   }
 
-  pub stamped_readied : (r : Record) → r.since ≡ (record_at roster p).since → IsStamped (readied roster p r)
-  stamped_readied r same =
-      cond_both {A = Roster} (is_eligible roster.mode r) _ _ IsStamped (λ _. stamped_newest r) (λ _. stamped_record r same)
-
-  pub stamped_start : (delay : ℕ) → IsStamped (start roster p delay)
-  stamped_start delay = stamped_newest (started roster p delay)
-
-  pub stamped_stop : IsStamped (stop roster p)
-  stamped_stop = stamped_record _ refl
-
-  pub stamped_block : (wait : Wait) (due : Option ℕ) → IsStamped (block roster p wait due)
-  stamped_block wait due = stamped_newest (waiting roster p wait due)
-
-  pub stamped_suspend : IsStamped (suspend roster p)
-  stamped_suspend = stamped_record _ refl
-
-  pub stamped_suspend_self : (due : Option ℕ) → IsStamped (suspend_self roster p due)
-  stamped_suspend_self due = stamped_newest (self_suspended roster p due)
-
-  pub stamped_resume : IsStamped (resume roster p)
-  stamped_resume =
-      cond_both {A = Roster} (is_by_itself (record_at roster p).suspended) _ _ IsStamped
-      (λ _. stamped_readied (awake roster p) refl) (λ _. stamped_readied (unsuspended roster p) refl)
-
-  pub stamped_set_base : (base : ℕ) → IsStamped (set_base roster p base)
-  stamped_set_base base = stamped_record _ refl
-
-  pub stamped_place_newest : IsStamped (place_newest roster p)
-  stamped_place_newest = stamped_newest (record_at roster p)
-
-  pub stamped_without_due : IsStamped (without_due roster p)
-  stamped_without_due = stamped_record _ refl
-
-  pub stamped_unblock : IsStamped (unblock roster p)
-  stamped_unblock = stamped_readied (awake roster p) refl
-
-  pub stamped_release : IsStamped (release roster p)
-  stamped_release = stamped_readied (awake roster p) refl
-
-  pub stamped_set_core : (core : ℕ) → IsStamped (set_core roster p core)
-  stamped_set_core core = stamped_record _ refl
-
-  pub stamped_set_step : (step : ℕ) → IsStamped (set_step roster p step)
-  stamped_set_step step = stamped_record _ refl
-
 pub stamped_set_mode : (roster : Roster) → IsStamped roster → (mode : Mode) → IsStamped (set_mode roster mode)
 stamped_set_mode roster stamped mode = record {
   given = stamped.given;
@@ -144,7 +97,7 @@ stamped_advance_to roster stamped t = record {
 stamped_due_of : (roster : Roster) → IsStamped roster → (found : Option ℕ) → ((p : ℕ) → found ≡ Some p → p < length roster.records)
     → IsStamped (without_due_of roster found)
 stamped_due_of roster stamped None known = stamped
-stamped_due_of roster stamped (Some p) known = stamped_without_due roster p (known p refl) stamped
+stamped_due_of roster stamped (Some p) known = stamped_record roster p (known p refl) stamped _ refl
 
 pub stamped_take_due : (roster : Roster) → IsStamped roster → IsStamped (take_due roster)
 stamped_take_due roster stamped =

@@ -96,7 +96,7 @@ is_accepted_signal s e = is_signal_of s e.call && is_accepted e.reply
 abbrev pub semaphore_value : ℕ → ℕ → List Entry → ℕ
 semaphore_value initial s history = initial + count_by (is_accepted_signal s) history - satisfied_waits s history
 
--- the entry created process p
+-- the call is CREATE_PROCESS of process p
 abbrev pub is_process_create : ℕ → ProcessCall → Bool
 is_process_create p (CreateProcess (process.Known q)) = p == q
 is_process_create p _ = false
@@ -105,10 +105,11 @@ abbrev pub is_creation_of_process : ℕ → Option Call → Bool
 is_creation_of_process p (Some (ToProcess call)) = is_process_create p call
 is_creation_of_process p _ = false
 
+-- the entry created process p
 abbrev pub creates_process : ℕ → Entry → Bool
 creates_process p e = is_creation_of_process p e.call && is_accepted e.reply
 
--- the entry created semaphore s
+-- the call is CREATE_SEMAPHORE of semaphore s
 abbrev pub is_semaphore_create : ℕ → SemaphoreCall → Bool
 is_semaphore_create s (CreateSemaphore (semaphore.Known t)) = s == t
 is_semaphore_create s _ = false
@@ -117,6 +118,7 @@ abbrev pub is_creation_of_semaphore : ℕ → Option Call → Bool
 is_creation_of_semaphore s (Some (Semaphore call)) = is_semaphore_create s call
 is_creation_of_semaphore s _ = false
 
+-- the entry created semaphore s
 abbrev pub creates_semaphore : ℕ → Entry → Bool
 creates_semaphore s e = is_creation_of_semaphore s e.call && is_accepted e.reply
 

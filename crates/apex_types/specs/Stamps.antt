@@ -29,7 +29,7 @@ readied roster p r = if is_eligible roster.mode r then newest roster p r else wi
 abbrev pub start_wait : Mode → ℕ → Option Wait
 start_wait mode delay = if not (is_normal mode) then Some Normal else if delay == 0 then None else Some Start
 
--- when that wait ends by itself: the delay begins to run with the entry into NORMAL
+-- when that wait ends by itself: only in NORMAL, where the delay begins to run at once
 abbrev pub start_due : Roster → ℕ → Option ℕ
 start_due roster delay = if is_normal roster.mode && not (delay == 0) then Some (roster.now + delay) else None
 

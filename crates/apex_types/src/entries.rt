@@ -54,7 +54,7 @@ pub enum Reply {
     Status(u64, u64),
     /// The caller waits, or suspended itself; a later `woken` notice has its code.
     Blocked,
-    /// The caller is no longer started.
+    /// The caller is stopped, or the mode is IDLE from now on.
     Gone,
     /// The core had nothing to do.
     Idle,

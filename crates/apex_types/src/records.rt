@@ -1,6 +1,6 @@
 ghost use Rattle.std.specs.Prelude.{◌≡◌};
 ghost use Rattle.apex_types.specs.Roster.{is_normal};
-ghost use Rattle.apex_types.specs.Running.{is_eligible};
+ghost use Rattle.apex_types.specs.Running.{current_priority, is_eligible};
 ghost use Rattle.apex_types.specs.Stamps.{is_by_itself};
 
 use crate::identifiers::{CoreId, SemaphoreId};
@@ -69,12 +69,13 @@ pub struct Record {
     pub started: bool,
     pub suspended: Option<Suspender>,
     pub wait: Option<Wait>,
-    /// The stamp of its last coming into a ready or a wait queue: the smaller, the longer it is there.
+    /// Its stamp: the smaller, the longer it is in its queue.
     pub since: i64,
     /// The instant in ticks at which its wait, or its suspension of itself, ends if it does so of its
     /// own.
     pub due: Option<u64>,
-    /// The delay in ticks of its last start, which begins to run with the entry into NORMAL.
+    /// The delay in ticks of its last start, which begins to run at once in NORMAL, else with the entry
+    /// into NORMAL.
     pub delay: u32,
     /// The place of its next step in its script, counted from 0.
     pub step: u8,
@@ -86,6 +87,13 @@ impl Record {
         ensures { result ≡ is_eligible mode self.now }
     {
         mode.is_normal() && self.started && self.suspended.is_none() && self.wait.is_none()
+    }
+
+    /// The current priority; a greater one is more urgent.
+    pub fn current_priority(&self) -> u8
+        ensures { result ≡ current_priority self.now }
+    {
+        self.base
     }
 
     pub fn is_suspended_by_itself(&self) -> bool
