@@ -336,6 +336,13 @@ fn an_accepted_table_is_read_field_by_field(rt: HostRuntime) -> Result<(), Fail>
     assert_eq!(rt; semaphore.maximum(), 1);
     assert_eq!(rt; semaphore.initial(), 0);
     assert_eq!(rt; semaphore.discipline(), Discipline::Fifo);
+    Ok(())
+}
+
+#[test]
+fn a_default_init_list_is_read_call_by_call(rt: HostRuntime) -> Result<(), Fail> {
+    let table = read_table(rt.alloc(), SIGNAL_WAKES_WAITER.as_bytes())?;
+    let s = SemaphoreId::at(0);
     let p = ProcessId::at(0);
     let q = ProcessId::at(1);
     for (place, call) in [
@@ -394,16 +401,18 @@ fn a_loop_and_a_discipline_are_read(rt: HostRuntime) -> Result<(), Fail> {
 }
 
 #[test]
-fn a_cut_text_is_a_table_or_has_a_fault(rt: HostRuntime) -> Result<(), Fail> {
-    let text = SIGNAL_WAKES_WAITER.as_bytes();
+fn a_cut_text_is_no_table(rt: HostRuntime) -> Result<(), Fail> {
+    let text = SIGNAL_WAKES_WAITER.trim_end().as_bytes();
     for end in 0..text.len() {
         let told = fault_of(rt.alloc(), &text[..end])?;
-        assert!(rt; told.as_str() != "Memory", "cut at {end}");
+        assert!(rt; told.as_str() != "none", "cut at {end}");
     }
+    assert_eq!(rt; fault_of(rt.alloc(), text)?.as_str(), "none");
     Ok(())
 }
 
-/// Where one growth is refused, one of two readings has it, and the other is the one with ample memory.
+/// For runs with `rt try --test --fail-alloc N`: where the Nth growth is refused, one of two readings
+/// has it, and the other is the one with ample memory. In a plain run both are the same.
 #[test]
 fn a_refused_growth_is_memory(rt: HostRuntime) -> Result<(), Fail> {
     for text in [

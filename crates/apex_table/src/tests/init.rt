@@ -6,6 +6,7 @@ use apex_types::{
     SemaphoreCall, SemaphoreId, TimeCall, Timeout,
 };
 use std::alloc::{AllocError, Global};
+use std::process::Abort;
 use std::test::Fail;
 
 /// An init list of the table `SIGNAL_WAKES_WAITER`, and its fault.
@@ -153,58 +154,80 @@ fn an_init_list_is_too_long(rt: HostRuntime) -> Result<(), Fail> {
     Ok(())
 }
 
+/// This step of an init list, after another one, is read as this call.
+fn is_read(rt: &impl Abort, alloc: Global, step: &str, call: Call) -> Result<(), Fail> {
+    let list = format!(in alloc; "[\"GET_TIME\", \"{step}\"]")?;
+    let text = with_init(alloc, list.as_str())?;
+    let table = read_table(alloc, text.as_bytes())?;
+    assert_eq!(rt; table.init_call(0), Some(Call::Time(TimeCall::GetTime)));
+    assert_eq!(rt; table.init_call(1), Some(call), "of {step}");
+    assert_eq!(rt; table.init_call(2), None);
+    Ok(())
+}
+
 #[test]
-fn an_init_list_is_read_step_by_step(rt: HostRuntime) -> Result<(), Fail> {
+fn an_init_step_of_a_process_is_read_as_its_call(rt: HostRuntime) -> Result<(), Fail> {
     let p2 = ProcessId::at(1);
-    let s = SemaphoreId::at(0);
     for (step, call) in [
         (
             "CREATE_PROCESS P2",
-            Call::Process(ProcessCall::CreateProcess(NamedProcess::Known(p2))),
+            ProcessCall::CreateProcess(NamedProcess::Known(p2)),
         ),
         (
             "CREATE_PROCESS Q",
-            Call::Process(ProcessCall::CreateProcess(NamedProcess::Unknown(name(b"Q")))),
+            ProcessCall::CreateProcess(NamedProcess::Unknown(name(b"Q"))),
         ),
         (
             "INITIALIZE_PROCESS_CORE_AFFINITY P2 255",
-            Call::Process(ProcessCall::InitializeProcessCoreAffinity(p2, 255)),
+            ProcessCall::InitializeProcessCoreAffinity(p2, 255),
         ),
-        (
-            "SET_PRIORITY P2 0",
-            Call::Process(ProcessCall::SetPriority(p2, 0)),
-        ),
-        ("START P2", Call::Process(ProcessCall::Start(p2))),
+        ("SET_PRIORITY P2 0", ProcessCall::SetPriority(p2, 0)),
+        ("START P2", ProcessCall::Start(p2)),
         (
             "DELAYED_START P2 5",
-            Call::Process(ProcessCall::DelayedStart(p2, Timeout::Ticks(5))),
+            ProcessCall::DelayedStart(p2, Timeout::Ticks(5)),
         ),
-        ("STOP P2", Call::Process(ProcessCall::Stop(p2))),
+        ("STOP P2", ProcessCall::Stop(p2)),
         (
             "GET_PROCESS_ID P2",
-            Call::Process(ProcessCall::GetProcessId(NamedProcess::Known(p2))),
+            ProcessCall::GetProcessId(NamedProcess::Known(p2)),
         ),
-        (
-            "GET_PROCESS_STATUS P2",
-            Call::Process(ProcessCall::GetProcessStatus(p2)),
-        ),
-        ("GET_TIME", Call::Time(TimeCall::GetTime)),
+        ("GET_PROCESS_STATUS P2", ProcessCall::GetProcessStatus(p2)),
+    ] {
+        is_read(&rt, rt.alloc(), step, Call::Process(call))?;
+    }
+    Ok(())
+}
+
+#[test]
+fn an_init_step_of_a_semaphore_is_read_as_its_call(rt: HostRuntime) -> Result<(), Fail> {
+    let s = SemaphoreId::at(0);
+    for (step, call) in [
         (
             "CREATE_SEMAPHORE S",
-            Call::Semaphore(SemaphoreCall::CreateSemaphore(NamedSemaphore::Known(s))),
+            SemaphoreCall::CreateSemaphore(NamedSemaphore::Known(s)),
         ),
-        (
-            "SIGNAL_SEMAPHORE S",
-            Call::Semaphore(SemaphoreCall::SignalSemaphore(s)),
-        ),
+        ("SIGNAL_SEMAPHORE S", SemaphoreCall::SignalSemaphore(s)),
         (
             "GET_SEMAPHORE_ID S",
-            Call::Semaphore(SemaphoreCall::GetSemaphoreId(NamedSemaphore::Known(s))),
+            SemaphoreCall::GetSemaphoreId(NamedSemaphore::Known(s)),
         ),
         (
             "GET_SEMAPHORE_STATUS S",
-            Call::Semaphore(SemaphoreCall::GetSemaphoreStatus(s)),
+            SemaphoreCall::GetSemaphoreStatus(s),
         ),
+    ] {
+        is_read(&rt, rt.alloc(), step, Call::Semaphore(call))?;
+    }
+    Ok(())
+}
+
+#[test]
+fn an_init_step_of_the_partition_or_of_time_is_read_as_its_call(
+    rt: HostRuntime,
+) -> Result<(), Fail> {
+    for (step, call) in [
+        ("GET_TIME", Call::Time(TimeCall::GetTime)),
         (
             "GET_PARTITION_STATUS",
             Call::Partition(PartitionCall::GetPartitionStatus),
@@ -218,13 +241,13 @@ fn an_init_list_is_read_step_by_step(rt: HostRuntime) -> Result<(), Fail> {
             Call::Partition(PartitionCall::SetPartitionMode(RequestedMode::Idle)),
         ),
     ] {
-        let list = format!(in rt.alloc(); "[\"GET_TIME\", \"{step}\"]")?;
-        let text = with_init(rt.alloc(), list.as_str())?;
-        let table = read_table(rt.alloc(), text.as_bytes())?;
-        assert_eq!(rt; table.init_call(0), Some(Call::Time(TimeCall::GetTime)));
-        assert_eq!(rt; table.init_call(1), Some(call), "of {step}");
-        assert_eq!(rt; table.init_call(2), None);
+        is_read(&rt, rt.alloc(), step, call)?;
     }
+    Ok(())
+}
+
+#[test]
+fn an_empty_init_list_is_no_default_one(rt: HostRuntime) -> Result<(), Fail> {
     let text = with_init(rt.alloc(), "[]")?;
     let table = read_table(rt.alloc(), text.as_bytes())?;
     assert_eq!(rt; table.init_call(0), None);

@@ -8,6 +8,7 @@ use apex_types::{
     SemaphoreCall, SemaphoreId, TimeCall, Timeout,
 };
 use std::alloc::{AllocError, Global};
+use std::process::Abort;
 use std::test::Fail;
 
 /// A fault, and steps of P1 that have it, in place of the one in the table `SIGNAL_WAKES_WAITER`.
@@ -151,8 +152,15 @@ pub(super) fn name(text: &[u8]) -> Name
     Name::from_bytes(text).unwrap()
 }
 
+/// This step of P1 is read as this call.
+fn is_read(rt: &impl Abort, alloc: Global, step: &str, call: Call) -> Result<(), Fail> {
+    let read = call_of(alloc, step)?;
+    assert_eq!(rt; read, Some(call), "of {step}");
+    Ok(())
+}
+
 #[test]
-fn a_step_of_a_process_is_read_as_its_call(rt: HostRuntime) -> Result<(), Fail> {
+fn a_step_with_a_process_is_read_as_its_call(rt: HostRuntime) -> Result<(), Fail> {
     let p2 = ProcessId::at(1);
     for (step, call) in [
         (
@@ -163,6 +171,29 @@ fn a_step_of_a_process_is_read_as_its_call(rt: HostRuntime) -> Result<(), Fail> 
             "CREATE_PROCESS S",
             ProcessCall::CreateProcess(NamedProcess::Unknown(name(b"S"))),
         ),
+        ("START P2", ProcessCall::Start(p2)),
+        ("STOP P2", ProcessCall::Stop(p2)),
+        ("SUSPEND P2", ProcessCall::Suspend(p2)),
+        ("RESUME P2", ProcessCall::Resume(p2)),
+        (
+            "GET_PROCESS_ID P2",
+            ProcessCall::GetProcessId(NamedProcess::Known(p2)),
+        ),
+        (
+            "GET_PROCESS_ID ->",
+            ProcessCall::GetProcessId(NamedProcess::Unknown(name(b"->"))),
+        ),
+        ("GET_PROCESS_STATUS P2", ProcessCall::GetProcessStatus(p2)),
+    ] {
+        is_read(&rt, rt.alloc(), step, Call::Process(call))?;
+    }
+    Ok(())
+}
+
+#[test]
+fn a_step_with_a_process_and_a_word_is_read_as_its_call(rt: HostRuntime) -> Result<(), Fail> {
+    let p2 = ProcessId::at(1);
+    for (step, call) in [
         (
             "INITIALIZE_PROCESS_CORE_AFFINITY P2 0",
             ProcessCall::InitializeProcessCoreAffinity(p2, 0),
@@ -173,7 +204,6 @@ fn a_step_of_a_process_is_read_as_its_call(rt: HostRuntime) -> Result<(), Fail> 
         ),
         ("SET_PRIORITY P2 0", ProcessCall::SetPriority(p2, 0)),
         ("SET_PRIORITY P2 65535", ProcessCall::SetPriority(p2, 65535)),
-        ("START P2", ProcessCall::Start(p2)),
         (
             "DELAYED_START P2 0",
             ProcessCall::DelayedStart(p2, Timeout::Poll),
@@ -186,10 +216,16 @@ fn a_step_of_a_process_is_read_as_its_call(rt: HostRuntime) -> Result<(), Fail> 
             "DELAYED_START P2 1",
             ProcessCall::DelayedStart(p2, Timeout::Ticks(1)),
         ),
-        ("STOP P2", ProcessCall::Stop(p2)),
+    ] {
+        is_read(&rt, rt.alloc(), step, Call::Process(call))?;
+    }
+    Ok(())
+}
+
+#[test]
+fn a_step_of_the_process_itself_is_read_as_its_call(rt: HostRuntime) -> Result<(), Fail> {
+    for (step, call) in [
         ("STOP_SELF", ProcessCall::StopSelf),
-        ("SUSPEND P2", ProcessCall::Suspend(p2)),
-        ("RESUME P2", ProcessCall::Resume(p2)),
         ("SUSPEND_SELF 0", ProcessCall::SuspendSelf(Timeout::Poll)),
         (
             "SUSPEND_SELF infinite",
@@ -200,25 +236,14 @@ fn a_step_of_a_process_is_read_as_its_call(rt: HostRuntime) -> Result<(), Fail> 
             "GET_MY_PROCESSOR_CORE_ID",
             ProcessCall::GetMyProcessorCoreId,
         ),
-        (
-            "GET_PROCESS_ID P2",
-            ProcessCall::GetProcessId(NamedProcess::Known(p2)),
-        ),
-        (
-            "GET_PROCESS_ID ->",
-            ProcessCall::GetProcessId(NamedProcess::Unknown(name(b"->"))),
-        ),
-        ("GET_PROCESS_STATUS P2", ProcessCall::GetProcessStatus(p2)),
     ] {
-        let read = call_of(rt.alloc(), step)?;
-        assert_eq!(rt; read, Some(Call::Process(call)), "of {step}");
+        is_read(&rt, rt.alloc(), step, Call::Process(call))?;
     }
     Ok(())
 }
 
 #[test]
-fn a_step_of_another_kind_is_read_as_its_call(rt: HostRuntime) -> Result<(), Fail> {
-    let s = SemaphoreId::at(0);
+fn a_step_of_the_partition_or_of_time_is_read_as_its_call(rt: HostRuntime) -> Result<(), Fail> {
     for (step, call) in [
         (
             "SET_PARTITION_MODE NORMAL",
@@ -245,37 +270,43 @@ fn a_step_of_another_kind_is_read_as_its_call(rt: HostRuntime) -> Result<(), Fai
             Call::Time(TimeCall::TimedWait(Timeout::Infinite)),
         ),
         ("GET_TIME", Call::Time(TimeCall::GetTime)),
+    ] {
+        is_read(&rt, rt.alloc(), step, call)?;
+    }
+    Ok(())
+}
+
+#[test]
+fn a_step_of_a_semaphore_is_read_as_its_call(rt: HostRuntime) -> Result<(), Fail> {
+    let s = SemaphoreId::at(0);
+    for (step, call) in [
         (
             "CREATE_SEMAPHORE S",
-            Call::Semaphore(SemaphoreCall::CreateSemaphore(NamedSemaphore::Known(s))),
+            SemaphoreCall::CreateSemaphore(NamedSemaphore::Known(s)),
         ),
         (
             "WAIT_SEMAPHORE S 0",
-            Call::Semaphore(SemaphoreCall::WaitSemaphore(s, Timeout::Poll)),
+            SemaphoreCall::WaitSemaphore(s, Timeout::Poll),
         ),
         (
             "WAIT_SEMAPHORE S 4294967295",
-            Call::Semaphore(SemaphoreCall::WaitSemaphore(s, Timeout::Ticks(4294967295))),
+            SemaphoreCall::WaitSemaphore(s, Timeout::Ticks(4294967295)),
         ),
-        (
-            "SIGNAL_SEMAPHORE S",
-            Call::Semaphore(SemaphoreCall::SignalSemaphore(s)),
-        ),
+        ("SIGNAL_SEMAPHORE S", SemaphoreCall::SignalSemaphore(s)),
         (
             "GET_SEMAPHORE_ID S",
-            Call::Semaphore(SemaphoreCall::GetSemaphoreId(NamedSemaphore::Known(s))),
+            SemaphoreCall::GetSemaphoreId(NamedSemaphore::Known(s)),
         ),
         (
             "GET_SEMAPHORE_ID P1",
-            Call::Semaphore(SemaphoreCall::GetSemaphoreId(NamedSemaphore::Unknown(name(b"P1")))),
+            SemaphoreCall::GetSemaphoreId(NamedSemaphore::Unknown(name(b"P1"))),
         ),
         (
             "GET_SEMAPHORE_STATUS S",
-            Call::Semaphore(SemaphoreCall::GetSemaphoreStatus(s)),
+            SemaphoreCall::GetSemaphoreStatus(s),
         ),
     ] {
-        let read = call_of(rt.alloc(), step)?;
-        assert_eq!(rt; read, Some(call), "of {step}");
+        is_read(&rt, rt.alloc(), step, Call::Semaphore(call))?;
     }
     Ok(())
 }
