@@ -1,12 +1,13 @@
 -- The parts of a list round the first separator.
-use Rattle.std.proofs.Common.{◌≡◌, ◌∙◌, ℕ, ◌+◌, ◌-◌, ◌*◌, ◌<◌, Bool, true, false, cond, refl, sym, ap, arith, List, [], ◌∷◌, length, take, drop, Some, None, nat_lt, ltb-true, eqb-true}
+use Rattle.std.proofs.Common.{◌≡◌, ◌∙◌, ℕ, ◌+◌, ◌-◌, ◌<◌, ◌&&◌, Bool, true, false, refl, sym, ap, arith, List, [], ◌∷◌, length, take, drop, Some, None, nat_lt, ltb-true, eqb-true}
 use Rattle.std.specs.Prelude.{◌==◌}
 use Rattle.std.specs.Char.{is_ascii_digit}
 use Rattle.std.specs.List.{count_by, join_with_byte, position, position_or_len, slice_split}
+use Rattle.std.specs.Str.{all_ascii_digits}
 use Rattle.std.proofs.lemmas.List.{take_rest}
 use Rattle.std.proofs.lemmas.List.Splits.{join_with_byte-slice_split, length-slice_split, slice_split_first, slice_split_none}
 use Rattle.std.proofs.lemmas.List.Sums.{fails_before_first}
-use Rattle.apex_types.specs.Numbers.{more_digits, number_of}
+use Rattle.apex_types.specs.Numbers.{number_of}
 use Rattle.apex_cli.specs.Schedule.{parts, times_after, times_of}
 
 -- the parts, where the first separator stands at i; what follows is a range of the list
@@ -35,19 +36,17 @@ split_at_none p xs found = go (nat_lt (position_or_len p xs) (length xs)) refl
     go false t = slice_split_none p xs (λ k d below. fails_before_first p xs k d (grind arith))
 
 -- a word that holds a `*` is no number
-more_digits_of_star : (n : ℕ) (w : List ℕ) → 0 < count_by (λ b. b == 42) w → more_digits n w ≡ None
-more_digits_of_star n [] some = absurd (omega arith)
-more_digits_of_star n (x ∷ xs) some =
-    go (x == 42) refl (λ rest. more_digits_of_star (n * 10 + (x - 48)) xs rest)
+digits_of_star : (w : List ℕ) → 0 < count_by (λ b. b == 42) w → all_ascii_digits w ≡ false
+digits_of_star [] some = absurd (omega arith)
+digits_of_star (x ∷ xs) some = go (x == 42) refl (digits_of_star xs)
   where
-    digit : (b : Bool) → more_digits (n * 10 + (x - 48)) xs ≡ None
-        → cond b (more_digits (n * 10 + (x - 48)) xs) None ≡ None
+    digit : (b : Bool) → all_ascii_digits xs ≡ false → (b && all_ascii_digits xs) ≡ false
     digit true e = e
     digit false e = refl
 
     go : (b : Bool) → (x == 42) ≡ b
-        → (0 < count_by (λ b. b == 42) xs → more_digits (n * 10 + (x - 48)) xs ≡ None)
-        → more_digits n (x ∷ xs) ≡ None
+        → (0 < count_by (λ b. b == 42) xs → all_ascii_digits xs ≡ false)
+        → all_ascii_digits (x ∷ xs) ≡ false
     go true t later =
         let star : x ≡ 42 = eqb-true x 42 t in
         rw star refl
@@ -56,7 +55,7 @@ more_digits_of_star n (x ∷ xs) some =
         digit (is_ascii_digit x) (later (omega arith))
 
 number_of_star : (w : List ℕ) → 0 < count_by (λ b. b == 42) w → number_of w ≡ None
-number_of_star w some = rw (more_digits_of_star 0 w some) (grind arith)
+number_of_star w some = rw (digits_of_star w some) (grind arith)
 
 -- the parts after the core's `*` say how often just where they are one number
 pub times_after_star : (w : List ℕ) → times_after (parts 42 w) ≡ times_of w

@@ -6,3 +6,4 @@ pub mod Orders
 pub mod DistinctStamps
 pub mod Reaches
 pub mod Dues
+pub mod Digits

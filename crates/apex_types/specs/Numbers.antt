@@ -1,21 +1,22 @@
 -- Decimal numbers, without a sign and without a leading zero.
-use Rattle.std.specs.Prelude.{ℕ, ◌+◌, ◌-◌, ◌*◌, Bool, List, [], ◌∷◌, Option, Some, None, length, slice_index}
+use Rattle.std.specs.Prelude.{ℕ, ◌+◌, ◌-◌, ◌*◌, ◌^◌, Bool, List, [], ◌∷◌, Option, Some, None, length, slice_index}
 use Rattle.std.specs.Prelude.{◌==◌, ◌&&◌, ◌||◌, nat_lt, nat_le, if◌then◌else◌, option_and_then}
-use Rattle.std.specs.Char.{is_ascii_digit}
+use Rattle.std.specs.Str.{all_ascii_digits}
 
--- the number that the digits write when they follow those of n; none where a byte is no digit
-abbrev pub more_digits : ℕ → List ℕ → Option ℕ
-more_digits n [] = Some n
-more_digits n (digit ∷ rest) =
-    if is_ascii_digit digit then more_digits (n * 10 + (digit - 48)) rest else None
+-- the number that digits write, each by its place
+abbrev pub digits_value : List ℕ → ℕ
+digits_value [] = 0
+digits_value (digit ∷ rest) = (digit - 48) * 10 ^ length rest + digits_value rest
 
+-- the first of several digits is 0
 abbrev pub has_leading_zero : List ℕ → Bool
 has_leading_zero word = nat_lt 1 (length word) && slice_index word 0 == 48
 
 -- the number that a word writes; none where the word is no number
 abbrev pub number_of : List ℕ → Option ℕ
 number_of word =
-    if length word == 0 || has_leading_zero word then None else more_digits 0 word
+    if length word == 0 || has_leading_zero word then None
+    else if all_ascii_digits word then Some (digits_value word) else None
 
 -- the number, where it is at most `most`
 abbrev pub at_most : ℕ → Option ℕ → Option ℕ
