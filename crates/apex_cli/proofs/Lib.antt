@@ -1,6 +1,5 @@
 pub mod Endings
 pub mod Parts
-pub mod Printable
 pub mod Runs
 pub mod CommandLemmas
 pub mod Items

@@ -55,6 +55,7 @@ pub fn replayed(alloc: Global, items: &[Item], text: &[u8]) -> Result<Replay, Cl
         Ok(()) => None,
         Err(full) => Some(CliFault::HistoryFull(full.entries)),
     };
+    kernel.holds();
     Ok(Replay {
         kernel,
         page,

@@ -1,5 +1,6 @@
 -- Each kernel keeps what it keeps: at its opening, at each turn, and at each tick.
-use Rattle.std.proofs.Common.{◌≡◌, ℕ, zero, suc, ◌+◌, ◌≤◌, Bool, false, List, [], ◌∷◌, ◌++◌, length, get_or, Option, None, Some, is_some, pos, ◌+ℤ◌, ◌≤ℤ◌, refl, sym, ◌∙◌, arith, length-append, if◌then◌else◌}
+use Rattle.std.proofs.Common.{◌≡◌, ℕ, zero, suc, ◌+◌, ◌≤◌, Bool, false, List, [], ◌∷◌, ◌++◌, length, get_or, Option, None, Some, is_some, pos, ◌+ℤ◌, ◌≤ℤ◌, refl, sym, ◌∙◌, arith, length-append, if◌then◌else◌, IfSome}
+use Rattle.std.proofs.lemmas.List.Elements.{All-nil, All-push}
 use Rattle.std.proofs.lemmas.Int.{ints}
 use Rattle.std.proofs.lemmas.Option.{none-some}
 use Rattle.std.proofs.lemmas.List.Sums.{sum_by-append}
@@ -9,7 +10,7 @@ use Rattle.apex_types.specs.declared.Wait.{Wait}
 use Rattle.apex_types.specs.declared.Who.{Who}
 use Rattle.apex_types.specs.declared.Who.TheVariants.{Core, Ticker}
 use Rattle.apex_types.specs.Places.{map_places}
-use Rattle.apex_types.specs.Table.{Table, ProcessEntry, IsLawful}
+use Rattle.apex_types.specs.Table.{Table, ProcessEntry, IsLawful, IsKnown}
 use Rattle.apex_types.specs.Roster.{Roster, nobody, record_at, opening_record}
 use Rattle.apex_types.specs.Running.{chosen}
 use Rattle.apex_types.specs.Dues.{HasNoPastDue}
@@ -17,6 +18,7 @@ use Rattle.apex_types.specs.Distinct.{IsStamped}
 use Rattle.apex_types.specs.Stamps.{advance_to, WaitsForOne}
 use Rattle.apex_types.specs.Ticks.{tick_goal, pass_time}
 use Rattle.apex_types.specs.History.{Objects, objects_after, init_count, is_by_init}
+use Rattle.apex_types.specs.Lines.{IsPrintable}
 use Rattle.apex_types.specs.Machine.{Deed, script_deed, chosen_deed, step_of, turn_deed, tick_deed, due_init_call, opening, deed_of, after_deed, turn, tick, entry_of, Machine}
 use Rattle.apex_types.proofs.Places.{length-map_places}
 use Rattle.apex_types.proofs.DistinctStamps.{stamped_opening, stamped_advance_to}
@@ -24,7 +26,7 @@ use Rattle.apex_types.proofs.Dues.{goal_forward, goal_near, goal_not_past}
 use Rattle.apex_types.proofs.Reaches.{Reaches}
 use Rattle.apex_dispatch.specs.Kernel.{KernelState, IsSound, IsKept, kernel_in}
 use Rattle.apex_dispatch.specs.OpenWaits.{awaited}
-use Rattle.apex_dispatch.proofs.Known.{known_script_step}
+use Rattle.apex_dispatch.proofs.Known.{known_script_step, deed_known}
 use Rattle.apex_dispatch.proofs.Reach.{reach_turn, reach_serve_dues}
 use Rattle.apex_dispatch.proofs.Turns.{IsDeedExact, due_known, exact_deed}
 use Rattle.apex_dispatch.proofs.TickTold.{exact_tick}
@@ -57,9 +59,10 @@ sound_deed : (table : Table) (machine : Machine) (who : Who) (deed : Deed) (init
     → length deed.outcome.roster.records ≡ length machine.roster.records
     → deed.outcome.roster.young ≤ℤ (machine.roster.young +ℤ pos 64)
     → IsStamped deed.outcome.roster → HasNoPastDue deed.outcome.roster → WaitsForOne deed.outcome.roster
+    → IfSome deed.call (IsKnown table)
     → IsDeedExact table machine.history (length machine.history + 1) who deed
     → IsSound (kernel_in table (after_deed machine who deed)) (init_made + (if made then 1 else 0)) room
-sound_deed table machine who deed init_made room made sound by many few stamped dues one exact =
+sound_deed table machine who deed init_made room made sound by many few stamped dues one known exact =
     let history = machine.history in
     let e = entry_of (length history + 1) who deed in
     let longer : length (history ++ e ∷ []) ≡ length history + 1 = rw length-append refl in
@@ -73,6 +76,7 @@ sound_deed table machine who deed init_made room made sound by many few stamped 
       stamped = stamped;
       dues = dues;
       one = one;
+      known = All-push (IsPrintable table) history e sound.known known;
       enough = exact.enough;
       bounded = exact.bounded;
       waiting = exact.waiting;
@@ -85,7 +89,7 @@ turn_reaches table machine core init_made room sound =
     let roster = machine.roster in
     let count = sound.lawful.process_count in
     reach_turn table (objects_after table machine.history) roster (omega (arith, sound.records, count)) sound.records
-    (λ p call h e. known_script_step table p (record_at roster p).step call sound.lawful (rw sound.records at h) e)
+    (λ p call h e. known_script_step table p (record_at roster p).step call sound.lawful e)
     core (due_init_call table machine core) (due_known table machine core sound.lawful)
 
 -- after a turn
@@ -99,6 +103,7 @@ sound_turn table machine core init_made room sound =
     sound_deed table machine (Core core) (deed_of table machine core) init_made room (is_some due) sound
     (turn_caller table machine.roster (objects_after table machine.history) core due)
     reaches.many reaches.stamps (reaches.stamped sound.stamped) (reaches.dues sound.dues) (reaches.one sound.one)
+    (deed_known table sound.lawful machine core)
     (exact_deed table machine core sound.lawful sound.records sound.enough sound.bounded sound.waiting sound.one)
 
 pub now_turn : (table : Table) (machine : Machine) (core init_made room : ℕ) → IsSound (kernel_in table machine) init_made room
@@ -123,7 +128,7 @@ sound_tick table machine n init_made room sound =
     rw same at (sound_deed table machine Ticker (tick_deed roster objects n) init_made room false sound refl
     reaches.many (omega (arith, ints, reaches.stamps, sound.records, count))
     (reaches.stamped (stamped_advance_to roster sound.stamped (tick_goal roster n)))
-    (reaches.dues (goal_not_past roster n)) (reaches.one sound.one)
+    (reaches.dues (goal_not_past roster n)) (reaches.one sound.one) tt
     (exact_tick table machine n sound.enough sound.bounded sound.waiting))
 
 -- a tick goes forward, and n at the most
@@ -212,6 +217,7 @@ sound_opening table lawful =
       stamped = stamped_opening table;
       dues = λ p t h. omega arith;
       one = λ p h. opening_waits table.processes 0 p;
+      known = All-nil (IsPrintable table);
       enough = λ s h. omega arith;
       bounded = λ s h. omega (arith, (lawful.semaphores s h).initial);
       waiting = λ p s w h. absurd (opening_free table.processes 0 p w h);

@@ -1,7 +1,7 @@
 -- After each turn the running objects are those that the history gives.
 use Rattle.std.proofs.Common.{◌≡◌, ℕ, ◌+◌, ◌<◌, Bool, true, false, ◌&&◌, ◌||◌, not, ◌==◌, List, [], ◌∷◌, ◌++◌, length, Option, None, Some, is_none, set, nat_lt, ap, refl, sym, ◌∙◌, arith, inl, inr}
 use Rattle.std.proofs.lemmas.Option.{none-some}
-use Rattle.std.proofs.lemmas.Bool.{both_ways, cond_both, cases_eq, ltb-true, ltb-false, cases_Bool, and_parts, eqb-true}
+use Rattle.std.proofs.lemmas.Bool.{both_ways, cases_eq, ltb-true, ltb-false, cases_Bool, and_parts, eqb-true}
 use Rattle.apex_types.specs.declared.Call.{Call}
 use Rattle.apex_types.specs.declared.Call.TheVariants.{Process as ToProcess}
 use Rattle.apex_types.specs.declared.ProcessCall.TheVariants.{StopSelf}
@@ -19,12 +19,12 @@ use Rattle.apex_types.specs.Roster.{Roster, nobody as no_record, record_at, is_c
 use Rattle.apex_types.specs.Running.{runs_on, is_before, chosen}
 use Rattle.apex_types.specs.Stamps.{WaitsForOne, is_by_itself, set_step}
 use Rattle.apex_types.specs.Table.{Table, process_entry, IsLawful, IsKnown}
-use Rattle.apex_types.specs.History.{objects_after, is_accepted, is_by_process, is_wait_on, next_init_call}
+use Rattle.apex_types.specs.History.{objects_after, init_count, is_accepted, is_by_process, is_wait_on}
 use Rattle.apex_types.specs.Machine.{Machine, Deed, service, served, next_place, script_deed, chosen_deed, turn_deed, step_of, due_init_call, deed_of, entry_of}
 use Rattle.std.proofs.lemmas.List.{get_or_past, length-set}
 use Rattle.apex_types.proofs.Rosters.{changes_record, at_record}
 use Rattle.apex_types.proofs.Choice.{place_passes, place_within}
-use Rattle.apex_dispatch.proofs.Known.{known_step, known_script_step}
+use Rattle.apex_dispatch.proofs.Known.{known_due, known_script_step}
 use Rattle.apex_dispatch.proofs.Waits.{open-push}
 use Rattle.apex_dispatch.specs.OpenWaits.{wakes, has_open, asked_of, or_suspended, awaited, AreEnough, AreBounded, AreOpen}
 use Rattle.apex_dispatch.proofs.Effects.{WaitsKept, IsIdle, frees_moved}
@@ -119,7 +119,7 @@ module _ (table : Table) (lawful : IsLawful table) (history : List Entry) (numbe
         let frees = frees_moved roster moved p (record r { step = place }) refl (λ w h. h) in
         exact_served moved (λ q s w h. before q s w (frees.still q w h)) (one_step roster p place one) (Process p)
         (λ q w by h. none-some w (sym free ∙ rw (eqb-true q p by) at (frees.still q w h)))
-        call (known_script_step table p r.step call lawful within is)
+        call (known_script_step table p r.step call lawful is)
 
     -- the chosen process waits for nothing, and is not suspended
     chosen_free : (p : ℕ) → chosen roster core ≡ Some p → awaited (record_at roster p) ≡ None
@@ -163,10 +163,7 @@ module _ (table : Table) (lawful : IsLawful table) (history : List Entry) (numbe
 pub due_known : (table : Table) (machine : Machine) (core : ℕ) → IsLawful table
     → (call : Call) → due_init_call table machine core ≡ Some call → IsKnown table call
 due_known table machine core lawful =
-    cond_both {A = Option Call} (is_cold_start machine.roster.mode && core == 0) (next_init_call table machine.history) None
-    (λ due. (call : Call) → due ≡ Some call → IsKnown table call)
-    (λ cold call e. known_step table table.init _ call lawful.init e)
-    (λ other call e. absurd (none-some call e))
+    known_due table (init_count machine.history) lawful (is_cold_start machine.roster.mode && core == 0)
 
 -- a turn's deed, by the objects of the history
 pub exact_deed : (table : Table) (machine : Machine) (core : ℕ) → IsLawful table

@@ -1,7 +1,8 @@
 -- What every contract sees of a kernel, and what each kernel keeps.
-use Rattle.std.specs.Prelude.{◌≡◌, ℕ, ◌+◌, ◌*◌, ◌≤◌, length, pos, ◌≤ℤ◌}
+use Rattle.std.specs.Prelude.{◌≡◌, ℕ, ◌+◌, ◌*◌, ◌≤◌, length, pos, ◌≤ℤ◌, All}
 use Rattle.apex_types.specs.Table.{Table, IsLawful}
 use Rattle.apex_types.specs.History.{Objects, objects_after, init_count}
+use Rattle.apex_types.specs.Lines.{IsPrintable}
 use Rattle.apex_types.specs.Machine.{Machine}
 use Rattle.apex_types.specs.Distinct.{IsStamped}
 use Rattle.apex_types.specs.Dues.{HasNoPastDue}
@@ -23,8 +24,8 @@ kernel_in table machine = record {
 }
 
 -- what holds of a kernel after every list of events: the running values are the history's, stamps differ,
--- stamps are left for all that the history's limit still admits, no due that stands is past, and who
--- suspended itself waits for nothing else
+-- stamps are left for all that the history's limit still admits, no due that stands is past, who suspended
+-- itself waits for nothing else, and the ids of each entry are the table's
 pub record IsSound (kernel : KernelState) (init_made log_limit : ℕ) : Type 0 where
   pub lawful : IsLawful kernel.table
   pub limit : log_limit ≡ kernel.table.limit
@@ -35,6 +36,7 @@ pub record IsSound (kernel : KernelState) (init_made log_limit : ℕ) : Type 0 w
   pub stamped : IsStamped kernel.machine.roster
   pub dues : HasNoPastDue kernel.machine.roster
   pub one : WaitsForOne kernel.machine.roster
+  pub known : All (IsPrintable kernel.table) kernel.machine.history
   pub enough : AreEnough kernel.table kernel.machine.history
   pub bounded : AreBounded kernel.table kernel.machine.history
   pub waiting : AreOpen kernel.machine.roster kernel.machine.history

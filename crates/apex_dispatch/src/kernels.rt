@@ -1,5 +1,6 @@
 ghost use Rattle.std.specs.Prelude.{◌≡◌, ◌<◌, ◌≤◌, ◌↔◌, ◌+◌, ◌^◌, [], ◌∷◌, ◌++◌, length, slice_get, ◌&&◌, ◌==◌, if◌then◌else◌, None, is_some, All, IfOk, IfErr, OnOk, OnErr, IsOk};
 ghost use Rattle.apex_types.specs.Roster.{opening_roster, is_cold_start};
+ghost use Rattle.apex_types.specs.Lines.{IsPrintable};
 ghost use Rattle.apex_types.specs.Machine.{opening, turn, tick, happen, run};
 ghost use Rattle.apex_types.specs.Table.{IsLawful};
 ghost use Rattle.apex_types.specs.Distinct.{HasDistinctStamps};
@@ -190,14 +191,15 @@ impl<S: Store> Kernel<S> {
     }
 
     /// What holds of every kernel: its running values are those that its history gives, its history
-    /// is within the table's limit, its time is at most 2^36 ticks, and no two of its processes have
-    /// the same stamp.
+    /// is within the table's limit, its time is at most 2^36 ticks, no two of its processes have the
+    /// same stamp, and the ids that its entries name are the table's.
     pub fn holds(&self)
         ensures values { self.now ≡ kernel_in self.now.table self.now.machine }
         ensures within { length self.now.machine.history ≤ self.now.table.limit }
         ensures time { self.now.machine.roster.now ≤ 2 ^ 36 }
         ensures lawful { IsLawful self.now.table }
         ensures stamps { HasDistinctStamps self.now.machine.roster }
+        ensures printable { All (IsPrintable self.now.table) self.now.machine.history }
     {
         let _entries = self.log.len();
     }

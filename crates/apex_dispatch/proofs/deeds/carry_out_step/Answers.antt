@@ -9,4 +9,4 @@ serve-reply-requires-clause-known g c =
     let step : slice_get (process_entry table c.args.process).script c.from.result ≡ Some c.in-Some.call =
     rw (← c.process.ensures.entry) (sym c.in-Some.ensures) in
     known_to table c.args.objects.now c.in-Some.call c.requires.processes c.requires.semaphores
-    (known_script_step table c.args.process c.from.result c.in-Some.call c.lawful.ensures c.requires.process step)
+    (known_script_step table c.args.process c.from.result c.in-Some.call c.lawful.ensures step)
