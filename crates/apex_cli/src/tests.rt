@@ -1,4 +1,6 @@
+mod outlines;
 mod processes;
+mod services;
 mod ticks;
 
 use crate::program::run_on;

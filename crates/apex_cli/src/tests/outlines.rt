@@ -1,0 +1,143 @@
+use super::run_with;
+use std::alloc::Global;
+use std::process::Abort;
+use std::str;
+use std::test::Fail;
+
+// A case as text: a partition table in short, a schedule, and the last lines of the history.
+//
+//     cores 2
+//     init STEP; STEP
+//     process NAME PRIORITY CORE start loop: STEP; STEP
+//     semaphore NAME MAXIMUM INITIAL DISCIPLINE
+//     schedule ITEM ITEM
+//     NUMBER NOW WHO PROCESS CALL -> REPLY
+//
+// Without a line `cores` there is one core. A line `init` adds steps to the init list, and without
+// one the list is the default one. The keys `start` and `loop` are true where their words stand.
+// The history may have any lines before those shown.
+#[derive(Drop)]
+struct Outline<'a> {
+    cores: &'a str,
+    has_init: bool,
+    init: String,
+    sections: String,
+    schedule: &'a str,
+    lines: String,
+}
+
+impl<'a> Outline<'a> {
+    fn read(alloc: Global, text: &'a str) -> Result<Outline<'a>, Fail> {
+        let mut outline = Outline {
+            cores: "1",
+            has_init: false,
+            init: String::new(alloc),
+            sections: String::new(alloc),
+            schedule: "",
+            lines: String::new(alloc),
+        };
+        for line in text.lines() {
+            outline.put(line)?;
+        }
+        Ok(outline)
+    }
+
+    fn put(&mut self, line: &'a str) -> Result<(), Fail> {
+        match line.split_once(' ').unwrap_or((line, "")) {
+            ("cores", cores) => self.cores = cores,
+            ("init", steps) => {
+                self.has_init = true;
+                put_steps(&mut self.init, steps)?;
+            }
+            ("process", process) => put_process(&mut self.sections, process)?,
+            ("semaphore", semaphore) => put_semaphore(&mut self.sections, semaphore)?,
+            ("schedule", schedule) => self.schedule = schedule,
+            ("", _) => {}
+            _ => writeln!(self.lines, "{line}")?,
+        }
+        Ok(())
+    }
+
+    fn table(&self, alloc: Global) -> Result<String, Fail> {
+        let cores = self.cores;
+        let init = self.init.as_str();
+        let mut text = format!(in alloc; "cores = {cores}\n")?;
+        if self.has_init {
+            writeln!(text, "init = [{init}]")?;
+        }
+        text.push_str(self.sections.as_str())?;
+        Ok(text)
+    }
+}
+
+// Writes steps as the items of an array of texts.
+fn put_steps(text: &mut String, steps: &str) -> Result<(), Fail> {
+    for step in steps.split("; ").filter(|step| !step.is_empty()) {
+        write!(text, "\"{step}\", ")?;
+    }
+    Ok(())
+}
+
+/// Writes the section of a process, told as `NAME PRIORITY CORE start loop: STEP; STEP`.
+pub fn put_process(text: &mut String, process: &str) -> Result<(), Fail> {
+    let (head, steps) = process.split_once(':').ok_or("no script")?;
+    let mut words = head.split(' ');
+    let name = words.next().ok_or("no name")?;
+    let priority = words.next().ok_or("no priority")?;
+    let core = words.next().ok_or("no core")?;
+    writeln!(
+        text,
+        "[[process]]\nname = \"{name}\"\npriority = {priority}\ncore = {core}"
+    )?;
+    for flag in words {
+        writeln!(text, "{flag} = true")?;
+    }
+    text.push_str("script = [")?;
+    put_steps(text, steps.trim())?;
+    text.push_str("]\n")?;
+    Ok(())
+}
+
+/// Writes the section of a semaphore, told as `NAME MAXIMUM INITIAL DISCIPLINE`.
+pub fn put_semaphore(text: &mut String, semaphore: &str) -> Result<(), Fail> {
+    let mut words = semaphore.split(' ');
+    let name = words.next().ok_or("no name")?;
+    let maximum = words.next().ok_or("no maximum")?;
+    let initial = words.next().ok_or("no initial value")?;
+    let discipline = words.next().ok_or("no discipline")?;
+    writeln!(
+        text,
+        "[[semaphore]]\nname = \"{name}\"\nmaximum = {maximum}"
+    )?;
+    writeln!(text, "initial = {initial}\ndiscipline = \"{discipline}\"")?;
+    Ok(())
+}
+
+fn first_word(line: &str) -> Option<&str> {
+    line.split(' ').next()
+}
+
+// The lines of a history from that one on with which these lines begin.
+fn lines_from(alloc: Global, history: &[u8], lines: &str) -> Result<String, Fail> {
+    let mut tail = String::new(alloc);
+    let first = first_word(lines);
+    let history = str::from_utf8(history)?;
+    for line in history.lines().skip_while(|line| first_word(line) != first) {
+        writeln!(tail, "{line}")?;
+    }
+    Ok(tail)
+}
+
+/// Replays the outline's table to its end, and compares the last lines of the history.
+pub fn check_outline(rt: &impl Abort, alloc: Global, name: &str, text: &str) -> Result<(), Fail> {
+    let outline = Outline::read(alloc, text)?;
+    assert!(rt; !outline.lines.is_empty(), "in case {name}");
+    let table = outline.table(alloc)?;
+    let words = ["replay", "--schedule", outline.schedule];
+    let done = run_with(alloc, &words, &[table.as_str()], 0, 0)?;
+    assert_eq!(rt; done.fault.as_str(), "", "in case {name}");
+    assert_eq!(rt; done.status, 0, "in case {name}");
+    let tail = lines_from(alloc, done.written.as_slice(), outline.lines.as_str())?;
+    assert_eq!(rt; tail.as_str(), outline.lines.as_str(), "in case {name}");
+    Ok(())
+}
