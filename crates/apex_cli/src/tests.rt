@@ -1,3 +1,4 @@
+mod limits;
 mod outlines;
 mod processes;
 mod services;
@@ -6,6 +7,7 @@ mod ticks;
 use crate::program::run_on;
 use apex_history::{Counted, FailAt};
 use std::alloc::Global;
+use std::io::Read;
 use std::process::Abort;
 use std::test::Fail;
 
@@ -194,12 +196,23 @@ fn run_with(
     failing_read: u64,
     failing_write: u64,
 ) -> Result<Done, Fail> {
-    let words = words_of(alloc, words)?;
     let table = joined(alloc, table)?;
     let mut bytes = Vec::new(alloc);
     bytes.extend_from_slice(table.as_bytes())?;
-    let mut reader = Counted::new(FailAt::new(bytes, failing_read));
-    let mut paper = FailAt::new(Vec::with_capacity(alloc, 1 << 20)?, failing_write);
+    let reader = FailAt::new(bytes, failing_read);
+    let paper = FailAt::new(Vec::with_capacity(alloc, 1 << 20)?, failing_write);
+    run_through(alloc, words, reader, paper)
+}
+
+// Runs the program from this reader to this paper.
+fn run_through<R: Read + Drop>(
+    alloc: Global,
+    words: &[&str],
+    reader: R,
+    mut paper: FailAt,
+) -> Result<Done, Fail> {
+    let words = words_of(alloc, words)?;
+    let mut reader = Counted::new(reader);
     let mut writer = Counted::new(&mut paper);
     let exit = run_on(alloc, words.as_slice(), &mut reader, &mut writer);
     let failed_writes = writer.failures();

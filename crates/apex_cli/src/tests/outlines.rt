@@ -7,18 +7,20 @@ use std::test::Fail;
 // A case as text: a partition table in short, a schedule, and the last lines of the history.
 //
 //     cores 2
+//     history 9
 //     init STEP; STEP
 //     process NAME PRIORITY CORE start loop: STEP; STEP
 //     semaphore NAME MAXIMUM INITIAL DISCIPLINE
 //     schedule ITEM ITEM
 //     NUMBER NOW WHO PROCESS CALL -> REPLY
 //
-// Without a line `cores` there is one core. A line `init` adds steps to the init list, and without
-// one the list is the default one. The keys `start` and `loop` are true where their words stand.
-// The history may have any lines before those shown.
+// Without the first two lines there is one core, and the history has room for 4,096 entries. A line
+// `init` adds steps to the init list, and without one the list is the default one. The keys `start`
+// and `loop` are true where their words stand. The history may have any lines before those shown.
 #[derive(Drop)]
 struct Outline<'a> {
     cores: &'a str,
+    history: &'a str,
     has_init: bool,
     init: String,
     sections: String,
@@ -30,6 +32,7 @@ impl<'a> Outline<'a> {
     fn read(alloc: Global, text: &'a str) -> Result<Outline<'a>, Fail> {
         let mut outline = Outline {
             cores: "1",
+            history: "4096",
             has_init: false,
             init: String::new(alloc),
             sections: String::new(alloc),
@@ -45,6 +48,7 @@ impl<'a> Outline<'a> {
     fn put(&mut self, line: &'a str) -> Result<(), Fail> {
         match line.split_once(' ').unwrap_or((line, "")) {
             ("cores", cores) => self.cores = cores,
+            ("history", entries) => self.history = entries,
             ("init", steps) => {
                 self.has_init = true;
                 put_steps(&mut self.init, steps)?;
@@ -60,8 +64,9 @@ impl<'a> Outline<'a> {
 
     fn table(&self, alloc: Global) -> Result<String, Fail> {
         let cores = self.cores;
+        let history = self.history;
         let init = self.init.as_str();
-        let mut text = format!(in alloc; "cores = {cores}\n")?;
+        let mut text = format!(in alloc; "cores = {cores}\nhistory = {history}\n")?;
         if self.has_init {
             writeln!(text, "init = [{init}]")?;
         }
@@ -78,8 +83,8 @@ fn put_steps(text: &mut String, steps: &str) -> Result<(), Fail> {
     Ok(())
 }
 
-/// Writes the section of a process, told as `NAME PRIORITY CORE start loop: STEP; STEP`.
-pub fn put_process(text: &mut String, process: &str) -> Result<(), Fail> {
+// Writes the section of a process, told as `NAME PRIORITY CORE start loop: STEP; STEP`.
+fn put_process(text: &mut String, process: &str) -> Result<(), Fail> {
     let (head, steps) = process.split_once(':').ok_or("no script")?;
     let mut words = head.split(' ');
     let name = words.next().ok_or("no name")?;
@@ -93,13 +98,13 @@ pub fn put_process(text: &mut String, process: &str) -> Result<(), Fail> {
         writeln!(text, "{flag} = true")?;
     }
     text.push_str("script = [")?;
-    put_steps(text, steps.trim())?;
+    put_steps(text, steps.trim_start())?;
     text.push_str("]\n")?;
     Ok(())
 }
 
-/// Writes the section of a semaphore, told as `NAME MAXIMUM INITIAL DISCIPLINE`.
-pub fn put_semaphore(text: &mut String, semaphore: &str) -> Result<(), Fail> {
+// Writes the section of a semaphore, told as `NAME MAXIMUM INITIAL DISCIPLINE`.
+fn put_semaphore(text: &mut String, semaphore: &str) -> Result<(), Fail> {
     let mut words = semaphore.split(' ');
     let name = words.next().ok_or("no name")?;
     let maximum = words.next().ok_or("no maximum")?;
@@ -117,8 +122,8 @@ fn first_word(line: &str) -> Option<&str> {
     line.split(' ').next()
 }
 
-// The lines of a history from that one on with which these lines begin.
-fn lines_from(alloc: Global, history: &[u8], lines: &str) -> Result<String, Fail> {
+/// The lines of a history from that one on with which these lines begin.
+pub fn lines_from(alloc: Global, history: &[u8], lines: &str) -> Result<String, Fail> {
     let mut tail = String::new(alloc);
     let first = first_word(lines);
     let history = str::from_utf8(history)?;
@@ -126,6 +131,11 @@ fn lines_from(alloc: Global, history: &[u8], lines: &str) -> Result<String, Fail
         writeln!(tail, "{line}")?;
     }
     Ok(tail)
+}
+
+/// The text of an outline's table.
+pub fn table_of(alloc: Global, text: &str) -> Result<String, Fail> {
+    Outline::read(alloc, text)?.table(alloc)
 }
 
 /// Replays the outline's table to its end, and compares the last lines of the history.
