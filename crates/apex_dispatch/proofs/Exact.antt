@@ -1,5 +1,5 @@
 -- The objects that a service leaves are those that the history then gives.
-use Rattle.std.proofs.Common.{◌≡◌, ◌≢◌, All, flat_map, option_to_list, ℕ, ◌+◌, ◌<◌, Bool, true, false, cond, not, ◌&&◌, ◌==◌, List, [], ◌∷◌, ◌++◌, length, None, Some, nat_lt, nat_le, is_some, is_none, Option, if◌then◌else◌, refl, sym, ◌∙◌, arith, set, get_or, inl, inr, ap}
+use Rattle.std.proofs.Common.{◌≡◌, ◌≢◌, All, flat_map, option_to_list, ℕ, ◌+◌, ◌<◌, Bool, true, false, cond, not, ◌&&◌, ◌==◌, List, [], ◌∷◌, ◌++◌, length, None, Some, nat_lt, nat_le, is_some, is_none, Option, if◌then◌else◌, refl, sym, ◌∙◌, arith, set, inl, inr, ap}
 use Rattle.std.proofs.lemmas.Option.{none-some, same_Some}
 use Rattle.std.proofs.lemmas.Bool.{eq-eqb, cases_eq, both_ways}
 use Rattle.std.proofs.lemmas.List.Elements.{All-nil, All-cons, All-append, All-weaker}
@@ -22,11 +22,11 @@ use Rattle.apex_types.specs.declared.ReturnCode.{ReturnCode}
 use Rattle.apex_types.specs.declared.ReturnCode.TheVariants.{NoError, NoAction, InvalidParam, InvalidConfig, InvalidMode}
 use Rattle.apex_types.specs.declared.Timeout.{Timeout}
 use Rattle.apex_types.specs.declared.Timeout.TheVariants.{Poll, Ticks, Infinite}
-use Rattle.apex_types.specs.declared.Wait.TheVariants.{Time, Semaphore}
+use Rattle.apex_types.specs.declared.Wait.TheVariants.{Time}
 use Rattle.apex_types.specs.declared.Who.{Who}
 use Rattle.apex_types.specs.Places.{map_places}
 use Rattle.apex_types.specs.Roster.{Roster, record_at, is_normal}
-use Rattle.apex_types.specs.Table.{Table, ProcessEntry, SemaphoreEntry, no_process, no_semaphore, semaphore_entry, IsKnown, IsKnownProcess, IsKnownToProcesses, IsKnownToSemaphores}
+use Rattle.apex_types.specs.Table.{Table, ProcessEntry, no_process, no_semaphore, semaphore_entry, IsKnown, IsKnownProcess, IsKnownToProcesses, IsKnownToSemaphores}
 use Rattle.apex_types.specs.Callers.{is_by_process}
 use Rattle.apex_types.specs.Calls.{names_semaphore, semaphore_of}
 use Rattle.apex_types.specs.Satisfied.{is_no_error, is_accepted, own_call, answered_by, satisfied_by}

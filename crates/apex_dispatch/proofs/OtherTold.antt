@@ -1,7 +1,6 @@
 -- The services of processes and of the partition leave the semaphores alone: whom they wake had waited
 -- for time.
 use Rattle.std.proofs.Common.{◌≡◌, ℕ, zero, suc, ◌+◌, ◌==◌, set, Bool, true, false, cond, ◌&&◌, ◌||◌, not, List, [], ◌∷◌, map, get_or, length, Option, None, Some, is_some, is_none, nat_lt, nat_le, if◌then◌else◌, refl, ap, sym, ◌∙◌}
-use Rattle.std.specs.List.{list_any}
 use Rattle.std.proofs.lemmas.Option.{none-some}
 use Rattle.std.proofs.lemmas.Bool.{both_ways, eqb-true}
 use Rattle.std.proofs.lemmas.List.Folds.{list_any-append}
@@ -20,9 +19,8 @@ use Rattle.apex_types.specs.declared.Mode.TheVariants as mode
 use Rattle.apex_types.specs.declared.Notice.{Notice}
 use Rattle.apex_types.specs.declared.Notice.TheVariants.{Woken, Released}
 use Rattle.apex_types.specs.declared.Record.{Record}
-use Rattle.apex_types.specs.declared.Reply.{Reply}
-use Rattle.apex_types.specs.declared.Reply.TheVariants.{Code, Value, Status, Gone}
-use Rattle.apex_types.specs.declared.ReturnCode.TheVariants.{NoError, NoAction, InvalidParam, InvalidMode}
+use Rattle.apex_types.specs.declared.Reply.TheVariants.{Code}
+use Rattle.apex_types.specs.declared.ReturnCode.TheVariants.{NoError, NoAction}
 use Rattle.apex_types.specs.declared.Suspender.TheVariants.{Other}
 use Rattle.apex_types.specs.declared.Wait.{Wait}
 use Rattle.apex_types.specs.declared.Wait.TheVariants.{Normal, Start, Time, Semaphore}
@@ -30,7 +28,7 @@ use Rattle.apex_types.specs.declared.Timeout.{Timeout}
 use Rattle.apex_types.specs.declared.Timeout.TheVariants.{Poll, Ticks, Infinite}
 use Rattle.apex_types.specs.Dues.{due_after}
 use Rattle.apex_types.specs.Roster.{Roster, nobody, record_at, is_normal}
-use Rattle.apex_types.specs.Running.{is_eligible, process_state, current_priority}
+use Rattle.apex_types.specs.Running.{is_eligible}
 use Rattle.apex_types.specs.Waiters.{is_ranked, is_wait_for, waits_in, waits_before, discipline_of}
 use Rattle.apex_types.specs.Stamps as stamps
 use Rattle.apex_types.specs.Callers.{is_by_process}

@@ -1,9 +1,8 @@
 -- Each service of a semaphore leaves the value that the history then gives.
-use Rattle.std.proofs.Common.{◌≡◌, ◌≢◌, ℕ, ◌+◌, ◌-◌, ◌≤◌, Bool, true, false, cond, ◌&&◌, ◌||◌, not, ◌==◌, List, [], ◌∷◌, Option, None, Some, All, filter, count_by, nat_lt, refl, sym, ◌∙◌, ap, arith}
+use Rattle.std.proofs.Common.{◌≡◌, ◌≢◌, ℕ, ◌+◌, ◌-◌, ◌≤◌, Bool, true, false, cond, ◌||◌, not, List, [], ◌∷◌, Option, None, Some, filter, count_by, nat_lt, refl, ◌∙◌, ap, arith}
 use Rattle.std.proofs.lemmas.Option.{none-some, same_Some}
 use Rattle.std.proofs.lemmas.Bool.{cond_both, eq-eqb, ltb-true}
 use Rattle.std.proofs.lemmas.List.Elements.{All-nil, All-cons, All-same}
-use Rattle.apex_types.specs.declared.Call.{Call}
 use Rattle.apex_types.specs.declared.Call.TheVariants.{Semaphore as ToSemaphore}
 use Rattle.apex_types.specs.declared.NamedSemaphore.TheVariants.{Known, Unknown}
 use Rattle.apex_types.specs.declared.SemaphoreCall.{SemaphoreCall}
@@ -30,7 +29,7 @@ use Rattle.apex_types.specs.Waiters.{first_waiter, waiter_count}
 use Rattle.apex_types.specs.Satisfied.{is_no_error, is_accepted, satisfied_by, calls_where, semaphore_value}
 use Rattle.apex_types.specs.History.{semaphore_after, creates_semaphore, SemaphoreObject}
 use Rattle.apex_types.specs.SemaphoreServices.{SemaphoreOutcome, refused_semaphore, create_semaphore, blocked_on, wait_at_zero, wait_semaphore, raise_semaphore, signal_to, signal_semaphore, get_semaphore_id, get_semaphore_status, wait_by, semaphore_service}
-use Rattle.apex_dispatch.specs.AskedWaits.{Accounts, AreAsked, begins}
+use Rattle.apex_dispatch.specs.AskedWaits.{Accounts, AreAsked}
 use Rattle.apex_dispatch.proofs.Truths.{other, or_false, or_true, and_false}
 use Rattle.apex_dispatch.proofs.Satisfied.{Asks, handed_one, begins_names, begins_wait}
 use Rattle.apex_dispatch.proofs.Values.{IsQuiet, IsAfter, after_calls, after_quiet}

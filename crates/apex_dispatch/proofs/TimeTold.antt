@@ -3,11 +3,11 @@ use Rattle.std.proofs.Common.{◌+◌, false, Some, [], refl}
 use Rattle.std.proofs.lemmas.Bool.{both_ways}
 use Rattle.apex_types.specs.declared.Call.TheVariants.{Time as ToTime}
 use Rattle.apex_types.specs.declared.Caller.{Caller}
-use Rattle.apex_types.specs.declared.Caller.TheVariants.{Process, Init, Nobody}
+use Rattle.apex_types.specs.declared.Caller.TheVariants.{Process}
 use Rattle.apex_types.specs.declared.Record.{Record}
 use Rattle.apex_types.specs.declared.TimeCall.{TimeCall}
 use Rattle.apex_types.specs.declared.TimeCall.TheVariants.{TimedWait, GetTime}
-use Rattle.apex_types.specs.declared.Timeout.TheVariants.{Poll, Ticks, Infinite}
+use Rattle.apex_types.specs.declared.Timeout.TheVariants.{Poll, Ticks}
 use Rattle.apex_types.specs.declared.Wait.TheVariants.{Time}
 use Rattle.apex_types.specs.Roster.{Roster, record_at}
 use Rattle.apex_types.specs.Stamps.{place_newest}
