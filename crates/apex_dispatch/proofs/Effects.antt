@@ -21,7 +21,8 @@ use Rattle.apex_dispatch.specs.AskedWaits.{begins, asked_of, or_suspended, await
 use Rattle.apex_dispatch.proofs.Satisfied.{Asks}
 
 -- what a process waits for after a change of the record of process p
-wait_after : (records : List Record) (p q : ℕ) (r : Record) (w : Wait) → awaited (get_or (set records p r) q nobody) ≡ Some w
+wait_after : (records : List Record) (p q : ℕ) (r : Record) (w : Wait)
+    → awaited (get_or (set records p r) q nobody) ≡ Some w
     → ((q ≡ p) × (awaited r ≡ Some w)) ⊎ (awaited (get_or records q nobody) ≡ Some w)
 wait_after records p q r w h = elim (cases_eq q p) [
   | inl same ↦ elim (cases_Bool (nat_lt q (length (set records p r)))) [
@@ -74,11 +75,13 @@ frees_moved old new p r is less = record { still = still } where
   ]
 
 -- it waits for nothing that it asked for then
-pub frees_changed : (old new : Roster) (p : ℕ) (r : Record) → new.records ≡ set old.records p r → awaited r ≡ None → Frees old new
-frees_changed old new p r is free = frees_moved old new p r is (λ w h. absurd (none-some w (sym free ∙ h)))
+pub frees_changed : (old new : Roster) (p : ℕ) (r : Record) → new.records ≡ set old.records p r
+    → awaited r ≡ None → Frees old new
+frees_changed old new p r is free =
+    frees_moved old new p r is (λ w h. absurd (none-some w (sym free ∙ h)))
 
--- a change of the record of process p, which may make it the newest, and by which it waits for no more
--- than before
+-- a change of the record of process p, which may make it the newest, and by which it waits for no
+-- more than before
 pub frees_lessened : (roster : Roster) (p : ℕ) (r : Record) → ((w : Wait) → awaited r ≡ Some w → awaited (record_at roster p) ≡ Some w)
     → Frees roster (readied roster p r)
 frees_lessened roster p r less =
@@ -98,11 +101,13 @@ frees_unblock roster p =
     (λ w h. absurd (none-some w (sym (awake_free (record_at roster p).suspended) ∙ h)))
 
 -- a change by which nobody waits who did not wait before
-pub asks_freed : (caller : Caller) (called : Option Call) (old new : Roster) → Frees old new → Asks caller called old new
+pub asks_freed : (caller : Caller) (called : Option Call) (old new : Roster) → Frees old new
+    → Asks caller called old new
 asks_freed caller called old new frees = record { still = λ q w h. inl (frees.still q w h) }
 
 -- process p waits for what its call begins to wait for, and the others as before
-pub asks_waiting : (p : ℕ) (call : Call) (wait : Wait) (r : Record) (old new : Roster) → new.records ≡ set old.records p r
+pub asks_waiting : (p : ℕ) (call : Call) (wait : Wait) (r : Record) (old new : Roster)
+    → new.records ≡ set old.records p r
     → awaited r ≡ Some wait → begins call ≡ Some wait → Asks (Process p) (Some call) old new
 asks_waiting p call wait r old new is waits begun = record {
   still = λ q w h. elim (wait_after old.records p q r w (rw is at h)) [
@@ -112,8 +117,11 @@ asks_waiting p call wait r old new is waits begun = record {
 }
 
 -- process p blocks on it
-pub asks_blocked : (p : ℕ) (call : Call) (wait : Wait) (due : Option ℕ) (roster : Roster) → asked_of (Some wait) ≡ Some wait
+pub asks_blocked : (p : ℕ) (call : Call) (wait : Wait) (due : Option ℕ) (roster : Roster)
+    → asked_of (Some wait) ≡ Some wait
     → begins call ≡ Some wait → Asks (Process p) (Some call) roster (block roster p wait due)
 asks_blocked p call wait due roster plain begun =
-    asks_waiting p call wait (record (waiting roster p wait due) { since = roster.young }) roster (block roster p wait due) refl
-    (ap (λ a. or_suspended a (is_by_itself (suspension_awake (record_at roster p).suspended))) plain) begun
+    let suspended = suspension_awake (record_at roster p).suspended in
+    asks_waiting p call wait (record (waiting roster p wait due) { since = roster.young }) roster
+    (block roster p wait due) refl
+    (ap (λ a. or_suspended a (is_by_itself suspended)) plain) begun

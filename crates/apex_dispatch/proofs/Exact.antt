@@ -28,7 +28,7 @@ use Rattle.apex_types.specs.Places.{map_places}
 use Rattle.apex_types.specs.Roster.{Roster, record_at, is_normal}
 use Rattle.apex_types.specs.Table.{Table, ProcessEntry, no_process, no_semaphore, semaphore_entry, IsKnown, IsKnownProcess, IsKnownToProcesses, IsKnownToSemaphores}
 use Rattle.apex_types.specs.Callers.{is_by_process}
-use Rattle.apex_types.specs.Calls.{names_semaphore, semaphore_of}
+use Rattle.apex_types.specs.Calls.{semaphore_of}
 use Rattle.apex_types.specs.Satisfied.{is_no_error, is_accepted, own_call, answered_by, satisfied_by}
 use Rattle.apex_types.specs.History.{is_process_create, creates_process, creates_semaphore, is_creation_of_semaphore, is_process_created, process_after, semaphore_after, objects_after, Objects, SemaphoreObject}
 use Rattle.apex_types.specs.Stamps.{WaitsForOne}
@@ -41,7 +41,7 @@ use Rattle.apex_types.proofs.Places.{map_places_same, set-map_places, get_or-map
 use Rattle.apex_dispatch.specs.AskedWaits.{AreEnough, AreBounded, AreAsked, begins, awaited}
 use Rattle.apex_dispatch.proofs.Truths.{or_false, or_true, and_false, and_true, other}
 use Rattle.apex_dispatch.proofs.Satisfied.{wakes, Asks, IsIdle, handed, begins_names, asked-push}
-use Rattle.apex_dispatch.proofs.Values.{IsQuiet, after_quiet, process_created-push}
+use Rattle.apex_dispatch.proofs.Values.{IsElsewhere, IsQuiet, after_quiet, process_created-push}
 use Rattle.apex_dispatch.proofs.Effects.{Frees, frees_none, asks_freed}
 use Rattle.apex_dispatch.proofs.SemaphoreTold.{told_service, below_service}
 use Rattle.apex_dispatch.proofs.OtherTold.{Keeps, keeps_spared, partition_spares, process_keeps}
@@ -64,7 +64,8 @@ flags_set entries history e p within one =
     (λ k h differs. sym (process_created-push k history e ∙ rw (one k, other k p differs) (or_false (is_process_created k history)))))
 
 -- an entry that says nothing of any semaphore leaves them all
-semaphores_same : (table : Table) (history : List Entry) (e : Entry) → AreEnough table history → ((s : ℕ) → IsQuiet s history e)
+semaphores_same : (table : Table) (history : List Entry) (e : Entry) → AreEnough table history
+    → ((s : ℕ) → IsQuiet s history e)
     → map_places (semaphore_after (history ++ e ∷ [])) 0 table.semaphores ≡ map_places (semaphore_after history) 0 table.semaphores
 semaphores_same table history e enough quiet =
     map_places_same (semaphore_after (history ++ e ∷ [])) (semaphore_after history) table.semaphores no_semaphore no_object
@@ -225,7 +226,8 @@ pub record IsExact (table : Table) (history : List Entry) (e : Entry) (left : Ob
   pub bounded : AreBounded table (history ++ e ∷ [])
   pub waiting : AreAsked new (history ++ e ∷ [])
 
-module _ (table : Table) (history : List Entry) (roster : Roster) (enough : AreEnough table history) (bounded : AreBounded table history) (asked : AreAsked roster history) where
+module _ (table : Table) (history : List Entry) (roster : Roster)
+    (enough : AreEnough table history) (bounded : AreBounded table history) (asked : AreAsked roster history) where
   -- an entry more leaves each semaphore but one, or all, and says who waits
   exact_quiet : (e : Entry) (new : Roster) (created : List Bool) → ((s : ℕ) → IsQuiet s history e)
       → map_places (process_after (history ++ e ∷ [])) 0 table.processes ≡ created
@@ -243,27 +245,31 @@ module _ (table : Table) (history : List Entry) (roster : Roster) (enough : AreE
 
   -- an entry of no semaphore's call, whom it wakes with NO_ERROR waited for time
   pub exact_timed : (e : Entry) (new : Roster) (created : List Bool)
-      → ((s : ℕ) (c : Call) → e.call ≡ Some c → names_semaphore s c ≡ false) → ((s : ℕ) → creates_semaphore s e ≡ false)
+      → ((s : ℕ) (c : Call) → e.call ≡ Some c → IsElsewhere s c)
+      → ((s : ℕ) → creates_semaphore s e ≡ false)
       → ((p : ℕ) → wakes p e.notices ≡ true → awaited (record_at roster p) ≡ Some Time)
       → map_places (process_after (history ++ e ∷ [])) 0 table.processes ≡ created
       → IsIdle e.process roster → Asks e.process e.call roster new
       → IsExact table history e (record (objects_after table history) { processes = created }) new
   exact_timed e new created unnamed uncreated timed =
       exact_quiet e new created (λ s. record { calls = timed_calls s; create = uncreated s }) where
-        timed_calls : (s : ℕ) → All (λ c. names_semaphore s c ≡ false) (satisfied_by history e)
+        timed_calls : (s : ℕ) → All (IsElsewhere s) (satisfied_by history e)
         timed_calls s =
-            All-append (λ c. names_semaphore s c ≡ false) (own_call e) (flat_map (answered_by history) e.notices)
+            All-append (IsElsewhere s) (own_call e) (flat_map (answered_by history) e.notices)
             (own (is_accepted e.reply) e.call (unnamed s))
-            (All-weaker (λ c. begins c ≡ Some Time) (λ c. names_semaphore s c ≡ false) (λ c begun. begins_names c Time begun s) _
+            (All-weaker (λ c. begins c ≡ Some Time) (IsElsewhere s) (λ c begun. begins_names c Time begun s) _
             (handed roster history e.notices Time asked timed)) where
-              own : (accepted : Bool) (called : Option Call) → ((c : Call) → called ≡ Some c → names_semaphore s c ≡ false)
-                  → All (λ c. names_semaphore s c ≡ false) (if accepted then option_to_list called else [])
-              own false called h = All-nil (λ c. names_semaphore s c ≡ false)
-              own true None h = All-nil (λ c. names_semaphore s c ≡ false)
-              own true (Some c) h = All-cons (λ c. names_semaphore s c ≡ false) c [] (h c refl) (All-nil (λ c. names_semaphore s c ≡ false))
+              own : (accepted : Bool) (called : Option Call)
+                  → ((c : Call) → called ≡ Some c → IsElsewhere s c)
+                  → All (IsElsewhere s) (if accepted then option_to_list called else [])
+              own false called h = All-nil (IsElsewhere s)
+              own true None h = All-nil (IsElsewhere s)
+              own true (Some c) h =
+                  All-cons (IsElsewhere s) c [] (h c refl) (All-nil (IsElsewhere s))
 
 -- an entry without a call changes no object, where whom it wakes with NO_ERROR waited for time
-pub exact_uncalled : (table : Table) (history : List Entry) (old new : Roster) (e : Entry) → e.call ≡ None → e.process ≡ Nobody
+pub exact_uncalled : (table : Table) (history : List Entry) (old new : Roster) (e : Entry)
+    → e.call ≡ None → e.process ≡ Nobody
     → ((p : ℕ) → wakes p e.notices ≡ true → awaited (record_at old p) ≡ Some Time) → Frees old new
     → AreEnough table history → AreBounded table history → AreAsked old history
     → IsExact table history e (objects_after table history) new
@@ -273,7 +279,8 @@ exact_uncalled table history old new e no_call nobody timed frees enough bounded
     (flags_same table.processes history e (λ p. rw no_call refl))
     (λ q w by h. absurd (both_ways false refl (rw nobody at by))) (asks_freed e.process e.call old new frees)
 
-module _ (number now : ℕ) (who : Who) (table : Table) (history : List Entry) (roster : Roster) (enough : AreEnough table history) (bounded : AreBounded table history) (asked : AreAsked roster history) (one : WaitsForOne roster) where
+module _ (number now : ℕ) (who : Who) (table : Table) (history : List Entry) (roster : Roster)
+    (enough : AreEnough table history) (bounded : AreBounded table history) (asked : AreAsked roster history) (one : WaitsForOne roster) where
   -- after a service the objects, and who waits, are as the history then says
   abbrev pub IsServed : Caller → Call → Outcome → Type 0
   IsServed caller call o =
@@ -342,8 +349,9 @@ module _ (number now : ℕ) (who : Who) (table : Table) (history : List Entry) (
       rw object (exact_semaphore caller idle call s is within)
 
   -- a call of no semaphore
-  exact_other : (caller : Caller) → IsIdle caller roster → (call : Call) (reply : Reply) (notices : List Notice) (new : Roster) (created : List Bool)
-      → ((s : ℕ) → names_semaphore s call ≡ false) → ((s : ℕ) → is_creation_of_semaphore s (Some call) ≡ false)
+  exact_other : (caller : Caller) → IsIdle caller roster
+      → (call : Call) (reply : Reply) (notices : List Notice) (new : Roster) (created : List Bool)
+      → ((s : ℕ) → IsElsewhere s call) → ((s : ℕ) → is_creation_of_semaphore s (Some call) ≡ false)
       → Keeps caller call roster new notices
       → map_places (process_after (history ++ entry_with number now who caller history call reply notices ∷ [])) 0 table.processes ≡ created
       → IsServed caller call

@@ -244,7 +244,8 @@ module _ (roster : Roster) (created : List Bool) where
   status_spares p = spares_if (not (processes.is_created created p)) _ _ same same
 
 -- RESUME
-resume_keeps : (caller : Caller) (roster : Roster) → stamps.WaitsForOne roster → (p : ℕ) (by_itself : Bool)
+resume_keeps : (caller : Caller) (roster : Roster) → stamps.WaitsForOne roster
+    → (p : ℕ) (by_itself : Bool)
     → stamps.is_by_itself (record_at roster p).suspended ≡ by_itself
     → Keeps caller (ToProcess (Resume p)) roster
     (cond by_itself (stamps.unblock roster p) (stamps.readied roster p (stamps.unsuspended roster p)))
@@ -273,7 +274,8 @@ module _ (roster : Roster) (created : List Bool) where
   keeps_if caller call true x y p q = p
   keeps_if caller call false x y p q = q
 
-  same_kept : (caller : Caller) (call : ProcessCall) → Keeps caller (ToProcess call) roster roster []
+  same_kept : (caller : Caller) (call : ProcessCall)
+      → Keeps caller (ToProcess call) roster roster []
   same_kept caller call = keeps_spared caller (ToProcess call) roster roster [] (spares_none roster)
 
   keeps_resume : stamps.WaitsForOne roster → (caller : Caller) (p : ℕ)
@@ -289,37 +291,48 @@ module _ (roster : Roster) (created : List Bool) where
   keeps_suspended : (p : ℕ) (timeout : Timeout)
       → KeepsAll (Process p) (SuspendSelf timeout) (processes.suspended_for roster created p timeout)
   keeps_suspended p timeout = record {
-    asks = asks_waiting p (ToProcess (SuspendSelf timeout)) Time (record (stamps.self_suspended roster p (due_after roster timeout)) { since = roster.young })
+    asks =
+        asks_waiting p (ToProcess (SuspendSelf timeout)) Time (record (stamps.self_suspended roster p (due_after roster timeout)) { since = roster.young })
         roster (stamps.suspend_self roster p (due_after roster timeout)) refl refl refl;
     timed = λ q woken. absurd (both_ways false refl woken);
   }
 
-  keeps_own_of : (p : ℕ) (call : ProcessCall) → KeepsAll (Process p) call (processes.own_service roster created p call)
+  keeps_own_of : (p : ℕ) (call : ProcessCall)
+      → KeepsAll (Process p) call (processes.own_service roster created p call)
   keeps_own_of p StopSelf =
       keeps_spared (Process p) (ToProcess StopSelf) roster (stamps.stop roster p) [] (stopped_spares roster created p)
   keeps_own_of p (SuspendSelf Poll) = same_kept (Process p) (SuspendSelf Poll)
   keeps_own_of p (SuspendSelf timeout) = keeps_suspended p timeout
   keeps_own_of p call = same_kept (Process p) call
 
-  keeps_own : (caller : Caller) (call : ProcessCall) → KeepsAll caller call (processes.own_service_by roster created caller call)
+  keeps_own : (caller : Caller) (call : ProcessCall)
+      → KeepsAll caller call (processes.own_service_by roster created caller call)
   keeps_own (Process p) call = keeps_own_of p call
   keeps_own Init call = same_kept Init call
   keeps_own Nobody call = same_kept Nobody call
 
-  pub process_keeps : (cores : ℕ) → stamps.WaitsForOne roster → (caller : Caller) (call : ProcessCall)
+  pub process_keeps : (cores : ℕ) → stamps.WaitsForOne roster
+      → (caller : Caller) (call : ProcessCall)
       → KeepsAll caller call (processes.process_service cores roster created caller call)
-  process_keeps cores one caller (CreateProcess named) = keeps_spared caller _ roster _ _ (create_spares roster created named)
+  process_keeps cores one caller (CreateProcess named) =
+      keeps_spared caller _ roster _ _ (create_spares roster created named)
   process_keeps cores one caller (InitializeProcessCoreAffinity p core) =
       keeps_spared caller _ roster _ _ (affinity_spares roster created cores p core)
   process_keeps cores one caller (SetPriority p priority) =
       keeps_spared caller _ roster _ _ (priority_spares roster created p priority)
-  process_keeps cores one caller (ToStart p) = keeps_spared caller _ roster _ _ (start_spares roster created p Poll)
-  process_keeps cores one caller (DelayedStart p delay) = keeps_spared caller _ roster _ _ (start_spares roster created p delay)
-  process_keeps cores one caller (Stop p) = keeps_spared caller _ roster _ _ (stop_spares roster created caller p)
-  process_keeps cores one caller (Suspend p) = keeps_spared caller _ roster _ _ (suspend_spares roster created caller p)
+  process_keeps cores one caller (ToStart p) =
+      keeps_spared caller _ roster _ _ (start_spares roster created p Poll)
+  process_keeps cores one caller (DelayedStart p delay) =
+      keeps_spared caller _ roster _ _ (start_spares roster created p delay)
+  process_keeps cores one caller (Stop p) =
+      keeps_spared caller _ roster _ _ (stop_spares roster created caller p)
+  process_keeps cores one caller (Suspend p) =
+      keeps_spared caller _ roster _ _ (suspend_spares roster created caller p)
   process_keeps cores one caller (Resume p) = keeps_resume one caller p
-  process_keeps cores one caller (GetProcessId named) = keeps_spared caller _ roster _ _ (id_spares roster created named)
-  process_keeps cores one caller (GetProcessStatus p) = keeps_spared caller _ roster _ _ (status_spares roster created p)
+  process_keeps cores one caller (GetProcessId named) =
+      keeps_spared caller _ roster _ _ (id_spares roster created named)
+  process_keeps cores one caller (GetProcessStatus p) =
+      keeps_spared caller _ roster _ _ (status_spares roster created p)
   process_keeps cores one caller StopSelf = keeps_own caller StopSelf
   process_keeps cores one caller (SuspendSelf timeout) = keeps_own caller (SuspendSelf timeout)
   process_keeps cores one caller GetMyId = keeps_own caller GetMyId

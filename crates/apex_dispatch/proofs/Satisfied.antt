@@ -26,7 +26,8 @@ use Rattle.apex_dispatch.proofs.Truths.{or_true}
 
 -- one entry more at the end satisfies its calls last
 satisfied_from-push : (before later : List Entry) (e : Entry)
-    → satisfied_from before (later ++ e ∷ []) ≡ satisfied_from before later ++ satisfied_by (before ++ later) e
+    → satisfied_from before (later ++ e ∷ [])
+    ≡ satisfied_from before later ++ satisfied_by (before ++ later) e
 satisfied_from-push before [] e =
     append-nil (satisfied_by before e) ∙ ap (λ h. satisfied_by h e) (sym (append-nil before))
 satisfied_from-push before (x ∷ later) e =
@@ -37,7 +38,8 @@ satisfied_from-push before (x ∷ later) e =
     ∙ ap (λ h. (here ++ rest) ++ satisfied_by h e) (append_assoc before (x ∷ []) later)
 
 pub calls-push : (passes : Call → Bool) (history : List Entry) (e : Entry)
-    → calls_where passes (history ++ e ∷ []) ≡ calls_where passes history ++ filter passes (satisfied_by history e)
+    → calls_where passes (history ++ e ∷ [])
+    ≡ calls_where passes history ++ filter passes (satisfied_by history e)
 calls-push passes history e =
     ap (filter passes) (satisfied_from-push [] history e)
     ∙ filter-append passes (satisfied_from [] history) (satisfied_by history e)
@@ -47,7 +49,8 @@ pub latest-push : (p : ℕ) (history : List Entry) (e : Entry)
 latest-push p history e = fold-append (latest_after p) None history (e ∷ [])
 
 -- a test on which all calls agree keeps all of them, or none
-pub filter_all : (passes : Call → Bool) (b : Bool) (calls : List Call) → All (λ c. passes c ≡ b) calls
+pub filter_all : (passes : Call → Bool) (b : Bool) (calls : List Call)
+    → All (λ c. passes c ≡ b) calls
     → filter passes calls ≡ (if b then calls else [])
 filter_all passes true [] all = refl
 filter_all passes false [] all = refl
@@ -55,7 +58,8 @@ filter_all passes b (c ∷ calls) all =
     let here : passes c ≡ b = All-head (λ c. passes c ≡ b) c calls all in
     let rest = filter_all passes b calls (All-tail (λ c. passes c ≡ b) c calls all) in
     rw (here, rest) (by_test b) where
-      by_test : (b : Bool) → (if b then c ∷ (if b then calls else []) else (if b then calls else []))
+      by_test : (b : Bool)
+          → (if b then c ∷ (if b then calls else []) else (if b then calls else []))
           ≡ (if b then c ∷ calls else [])
       by_test true = refl
       by_test false = refl
@@ -79,16 +83,17 @@ answered_all P history (Woken p code ∷ notices) holds =
     All-append P (answered_by history (Woken p code)) (flat_map (answered_by history) notices)
     (here (is_no_error code) (latest_call p history)
     (λ c by is. holds p c (rw (eq-eqb p p refl, by) refl) is))
-    (answered_all P history notices (λ q c woken is. holds q c (rw woken (or_true (is_waking q (Woken p code)))) is)) where
+    (answered_all P history notices
+    (λ q c woken is. holds q c (rw woken (or_true (is_waking q (Woken p code)))) is)) where
       here : (by : Bool) (latest : Option Call) → ((c : Call) → by ≡ true → latest ≡ Some c → P c)
           → All P (if by then option_to_list latest else [])
       here false latest holds = All-nil P
       here true None holds = All-nil P
       here true (Some c) holds = All-cons P c [] (holds c refl refl) (All-nil P)
 
--- whom an entry wakes with NO_ERROR waited for this, and asked for it: the calls that it answers begin
--- that wait
-pub handed : (roster : Roster) (history : List Entry) (notices : List Notice) (w : Wait) → AreAsked roster history
+-- where all whom an entry wakes with NO_ERROR waited for w, the calls that it answers begin that wait
+pub handed : (roster : Roster) (history : List Entry) (notices : List Notice) (w : Wait)
+    → AreAsked roster history
     → ((p : ℕ) → wakes p notices ≡ true → awaited (record_at roster p) ≡ Some w)
     → All (λ c. begins c ≡ Some w) (flat_map (answered_by history) notices)
 handed roster history notices w asked waited =
@@ -96,16 +101,21 @@ handed roster history notices w asked waited =
     (λ p c woken is. rw is at (asked p w (waited p woken)))
 
 -- the call that one process has answered, where no other is woken
-pub handed_one : (roster : Roster) (history : List Entry) (p : ℕ) (w : Wait) → AreAsked roster history
-    → awaited (record_at roster p) ≡ Some w → (c : Call) × (latest_call p history ≡ Some c) × (begins c ≡ Some w)
+pub handed_one : (roster : Roster) (history : List Entry) (p : ℕ) (w : Wait)
+    → AreAsked roster history
+    → awaited (record_at roster p) ≡ Some w
+    → (c : Call) × (latest_call p history ≡ Some c) × (begins c ≡ Some w)
 handed_one roster history p w asked waited = found (latest_call p history) (asked p w waited) where
-  found : (latest : Option Call) → option_and_then begins latest ≡ Some w → (c : Call) × (latest ≡ Some c) × (begins c ≡ Some w)
+  found : (latest : Option Call) → option_and_then begins latest ≡ Some w
+      → (c : Call) × (latest ≡ Some c) × (begins c ≡ Some w)
   found None h = absurd (none-some w h)
   found (Some c) h = (c, refl, h)
 
 -- a call that begins a wait names what is waited for
-pub begins_names : (c : Call) (w : Wait) → begins c ≡ Some w → (s : ℕ) → names_semaphore s c ≡ is_same_wait (Semaphore s) w
-begins_names (call.Semaphore (WaitSemaphore t timeout)) w h s = rw (sym (same_Some (Semaphore t) w h)) refl
+pub begins_names : (c : Call) (w : Wait) → begins c ≡ Some w → (s : ℕ)
+    → names_semaphore s c ≡ is_same_wait (Semaphore s) w
+begins_names (call.Semaphore (WaitSemaphore t timeout)) w h s =
+    rw (sym (same_Some (Semaphore t) w h)) refl
 begins_names (call.Semaphore _) w h s = absurd (none-some w h)
 begins_names (call.Time (TimedWait timeout)) w h s = rw (sym (same_Some Time w h)) refl
 begins_names (call.Time _) w h s = absurd (none-some w h)
@@ -114,7 +124,8 @@ begins_names (call.Process _) w h s = absurd (none-some w h)
 begins_names (call.Partition c) w h s = absurd (none-some w h)
 
 -- one that begins a wait for a semaphore is a wait and no signal
-pub begins_wait : (c : Call) (s : ℕ) → begins c ≡ Some (Semaphore s) → (is_wait c ≡ true) × (is_signal c ≡ false)
+pub begins_wait : (c : Call) (s : ℕ) → begins c ≡ Some (Semaphore s)
+    → (is_wait c ≡ true) × (is_signal c ≡ false)
 begins_wait (call.Semaphore (WaitSemaphore t timeout)) s h = (refl, refl)
 begins_wait (call.Semaphore _) s h = absurd (none-some (Semaphore s) h)
 begins_wait (call.Time (TimedWait timeout)) s h = cc
@@ -123,15 +134,17 @@ begins_wait (call.Process (SuspendSelf timeout)) s h = cc
 begins_wait (call.Process _) s h = absurd (none-some (Semaphore s) h)
 begins_wait (call.Partition c) s h = absurd (none-some (Semaphore s) h)
 
--- who waits afterwards for what it asked for waited for it before, or is the caller, whose call begins
--- that wait
+-- who waits afterwards for what it asked for waited for it before, or is the caller, and the call
+-- begins that wait
 pub record Asks (caller : Caller) (called : Option Call) (old new : Roster) : Type 0 where
   pub still : (q : ℕ) (w : Wait) → awaited (record_at new q) ≡ Some w
-      → (awaited (record_at old q) ≡ Some w) ⊎ ((is_by_process q caller ≡ true) × (option_and_then begins called ≡ Some w))
+      → (awaited (record_at old q) ≡ Some w)
+      ⊎ ((is_by_process q caller ≡ true) × (option_and_then begins called ≡ Some w))
 
 -- the caller waits for nothing that it asked for
 abbrev pub IsIdle : Caller → Roster → Type 0
-IsIdle caller roster = (q : ℕ) (w : Wait) → is_by_process q caller ≡ true → awaited (record_at roster q) ≡ Some w → ⊥
+IsIdle caller roster =
+    (q : ℕ) (w : Wait) → is_by_process q caller ≡ true → awaited (record_at roster q) ≡ Some w → ⊥
 
 -- an entry more keeps it true that who waits asked for it
 pub asked-push : (history : List Entry) (e : Entry) (old new : Roster) → IsIdle e.process old

@@ -42,7 +42,8 @@ over_roster roster p (Some Normal) = refl
 over_roster roster p (Some (Semaphore s)) = refl
 over_roster roster p None = refl
 
-over_waking : (roster : Roster) (p q : ℕ) (wait : Option Wait) → wakes q (wait_over roster p wait).notices ≡ (q == p && is_for_time wait)
+over_waking : (roster : Roster) (p q : ℕ) (wait : Option Wait)
+    → wakes q (wait_over roster p wait).notices ≡ (q == p && is_for_time wait)
 unfolding is_for_time
 over_waking roster p q (Some Time) = or_false (q == p && true)
 over_waking roster p q (Some Start) = sym (and_false (q == p))

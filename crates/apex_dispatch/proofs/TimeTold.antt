@@ -9,6 +9,7 @@ use Rattle.apex_types.specs.declared.TimeCall.{TimeCall}
 use Rattle.apex_types.specs.declared.TimeCall.TheVariants.{TimedWait, GetTime}
 use Rattle.apex_types.specs.declared.Timeout.TheVariants.{Poll, Ticks}
 use Rattle.apex_types.specs.declared.Wait.TheVariants.{Time}
+use Rattle.apex_types.specs.Dues.{due_after}
 use Rattle.apex_types.specs.Roster.{Roster, record_at}
 use Rattle.apex_types.specs.Stamps.{place_newest}
 use Rattle.apex_types.specs.TimeServices.{time_service}
@@ -20,10 +21,15 @@ pub time_keeps : (roster : Roster) (caller : Caller) (call : TimeCall)
 time_keeps roster (Process p) (TimedWait Poll) =
     let r : Record = record (record_at roster p) { since = roster.young } in
     keeps_spared (Process p) (ToTime (TimedWait Poll)) roster (place_newest roster p) []
-    (record { frees = frees_moved roster (place_newest roster p) p r refl (λ w h. h); quiet = λ q. refl })
+    (record {
+      frees = frees_moved roster (place_newest roster p) p r refl (λ w h. h);
+      quiet = λ q. refl;
+    })
 time_keeps roster (Process p) (TimedWait (Ticks n)) = record {
-  asks = asks_blocked p (ToTime (TimedWait (Ticks n))) Time (Some (roster.now + n)) roster refl refl;
+  asks = asks_blocked p (ToTime (TimedWait (Ticks n))) Time (due_after roster (Ticks n)) roster refl refl;
   timed = λ q woken. absurd (both_ways false refl woken);
 }
-time_keeps roster caller (TimedWait timeout) = keeps_spared caller (ToTime (TimedWait timeout)) roster roster [] (spares_none roster)
-time_keeps roster caller GetTime = keeps_spared caller (ToTime GetTime) roster roster [] (spares_none roster)
+time_keeps roster caller (TimedWait timeout) =
+    keeps_spared caller (ToTime (TimedWait timeout)) roster roster [] (spares_none roster)
+time_keeps roster caller GetTime =
+    keeps_spared caller (ToTime GetTime) roster roster [] (spares_none roster)

@@ -53,7 +53,8 @@ IsDeedExact table history number who deed =
     IsExact table history (entry_of number who deed) deed.outcome.objects deed.outcome.roster
 
 module _ (table : Table) (lawful : IsLawful table) (history : List Entry) (number core : ℕ) (enough : AreEnough table history) (bounded : AreBounded table history) where
-  exact_served : (roster : Roster) → AreAsked roster history → WaitsForOne roster → (caller : Caller) → IsIdle caller roster → (call : Call) → IsKnown table call
+  exact_served : (roster : Roster) → AreAsked roster history → WaitsForOne roster
+      → (caller : Caller) → IsIdle caller roster → (call : Call) → IsKnown table call
       → IsDeedExact table history number (Core core) (served table.cores roster (objects_after table history) caller call)
   exact_served roster before one caller idle call known =
       let o = service table.cores roster (objects_after table history) caller call in
@@ -115,7 +116,8 @@ due_known table machine core lawful =
 -- a turn's deed, by the objects of the history
 pub exact_deed : (table : Table) (machine : Machine) (core : ℕ) → IsLawful table
     → length machine.roster.records ≡ length table.processes
-    → AreEnough table machine.history → AreBounded table machine.history → AreAsked machine.roster machine.history → WaitsForOne machine.roster
+    → AreEnough table machine.history → AreBounded table machine.history
+    → AreAsked machine.roster machine.history → WaitsForOne machine.roster
     → IsDeedExact table machine.history (length machine.history + 1) (Core core) (deed_of table machine core)
 exact_deed table machine core lawful many enough bounded before one =
     exact_turn table lawful machine.history (length machine.history + 1) core enough bounded machine.roster before one

@@ -8,7 +8,7 @@ use Rattle.apex_types.specs.Table.{SemaphoreEntry}
 use Rattle.apex_types.specs.Calls.{names_semaphore, is_wait, is_signal}
 use Rattle.apex_types.specs.Satisfied.{satisfied_by, calls_where, semaphore_value}
 use Rattle.apex_types.specs.History.{creates_semaphore, creates_process, is_process_created, is_semaphore_created, semaphore_after, SemaphoreObject}
-use Rattle.apex_dispatch.specs.AskedWaits.{Accounts}
+use Rattle.apex_dispatch.specs.AskedWaits.{Accounts, IsAccounted}
 use Rattle.apex_dispatch.proofs.Satisfied.{calls-push, filter_all}
 use Rattle.apex_dispatch.proofs.Truths.{or_false}
 
@@ -26,45 +26,55 @@ process_created-push p history e =
 
 -- a value that accounts for calls, after some more of them
 accounts_more : (initial v after : ℕ) (calls more : List Call) → Accounts initial calls v
-    → after + count_by is_wait more ≡ v + count_by is_signal more → Accounts initial (calls ++ more) after
+    → after + count_by is_wait more ≡ v + count_by is_signal more
+    → Accounts initial (calls ++ more) after
 accounts_more initial v after calls more accounts balance =
     let waits = sum_by-append (λ (c : Call). if is_wait c then 1 else 0) calls more in
     let signals = sum_by-append (λ (c : Call). if is_signal c then 1 else 0) calls more in
     omega (arith, waits, signals, accounts, balance)
 
--- semaphore s is this object after one entry more, and its value accounts for all its satisfied calls
-pub record IsAfter (s : ℕ) (entry : SemaphoreEntry) (history : List Entry) (e : Entry) (object : SemaphoreObject) : Type 0 where
+-- semaphore s is this object after one entry more, whose value accounts for all its satisfied calls
+pub record IsAfter (s : ℕ) (entry : SemaphoreEntry) (history : List Entry) (e : Entry)
+    (object : SemaphoreObject) : Type 0 where
   pub is : semaphore_after (history ++ e ∷ []) s entry ≡ object
-  pub enough : Accounts entry.initial (calls_where (names_semaphore s) (history ++ e ∷ [])) (semaphore_value entry.initial s (history ++ e ∷ []))
+  pub enough : IsAccounted entry.initial s (history ++ e ∷ [])
+
+-- the call names another thing than semaphore s
+abbrev pub IsElsewhere : ℕ → Call → Type 0
+IsElsewhere s c = names_semaphore s c ≡ false
+
+-- the entry says nothing of semaphore s
+pub record IsQuiet (s : ℕ) (history : List Entry) (e : Entry) : Type 0 where
+  pub calls : All (IsElsewhere s) (satisfied_by history e)
+  pub create : creates_semaphore s e ≡ false
 
 module _ (s : ℕ) (entry : SemaphoreEntry) (history : List Entry) (e : Entry)
-    (enough : Accounts entry.initial (calls_where (names_semaphore s) history) (semaphore_value entry.initial s history)) where
-  -- after an entry that satisfies these calls of it, a value that accounts for them is the semaphore's
-  pub after_calls : (more : List Call) (v : ℕ) (created : Bool) → filter (names_semaphore s) (satisfied_by history e) ≡ more
+    (enough : IsAccounted entry.initial s history) where
+  -- after an entry that satisfies these calls of it, a value that accounts for them is its value
+  pub after_calls : (more : List Call) (v : ℕ) (created : Bool)
+      → filter (names_semaphore s) (satisfied_by history e) ≡ more
       → (is_semaphore_created s history || creates_semaphore s e) ≡ created
-      → v + count_by is_wait more ≡ semaphore_value entry.initial s history + count_by is_signal more
+      → v + count_by is_wait more
+      ≡ semaphore_value entry.initial s history + count_by is_signal more
       → IsAfter s entry history e (record { maximum = entry.maximum; created = created; value = v })
   after_calls more v created is creates balance =
       let old = calls_where (names_semaphore s) history in
-      let all = accounts_more entry.initial (semaphore_value entry.initial s history) v old more enough balance in
+      let before = semaphore_value entry.initial s history in
+      let all = accounts_more entry.initial before v old more enough balance in
       let calls : calls_where (names_semaphore s) (history ++ e ∷ []) ≡ old ++ more =
       calls-push (names_semaphore s) history e ∙ ap (λ c. old ++ c) is in
-      let value : entry.initial + count_by is_signal (old ++ more) - count_by is_wait (old ++ more) ≡ v = omega (arith, all) in
+      let value : entry.initial + count_by is_signal (old ++ more) - count_by is_wait (old ++ more) ≡ v =
+      omega (arith, all) in
       record {
         is = rw (created-push s history e, creates, calls, value) refl;
         enough = rw (calls, value) all;
       }
 
--- the entry says nothing of semaphore s
-pub record IsQuiet (s : ℕ) (history : List Entry) (e : Entry) : Type 0 where
-  pub calls : All (λ c. names_semaphore s c ≡ false) (satisfied_by history e)
-  pub create : creates_semaphore s e ≡ false
-
--- it leaves that semaphore
-pub after_quiet : (s : ℕ) (entry : SemaphoreEntry) (history : List Entry) (e : Entry)
-    → Accounts entry.initial (calls_where (names_semaphore s) history) (semaphore_value entry.initial s history)
-    → IsQuiet s history e → IsAfter s entry history e (semaphore_after history s entry)
-after_quiet s entry history e enough quiet =
-    after_calls s entry history e enough [] (semaphore_value entry.initial s history) (is_semaphore_created s history)
-    (filter_all (names_semaphore s) false (satisfied_by history e) quiet.calls)
-    (rw quiet.create (or_false (is_semaphore_created s history))) refl
+  -- an entry that says nothing of it leaves it
+  pub after_quiet : IsQuiet s history e
+      → IsAfter s entry history e (semaphore_after history s entry)
+  after_quiet quiet =
+      let created = is_semaphore_created s history in
+      after_calls [] (semaphore_value entry.initial s history) created
+      (filter_all (names_semaphore s) false (satisfied_by history e) quiet.calls)
+      (rw quiet.create (or_false created)) refl

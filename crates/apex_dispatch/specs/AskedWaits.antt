@@ -1,5 +1,4 @@
--- What a kernel keeps of waits and values: who waits asked for it last, and the values account for all
--- satisfied calls.
+-- What a kernel keeps of waits and values: who waits asked for it last, and no value is too great.
 use Rattle.std.specs.Prelude.{◌≡◌, ℕ, ◌+◌, ◌≤◌, ◌<◌, Bool, List, Option, None, Some, length, count_by, option_and_then, if◌then◌else◌}
 use Rattle.apex_types.specs.declared.Call.{Call}
 use Rattle.apex_types.specs.declared.Call.TheVariants as call
@@ -16,16 +15,20 @@ use Rattle.apex_types.specs.Table.{Table, semaphore_entry}
 use Rattle.apex_types.specs.Calls.{names_semaphore, is_wait, is_signal}
 use Rattle.apex_types.specs.Satisfied.{latest_call, calls_where, semaphore_value}
 
--- value v accounts for all these calls: v and the waits are together the initial value and the signals
+-- value v accounts for these calls: v and the waits are together the initial value and the signals
 abbrev pub Accounts : ℕ → List Call → ℕ → Type 0
 Accounts initial calls v = v + count_by is_wait calls ≡ initial + count_by is_signal calls
 
--- each semaphore's value accounts for all its satisfied calls: no more waits are satisfied than its start
--- and its signals allow
-abbrev pub AreEnough : Table → List Entry → Type 0
-AreEnough table history = (s : ℕ) → s < length table.semaphores →
-    let initial = (semaphore_entry table s).initial in
+-- the value of semaphore s accounts for all its satisfied calls: no more waits are satisfied than its
+-- start and its signals allow
+abbrev pub IsAccounted : ℕ → ℕ → List Entry → Type 0
+IsAccounted initial s history =
     Accounts initial (calls_where (names_semaphore s) history) (semaphore_value initial s history)
+
+-- that holds of each semaphore
+abbrev pub AreEnough : Table → List Entry → Type 0
+AreEnough table history = (s : ℕ) → s < length table.semaphores
+    → IsAccounted (semaphore_entry table s).initial s history
 
 -- no semaphore's value is above its maximum
 abbrev pub AreBounded : Table → List Entry → Type 0

@@ -21,7 +21,7 @@ abbrev pub is_accepted : Reply → Bool
 is_accepted (Code code) = is_no_error code
 is_accepted _ = false
 
--- the latest call of process p after an entry: the entry's own where p asked for it, else the one before
+-- the latest call of process p after an entry: its own where p asked for it, else the one before
 abbrev pub latest_after : ℕ → Option Call → Entry → Option Call
 latest_after p before e = if is_by_process p e.process then e.call else before
 
@@ -35,7 +35,8 @@ own_call e = if is_accepted e.reply then option_to_list e.call else []
 
 -- the call that a notice satisfies: woken with NO_ERROR, a process has its latest call answered
 abbrev pub answered_by : List Entry → Notice → List Call
-answered_by history (Woken p code) = if is_no_error code then option_to_list (latest_call p history) else []
+answered_by history (Woken p code) =
+    if is_no_error code then option_to_list (latest_call p history) else []
 answered_by history (Released p) = []
 
 -- the calls that one entry more satisfies: its own, and then those that its notices answer
