@@ -1,7 +1,8 @@
 -- The objects that a service leaves are those that the history then gives.
-use Rattle.std.proofs.Common.{◌≡◌, ℕ, ◌+◌, ◌<◌, Bool, true, false, cond, not, ◌&&◌, ◌==◌, List, [], ◌∷◌, ◌++◌, length, None, Some, nat_lt, nat_le, is_some, is_none, Option, if◌then◌else◌, refl, sym, ◌∙◌, arith, set, get_or, inl, inr, ap}
+use Rattle.std.proofs.Common.{◌≡◌, ◌≢◌, All, flat_map, option_to_list, ℕ, ◌+◌, ◌<◌, Bool, true, false, cond, not, ◌&&◌, ◌==◌, List, [], ◌∷◌, ◌++◌, length, None, Some, nat_lt, nat_le, is_some, is_none, Option, if◌then◌else◌, refl, sym, ◌∙◌, arith, set, inl, inr, ap}
 use Rattle.std.proofs.lemmas.Option.{none-some, same_Some}
 use Rattle.std.proofs.lemmas.Bool.{eq-eqb, cases_eq, both_ways}
+use Rattle.std.proofs.lemmas.List.Elements.{All-nil, All-cons, All-append, All-weaker}
 use Rattle.apex_types.specs.declared.Call.{Call}
 use Rattle.apex_types.specs.declared.Call.TheVariants.{Partition, Process as ToProcess, Time as ToTime, Semaphore as ToSemaphore}
 use Rattle.apex_types.specs.declared.NamedProcess.{NamedProcess}
@@ -21,27 +22,30 @@ use Rattle.apex_types.specs.declared.ReturnCode.{ReturnCode}
 use Rattle.apex_types.specs.declared.ReturnCode.TheVariants.{NoError, NoAction, InvalidParam, InvalidConfig, InvalidMode}
 use Rattle.apex_types.specs.declared.Timeout.{Timeout}
 use Rattle.apex_types.specs.declared.Timeout.TheVariants.{Poll, Ticks, Infinite}
-use Rattle.apex_types.specs.declared.Wait.TheVariants.{Time, Semaphore}
+use Rattle.apex_types.specs.declared.Wait.TheVariants.{Time}
 use Rattle.apex_types.specs.declared.Who.{Who}
 use Rattle.apex_types.specs.Places.{map_places}
 use Rattle.apex_types.specs.Roster.{Roster, record_at, is_normal}
-use Rattle.apex_types.specs.Table.{Table, ProcessEntry, SemaphoreEntry, no_process, no_semaphore, semaphore_entry, IsKnown, IsKnownProcess, IsKnownToProcesses, IsKnownToSemaphores}
-use Rattle.apex_types.specs.History.{is_by_process, is_no_error, is_wait_on, is_process_create, creates_process, creates_semaphore, is_process_created, is_accepted_signal, process_after, semaphore_after, objects_after, Objects, SemaphoreObject}
+use Rattle.apex_types.specs.Table.{Table, ProcessEntry, no_process, no_semaphore, semaphore_entry, IsKnown, IsKnownProcess, IsKnownToProcesses, IsKnownToSemaphores}
+use Rattle.apex_types.specs.Callers.{is_by_process}
+use Rattle.apex_types.specs.Calls.{semaphore_of}
+use Rattle.apex_types.specs.Satisfied.{is_no_error, is_accepted, own_call, answered_by, satisfied_by}
+use Rattle.apex_types.specs.History.{is_process_create, creates_process, creates_semaphore, is_creation_of_semaphore, is_process_created, process_after, semaphore_after, objects_after, Objects, SemaphoreObject}
 use Rattle.apex_types.specs.Stamps.{WaitsForOne}
-use Rattle.apex_types.specs.SemaphoreServices.{semaphore_service, semaphore_of, no_semaphore_code}
+use Rattle.apex_types.specs.SemaphoreServices.{semaphore_service, no_semaphore_code}
 use Rattle.apex_types.specs.ProcessServices.{ProcessOutcome, process_service, refused_process, create_process, create_named, initialize_core_affinity, started_by, start_process, set_priority, stop_process, suspend_process, resume_process, suspend_self, get_process_id, get_process_status, own_service, own_service_by, is_created}
 use Rattle.apex_types.specs.PartitionServices.{partition_service}
 use Rattle.apex_types.specs.TimeServices.{time_service}
 use Rattle.apex_types.specs.Machine.{Outcome, service, after_semaphore, refused, semaphore_deed, semaphore_at, no_object}
 use Rattle.apex_types.proofs.Places.{map_places_same, set-map_places, get_or-map_places}
-use Rattle.apex_dispatch.proofs.Truths.{or_false, or_true, and_false, and_true}
-use Rattle.apex_dispatch.proofs.TimeTold.{time_kept}
-use Rattle.apex_dispatch.proofs.Waits.{newly-closed, other}
-use Rattle.apex_dispatch.specs.OpenWaits.{wakes, has_open, awaited, AreEnough, AreBounded, AreOpen}
-use Rattle.apex_dispatch.proofs.Values.{IsQuiet, quiet_same, quiet_refused, after_quiet, process_created-push}
-use Rattle.apex_dispatch.proofs.Effects.{AreQuiet, WaitsKept, IsIdle, kept_freed, kept_same}
+use Rattle.apex_dispatch.specs.AskedWaits.{AreEnough, AreBounded, AreAsked, begins, awaited}
+use Rattle.apex_dispatch.proofs.Truths.{or_false, or_true, and_false, and_true, other}
+use Rattle.apex_dispatch.proofs.Satisfied.{wakes, Asks, IsIdle, handed, begins_names, asked-push}
+use Rattle.apex_dispatch.proofs.Values.{IsElsewhere, IsQuiet, after_quiet, process_created-push}
+use Rattle.apex_dispatch.proofs.Effects.{Frees, frees_none, asks_freed}
 use Rattle.apex_dispatch.proofs.SemaphoreTold.{told_service, below_service}
-use Rattle.apex_dispatch.proofs.OtherTold.{partition_spares, process_keeps}
+use Rattle.apex_dispatch.proofs.OtherTold.{Keeps, keeps_spared, partition_spares, process_keeps}
+use Rattle.apex_dispatch.proofs.TimeTold.{time_keeps}
 
 -- an entry that creates no process leaves which ones are created
 flags_same : (entries : List ProcessEntry) (history : List Entry) (e : Entry) → ((p : ℕ) → creates_process p e ≡ false)
@@ -60,11 +64,12 @@ flags_set entries history e p within one =
     (λ k h differs. sym (process_created-push k history e ∙ rw (one k, other k p differs) (or_false (is_process_created k history)))))
 
 -- an entry that says nothing of any semaphore leaves them all
-semaphores_same : (entries : List SemaphoreEntry) (history : List Entry) (e : Entry) → ((s : ℕ) → IsQuiet s history e)
-    → map_places (semaphore_after (history ++ e ∷ [])) 0 entries ≡ map_places (semaphore_after history) 0 entries
-semaphores_same entries history e quiet =
-    map_places_same (semaphore_after (history ++ e ∷ [])) (semaphore_after history) entries no_semaphore no_object
-    (λ k h. quiet_same k (get_or entries k no_semaphore) history e (quiet k))
+semaphores_same : (table : Table) (history : List Entry) (e : Entry) → AreEnough table history
+    → ((s : ℕ) → IsQuiet s history e)
+    → map_places (semaphore_after (history ++ e ∷ [])) 0 table.semaphores ≡ map_places (semaphore_after history) 0 table.semaphores
+semaphores_same table history e enough quiet =
+    map_places_same (semaphore_after (history ++ e ∷ [])) (semaphore_after history) table.semaphores no_semaphore no_object
+    (λ k within. (after_quiet k (semaphore_entry table k) history e (enough k within) (quiet k)).is)
 
 objects_by : (a b : List Bool) (x y : List SemaphoreObject) → a ≡ b → x ≡ y
     → let o : Objects = record { processes = a; semaphores = x } in let n : Objects = record { processes = b; semaphores = y } in o ≡ n
@@ -178,20 +183,8 @@ module _ (number now : ℕ) (who : Who) (caller : Caller) (history : List Entry)
     stays_suspend_self p Infinite = refl
 
     stays_own_of : (p : ℕ) (call : ProcessCall) → (own_service roster flags p call).created ≡ flags
-    stays_own_of p StopSelf = refl
     stays_own_of p (SuspendSelf timeout) = stays_suspend_self p timeout
-    stays_own_of p GetMyId = refl
-    stays_own_of p GetMyProcessorCoreId = refl
-    stays_own_of p (CreateProcess named) = refl
-    stays_own_of p (InitializeProcessCoreAffinity q core) = refl
-    stays_own_of p (SetPriority q priority) = refl
-    stays_own_of p (Start q) = refl
-    stays_own_of p (DelayedStart q delay) = refl
-    stays_own_of p (Stop q) = refl
-    stays_own_of p (Suspend q) = refl
-    stays_own_of p (Resume q) = refl
-    stays_own_of p (GetProcessId named) = refl
-    stays_own_of p (GetProcessStatus q) = refl
+    stays_own_of p _ = refl
 
     stays_own : (by : Caller) (call : ProcessCall) → (own_service_by roster flags by call).created ≡ flags
     stays_own (Process p) call = stays_own_of p call
@@ -225,90 +218,114 @@ known_target many (GetSemaphoreId (semaphore.Known t)) s is h = omega (arith, h,
 known_target many (GetSemaphoreId (semaphore.Unknown name)) s is h = absurd (none-some s is)
 known_target many (GetSemaphoreStatus t) s is h = omega (arith, h, same_Some t s is)
 
--- an entry whose call is of no semaphore, and that wakes only processes without an open wait
-quiet_closed : (history : List Entry) (e : Entry) → ((p s : ℕ) → wakes p e ≡ true → has_open s p history ≡ false)
-    → ((s : ℕ) → is_accepted_signal s e ≡ false) → ((s : ℕ) → is_wait_on s e.call ≡ false) → ((s : ℕ) → creates_semaphore s e ≡ false)
-    → (s : ℕ) → IsQuiet s history e
-quiet_closed history e closed signal wait create s = record {
-  signal = signal s;
-  satisfied = rw (newly-closed s history e (λ p. closed p s), wait s) refl;
-  create = create s;
-}
+-- an entry is exact: the objects and who waits are as the history then says, and the values account for
+-- all satisfied calls and stay in range
+pub record IsExact (table : Table) (history : List Entry) (e : Entry) (left : Objects) (new : Roster) : Type 0 where
+  pub objects : objects_after table (history ++ e ∷ []) ≡ left
+  pub enough : AreEnough table (history ++ e ∷ [])
+  pub bounded : AreBounded table (history ++ e ∷ [])
+  pub waiting : AreAsked new (history ++ e ∷ [])
 
--- and that wakes nobody
-quiet_everywhere : (history : List Entry) (e : Entry) → AreQuiet e.notices
-    → ((s : ℕ) → is_accepted_signal s e ≡ false) → ((s : ℕ) → is_wait_on s e.call ≡ false) → ((s : ℕ) → creates_semaphore s e ≡ false)
-    → (s : ℕ) → IsQuiet s history e
-quiet_everywhere history e quiet = quiet_closed history e (λ p s woken. absurd (both_ways _ (quiet p) woken))
+module _ (table : Table) (history : List Entry) (roster : Roster)
+    (enough : AreEnough table history) (bounded : AreBounded table history) (asked : AreAsked roster history) where
+  -- an entry more leaves each semaphore but one, or all, and says who waits
+  exact_quiet : (e : Entry) (new : Roster) (created : List Bool) → ((s : ℕ) → IsQuiet s history e)
+      → map_places (process_after (history ++ e ∷ [])) 0 table.processes ≡ created
+      → IsIdle e.process roster → Asks e.process e.call roster new
+      → IsExact table history e (record (objects_after table history) { processes = created }) new
+  exact_quiet e new created quiet flags idle asks =
+      let after = λ (s : ℕ) (within : s < length table.semaphores).
+      after_quiet s (semaphore_entry table s) history e (enough s within) (quiet s) in
+      record {
+        objects = objects_by _ _ _ _ flags (semaphores_same table history e enough quiet);
+        enough = λ s within. (after s within).enough;
+        bounded = λ s within. rw (ap (λ (o : SemaphoreObject). o.value) (after s within).is) (bounded s within);
+        waiting = asked-push history e roster new idle asked asks;
+      }
 
-enough_quiet : (table : Table) (history : List Entry) (e : Entry) → AreEnough table history → ((s : ℕ) → IsQuiet s history e)
-    → AreEnough table (history ++ e ∷ [])
-enough_quiet table history e enough quiet s within =
-    (after_quiet s (semaphore_entry table s) history e (enough s within) (quiet s)).enough
+  -- an entry of no semaphore's call, whom it wakes with NO_ERROR waited for time
+  pub exact_timed : (e : Entry) (new : Roster) (created : List Bool)
+      → ((s : ℕ) (c : Call) → e.call ≡ Some c → IsElsewhere s c)
+      → ((s : ℕ) → creates_semaphore s e ≡ false)
+      → ((p : ℕ) → wakes p e.notices ≡ true → awaited (record_at roster p) ≡ Some Time)
+      → map_places (process_after (history ++ e ∷ [])) 0 table.processes ≡ created
+      → IsIdle e.process roster → Asks e.process e.call roster new
+      → IsExact table history e (record (objects_after table history) { processes = created }) new
+  exact_timed e new created unnamed uncreated timed =
+      exact_quiet e new created (λ s. record { calls = timed_calls s; create = uncreated s }) where
+        timed_calls : (s : ℕ) → All (IsElsewhere s) (satisfied_by history e)
+        timed_calls s =
+            All-append (IsElsewhere s) (own_call e) (flat_map (answered_by history) e.notices)
+            (own (is_accepted e.reply) e.call (unnamed s))
+            (All-weaker (λ c. begins c ≡ Some Time) (IsElsewhere s) (λ c begun. begins_names c Time begun s) _
+            (handed roster history e.notices Time asked timed)) where
+              own : (accepted : Bool) (called : Option Call)
+                  → ((c : Call) → called ≡ Some c → IsElsewhere s c)
+                  → All (IsElsewhere s) (if accepted then option_to_list called else [])
+              own false called h = All-nil (IsElsewhere s)
+              own true None h = All-nil (IsElsewhere s)
+              own true (Some c) h =
+                  All-cons (IsElsewhere s) c [] (h c refl) (All-nil (IsElsewhere s))
 
-bounded_quiet : (table : Table) (history : List Entry) (e : Entry) → AreBounded table history → ((s : ℕ) → IsQuiet s history e)
-    → AreBounded table (history ++ e ∷ [])
-bounded_quiet table history e bounded quiet s within =
-    let same = quiet_same s (semaphore_entry table s) history e (quiet s) in
-    rw (ap (λ (o : SemaphoreObject). o.value) same) (bounded s within)
+-- an entry without a call changes no object, where whom it wakes with NO_ERROR waited for time
+pub exact_uncalled : (table : Table) (history : List Entry) (old new : Roster) (e : Entry)
+    → e.call ≡ None → e.process ≡ Nobody
+    → ((p : ℕ) → wakes p e.notices ≡ true → awaited (record_at old p) ≡ Some Time) → Frees old new
+    → AreEnough table history → AreBounded table history → AreAsked old history
+    → IsExact table history e (objects_after table history) new
+exact_uncalled table history old new e no_call nobody timed frees enough bounded asked =
+    exact_timed table history old enough bounded asked e new (map_places (process_after history) 0 table.processes)
+    (λ s c is. absurd (none-some c (sym no_call ∙ is))) (λ s. rw no_call refl) timed
+    (flags_same table.processes history e (λ p. rw no_call refl))
+    (λ q w by h. absurd (both_ways false refl (rw nobody at by))) (asks_freed e.process e.call old new frees)
 
-module _ (number now : ℕ) (who : Who) (table : Table) (history : List Entry) (roster : Roster) (enough : AreEnough table history) (bounded : AreBounded table history) (open_waits : AreOpen roster history) (one : WaitsForOne roster) where
+module _ (number now : ℕ) (who : Who) (table : Table) (history : List Entry) (roster : Roster)
+    (enough : AreEnough table history) (bounded : AreBounded table history) (asked : AreAsked roster history) (one : WaitsForOne roster) where
   -- after a service the objects, and who waits, are as the history then says
-  pub record IsExact (caller : Caller) (call : Call) (o : Outcome) : Type 0 where
-    pub objects : objects_after table (history ++ entry_with number now who caller history call o.reply o.notices ∷ []) ≡ o.objects
-    pub waits : WaitsKept caller call roster o.roster o.reply o.notices
-    pub enough_after : AreEnough table (history ++ entry_with number now who caller history call o.reply o.notices ∷ [])
-    pub bounded_after : AreBounded table (history ++ entry_with number now who caller history call o.reply o.notices ∷ [])
-
-  -- who waits for a semaphore has an open wait on it
-  waits_open : (p s : ℕ) → awaited (record_at roster p) ≡ Some (Semaphore s) → has_open s p history ≡ true
-  waits_open p s h = open_waits p s (Semaphore s) h ∙ eq-eqb s s refl
+  abbrev pub IsServed : Caller → Call → Outcome → Type 0
+  IsServed caller call o =
+      IsExact table history (entry_with number now who caller history call o.reply o.notices) o.objects o.roster
 
   abbrev objects : Objects
   objects = objects_after table history
 
   exact_semaphore : (caller : Caller) (idle : IsIdle caller roster) (call : SemaphoreCall) (s : ℕ) → semaphore_of call ≡ Some s → s < length table.semaphores
-      → IsExact caller (ToSemaphore call)
+      → IsServed caller (ToSemaphore call)
       (after_semaphore objects s
       (semaphore_service roster (semaphore_after history s (semaphore_entry table s)) s caller call))
   exact_semaphore caller idle call s is within =
       let entry = semaphore_entry table s in
       let o = semaphore_service roster (semaphore_after history s entry) s caller call in
       let e = entry_with number now who caller history (ToSemaphore call) o.reply o.notices in
-      let told = told_service number now who history roster waits_open entry caller idle call s is (enough s within) in
+      let told = told_service number now who caller history roster asked s entry (enough s within) call is in
+      let after = λ (t : ℕ) (inside : t < length table.semaphores) (differs : t ≢ s).
+      after_quiet t (semaphore_entry table t) history e (enough t inside) (told.others t differs) in
       record {
         objects = objects_by _ _ _ _ (flags_same table.processes history e (λ p. refl))
             (sym (set-map_places (semaphore_after history) (semaphore_after (history ++ e ∷ [])) table.semaphores s o.semaphore no_semaphore no_object within
-            (sym told.own.is)
-            (λ k h differs. sym (quiet_same k (get_or table.semaphores k no_semaphore) history e (told.others k differs)))));
-        waits = told.waits;
-        enough_after = λ t inside. elim (cases_eq t s) [
+            (sym told.own.is) (λ k h differs. sym (after k h differs).is)));
+        enough = λ t inside. elim (cases_eq t s) [
           | inl same ↦ rw same told.own.enough
-          | inr differs ↦ (after_quiet t (semaphore_entry table t) history e (enough t inside) (told.others t differs)).enough
+          | inr differs ↦ (after t inside differs).enough
         ];
-        bounded_after = λ t inside. elim (cases_eq t s) [
+        bounded = λ t inside. elim (cases_eq t s) [
           | inl same ↦
               let below = below_service roster (semaphore_after history s entry) (bounded s within) s caller call in
-              let is = ap (λ (x : SemaphoreObject). x.value) told.own.is in
-              rw same (rw is below)
-          | inr differs ↦
-              let stays = quiet_same t (semaphore_entry table t) history e (told.others t differs) in
-              rw (ap (λ (x : SemaphoreObject). x.value) stays) (bounded t inside)
+              rw same (rw (ap (λ (x : SemaphoreObject). x.value) told.own.is) below)
+          | inr differs ↦ rw (ap (λ (x : SemaphoreObject). x.value) (after t inside differs).is) (bounded t inside)
         ];
+        waiting = asked-push history e roster o.roster idle asked told.asks;
       }
 
   -- a call of a name that is no entry's
   exact_unknown : (caller : Caller) (idle : IsIdle caller roster) (call : SemaphoreCall) → semaphore_of call ≡ None → (code : ReturnCode) → is_no_error code ≡ false
-      → IsExact caller (ToSemaphore call) (refused roster objects code)
+      → IsServed caller (ToSemaphore call) (refused roster objects code)
   exact_unknown caller idle call is code bad =
       let e = entry_with number now who caller history (ToSemaphore call) (Code code) [] in
-      let quiet = λ (s : ℕ). quiet_refused s history e bad (λ p. refl) in
-      record {
-        objects = objects_by _ _ _ _ (flags_same table.processes history e (λ p. refl)) (semaphores_same table.semaphores history e quiet);
-        waits = kept_same caller (ToSemaphore call) roster idle (Code code) [] (λ p. refl);
-        enough_after = enough_quiet table history e enough quiet;
-        bounded_after = bounded_quiet table history e bounded quiet;
-      }
+      exact_timed table history roster enough bounded asked e roster objects.processes
+      (λ s c same. rw (sym (same_Some (ToSemaphore call) c same), is) refl) (λ s. rw bad (and_false _))
+      (λ p woken. absurd (both_ways false refl woken)) (flags_same table.processes history e (λ p. refl))
+      idle (asks_freed caller (Some (ToSemaphore call)) roster roster (frees_none roster))
 
   no_semaphore_refused : (call : SemaphoreCall) → is_no_error (no_semaphore_code roster call) ≡ false
   no_semaphore_refused (CreateSemaphore named) = by_mode (is_normal roster.mode) where
@@ -322,7 +339,7 @@ module _ (number now : ℕ) (who : Who) (table : Table) (history : List Entry) (
 
   exact_target : (caller : Caller) (idle : IsIdle caller roster) (call : SemaphoreCall) (target : Option ℕ) → semaphore_of call ≡ target
       → IsKnownToSemaphores (length table.semaphores) call
-      → IsExact caller (ToSemaphore call) (semaphore_deed roster objects caller call target)
+      → IsServed caller (ToSemaphore call) (semaphore_deed roster objects caller call target)
   exact_target caller idle call None is known = exact_unknown caller idle call is (no_semaphore_code roster call) (no_semaphore_refused call)
   exact_target caller idle call (Some s) is known =
       let within = known_target (length table.semaphores) call s is known in
@@ -331,52 +348,32 @@ module _ (number now : ℕ) (who : Who) (table : Table) (history : List Entry) (
       rw (get_or-map_places (semaphore_after history) 0 table.semaphores s no_semaphore no_object within, z) refl in
       rw object (exact_semaphore caller idle call s is within)
 
+  -- a call of no semaphore
+  exact_other : (caller : Caller) → IsIdle caller roster
+      → (call : Call) (reply : Reply) (notices : List Notice) (new : Roster) (created : List Bool)
+      → ((s : ℕ) → IsElsewhere s call) → ((s : ℕ) → is_creation_of_semaphore s (Some call) ≡ false)
+      → Keeps caller call roster new notices
+      → map_places (process_after (history ++ entry_with number now who caller history call reply notices ∷ [])) 0 table.processes ≡ created
+      → IsServed caller call
+      (record { roster = new; objects = record objects { processes = created }; reply = reply; notices = notices })
+  exact_other caller idle call reply notices new created unnamed uncreated keeps flags =
+      exact_timed table history roster enough bounded asked (entry_with number now who caller history call reply notices) new created
+      (λ s c same. rw (sym (same_Some call c same)) (unnamed s)) (λ s. rw (uncreated s) refl) keeps.timed flags idle keeps.asks
+
   pub exact_service : (caller : Caller) (idle : IsIdle caller roster) (call : Call) → IsKnown table call
-      → IsExact caller call (service table.cores roster objects caller call)
+      → IsServed caller call (service table.cores roster objects caller call)
   exact_service caller idle (Partition call) known =
       let o = partition_service table.cores roster call in
-      let e = entry_with number now who caller history (Partition call) o.reply o.notices in
-      let spares = partition_spares table.cores roster call in
-      let quiet = quiet_everywhere history e spares.quiet (λ s. refl) (λ s. refl) (λ s. refl) in
-      record {
-        objects = objects_by _ _ _ _ (flags_same table.processes history e (λ p. refl)) (semaphores_same table.semaphores history e quiet);
-        waits = kept_freed caller (Partition call) roster o.roster idle o.reply o.notices spares.quiet spares.frees;
-        enough_after = enough_quiet table history e enough quiet;
-        bounded_after = bounded_quiet table history e bounded quiet;
-      }
+      exact_other caller idle (Partition call) o.reply o.notices o.roster objects.processes (λ s. refl) (λ s. refl)
+      (keeps_spared caller (Partition call) roster o.roster o.notices (partition_spares table.cores roster call))
+      (flags_same table.processes history _ (λ p. refl))
   exact_service caller idle (ToProcess call) known =
       let o = process_service table.cores roster objects.processes caller call in
-      let e = entry_with number now who caller history (ToProcess call) o.reply o.notices in
-      let keeps = process_keeps table.cores roster objects.processes one caller idle call in
-      let closed : (p s : ℕ) → wakes p e ≡ true → has_open s p history ≡ false = λ p s woken. open_waits p s Time (keeps.closed p woken) in
-      let quiet = quiet_closed history e closed (λ s. refl) (λ s. refl) (λ s. refl) in
-      let flagged = flagged_service number now who caller history table.processes table.cores roster call known in
-      record {
-        objects = objects_by _ _ _ _ flagged.is (semaphores_same table.semaphores history e quiet);
-        waits = keeps.waits;
-        enough_after = enough_quiet table history e enough quiet;
-        bounded_after = bounded_quiet table history e bounded quiet;
-      }
+      exact_other caller idle (ToProcess call) o.reply o.notices o.roster o.created (λ s. refl) (λ s. refl)
+      (process_keeps roster objects.processes table.cores one caller call)
+      (flagged_service number now who caller history table.processes table.cores roster call known).is
   exact_service caller idle (ToTime call) known =
       let o = time_service roster caller call in
-      let e = entry_with number now who caller history (ToTime call) o.reply [] in
-      let quiet = quiet_everywhere history e (λ p. refl) (λ s. refl) (λ s. refl) (λ s. refl) in
-      record {
-        objects = objects_by _ _ _ _ (flags_same table.processes history e (λ p. refl)) (semaphores_same table.semaphores history e quiet);
-        waits = time_kept roster caller idle call;
-        enough_after = enough_quiet table history e enough quiet;
-        bounded_after = bounded_quiet table history e bounded quiet;
-      }
+      exact_other caller idle (ToTime call) o.reply [] o.roster objects.processes (λ s. refl) (λ s. refl)
+      (time_keeps roster caller call) (flags_same table.processes history _ (λ p. refl))
   exact_service caller idle (ToSemaphore call) known = exact_target caller idle call (semaphore_of call) refl known
-
--- an idle turn or a tick changes nothing, where it wakes with NO_ERROR only processes that have no open
--- wait
-pub uncalled_exact : (table : Table) (history : List Entry) (e : Entry) → e.call ≡ None
-    → ((p s : ℕ) → wakes p e ≡ true → has_open s p history ≡ false) → AreEnough table history → AreBounded table history
-    → (objects_after table (history ++ e ∷ []) ≡ objects_after table history) × AreEnough table (history ++ e ∷ []) × AreBounded table (history ++ e ∷ [])
-uncalled_exact table history e no_call closed enough bounded =
-    let quiet = quiet_closed history e closed (λ s. rw no_call refl) (λ s. rw no_call refl) (λ s. rw no_call refl) in (
-      objects_by _ _ _ _ (flags_same table.processes history e (λ p. rw no_call refl)) (semaphores_same table.semaphores history e quiet),
-      enough_quiet table history e enough quiet,
-      bounded_quiet table history e bounded quiet,
-    )

@@ -25,7 +25,7 @@ use Rattle.apex_types.proofs.DistinctStamps.{stamped_opening, stamped_advance_to
 use Rattle.apex_types.proofs.Dues.{goal_forward, goal_near, goal_not_past}
 use Rattle.apex_types.proofs.Reaches.{Reaches}
 use Rattle.apex_dispatch.specs.Kernel.{KernelState, IsSound, IsKept, kernel_in}
-use Rattle.apex_dispatch.specs.OpenWaits.{awaited}
+use Rattle.apex_dispatch.specs.AskedWaits.{awaited}
 use Rattle.apex_dispatch.proofs.Known.{known_script_step, deed_known}
 use Rattle.apex_dispatch.proofs.Reach.{reach_turn, reach_serve_dues}
 use Rattle.apex_dispatch.proofs.Turns.{IsDeedExact, due_known, exact_deed}
@@ -220,7 +220,7 @@ sound_opening table lawful =
       known = All-nil (IsPrintable table);
       enough = λ s h. omega arith;
       bounded = λ s h. omega (arith, (lawful.semaphores s h).initial);
-      waiting = λ p s w h. absurd (opening_free table.processes 0 p w h);
+      waiting = λ p w h. absurd (opening_free table.processes 0 p w h);
     } where
       opening_waits : (entries : List ProcessEntry) (q p : ℕ) → (get_or (map_places opening_record q entries) p nobody).wait ≡ None
       opening_waits [] q p = refl

@@ -1,7 +1,7 @@
 pub mod Truths
 pub mod Known
 pub mod Reach
-pub mod Waits
+pub mod Satisfied
 pub mod Values
 pub mod Effects
 pub mod SemaphoreTold

@@ -1,7 +1,6 @@
 -- The services of processes and of the partition leave the semaphores alone: whom they wake had waited
 -- for time.
 use Rattle.std.proofs.Common.{◌≡◌, ℕ, zero, suc, ◌+◌, ◌==◌, set, Bool, true, false, cond, ◌&&◌, ◌||◌, not, List, [], ◌∷◌, map, get_or, length, Option, None, Some, is_some, is_none, nat_lt, nat_le, if◌then◌else◌, refl, ap, sym, ◌∙◌}
-use Rattle.std.specs.List.{list_any}
 use Rattle.std.proofs.lemmas.Option.{none-some}
 use Rattle.std.proofs.lemmas.Bool.{both_ways, eqb-true}
 use Rattle.std.proofs.lemmas.List.Folds.{list_any-append}
@@ -20,9 +19,8 @@ use Rattle.apex_types.specs.declared.Mode.TheVariants as mode
 use Rattle.apex_types.specs.declared.Notice.{Notice}
 use Rattle.apex_types.specs.declared.Notice.TheVariants.{Woken, Released}
 use Rattle.apex_types.specs.declared.Record.{Record}
-use Rattle.apex_types.specs.declared.Reply.{Reply}
-use Rattle.apex_types.specs.declared.Reply.TheVariants.{Code, Value, Status, Gone}
-use Rattle.apex_types.specs.declared.ReturnCode.TheVariants.{NoError, NoAction, InvalidParam, InvalidMode}
+use Rattle.apex_types.specs.declared.Reply.TheVariants.{Code}
+use Rattle.apex_types.specs.declared.ReturnCode.TheVariants.{NoError, NoAction}
 use Rattle.apex_types.specs.declared.Suspender.TheVariants.{Other}
 use Rattle.apex_types.specs.declared.Wait.{Wait}
 use Rattle.apex_types.specs.declared.Wait.TheVariants.{Normal, Start, Time, Semaphore}
@@ -30,17 +28,22 @@ use Rattle.apex_types.specs.declared.Timeout.{Timeout}
 use Rattle.apex_types.specs.declared.Timeout.TheVariants.{Poll, Ticks, Infinite}
 use Rattle.apex_types.specs.Dues.{due_after}
 use Rattle.apex_types.specs.Roster.{Roster, nobody, record_at, is_normal}
-use Rattle.apex_types.specs.Running.{is_eligible, process_state, current_priority}
+use Rattle.apex_types.specs.Running.{is_eligible}
 use Rattle.apex_types.specs.Waiters.{is_ranked, is_wait_for, waits_in, waits_before, discipline_of}
 use Rattle.apex_types.specs.Stamps as stamps
-use Rattle.apex_types.specs.History.{is_by_process, is_waking}
+use Rattle.apex_types.specs.Callers.{is_by_process}
 use Rattle.apex_types.specs.ProcessServices as processes
 use Rattle.apex_types.specs.PartitionServices as partitions
 use Rattle.apex_types.specs.Ticks as ticks
 use Rattle.apex_types.proofs.Choice.{place_passes}
 use Rattle.apex_types.proofs.InTurn.{holds_in_turn}
-use Rattle.apex_dispatch.specs.OpenWaits.{asked_of, or_suspended, awaited}
-use Rattle.apex_dispatch.proofs.Effects.{AreQuiet, WaitsKept, IsIdle, Frees, frees_none, frees_then, frees_changed, frees_moved, frees_unblock, freed_unblock, frees_lessened, awake_free, kept_freed, kept_woken, kept_waiting}
+use Rattle.apex_dispatch.specs.AskedWaits.{asked_of, or_suspended, awaited}
+use Rattle.apex_dispatch.proofs.Satisfied.{is_waking, wakes, Asks}
+use Rattle.apex_dispatch.proofs.Effects.{Frees, frees_none, frees_then, frees_changed, frees_moved, frees_unblock, frees_lessened, awake_free, asks_freed, asks_waiting}
+
+-- nobody is woken by these notices
+abbrev pub AreQuiet : List Notice → Type 0
+AreQuiet notices = (p : ℕ) → wakes p notices ≡ false
 
 -- a service frees, and wakes nobody
 pub record Spares (old new : Roster) (notices : List Notice) : Type 0 where
@@ -50,16 +53,16 @@ pub record Spares (old new : Roster) (notices : List Notice) : Type 0 where
 pub spares_none : (roster : Roster) → Spares roster roster []
 spares_none roster = record { frees = frees_none roster; quiet = λ q. refl }
 
--- who waits is kept, and whom the service wakes with NO_ERROR had waited for time
-pub record Keeps (caller : Caller) (call : Call) (old new : Roster) (reply : Reply) (notices : List Notice) : Type 0 where
-  pub waits : WaitsKept caller call old new reply notices
-  pub closed : (q : ℕ) → list_any (is_waking q) notices ≡ true → awaited (record_at old q) ≡ Some Time
+-- who waits asked for it, and whom the service wakes with NO_ERROR had waited for time
+pub record Keeps (caller : Caller) (call : Call) (old new : Roster) (notices : List Notice) : Type 0 where
+  pub asks : Asks caller (Some call) old new
+  pub timed : (q : ℕ) → wakes q notices ≡ true → awaited (record_at old q) ≡ Some Time
 
-pub keeps_spared : (caller : Caller) (call : Call) (old new : Roster) (reply : Reply) (notices : List Notice) → IsIdle caller old
-    → Spares old new notices → Keeps caller call old new reply notices
-keeps_spared caller call old new reply notices idle spares = record {
-  waits = kept_freed caller call old new idle reply notices spares.quiet spares.frees;
-  closed = λ q woken. absurd (both_ways _ (spares.quiet q) woken);
+pub keeps_spared : (caller : Caller) (call : Call) (old new : Roster) (notices : List Notice)
+    → Spares old new notices → Keeps caller call old new notices
+keeps_spared caller call old new notices spares = record {
+  asks = asks_freed caller (Some call) old new spares.frees;
+  timed = λ q woken. absurd (both_ways _ (spares.quiet q) woken);
 }
 
 -- the notices of a start wake nobody
@@ -237,15 +240,19 @@ module _ (roster : Roster) (created : List Bool) where
   id_spares (Known p) = spares_if (not (processes.is_created created p)) _ _ same same
   id_spares (Unknown name) = same
 
+  status_spares : (p : ℕ) → SparesAll (processes.get_process_status roster created p)
+  status_spares p = spares_if (not (processes.is_created created p)) _ _ same same
+
 -- RESUME
-resume_keeps : (caller : Caller) (roster : Roster) → IsIdle caller roster → stamps.WaitsForOne roster → (p : ℕ) (by_itself : Bool)
+resume_keeps : (caller : Caller) (roster : Roster) → stamps.WaitsForOne roster
+    → (p : ℕ) (by_itself : Bool)
     → stamps.is_by_itself (record_at roster p).suspended ≡ by_itself
     → Keeps caller (ToProcess (Resume p)) roster
-    (cond by_itself (stamps.unblock roster p) (stamps.readied roster p (stamps.unsuspended roster p))) (Code NoError)
+    (cond by_itself (stamps.unblock roster p) (stamps.readied roster p (stamps.unsuspended roster p)))
     (cond by_itself (Woken p NoError ∷ []) [])
-resume_keeps caller roster idle one p true is = record {
-  waits = kept_woken caller (ToProcess (Resume p)) roster idle (Code NoError) p (stamps.unblock roster p) (freed_unblock roster p);
-  closed = λ q woken.
+resume_keeps caller roster one p true is = record {
+  asks = asks_freed caller (Some (ToProcess (Resume p))) roster (stamps.unblock roster p) (frees_unblock roster p);
+  timed = λ q woken.
       let here = eqb-true q p (only (q == p) woken) in
       let free = one p is in
       ap (λ (k : ℕ). awaited (record_at roster k)) here ∙ rw (free, is) refl;
@@ -253,89 +260,80 @@ resume_keeps caller roster idle one p true is = record {
   only : (b : Bool) → ((b && true) || false) ≡ true → b ≡ true
   only true h = refl
   only false h = h
-resume_keeps caller roster idle one p false is =
-    keeps_spared caller (ToProcess (Resume p)) roster (stamps.readied roster p (stamps.unsuspended roster p)) (Code NoError) [] idle
+resume_keeps caller roster one p false is =
+    keeps_spared caller (ToProcess (Resume p)) roster (stamps.readied roster p (stamps.unsuspended roster p)) []
     (record { frees = frees_lessened roster p (stamps.unsuspended roster p) (λ w h. rw is h); quiet = λ q. refl })
 
 -- any service of process management
-module _ (cores : ℕ) (roster : Roster) (created : List Bool) (one : stamps.WaitsForOne roster) where
+module _ (roster : Roster) (created : List Bool) where
   abbrev KeepsAll : Caller → ProcessCall → processes.ProcessOutcome → Type 0
-  KeepsAll caller call o = Keeps caller (ToProcess call) roster o.roster o.reply o.notices
+  KeepsAll caller call o = Keeps caller (ToProcess call) roster o.roster o.notices
 
   keeps_if : (caller : Caller) (call : ProcessCall) (b : Bool) (x y : processes.ProcessOutcome)
       → KeepsAll caller call x → KeepsAll caller call y → KeepsAll caller call (cond b x y)
   keeps_if caller call true x y p q = p
   keeps_if caller call false x y p q = q
 
-  keeps_same : (caller : Caller) (call : ProcessCall) (reply : Reply) → IsIdle caller roster → Keeps caller (ToProcess call) roster roster reply []
-  keeps_same caller call reply idle = keeps_spared caller (ToProcess call) roster roster reply [] idle (spares_none roster)
+  same_kept : (caller : Caller) (call : ProcessCall)
+      → Keeps caller (ToProcess call) roster roster []
+  same_kept caller call = keeps_spared caller (ToProcess call) roster roster [] (spares_none roster)
 
-  keeps_resume : (caller : Caller) → IsIdle caller roster → (p : ℕ) → KeepsAll caller (Resume p) (processes.resume_process roster created caller p)
-  keeps_resume caller idle p =
-      let call = Resume p in
+  keeps_resume : stamps.WaitsForOne roster → (caller : Caller) (p : ℕ)
+      → KeepsAll caller (Resume p) (processes.resume_process roster created caller p)
+  keeps_resume one caller p =
       let r = record_at roster p in
-      keeps_if caller call (is_by_process p caller) _ _ (keeps_same caller call (Code InvalidParam) idle)
-      (keeps_if caller call (not (processes.is_created created p)) _ _ (keeps_same caller call (Code InvalidParam) idle)
-      (keeps_if caller call (not r.started) _ _ (keeps_same caller call (Code InvalidMode) idle)
-      (keeps_if caller call (is_none r.suspended) _ _ (keeps_same caller call (Code NoAction) idle)
-      (resume_keeps caller roster idle one p (stamps.is_by_itself r.suspended) refl))))
+      keeps_if caller (Resume p) (is_by_process p caller) _ _ (same_kept caller (Resume p))
+      (keeps_if caller (Resume p) (not (processes.is_created created p)) _ _ (same_kept caller (Resume p))
+      (keeps_if caller (Resume p) (not r.started) _ _ (same_kept caller (Resume p))
+      (keeps_if caller (Resume p) (is_none r.suspended) _ _ (same_kept caller (Resume p))
+      (resume_keeps caller roster one p (stamps.is_by_itself r.suspended) refl))))
 
-  keeps_suspended : (p : ℕ) (timeout : Timeout) → IsIdle (Process p) roster
+  keeps_suspended : (p : ℕ) (timeout : Timeout)
       → KeepsAll (Process p) (SuspendSelf timeout) (processes.suspended_for roster created p timeout)
-  keeps_suspended p timeout idle = record {
-    waits = kept_waiting p (ToProcess (SuspendSelf timeout)) Time (record (stamps.self_suspended roster p (due_after roster timeout)) { since = roster.young })
-        roster (stamps.suspend_self roster p (due_after roster timeout)) refl refl (λ s. refl);
-    closed = λ q woken. absurd (both_ways false refl woken);
+  keeps_suspended p timeout = record {
+    asks =
+        asks_waiting p (ToProcess (SuspendSelf timeout)) Time (record (stamps.self_suspended roster p (due_after roster timeout)) { since = roster.young })
+        roster (stamps.suspend_self roster p (due_after roster timeout)) refl refl refl;
+    timed = λ q woken. absurd (both_ways false refl woken);
   }
 
-  keeps_suspend_self : (p : ℕ) (timeout : Timeout) → IsIdle (Process p) roster
-      → KeepsAll (Process p) (SuspendSelf timeout) (processes.suspend_self roster created p timeout)
-  keeps_suspend_self p Poll idle = keeps_same (Process p) (SuspendSelf Poll) (Code NoError) idle
-  keeps_suspend_self p (Ticks n) idle = keeps_suspended p (Ticks n) idle
-  keeps_suspend_self p Infinite idle = keeps_suspended p Infinite idle
+  keeps_own_of : (p : ℕ) (call : ProcessCall)
+      → KeepsAll (Process p) call (processes.own_service roster created p call)
+  keeps_own_of p StopSelf =
+      keeps_spared (Process p) (ToProcess StopSelf) roster (stamps.stop roster p) [] (stopped_spares roster created p)
+  keeps_own_of p (SuspendSelf Poll) = same_kept (Process p) (SuspendSelf Poll)
+  keeps_own_of p (SuspendSelf timeout) = keeps_suspended p timeout
+  keeps_own_of p call = same_kept (Process p) call
 
-  keeps_stop_self : (caller : Caller) → IsIdle caller roster → KeepsAll caller StopSelf (processes.own_service_by roster created caller StopSelf)
-  keeps_stop_self (Process p) idle =
-      keeps_spared (Process p) (ToProcess StopSelf) roster (stamps.stop roster p) Gone [] idle (stopped_spares roster created p)
-  keeps_stop_self Init idle = keeps_same Init StopSelf (Code InvalidMode) idle
-  keeps_stop_self Nobody idle = keeps_same Nobody StopSelf (Code InvalidMode) idle
+  keeps_own : (caller : Caller) (call : ProcessCall)
+      → KeepsAll caller call (processes.own_service_by roster created caller call)
+  keeps_own (Process p) call = keeps_own_of p call
+  keeps_own Init call = same_kept Init call
+  keeps_own Nobody call = same_kept Nobody call
 
-  keeps_suspend_self_by : (caller : Caller) (timeout : Timeout) → IsIdle caller roster
-      → KeepsAll caller (SuspendSelf timeout) (processes.own_service_by roster created caller (SuspendSelf timeout))
-  keeps_suspend_self_by (Process p) timeout idle = keeps_suspend_self p timeout idle
-  keeps_suspend_self_by Init timeout idle = keeps_same Init (SuspendSelf timeout) (Code InvalidMode) idle
-  keeps_suspend_self_by Nobody timeout idle = keeps_same Nobody (SuspendSelf timeout) (Code InvalidMode) idle
-
-  keeps_my_id : (caller : Caller) → IsIdle caller roster → KeepsAll caller GetMyId (processes.own_service_by roster created caller GetMyId)
-  keeps_my_id (Process p) idle = keeps_same (Process p) GetMyId (Value (p + 1)) idle
-  keeps_my_id Init idle = keeps_same Init GetMyId (Code InvalidMode) idle
-  keeps_my_id Nobody idle = keeps_same Nobody GetMyId (Code InvalidMode) idle
-
-  keeps_my_core : (caller : Caller) → IsIdle caller roster
-      → KeepsAll caller GetMyProcessorCoreId (processes.own_service_by roster created caller GetMyProcessorCoreId)
-  keeps_my_core (Process p) idle = keeps_same (Process p) GetMyProcessorCoreId (Value (record_at roster p).core) idle
-  keeps_my_core Init idle = keeps_same Init GetMyProcessorCoreId (Code InvalidMode) idle
-  keeps_my_core Nobody idle = keeps_same Nobody GetMyProcessorCoreId (Code InvalidMode) idle
-
-  keeps_status : (caller : Caller) → IsIdle caller roster → (p : ℕ) → KeepsAll caller (GetProcessStatus p) (processes.get_process_status roster created p)
-  keeps_status caller idle p =
-      let call = GetProcessStatus p in
-      keeps_if caller call (not (processes.is_created created p)) _ _ (keeps_same caller call (Code InvalidParam) idle)
-      (keeps_same caller call (Status (processes.state_number (process_state roster p)) (current_priority (record_at roster p))) idle)
-
-  pub process_keeps : (caller : Caller) → IsIdle caller roster → (call : ProcessCall)
+  pub process_keeps : (cores : ℕ) → stamps.WaitsForOne roster
+      → (caller : Caller) (call : ProcessCall)
       → KeepsAll caller call (processes.process_service cores roster created caller call)
-  process_keeps caller idle (CreateProcess named) = keeps_spared caller _ roster _ _ _ idle (create_spares roster created named)
-  process_keeps caller idle (InitializeProcessCoreAffinity p core) = keeps_spared caller _ roster _ _ _ idle (affinity_spares roster created cores p core)
-  process_keeps caller idle (SetPriority p priority) = keeps_spared caller _ roster _ _ _ idle (priority_spares roster created p priority)
-  process_keeps caller idle (ToStart p) = keeps_spared caller _ roster _ _ _ idle (start_spares roster created p Poll)
-  process_keeps caller idle (DelayedStart p delay) = keeps_spared caller _ roster _ _ _ idle (start_spares roster created p delay)
-  process_keeps caller idle (Stop p) = keeps_spared caller _ roster _ _ _ idle (stop_spares roster created caller p)
-  process_keeps caller idle (Suspend p) = keeps_spared caller _ roster _ _ _ idle (suspend_spares roster created caller p)
-  process_keeps caller idle (Resume p) = keeps_resume caller idle p
-  process_keeps caller idle (GetProcessId named) = keeps_spared caller _ roster _ _ _ idle (id_spares roster created named)
-  process_keeps caller idle (GetProcessStatus p) = keeps_status caller idle p
-  process_keeps caller idle StopSelf = keeps_stop_self caller idle
-  process_keeps caller idle (SuspendSelf timeout) = keeps_suspend_self_by caller timeout idle
-  process_keeps caller idle GetMyId = keeps_my_id caller idle
-  process_keeps caller idle GetMyProcessorCoreId = keeps_my_core caller idle
+  process_keeps cores one caller (CreateProcess named) =
+      keeps_spared caller _ roster _ _ (create_spares roster created named)
+  process_keeps cores one caller (InitializeProcessCoreAffinity p core) =
+      keeps_spared caller _ roster _ _ (affinity_spares roster created cores p core)
+  process_keeps cores one caller (SetPriority p priority) =
+      keeps_spared caller _ roster _ _ (priority_spares roster created p priority)
+  process_keeps cores one caller (ToStart p) =
+      keeps_spared caller _ roster _ _ (start_spares roster created p Poll)
+  process_keeps cores one caller (DelayedStart p delay) =
+      keeps_spared caller _ roster _ _ (start_spares roster created p delay)
+  process_keeps cores one caller (Stop p) =
+      keeps_spared caller _ roster _ _ (stop_spares roster created caller p)
+  process_keeps cores one caller (Suspend p) =
+      keeps_spared caller _ roster _ _ (suspend_spares roster created caller p)
+  process_keeps cores one caller (Resume p) = keeps_resume one caller p
+  process_keeps cores one caller (GetProcessId named) =
+      keeps_spared caller _ roster _ _ (id_spares roster created named)
+  process_keeps cores one caller (GetProcessStatus p) =
+      keeps_spared caller _ roster _ _ (status_spares roster created p)
+  process_keeps cores one caller StopSelf = keeps_own caller StopSelf
+  process_keeps cores one caller (SuspendSelf timeout) = keeps_own caller (SuspendSelf timeout)
+  process_keeps cores one caller GetMyId = keeps_own caller GetMyId
+  process_keeps cores one caller GetMyProcessorCoreId = keeps_own caller GetMyProcessorCoreId

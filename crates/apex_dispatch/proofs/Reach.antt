@@ -31,7 +31,8 @@ use Rattle.apex_types.specs.Running.{runs_on, is_before, is_eligible, chosen}
 use Rattle.apex_types.specs.Waiters.{waits_in, waits_before, discipline_of, is_ranked, first_waiter}
 use Rattle.apex_types.specs.Stamps as stamps
 use Rattle.apex_types.specs.Table.{Table, process_entry, IsKnown, IsKnownToProcesses}
-use Rattle.apex_types.specs.History.{is_by_process, Objects, SemaphoreObject}
+use Rattle.apex_types.specs.Callers.{is_by_process}
+use Rattle.apex_types.specs.History.{Objects, SemaphoreObject}
 use Rattle.apex_types.specs.SemaphoreServices as semaphores
 use Rattle.apex_types.specs.ProcessServices as processes
 use Rattle.apex_types.specs.TimeServices as times

@@ -1,6 +1,5 @@
 -- A tick leaves all objects as they are: whom it wakes with NO_ERROR had waited for time alone.
-use Rattle.std.proofs.Common.{◌≡◌, ◌≢◌, ℕ, ◌+◌, Bool, true, false, ◌&&◌, ◌||◌, ◌==◌, List, [], ◌++◌, length, Option, None, Some, refl, sym, ◌∙◌, ap, inl, inr}
-use Rattle.std.specs.List.{list_any}
+use Rattle.std.proofs.Common.{◌≡◌, ℕ, ◌+◌, Bool, true, false, ◌&&◌, ◌==◌, List, [], ◌++◌, length, Option, None, Some, refl, sym, inl, inr}
 use Rattle.std.proofs.lemmas.Bool.{cases_Bool, and_parts, eqb-true, both_ways}
 use Rattle.std.proofs.lemmas.List.Folds.{list_any-append}
 use Rattle.apex_types.specs.declared.Notice.{Notice}
@@ -12,15 +11,15 @@ use Rattle.apex_types.specs.Dues.{first_due}
 use Rattle.apex_types.specs.Stamps.{unblock, without_due, advance_to}
 use Rattle.apex_types.specs.Ticks.{wait_over, serve_due, serve_dues, tick_goal, pass_time}
 use Rattle.apex_types.specs.Table.{Table}
-use Rattle.apex_types.specs.History.{is_waking, objects_after}
-use Rattle.apex_types.specs.Machine.{Machine, tick_deed, entry_of}
+use Rattle.apex_types.specs.History.{objects_after}
+use Rattle.apex_types.specs.Machine.{Machine, tick_deed}
 use Rattle.apex_types.proofs.InTurn.{holds_in_turn}
-use Rattle.apex_dispatch.specs.OpenWaits.{asked_of, or_suspended, awaited, AreEnough, AreBounded, AreOpen}
+use Rattle.apex_dispatch.specs.AskedWaits.{asked_of, or_suspended, awaited, AreEnough, AreBounded, AreAsked}
 use Rattle.apex_dispatch.proofs.Truths.{or_false, and_false}
-use Rattle.apex_dispatch.proofs.Waits.{other}
-use Rattle.apex_dispatch.proofs.Effects.{Frees, frees_none, frees_then, frees_moved, freed_unblock, frees_unblock}
-use Rattle.apex_dispatch.proofs.Exact.{uncalled_exact}
-use Rattle.apex_dispatch.proofs.Turns.{IsDeedExact, open_uncalled}
+use Rattle.apex_dispatch.proofs.Satisfied.{is_waking, wakes}
+use Rattle.apex_dispatch.proofs.Effects.{Frees, frees_none, frees_then, frees_moved, frees_unblock}
+use Rattle.apex_dispatch.proofs.Exact.{exact_uncalled}
+use Rattle.apex_dispatch.proofs.Turns.{IsDeedExact}
 
 -- the wait was for time
 is_for_time : Option Wait → Bool
@@ -43,7 +42,8 @@ over_roster roster p (Some Normal) = refl
 over_roster roster p (Some (Semaphore s)) = refl
 over_roster roster p None = refl
 
-over_waking : (roster : Roster) (p q : ℕ) (wait : Option Wait) → list_any (is_waking q) (wait_over roster p wait).notices ≡ (q == p && is_for_time wait)
+over_waking : (roster : Roster) (p q : ℕ) (wait : Option Wait)
+    → wakes q (wait_over roster p wait).notices ≡ (q == p && is_for_time wait)
 unfolding is_for_time
 over_waking roster p q (Some Time) = or_false (q == p && true)
 over_waking roster p q (Some Start) = sym (and_false (q == p))
@@ -51,50 +51,31 @@ over_waking roster p q (Some Normal) = or_false (q == p && false)
 over_waking roster p q (Some (Semaphore s)) = or_false (q == p && false)
 over_waking roster p q None = or_false (q == p && false)
 
--- who still waits for what it asked for was not woken, and who was woken with NO_ERROR had waited for
--- time
+-- nobody waits who did not wait before, and who was woken with NO_ERROR had waited for time
 record IsServed (old new : Roster) (notices : List Notice) : Type 0 where
   frees : Frees old new
-  asleep : (q : ℕ) (w : Wait) → awaited (record_at new q) ≡ Some w → list_any (is_waking q) notices ≡ false
-  timed : (q : ℕ) → list_any (is_waking q) notices ≡ true → awaited (record_at old q) ≡ Some Time
+  timed : (q : ℕ) → wakes q notices ≡ true → awaited (record_at old q) ≡ Some Time
 
 -- one due more is served
-module _ (old roster : Roster) (notices : List Notice) (p : ℕ) (served : IsServed old roster notices) where
-  abbrev free : Roster
-  free = without_due roster p
-
-  abbrev wait : Option Wait
-  wait = (record_at roster p).wait
-
-  moved : (q : ℕ) (w : Wait) → awaited (record_at (serve_due roster p).roster q) ≡ Some w
-      → (q ≢ p) × (awaited (record_at free q) ≡ Some w)
-  moved q w h = freed_unblock free p q w (rw (over_roster free p wait) at h)
-
-  serve_frees : Frees roster (serve_due roster p).roster
-  serve_frees =
-      frees_then (frees_moved roster free p (record (record_at roster p) { due = None }) refl (λ w h. h))
-      (rw (over_roster free p wait) (frees_unblock free p))
-
-  told : (q : ℕ) → list_any (is_waking q) (notices ++ (serve_due roster p).notices) ≡ (list_any (is_waking q) notices || (q == p && is_for_time wait))
-  told q = list_any-append (is_waking q) notices (serve_due roster p).notices ∙ ap (λ b. list_any (is_waking q) notices || b) (over_waking free p q wait)
-
-  still_asleep : (q : ℕ) (w : Wait) → awaited (record_at (serve_due roster p).roster q) ≡ Some w
-      → list_any (is_waking q) (notices ++ (serve_due roster p).notices) ≡ false
-  still_asleep q w h =
-      told q ∙ rw (served.asleep q w (serve_frees.still q w h), other q p (moved q w h).0) refl
-
-  woken_timed : (q : ℕ) → list_any (is_waking q) (notices ++ (serve_due roster p).notices) ≡ true → awaited (record_at old q) ≡ Some Time
-  woken_timed q h =
-      elim (cases_Bool (list_any (is_waking q) notices)) [
+one_served : (old roster : Roster) (notices : List Notice) (p : ℕ) → IsServed old roster notices
+    → IsServed old (serve_due roster p).roster (notices ++ (serve_due roster p).notices)
+one_served old roster notices p served =
+    let free = without_due roster p in
+    let wait = (record_at roster p).wait in
+    record {
+      frees = frees_then served.frees
+          (frees_then (frees_moved roster free p (record (record_at roster p) { due = None }) refl (λ w h. h))
+          (rw (over_roster free p wait) (frees_unblock free p)));
+      timed = λ q h. elim (cases_Bool (wakes q notices)) [
         | inl before ↦ served.timed q before
         | inr not_before ↦
-            let here = and_parts (q == p) (is_for_time wait) (rw not_before at (sym (told q) ∙ h)) in
+            let told = list_any-append (is_waking q) notices (serve_due roster p).notices in
+            let waking = over_waking free p q wait in
+            let here = and_parts (q == p) (is_for_time wait) (rw (told, not_before, waking) at h) in
             let waited = served.frees.still p Time (for_time wait _ here.1) in
             rw (← eqb-true q p here.0) at waited
-      ]
-
-  one_served : IsServed old (serve_due roster p).roster (notices ++ (serve_due roster p).notices)
-  one_served = record { frees = frees_then served.frees serve_frees; asleep = still_asleep; timed = woken_timed }
+      ];
+    }
 
 -- all dues at now are served
 all_served : (roster : Roster) → IsServed roster (serve_dues roster).roster (serve_dues roster).notices
@@ -102,24 +83,14 @@ all_served roster =
     holds_in_turn first_due serve_due (IsServed roster)
     (λ r notices p is served. one_served roster r notices p served)
     (length roster.records) roster []
-    (record { frees = frees_none roster; asleep = λ q w h. refl; timed = λ q h. absurd (both_ways false refl h) })
+    (record { frees = frees_none roster; timed = λ q h. absurd (both_ways false refl h) })
 
 -- a tick's deed, by the objects of the history
 pub exact_tick : (table : Table) (machine : Machine) (n : ℕ) → AreEnough table machine.history → AreBounded table machine.history
-    → AreOpen machine.roster machine.history
+    → AreAsked machine.roster machine.history
     → IsDeedExact table machine.history (length machine.history + 1) Ticker (tick_deed machine.roster (objects_after table machine.history) n)
 unfolding pass_time
-exact_tick table machine n enough bounded waiting =
-    let roster = machine.roster in
-    let history = machine.history in
-    let deed = tick_deed roster (objects_after table history) n in
-    let e = entry_of (length history + 1) Ticker deed in
-    let served = all_served (advance_to roster (tick_goal roster n)) in
-    let exact = uncalled_exact table history e refl (λ p s woken. waiting p s Time (served.timed p woken)) enough bounded in
-    record {
-      objects = exact.0;
-      enough = exact.1;
-      bounded = exact.2;
-      waiting = open_uncalled history roster deed.outcome.roster e refl waiting
-          (λ q w h. (served.frees.still q w h, served.asleep q w h));
-    }
+exact_tick table machine n enough bounded asked =
+    let served = all_served (advance_to machine.roster (tick_goal machine.roster n)) in
+    exact_uncalled table machine.history machine.roster _ _ refl refl served.timed
+    (record { still = served.frees.still }) enough bounded asked

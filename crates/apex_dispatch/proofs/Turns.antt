@@ -1,16 +1,14 @@
 -- After each turn the running objects are those that the history gives.
-use Rattle.std.proofs.Common.{◌≡◌, ℕ, ◌+◌, ◌<◌, Bool, true, false, ◌&&◌, ◌||◌, not, ◌==◌, List, [], ◌∷◌, ◌++◌, length, Option, None, Some, is_none, set, nat_lt, ap, refl, sym, ◌∙◌, arith, inl, inr}
+use Rattle.std.proofs.Common.{◌≡◌, ℕ, ◌+◌, ◌<◌, true, false, ◌&&◌, ◌==◌, List, length, Option, None, Some, is_none, set, nat_lt, ap, refl, sym, ◌∙◌, arith, inl, inr}
 use Rattle.std.proofs.lemmas.Option.{none-some}
 use Rattle.std.proofs.lemmas.Bool.{both_ways, cases_eq, ltb-true, ltb-false, cases_Bool, and_parts, eqb-true}
 use Rattle.apex_types.specs.declared.Call.{Call}
 use Rattle.apex_types.specs.declared.Call.TheVariants.{Process as ToProcess}
 use Rattle.apex_types.specs.declared.ProcessCall.TheVariants.{StopSelf}
 use Rattle.apex_types.specs.declared.Caller.{Caller}
-use Rattle.apex_types.specs.declared.Caller.TheVariants.{Process, Init, Nobody}
+use Rattle.apex_types.specs.declared.Caller.TheVariants.{Process, Init}
 use Rattle.apex_types.specs.declared.Entry.{Entry}
-use Rattle.apex_types.specs.declared.Notice.{Notice}
 use Rattle.apex_types.specs.declared.Record.{Record}
-use Rattle.apex_types.specs.declared.Reply.{Reply}
 use Rattle.apex_types.specs.declared.Suspender.{Suspender}
 use Rattle.apex_types.specs.declared.Wait.{Wait}
 use Rattle.apex_types.specs.declared.Who.{Who}
@@ -19,52 +17,16 @@ use Rattle.apex_types.specs.Roster.{Roster, nobody as no_record, record_at, is_c
 use Rattle.apex_types.specs.Running.{runs_on, is_before, chosen}
 use Rattle.apex_types.specs.Stamps.{WaitsForOne, is_by_itself, set_step}
 use Rattle.apex_types.specs.Table.{Table, process_entry, IsLawful, IsKnown}
-use Rattle.apex_types.specs.History.{objects_after, init_count, is_accepted, is_by_process, is_wait_on}
+use Rattle.apex_types.specs.History.{objects_after, init_count}
 use Rattle.apex_types.specs.Machine.{Machine, Deed, service, served, next_place, script_deed, chosen_deed, turn_deed, step_of, due_init_call, deed_of, entry_of}
 use Rattle.std.proofs.lemmas.List.{get_or_past, length-set}
 use Rattle.apex_types.proofs.Rosters.{changes_record, at_record}
 use Rattle.apex_types.proofs.Choice.{place_passes, place_within}
 use Rattle.apex_dispatch.proofs.Known.{known_due, known_script_step}
-use Rattle.apex_dispatch.proofs.Waits.{open-push}
-use Rattle.apex_dispatch.specs.OpenWaits.{wakes, has_open, asked_of, or_suspended, awaited, AreEnough, AreBounded, AreOpen}
-use Rattle.apex_dispatch.proofs.Effects.{WaitsKept, IsIdle, frees_moved}
-use Rattle.apex_dispatch.proofs.Exact.{entry_with, exact_service, uncalled_exact}
-
--- an entry more keeps it true that who waits has an open wait
-open_own : (b o k : Bool) → ((true && b) || (o && (k && false))) ≡ b
-open_own true o k = refl
-open_own false true true = refl
-open_own false true false = refl
-open_own false false k = refl
-
-open_other : (b o : Bool) → ((false && b) || (o && (not false && not false))) ≡ o
-open_other b true = refl
-open_other b false = refl
-
-open_after : (number now : ℕ) (who : Who) (caller : Caller) (history : List Entry) (old new : Roster) (call : Call) (reply : Reply) (notices : List Notice)
-    → AreOpen old history → WaitsKept caller call old new reply notices
-    → AreOpen new (history ++ entry_with number now who caller history call reply notices ∷ [])
-open_after number now who caller history old new call reply notices before kept p s w h =
-    let e = entry_with number now who caller history call reply notices in
-    let pushed = open-push s p history e in
-    elim (cases_Bool (is_by_process p caller)) [
-      | inl by ↦
-          pushed ∙ rw by (open_own (is_wait_on s (Some call) && not (is_accepted reply)) (has_open s p history) (not (wakes p e)))
-          ∙ kept.own p s w by h
-      | inr not_by ↦
-          let others = kept.others p w not_by h in
-          pushed ∙ rw (not_by, others.1) (open_other (is_wait_on s (Some call) && not (is_accepted reply)) (has_open s p history))
-          ∙ before p s w others.0
-    ]
-
--- the same of an entry without a call
-pub open_uncalled : (history : List Entry) (old new : Roster) (e : Entry) → e.process ≡ Nobody → AreOpen old history
-    → ((q : ℕ) (w : Wait) → awaited (record_at new q) ≡ Some w → (awaited (record_at old q) ≡ Some w) × (wakes q e ≡ false))
-    → AreOpen new (history ++ e ∷ [])
-open_uncalled history old new e nobody before kept p s w h =
-    let others = kept p w h in
-    open-push s p history e ∙ rw (nobody, others.1) (open_other (is_wait_on s e.call && not (is_accepted e.reply)) (has_open s p history))
-    ∙ before p s w others.0
+use Rattle.apex_dispatch.specs.AskedWaits.{asked_of, or_suspended, awaited, AreEnough, AreBounded, AreAsked}
+use Rattle.apex_dispatch.proofs.Satisfied.{IsIdle}
+use Rattle.apex_dispatch.proofs.Effects.{frees_moved, frees_none}
+use Rattle.apex_dispatch.proofs.Exact.{IsExact, exact_service, exact_uncalled}
 
 -- a step more changes no wait
 one_step : (roster : Roster) (p place : ℕ) → WaitsForOne roster → WaitsForOne (set_step roster p place)
@@ -86,26 +48,19 @@ one_step roster p place one q =
     ]
 
 -- the objects after a deed, and who waits, are as the history then says
-pub record IsDeedExact (table : Table) (history : List Entry) (number : ℕ) (who : Who) (deed : Deed) : Type 0 where
-  pub objects : objects_after table (history ++ entry_of number who deed ∷ []) ≡ deed.outcome.objects
-  pub enough : AreEnough table (history ++ entry_of number who deed ∷ [])
-  pub bounded : AreBounded table (history ++ entry_of number who deed ∷ [])
-  pub waiting : AreOpen deed.outcome.roster (history ++ entry_of number who deed ∷ [])
+abbrev pub IsDeedExact : Table → List Entry → ℕ → Who → Deed → Type 0
+IsDeedExact table history number who deed =
+    IsExact table history (entry_of number who deed) deed.outcome.objects deed.outcome.roster
 
 module _ (table : Table) (lawful : IsLawful table) (history : List Entry) (number core : ℕ) (enough : AreEnough table history) (bounded : AreBounded table history) where
-  exact_served : (roster : Roster) → AreOpen roster history → WaitsForOne roster → (caller : Caller) → IsIdle caller roster → (call : Call) → IsKnown table call
+  exact_served : (roster : Roster) → AreAsked roster history → WaitsForOne roster
+      → (caller : Caller) → IsIdle caller roster → (call : Call) → IsKnown table call
       → IsDeedExact table history number (Core core) (served table.cores roster (objects_after table history) caller call)
   exact_served roster before one caller idle call known =
       let o = service table.cores roster (objects_after table history) caller call in
-      let exact = exact_service number o.roster.now (Core core) table history roster enough bounded before one caller idle call known in
-      record {
-        objects = exact.objects;
-        enough = exact.enough_after;
-        bounded = exact.bounded_after;
-        waiting = open_after number o.roster.now (Core core) caller history roster o.roster call o.reply o.notices before exact.waits;
-      }
+      exact_service number o.roster.now (Core core) table history roster enough bounded before one caller idle call known
 
-  module _ (roster : Roster) (before : AreOpen roster history) (one : WaitsForOne roster) where
+  module _ (roster : Roster) (before : AreAsked roster history) (one : WaitsForOne roster) where
     exact_script : (p : ℕ) → p < length table.processes → awaited (record_at roster p) ≡ None
         → (step : Option Call) → step_of table roster p ≡ step
         → IsDeedExact table history number (Core core) (script_deed table roster (objects_after table history) p step)
@@ -117,7 +72,7 @@ module _ (table : Table) (lawful : IsLawful table) (history : List Entry) (numbe
         let place = next_place (process_entry table p) r.step in
         let moved = set_step roster p place in
         let frees = frees_moved roster moved p (record r { step = place }) refl (λ w h. h) in
-        exact_served moved (λ q s w h. before q s w (frees.still q w h)) (one_step roster p place one) (Process p)
+        exact_served moved (λ q w h. before q w (frees.still q w h)) (one_step roster p place one) (Process p)
         (λ q w by h. none-some w (sym free ∙ rw (eqb-true q p by) at (frees.still q w h)))
         call (known_script_step table p r.step call lawful is)
 
@@ -140,15 +95,8 @@ module _ (table : Table) (lawful : IsLawful table) (history : List Entry) (numbe
         → (found : Option ℕ) → chosen roster core ≡ found
         → IsDeedExact table history number (Core core) (chosen_deed table roster (objects_after table history) found)
     exact_chosen known None is =
-        let deed = chosen_deed table roster (objects_after table history) None in
-        let e = entry_of number (Core core) deed in
-        let exact = uncalled_exact table history e refl (λ p s woken. absurd (both_ways false refl woken)) enough bounded in
-        record {
-          objects = exact.0;
-          enough = exact.1;
-          bounded = exact.2;
-          waiting = open_uncalled history roster roster e refl before (λ q w h. (h, refl));
-        }
+        exact_uncalled table history roster roster _ refl refl (λ p woken. absurd (both_ways false refl woken))
+        (frees_none roster) enough bounded before
     exact_chosen known (Some p) is =
         exact_script p (known p is) (chosen_free p is) (step_of table roster p) refl
 
@@ -168,7 +116,8 @@ due_known table machine core lawful =
 -- a turn's deed, by the objects of the history
 pub exact_deed : (table : Table) (machine : Machine) (core : ℕ) → IsLawful table
     → length machine.roster.records ≡ length table.processes
-    → AreEnough table machine.history → AreBounded table machine.history → AreOpen machine.roster machine.history → WaitsForOne machine.roster
+    → AreEnough table machine.history → AreBounded table machine.history
+    → AreAsked machine.roster machine.history → WaitsForOne machine.roster
     → IsDeedExact table machine.history (length machine.history + 1) (Core core) (deed_of table machine core)
 exact_deed table machine core lawful many enough bounded before one =
     exact_turn table lawful machine.history (length machine.history + 1) core enough bounded machine.roster before one

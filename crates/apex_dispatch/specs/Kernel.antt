@@ -7,7 +7,7 @@ use Rattle.apex_types.specs.Machine.{Machine}
 use Rattle.apex_types.specs.Distinct.{IsStamped}
 use Rattle.apex_types.specs.Dues.{HasNoPastDue}
 use Rattle.apex_types.specs.Stamps.{WaitsForOne}
-use Rattle.apex_dispatch.specs.OpenWaits.{AreEnough, AreBounded, AreOpen}
+use Rattle.apex_dispatch.specs.AskedWaits.{AreEnough, AreBounded, AreAsked}
 
 -- a kernel: its table, the machine's state, and the running values of its objects
 pub record KernelState : Type 0 where
@@ -39,7 +39,7 @@ pub record IsSound (kernel : KernelState) (init_made log_limit : ℕ) : Type 0 w
   pub known : All (IsPrintable kernel.table) kernel.machine.history
   pub enough : AreEnough kernel.table kernel.machine.history
   pub bounded : AreBounded kernel.table kernel.machine.history
-  pub waiting : AreOpen kernel.machine.roster kernel.machine.history
+  pub waiting : AreAsked kernel.machine.roster kernel.machine.history
 
 -- what each kernel keeps: that, and as its ticks are of 1,048,576 at the most, so is the time for each
 -- entry of the history

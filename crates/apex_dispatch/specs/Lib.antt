@@ -1,5 +1,5 @@
 pub mod Premises
-pub mod OpenWaits
+pub mod AskedWaits
 pub mod Kernel
 pub mod Events
 pub mod States

@@ -1,7 +1,7 @@
 //! The services that are asked for another process.
 
 ghost use Rattle.std.specs.Prelude.{◌≡◌, ◌<◌, [], length};
-ghost use Rattle.apex_types.specs.History.{is_by_process};
+ghost use Rattle.apex_types.specs.Callers.{is_by_process};
 ghost use Rattle.apex_types.specs.ProcessServices as services;
 ghost use Rattle.apex_types.specs.Stamps.{HasStamps};
 

@@ -1,5 +1,5 @@
--- What a history says: what was created, which calls were satisfied, and the values that follow from it.
-use Rattle.std.specs.Prelude.{ℕ, ◌+◌, ◌-◌, Bool, true, false, List, [], ◌∷◌, Option, Some, ◌==◌, ◌&&◌, ◌||◌, not, count_by, slice_get, if◌then◌else◌}
+-- What a history says: what was created, and the objects as they are after it.
+use Rattle.std.specs.Prelude.{ℕ, Bool, true, false, List, Option, Some, ◌==◌, ◌&&◌, count_by, slice_get}
 use Rattle.std.specs.List.{list_any}
 use Rattle.apex_types.specs.declared.calls.Call.{Call}
 use Rattle.apex_types.specs.declared.calls.Call.TheVariants.{Process as ToProcess, Semaphore}
@@ -8,93 +8,19 @@ use Rattle.apex_types.specs.declared.calls.NamedSemaphore.TheVariants as semapho
 use Rattle.apex_types.specs.declared.calls.ProcessCall.{ProcessCall}
 use Rattle.apex_types.specs.declared.calls.ProcessCall.TheVariants.{CreateProcess}
 use Rattle.apex_types.specs.declared.calls.SemaphoreCall.{SemaphoreCall}
-use Rattle.apex_types.specs.declared.calls.SemaphoreCall.TheVariants.{CreateSemaphore, WaitSemaphore, SignalSemaphore}
+use Rattle.apex_types.specs.declared.calls.SemaphoreCall.TheVariants.{CreateSemaphore}
 use Rattle.apex_types.specs.declared.entries.Caller.{Caller}
 use Rattle.apex_types.specs.declared.entries.Caller.TheVariants.{Process, Init, Nobody}
 use Rattle.apex_types.specs.declared.entries.Entry.{Entry}
-use Rattle.apex_types.specs.declared.entries.Notice.{Notice}
-use Rattle.apex_types.specs.declared.entries.Notice.TheVariants.{Woken, Released}
-use Rattle.apex_types.specs.declared.entries.Reply.{Reply}
-use Rattle.apex_types.specs.declared.entries.Reply.TheVariants.{Code}
-use Rattle.apex_types.specs.declared.entries.ReturnCode.{ReturnCode}
-use Rattle.apex_types.specs.declared.entries.ReturnCode.TheVariants.{NoError}
 use Rattle.apex_types.specs.Places.{map_places}
+use Rattle.apex_types.specs.Satisfied.{is_accepted, semaphore_value}
 use Rattle.apex_types.specs.Table.{Table, ProcessEntry, SemaphoreEntry}
-
--- the code is NO_ERROR
-abbrev pub is_no_error : ReturnCode → Bool
-is_no_error NoError = true
-is_no_error _ = false
-
--- the reply is NO_ERROR
-abbrev pub is_accepted : Reply → Bool
-is_accepted (Code code) = is_no_error code
-is_accepted _ = false
-
--- process p asked for the call
-abbrev pub is_by_process : ℕ → Caller → Bool
-is_by_process p (Process q) = p == q
-is_by_process p Init = false
-is_by_process p Nobody = false
 
 -- the init list asked for the call
 abbrev pub is_by_init : Caller → Bool
 is_by_init (Process q) = false
 is_by_init Init = true
 is_by_init Nobody = false
-
--- the notice wakes process p with NO_ERROR
-abbrev pub is_waking : ℕ → Notice → Bool
-is_waking p (Woken q code) = p == q && is_no_error code
-is_waking p (Released q) = false
-
--- answered wait: after the latest entry of its process, a notice woke that process with NO_ERROR
-abbrev pub is_process_answered : ℕ → List Entry → Bool
-is_process_answered p [] = false
-is_process_answered p (e ∷ later) =
-    list_any (is_waking p) e.notices || (not (is_by_process p e.process) && is_process_answered p later)
-
-abbrev pub is_answered : Caller → List Entry → Bool
-is_answered (Process p) later = is_process_answered p later
-is_answered Init later = false
-is_answered Nobody later = false
-
--- a call is satisfied when its entry replies NO_ERROR, or a later notice answers it with NO_ERROR
-abbrev pub is_satisfied : Entry → List Entry → Bool
-is_satisfied e later = is_accepted e.reply || is_answered e.process later
-
--- the call is WAIT_SEMAPHORE of semaphore s
-abbrev pub is_semaphore_wait : ℕ → SemaphoreCall → Bool
-is_semaphore_wait s (WaitSemaphore t timeout) = s == t
-is_semaphore_wait s _ = false
-
-abbrev pub is_wait_on : ℕ → Option Call → Bool
-is_wait_on s (Some (Semaphore call)) = is_semaphore_wait s call
-is_wait_on s _ = false
-
--- the call is SIGNAL_SEMAPHORE of semaphore s
-abbrev pub is_semaphore_signal : ℕ → SemaphoreCall → Bool
-is_semaphore_signal s (SignalSemaphore t) = s == t
-is_semaphore_signal s _ = false
-
-abbrev pub is_signal_of : ℕ → Option Call → Bool
-is_signal_of s (Some (Semaphore call)) = is_semaphore_signal s call
-is_signal_of s _ = false
-
--- how many waits on semaphore s were satisfied
-abbrev pub satisfied_waits : ℕ → List Entry → ℕ
-satisfied_waits s [] = 0
-satisfied_waits s (e ∷ later) =
-    (if is_wait_on s e.call && is_satisfied e later then 1 else 0) + satisfied_waits s later
-
--- the entry is an accepted signal of semaphore s
-abbrev pub is_accepted_signal : ℕ → Entry → Bool
-is_accepted_signal s e = is_signal_of s e.call && is_accepted e.reply
-
--- semaphore value: the initial one, plus the accepted signals, less the satisfied waits
--- (ARINC 653 Part 1, semaphores)
-abbrev pub semaphore_value : ℕ → ℕ → List Entry → ℕ
-semaphore_value initial s history = initial + count_by (is_accepted_signal s) history - satisfied_waits s history
 
 -- the call is CREATE_PROCESS of process p
 abbrev pub is_process_create : ℕ → ProcessCall → Bool

@@ -10,12 +10,14 @@ pub mod Dues
 pub mod Stamps
 pub mod InTurn
 pub mod Ticks
+pub mod Callers
+pub mod Calls
+pub mod Satisfied
 pub mod History
 pub mod SemaphoreServices
 pub mod ProcessServices
 pub mod TimeServices
 pub mod PartitionServices
-pub mod Callers
 pub mod Machine
 pub mod Lines
 pub mod Distinct

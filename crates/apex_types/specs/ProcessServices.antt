@@ -21,7 +21,7 @@ use Rattle.apex_types.specs.declared.records.State.TheVariants as state
 use Rattle.apex_types.specs.Running.{is_eligible, current_priority, process_state}
 use Rattle.apex_types.specs.Waiters.{is_ranked}
 use Rattle.apex_types.specs.Dues.{due_after}
-use Rattle.apex_types.specs.History.{is_by_process}
+use Rattle.apex_types.specs.Callers.{is_by_process}
 use Rattle.apex_types.specs.Stamps as stamps
 
 -- what a service of process management leaves and answers; created says which processes are created

@@ -1,8 +1,6 @@
 -- The services of semaphores, row by row: the first guard that holds answers and changes nothing
 -- (ARINC 653 Part 1, semaphores; the guards are this profile's).
 use Rattle.std.specs.Prelude.{ℕ, ◌+◌, ◌-◌, true, List, [], ◌∷◌, Option, None, Some, nat_lt, not, if◌then◌else◌}
-use Rattle.apex_types.specs.declared.calls.NamedSemaphore.{NamedSemaphore}
-use Rattle.apex_types.specs.declared.calls.NamedSemaphore.TheVariants.{Known, Unknown}
 use Rattle.apex_types.specs.declared.calls.SemaphoreCall.{SemaphoreCall}
 use Rattle.apex_types.specs.declared.calls.SemaphoreCall.TheVariants.{CreateSemaphore, WaitSemaphore, SignalSemaphore, GetSemaphoreId, GetSemaphoreStatus}
 use Rattle.apex_types.specs.declared.calls.Timeout.{Timeout}
@@ -16,6 +14,7 @@ use Rattle.apex_types.specs.declared.entries.Reply.TheVariants.{Code, Value, Sta
 use Rattle.apex_types.specs.declared.entries.ReturnCode.{ReturnCode}
 use Rattle.apex_types.specs.declared.entries.ReturnCode.TheVariants.{NoError, NoAction, NotAvailable, InvalidParam, InvalidConfig, InvalidMode}
 use Rattle.apex_types.specs.declared.records.Wait.TheVariants.{Semaphore}
+pub use Rattle.apex_types.specs.Calls.{known_semaphore, semaphore_of}
 use Rattle.apex_types.specs.Roster.{Roster, is_normal}
 use Rattle.apex_types.specs.History.{SemaphoreObject}
 use Rattle.apex_types.specs.Dues.{due_after}
@@ -104,19 +103,6 @@ semaphore_service roster semaphore s caller (WaitSemaphore t timeout) = wait_by 
 semaphore_service roster semaphore s caller (SignalSemaphore t) = signal_semaphore roster semaphore s
 semaphore_service roster semaphore s caller (GetSemaphoreId named) = get_semaphore_id roster semaphore s
 semaphore_service roster semaphore s caller (GetSemaphoreStatus t) = get_semaphore_status roster semaphore s
-
--- the semaphore of a name, where an entry has it
-abbrev pub known_semaphore : NamedSemaphore → Option ℕ
-known_semaphore (Known s) = Some s
-known_semaphore (Unknown name) = None
-
--- the semaphore that the call names, where it is an entry's
-abbrev pub semaphore_of : SemaphoreCall → Option ℕ
-semaphore_of (CreateSemaphore named) = known_semaphore named
-semaphore_of (WaitSemaphore s timeout) = Some s
-semaphore_of (SignalSemaphore s) = Some s
-semaphore_of (GetSemaphoreId named) = known_semaphore named
-semaphore_of (GetSemaphoreStatus s) = Some s
 
 -- what a call of a name that is no entry's is answered: CREATE_SEMAPHORE tests the mode first
 abbrev pub no_semaphore_code : Roster → SemaphoreCall → ReturnCode

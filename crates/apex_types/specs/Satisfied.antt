@@ -1,0 +1,64 @@
+-- Which calls a history satisfied, in order, and the values that follow from them.
+use Rattle.std.specs.Prelude.{ℕ, ◌+◌, ◌-◌, Bool, true, false, List, [], ◌∷◌, ◌++◌, Option, None, fold, filter, flat_map, count_by, option_to_list, if◌then◌else◌}
+use Rattle.apex_types.specs.declared.calls.Call.{Call}
+use Rattle.apex_types.specs.declared.entries.Entry.{Entry}
+use Rattle.apex_types.specs.declared.entries.Notice.{Notice}
+use Rattle.apex_types.specs.declared.entries.Notice.TheVariants.{Woken, Released}
+use Rattle.apex_types.specs.declared.entries.Reply.{Reply}
+use Rattle.apex_types.specs.declared.entries.Reply.TheVariants.{Code}
+use Rattle.apex_types.specs.declared.entries.ReturnCode.{ReturnCode}
+use Rattle.apex_types.specs.declared.entries.ReturnCode.TheVariants.{NoError}
+use Rattle.apex_types.specs.Callers.{is_by_process}
+use Rattle.apex_types.specs.Calls.{names_semaphore, is_wait, is_signal}
+
+-- the code is NO_ERROR
+abbrev pub is_no_error : ReturnCode → Bool
+is_no_error NoError = true
+is_no_error _ = false
+
+-- the reply is NO_ERROR
+abbrev pub is_accepted : Reply → Bool
+is_accepted (Code code) = is_no_error code
+is_accepted _ = false
+
+-- the latest call of process p after an entry: its own where p asked for it, else the one before
+abbrev pub latest_after : ℕ → Option Call → Entry → Option Call
+latest_after p before e = if is_by_process p e.process then e.call else before
+
+-- the call of process p's latest entry
+abbrev pub latest_call : ℕ → List Entry → Option Call
+latest_call p history = fold (latest_after p) None history
+
+-- the call that an entry's own reply satisfies
+abbrev pub own_call : Entry → List Call
+own_call e = if is_accepted e.reply then option_to_list e.call else []
+
+-- the call that a notice satisfies: woken with NO_ERROR, a process has its latest call answered
+abbrev pub answered_by : List Entry → Notice → List Call
+answered_by history (Woken p code) =
+    if is_no_error code then option_to_list (latest_call p history) else []
+answered_by history (Released p) = []
+
+-- the calls that one entry more satisfies: its own, and then those that its notices answer
+abbrev pub satisfied_by : List Entry → Entry → List Call
+satisfied_by history e = own_call e ++ flat_map (answered_by history) e.notices
+
+-- the calls that these entries satisfy after a history, in order
+abbrev pub satisfied_from : List Entry → List Entry → List Call
+satisfied_from before [] = []
+satisfied_from before (e ∷ later) = satisfied_by before e ++ satisfied_from (before ++ e ∷ []) later
+
+-- the calls that a history satisfied, in the order in which it did so
+abbrev pub satisfied : List Entry → List Call
+satisfied history = satisfied_from [] history
+
+-- those of them that pass a test
+abbrev pub calls_where : (Call → Bool) → List Entry → List Call
+calls_where passes history = filter passes (satisfied history)
+
+-- semaphore value: the initial one, plus its satisfied signals, less its satisfied waits
+-- (ARINC 653 Part 1, semaphores)
+abbrev pub semaphore_value : ℕ → ℕ → List Entry → ℕ
+semaphore_value initial s history =
+    let calls = calls_where (names_semaphore s) history in
+    initial + count_by is_signal calls - count_by is_wait calls
