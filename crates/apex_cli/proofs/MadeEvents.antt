@@ -1,4 +1,4 @@
--- The events that are made of a schedule's items, which are one more than the history admits at the most.
+-- The events that are made of a schedule's items: one more than the history admits at the most.
 use Rattle.std.proofs.Common.{◌≡◌, ◌∙◌, ℕ, ◌+◌, ◌-◌, ◌<◌, ◌≤◌, arith, refl, sym, ap, inl, inr, List, [], ◌∷◌, ◌++◌, length, take, drop, true, false, nat_le, Option, None, Some, Ok}
 use Rattle.std.specs.Prelude.{replicate, slice_index_or, min}
 use Rattle.std.proofs.Math.Seq.{take-append-add}
@@ -19,7 +19,8 @@ use Rattle.apex_cli.specs.Replay.{answer_of, fault_of_events, writes}
 use Rattle.apex_cli.specs.Schedule.{is_core_below, are_cores_below, events_of_item, events_of_items}
 
 -- the first n of so many equal elements
-take_equal : {X : Type 0} → (n times : ℕ) (x : X) → take n (replicate times x) ≡ replicate (min n times) x
+take_equal : {X : Type 0} → (n times : ℕ) (x : X)
+    → take n (replicate times x) ≡ replicate (min n times) x
 take_equal n times x = elim (cases_lt n times) [
   | inl fewer ↦
       let least : min n times ≡ n = omega arith in
@@ -31,13 +32,15 @@ take_equal n times x = elim (cases_lt n times) [
 
 -- the first n of a list and then equal elements
 pub take_then : {X : Type 0} → (n : ℕ) (xs : List X) (times : ℕ) (x : X)
-    → take n xs ++ replicate (min (n - length (take n xs)) times) x ≡ take n (xs ++ replicate times x)
+    → take n xs ++ replicate (min (n - length (take n xs)) times) x
+    ≡ take n (xs ++ replicate times x)
 take_then n xs times x = elim (cases_lt (length xs) n) [
   | inl fewer ↦
       let rest = n - length xs in
       let sum : length xs + rest ≡ n = omega arith in
       let all : take n xs ≡ xs = take_all n xs (omega arith) in
-      let tail = ap (λ ys. xs ++ ys) (sym (take_equal rest times x)) ∙ sym (take-append-add xs (replicate times x) rest) in
+      let equal = ap (λ ys. xs ++ ys) (sym (take_equal rest times x)) in
+      let tail = equal ∙ sym (take-append-add xs (replicate times x) rest) in
       rw all (tail ∙ ap (λ m. take m (xs ++ replicate times x)) sum)
   | inr more ↦
       let none : min (n - length (take n xs)) times ≡ 0 = omega (arith, length-take n xs) in
@@ -52,15 +55,18 @@ resized xs n m k x many is =
     rw (more, take_all n xs (omega arith)) refl
 
 -- the events of one item more
-pub events_next : (items : List Item) (i : ℕ) (item : Item) → i < length items → item ≡ slice_index_or items i item
+pub events_next : (items : List Item) (i : ℕ) (item : Item) → i < length items
+    → item ≡ slice_index_or items i item
     → events_of_items (take (i + 1) items) ≡ events_of_items (take i items) ++ events_of_item item
 events_next items i item within here =
     ap events_of_items (take_more items i item within)
     ∙ flat_map-append events_of_item (take i items) (slice_index_or items i item ∷ [])
-    ∙ ap (λ last. events_of_items (take i items) ++ last) (append-nil (events_of_item (slice_index_or items i item)) ∙ ap events_of_item (sym here))
+    ∙ ap (λ last. events_of_items (take i items) ++ last)
+    (append-nil (events_of_item (slice_index_or items i item)) ∙ ap events_of_item (sym here))
 
 -- an item of these is of such a core too
-pub below_at : (cores : ℕ) (items : List Item) (i : ℕ) (item : Item) → i < length items → item ≡ slice_index_or items i item
+pub below_at : (cores : ℕ) (items : List Item) (i : ℕ) (item : Item) → i < length items
+    → item ≡ slice_index_or items i item
     → are_cores_below cores items ≡ true → is_core_below cores item ≡ true
 below_at cores items i item within here all = elim (cases_Bool (is_core_below cores item)) [
   | inl below ↦ below
@@ -70,7 +76,8 @@ below_at cores items i item within here all = elim (cases_Bool (is_core_below co
 ]
 
 -- a history is the same without the events beyond one more than its limit
-pub run_cut : (table : Table) (events : List Event) → run table (opening table) (take (table.limit + 1) events) ≡ run table (opening table) events
+pub run_cut : (table : Table) (events : List Event)
+    → run table (opening table) (take (table.limit + 1) events) ≡ run table (opening table) events
 run_cut table events = elim (cases_lt table.limit (length events)) [
   | inl more ↦
       let first = take (table.limit + 1) events in
@@ -91,14 +98,18 @@ answer_is items bytes table machine fault read below ran told =
     rw (read, below, ran, told, run_cut table (events_of_items items)) refl
 
 -- the fault, by whether these events fit
-pub fault_fits : (table : Table) (events : List Event) → length (take (table.limit + 1) events) ≤ table.limit
+pub fault_fits : (table : Table) (events : List Event)
+    → length (take (table.limit + 1) events) ≤ table.limit
     → fault_of_events table events ≡ None
 fault_fits table events fits =
-    let few : nat_le (length events) table.limit ≡ true = le-leb _ _ (omega (arith, length-take (table.limit + 1) events)) in
+    let few : nat_le (length events) table.limit ≡ true =
+        le-leb _ _ (omega (arith, length-take (table.limit + 1) events)) in
     rw few refl
 
-pub fault_full : (table : Table) (events : List Event) → (length (take (table.limit + 1) events) ≤ table.limit → ⊥)
+pub fault_full : (table : Table) (events : List Event)
+    → (length (take (table.limit + 1) events) ≤ table.limit → ⊥)
     → fault_of_events table events ≡ Some (HistoryFull table.limit)
 fault_full table events full =
-    let many : nat_le (length events) table.limit ≡ false = lt-leb _ _ (omega (arith, length-take (table.limit + 1) events)) in
+    let many : nat_le (length events) table.limit ≡ false =
+        lt-leb _ _ (omega (arith, length-take (table.limit + 1) events)) in
     rw many refl

@@ -40,18 +40,23 @@ init_count-push : (history : List Entry) (e : Entry) (b : Bool) → is_by_init e
 init_count-push history e b h =
     sum_by-append (λ (x : Entry). if is_by_init x.process then 1 else 0) history (e ∷ []) ∙ rw h (omega arith)
 
-pub count_turn : (table : Table) (machine : Machine) (core : ℕ) → init_count (turn table machine core).history
+pub count_turn : (table : Table) (machine : Machine) (core : ℕ)
+    → init_count (turn table machine core).history
     ≡ init_count machine.history + (if is_some (due_init_call table machine core) then 1 else 0)
 unfolding turn
 count_turn table machine core =
-    init_count-push machine.history _ _ (turn_caller table machine.roster (objects_after table machine.history) core (due_init_call table machine core))
+    let objects = objects_after table machine.history in
+    init_count-push machine.history _ _
+    (turn_caller table machine.roster objects core (due_init_call table machine core))
 
-pub count_tick : (table : Table) (machine : Machine) (n : ℕ) → init_count (tick table machine n).history ≡ init_count machine.history
+pub count_tick : (table : Table) (machine : Machine) (n : ℕ)
+    → init_count (tick table machine n).history ≡ init_count machine.history
 unfolding tick
 count_tick table machine n = init_count-push machine.history _ false refl ∙ omega arith
 
 -- what a kernel keeps is sound
-pub kept_sound : {kernel : KernelState} {init_made log_limit : ℕ} → IsKept kernel init_made log_limit → IsSound kernel.table kernel.machine
+pub kept_sound : {kernel : KernelState} {init_made log_limit : ℕ}
+    → IsKept kernel init_made log_limit → IsSound kernel.table kernel.machine
 kept_sound {kernel} kept =
     subst (IsSound kernel.table) kept.replays (sound_run kernel.table kept.lawful (events_of kernel.machine.history))
 
@@ -61,7 +66,8 @@ pub kept_time : {kernel : KernelState} {init_made log_limit : ℕ} → IsKept ke
 kept_time kept = (kept_sound kept).time kept.events
 
 -- and stamps are left
-pub kept_stamps : {kernel : KernelState} {init_made log_limit : ℕ} → IsKept kernel init_made log_limit → HasManyStamps kernel.machine.roster
+pub kept_stamps : {kernel : KernelState} {init_made log_limit : ℕ}
+    → IsKept kernel init_made log_limit → HasManyStamps kernel.machine.roster
 kept_stamps kept =
     let sound = kept_sound kept in
     let limit = kept.lawful.limit in
@@ -73,7 +79,9 @@ machine_is : (table : Table) (machine : Machine) → replay table machine.histor
 machine_is table machine replays = ap (λ (m : Machine). record machine { past = m.past }) replays
 
 -- the kernel after an event for which there was room
-module _ (table : Table) (objects : Objects) (roster : Roster) (history : List Entry) (init_made log_limit : ℕ) (kept : IsKept (kernel_with table objects roster history) init_made log_limit) (room : length history < table.limit) where
+module _ (table : Table) (objects : Objects) (roster : Roster) (history : List Entry)
+    (init_made log_limit : ℕ) (kept : IsKept (kernel_with table objects roster history) init_made log_limit)
+    (room : length history < table.limit) where
   abbrev machine : Machine
   machine = machine_with table roster history
 
@@ -81,15 +89,18 @@ module _ (table : Table) (objects : Objects) (roster : Roster) (history : List E
   sound = kept_sound kept
 
   -- it is the one with this roster and this history
-  after_is : (event : Event) (now : Objects) → objects_after table (happen table machine event).history ≡ now
+  after_is : (event : Event) (now : Objects)
+      → objects_after table (happen table machine event).history ≡ now
       → kernel_with table now (happen table machine event).roster (happen table machine event).history ≡ kernel_in table (happen table machine event)
   after_is event now is =
       let after = happen table machine event in
       let replays = (sound_happen table kept.lawful machine sound event room).replays in
-      ap₂ (λ (m : Machine) (o : Objects). record { table = table; machine = m; objects = o }) (machine_is table after replays) (sym is)
+      ap₂ (λ (m : Machine) (o : Objects). record { table = table; machine = m; objects = o })
+      (machine_is table after replays) (sym is)
 
   -- a turn's deed, carried out on the running values, leaves the kernel after the turn
-  pub turn_is : (core : ℕ) → let deed = turn_deed table roster objects core (due_init_call table machine core) in
+  pub turn_is : (core : ℕ)
+      → let deed = turn_deed table roster objects core (due_init_call table machine core) in
       kernel_with table deed.outcome.objects deed.outcome.roster (history ++ entry_of (length history + 1) (Core core) deed ∷ []) ≡ kernel_in table (turn table machine core)
   unfolding turn
   turn_is core = rw kept.objects (after_is (Turn core) _ (turn_exact table kept.lawful machine sound core).objects)
@@ -100,8 +111,10 @@ module _ (table : Table) (objects : Objects) (roster : Roster) (history : List E
   tick_is n = rw kept.objects (after_is (Tick n) _ (tick_exact table kept.lawful machine sound n).objects)
 
   -- it keeps what each kernel keeps
-  pub kept_after : (event : Event) → IsWithin table.cores event → (new : KernelState) (new_made new_limit : ℕ)
-      → new ≡ kernel_in table (happen table machine event) → new_made ≡ init_count (happen table machine event).history → new_limit ≡ log_limit
+  pub kept_after : (event : Event) → IsWithin table.cores event
+      → (new : KernelState) (new_made new_limit : ℕ)
+      → new ≡ kernel_in table (happen table machine event)
+      → new_made ≡ init_count (happen table machine event).history → new_limit ≡ log_limit
       → IsKept new new_made new_limit
   kept_after event range new new_made new_limit is made same = rw (is, made, same) (record {
     lawful = kept.lawful;

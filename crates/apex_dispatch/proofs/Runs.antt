@@ -44,7 +44,8 @@ run-step table machine new events i event end within here room is before =
     rw is taken
 
 -- as many events as there is room for fill the history
-pub run-fills : (table : Table) (machine : Machine) (events : List Event) → table.limit ≤ length machine.history + length events
+pub run-fills : (table : Table) (machine : Machine) (events : List Event)
+    → table.limit ≤ length machine.history + length events
     → table.limit ≤ length (run table machine events).history
 run-fills table machine [] many = omega arith
 run-fills table machine (event ∷ events) many = elim (cases_lt (length machine.history) table.limit) [

@@ -38,10 +38,10 @@ abbrev pub IsTimely : Table → Machine → Type 0
 IsTimely table machine = All (IsWithin table.cores) (events_of machine.history)
     → machine.roster.now ≤ 1048576 * length machine.history
 
--- what holds of the machine after every list of events on an accepted table: stamps differ, and are left
--- for all that the history's limit still admits, no due that stands is past, who suspended itself waits
--- for nothing else, the ids of each entry are the table's, semaphores' values are in range, who waits has
--- an open wait, the history is within the limit and replays, and ticks in range keep time in range
+-- what holds of the machine after every list of events on an accepted table: stamps differ, and are
+-- left for all that the history's limit still admits, no due that stands is past, who suspended itself
+-- waits for nothing else, the ids of each entry are the table's, semaphores' values are in range, who
+-- waits has an open wait, the history is within the limit and replays, and time is in range
 pub record IsSound (table : Table) (machine : Machine) : Type 0 where
   pub records : length machine.roster.records ≡ length table.processes
   pub stamps : machine.roster.young ≤ℤ pos (64 + 64 * length machine.history)
@@ -57,9 +57,12 @@ pub record IsSound (table : Table) (machine : Machine) : Type 0 where
   pub time : IsTimely table machine
 
 -- the events that the history then tells of
-pub told : (table : Table) (machine : Machine) (event : Event) → events_of (happen table machine event).history ≡ events_of machine.history ++ event ∷ []
+pub told : (table : Table) (machine : Machine) (event : Event)
+    → events_of (happen table machine event).history ≡ events_of machine.history ++ event ∷ []
 unfolding turn tick
-told table machine (Turn core) = map-append event_of machine.history (entry_of (length machine.history + 1) (Core core) (deed_of table machine core) ∷ [])
+told table machine (Turn core) =
+    let deed = deed_of table machine core in
+    map-append event_of machine.history (entry_of (length machine.history + 1) (Core core) deed ∷ [])
 told table machine (Tick n) =
     let deed = tick_deed machine.roster (objects_after table machine.history) n in
     map-append event_of machine.history (entry_of (length machine.history + 1) Ticker deed ∷ [])
@@ -78,10 +81,12 @@ module _ (table : Table) (machine : Machine) (sound : IsSound table machine) whe
       rw (told table machine event, again, sound.replays) (accept-room table machine event room)
 
   -- time is in range, where ticks are
-  time_happen : (event : Event) → GoesOn table.cores event machine.roster (happen table machine event).roster
+  time_happen : (event : Event)
+      → GoesOn table.cores event machine.roster (happen table machine event).roster
       → IsTimely table (happen table machine event)
   time_happen event goes all =
-      let parts = All-pop (IsWithin table.cores) _ (events_of machine.history) (Some event) (told table machine event) all in
+      let is = told table machine event in
+      let parts = All-pop (IsWithin table.cores) _ (events_of machine.history) (Some event) is all in
       let near = goes.near parts.1 in
       omega (arith, length-happen table machine event, sound.time parts.0, near)
 
@@ -90,7 +95,8 @@ module _ (table : Table) (machine : Machine) (sound : IsSound table machine) whe
       → happen table machine event ≡ after_deed machine who deed
       → length deed.outcome.roster.records ≡ length machine.roster.records
       → deed.outcome.roster.young ≤ℤ (machine.roster.young +ℤ pos 64)
-      → IsStamped deed.outcome.roster → HasNoPastDue deed.outcome.roster → WaitsForOne deed.outcome.roster
+      → IsStamped deed.outcome.roster → HasNoPastDue deed.outcome.roster
+      → WaitsForOne deed.outcome.roster
       → IfSome deed.call (IsKnown table)
       → IsDeedExact table machine.history (length machine.history + 1) who deed
       → GoesOn table.cores event machine.roster deed.outcome.roster
@@ -99,6 +105,7 @@ module _ (table : Table) (machine : Machine) (sound : IsSound table machine) whe
       let history = machine.history in
       let e = entry_of (length history + 1) who deed in
       let longer : length (history ++ e ∷ []) ≡ length history + 1 = rw length-append refl in
+      let gone = subst (λ (m : Machine). GoesOn table.cores event machine.roster m.roster) (sym is) goes in
       record {
         records = many ∙ sound.records;
         stamps = rw longer (omega (arith, ints, few, sound.stamps));
@@ -111,12 +118,13 @@ module _ (table : Table) (machine : Machine) (sound : IsSound table machine) whe
         waiting = exact.waiting;
         within = rw longer (omega arith);
         replays = subst (λ (m : Machine). replay table m.history ≡ m) is (replays_happen event room);
-        time = subst (IsTimely table) is (time_happen event (subst (λ (m : Machine). GoesOn table.cores event machine.roster m.roster) (sym is) goes));
+        time = subst (IsTimely table) is (time_happen event gone);
       }
 
 module _ (table : Table) (lawful : IsLawful table) (machine : Machine) (sound : IsSound table machine) where
   -- a turn's deed, by the objects of the history
-  pub turn_exact : (core : ℕ) → IsDeedExact table machine.history (length machine.history + 1) (Core core) (deed_of table machine core)
+  pub turn_exact : (core : ℕ)
+      → IsDeedExact table machine.history (length machine.history + 1) (Core core) (deed_of table machine core)
   turn_exact core = exact_deed table machine core lawful sound.records sound.enough sound.bounded sound.waiting sound.one
 
   -- a turn reaches the roster that it leaves
@@ -128,12 +136,14 @@ module _ (table : Table) (lawful : IsLawful table) (machine : Machine) (sound : 
       (λ p call h e. known_script_step table p (record_at roster p).step call lawful e)
       core (due_init_call table machine core) (due_known table machine core lawful)
 
-  turn_goes : (core : ℕ) → GoesOn table.cores (Turn core) machine.roster (deed_of table machine core).outcome.roster
+  turn_goes : (core : ℕ)
+      → GoesOn table.cores (Turn core) machine.roster (deed_of table machine core).outcome.roster
   turn_goes core =
       let same = (turn_reaches core).time in
       record { forward = rw same (omega arith); near = λ _. rw same (omega arith) }
 
-  sound_turn : (core : ℕ) → length machine.history < table.limit → IsSound table (turn table machine core)
+  sound_turn : (core : ℕ) → length machine.history < table.limit
+      → IsSound table (turn table machine core)
   unfolding turn
   sound_turn core room =
       let reaches = turn_reaches core in
@@ -145,10 +155,12 @@ module _ (table : Table) (lawful : IsLawful table) (machine : Machine) (sound : 
   abbrev ticked : ℕ → Deed
   ticked n = tick_deed machine.roster (objects_after table machine.history) n
 
-  pub tick_exact : (n : ℕ) → IsDeedExact table machine.history (length machine.history + 1) Ticker (ticked n)
+  pub tick_exact : (n : ℕ)
+      → IsDeedExact table machine.history (length machine.history + 1) Ticker (ticked n)
   tick_exact n = exact_tick table machine n sound.enough sound.bounded sound.waiting
 
-  tick_reaches : (n : ℕ) → Reaches (length machine.roster.records) (advance_to machine.roster (tick_goal machine.roster n)) (pass_time machine.roster n).roster
+  tick_reaches : (n : ℕ)
+      → Reaches (length machine.roster.records) (advance_to machine.roster (tick_goal machine.roster n)) (pass_time machine.roster n).roster
   unfolding pass_time
   tick_reaches n = reach_serve_dues (advance_to machine.roster (tick_goal machine.roster n))
 
@@ -172,7 +184,8 @@ module _ (table : Table) (lawful : IsLawful table) (machine : Machine) (sound : 
       (reaches.stamped (stamped_advance_to roster sound.stamped (tick_goal roster n)))
       (reaches.dues (goal_not_past roster n)) (reaches.one sound.one) tt (tick_exact n) (tick_goes n)
 
-  pub sound_happen : (event : Event) → length machine.history < table.limit → IsSound table (happen table machine event)
+  pub sound_happen : (event : Event) → length machine.history < table.limit
+      → IsSound table (happen table machine event)
   sound_happen (Turn core) room = sound_turn core room
   sound_happen (Tick n) room = sound_tick n room
 
@@ -193,16 +206,20 @@ module _ (table : Table) (lawful : IsLawful table) (machine : Machine) (sound : 
       (λ (after : Machine). machine.roster.now ≤ after.roster.now) (λ _. forward_happen event) (λ _. omega arith)
 
 -- so is it after every list of events, and time has gone forward
-sound_after : (table : Table) → IsLawful table → (machine : Machine) (events : List Event) → IsSound table machine → IsSound table (run table machine events)
+sound_after : (table : Table) → IsLawful table → (machine : Machine) (events : List Event)
+    → IsSound table machine → IsSound table (run table machine events)
 sound_after table lawful machine [] sound = sound
 sound_after table lawful machine (event ∷ events) sound =
     sound_after table lawful (accept table machine event) events (sound_accept table lawful machine sound event)
 
-pub forward_after : (table : Table) → IsLawful table → (machine : Machine) (events : List Event) → IsSound table machine
+pub forward_after : (table : Table) → IsLawful table → (machine : Machine) (events : List Event)
+    → IsSound table machine
     → machine.roster.now ≤ (run table machine events).roster.now
 forward_after table lawful machine [] sound = omega arith
 forward_after table lawful machine (event ∷ events) sound =
-    omega (arith, forward_accept table lawful machine sound event, forward_after table lawful (accept table machine event) events (sound_accept table lawful machine sound event))
+    let after = sound_accept table lawful machine sound event in
+    let first = forward_accept table lawful machine sound event in
+    omega (arith, first, forward_after table lawful (accept table machine event) events after)
 
 sound_opening : (table : Table) → IsLawful table → IsSound table (opening table)
 sound_opening table lawful =
@@ -222,16 +239,19 @@ sound_opening table lawful =
       replays = refl;
       time = λ _. omega arith;
     } where
-      opening_waits : (entries : List ProcessEntry) (q p : ℕ) → (get_or (map_places opening_record q entries) p nobody).wait ≡ None
+      opening_waits : (entries : List ProcessEntry) (q p : ℕ)
+          → (get_or (map_places opening_record q entries) p nobody).wait ≡ None
       opening_waits [] q p = refl
       opening_waits (e ∷ entries) q zero = refl
       opening_waits (e ∷ entries) q (suc p) = opening_waits entries (q + 1) p
 
-      opening_free : (entries : List ProcessEntry) (q p : ℕ) (w : Wait) → awaited (get_or (map_places opening_record q entries) p nobody) ≡ Some w → ⊥
+      opening_free : (entries : List ProcessEntry) (q p : ℕ) (w : Wait)
+          → awaited (get_or (map_places opening_record q entries) p nobody) ≡ Some w → ⊥
       opening_free [] q p w h = none-some w h
       opening_free (e ∷ entries) q zero w h = none-some w h
       opening_free (e ∷ entries) q (suc p) w h = opening_free entries (q + 1) p w h
 
 -- every run on an accepted table is sound
-pub sound_run : (table : Table) → IsLawful table → (events : List Event) → IsSound table (run table (opening table) events)
+pub sound_run : (table : Table) → IsLawful table → (events : List Event)
+    → IsSound table (run table (opening table) events)
 sound_run table lawful events = sound_after table lawful (opening table) events (sound_opening table lawful)

@@ -30,8 +30,8 @@ kernel_with table objects roster history = record {
 }
 
 -- what each kernel keeps: its table is lawful, its log's limit is the table's, its counter of init
--- steps and its running values are the history's, the events that its history tells of are in range,
--- and these events, run anew, give the machine's very state
+-- steps and its running values are the history's, and the events that its history tells of are in
+-- range and, run anew, give the machine's very state
 pub record IsKept (kernel : KernelState) (init_made log_limit : ℕ) : Type 0 where
   pub lawful : IsLawful kernel.table
   pub limit : log_limit ≡ kernel.table.limit

@@ -35,7 +35,8 @@ impl<S: Store> Model for Kernel<S> {
 
     ghost view = { λ k. kernel_with k.table k.objects (S.roster k.store) k.log.entries };
 
-    ghost invariant = { λ k. IsKept (kernel_with k.table k.objects (S.roster k.store) k.log.entries) k.init_made k.log.limit };
+    ghost invariant = { λ k. IsKept (kernel_with k.table k.objects (S.roster k.store) k.log.entries)
+        k.init_made k.log.limit };
 }
 
 /// The init step that is due in a turn of the core, where so many were carried out.
@@ -179,7 +180,8 @@ impl<S: Store> Kernel<S> {
     /// before it stand. So the state is that after the events of the history and these.
     pub fn run(&mut self, events: &[Event]) -> Result<(), Full>
         requires { All (IsWithin self.old.table.cores) events.now }
-        ensures done { self.new ≡ kernel_in self.old.table (run self.old.table (opening self.old.table)
+        ensures done { self.new ≡ kernel_in self.old.table
+            (run self.old.table (opening self.old.table)
             (events_of self.old.machine.history ++ events.now)) }
         ensures accepted { IsOk result ↔ (length self.old.machine.history + length events.now ≤ self.old.table.limit) }
         ensures full { IfErr result (λ e. e.entries ≡ self.old.table.limit) }
@@ -191,11 +193,11 @@ impl<S: Store> Kernel<S> {
         Ok(())
     }
 
-    /// What holds of every kernel: its running values are those that its history gives, the events
-    /// that its history tells of, run anew, give its very state, these events are in range, its
-    /// history is within the table's limit, its time is at most 2^36 ticks, it has a record for each
-    /// process of the table, no two of which have the same stamp, and the ids that its entries name
-    /// are the table's.
+    /// What holds of every kernel: its running values are those that its history gives; the events
+    /// that its history tells of are in range and, run anew, give its very state; it has a record for
+    /// each process of the table, and no two of them have the same stamp; its history is within the
+    /// table's limit; its time is at most 2^36 ticks; and the ids that its entries name are the
+    /// table's.
     pub fn holds(&self)
         ensures values { self.now ≡ kernel_in self.now.table self.now.machine }
         ensures replays { replay self.now.table self.now.machine.history ≡ self.now.machine }

@@ -1,4 +1,5 @@
--- The machine: what each event does to a partition. It has records and a history, and no more.
+-- The machine: what each event does to a partition. It has records, a history, and the records after
+-- each entry.
 use Rattle.std.specs.Prelude.{ℕ, ◌+◌, ◌-◌, false, List, [], ◌∷◌, ◌++◌, length, map, Option, None, Some, ◌==◌, nat_lt, ◌&&◌, slice_get, slice_set, slice_index_or, if◌then◌else◌}
 use Rattle.apex_types.specs.declared.calls.Call.{Call}
 use Rattle.apex_types.specs.declared.calls.Call.TheVariants.{Partition, Process as ToProcess, Time, Semaphore}
@@ -26,7 +27,7 @@ use Rattle.apex_types.specs.TimeServices.{TimeOutcome, time_service}
 use Rattle.apex_types.specs.Ticks.{tick_goal, pass_time}
 use Rattle.apex_types.specs.PartitionServices.{PartitionOutcome, partition_service}
 
--- the state of the machine: its roster, the roster after each entry, and the entries, the oldest first
+-- the state of the machine: its roster, the roster after each entry, and the entries, oldest first
 pub record Machine : Type 0 where
   pub roster : Roster
   pub past : List Roster

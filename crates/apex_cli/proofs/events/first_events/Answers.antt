@@ -29,6 +29,9 @@ loop-item-preserved c =
       events = all;
       few = rw all (omega (arith, length-take most (events_of_items (take (i + 1) items))));
       within = λ cores below.
-          let one = c.repeated-event.ensures.within cores (below_at cores items i c.item-item.result (omega arith) here below) in
-          All-same (IsWithin cores) _ _ put (All-append (IsWithin cores) held _ (c.loop-item.invariant.within cores below) (All-replicate (IsWithin cores) more event one));
+          let item_below = below_at cores items i c.item-item.result (omega arith) here below in
+          let one = c.repeated-event.ensures.within cores item_below in
+          let old = c.loop-item.invariant.within cores below in
+          All-same (IsWithin cores) _ _ put
+          (All-append (IsWithin cores) held _ old (All-replicate (IsWithin cores) more event one));
     }

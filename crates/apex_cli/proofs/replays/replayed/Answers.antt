@@ -21,8 +21,9 @@ returns-clause-ok c =
           w.fault-is ∙ sym (fault_fits table events (omega (arith, fits)))
       | in-Err w ↦
           let at_limit = rw c.in_ok-kernel.ensures at w.in-Err.ensures.full in
-          w.fault-is ∙ ap (λ n. Some (HistoryFull n)) at_limit
-          ∙ sym (fault_full table events (λ fits. let no : false ≡ true = w.in-Err.ensures.accepted.1 (rw (c.in_ok-kernel.ensures, made) (omega arith)) in cc))
+          w.fault-is ∙ ap (λ n. Some (HistoryFull n)) at_limit ∙ sym (fault_full table events (λ fits.
+          let no : false ≡ true = w.in-Err.ensures.accepted.1 (rw (c.in_ok-kernel.ensures, made) (omega arith)) in
+          cc))
     ] in
     let below : are_cores_below table.cores c.args.items.now ≡ true = search rules in
     rw done (answer_is c.args.items.now c.args.text.now table _ c.match-run.fault c.in_ok-table.ensures below refl told)

@@ -24,7 +24,8 @@ pass_time-went-requires-clause-near g c =
 pub pass_time-went-requires-clause-dues : goal.pass_time-went-requires-clause-dues
 pass_time-went-requires-clause-dues g c = (kept_sound c.self.invariant).dues
 
-has_room : (g : Over) (c : After-append g) → length c.self.inside.log.entries < c.self.inside.table.limit
+has_room : (g : Over) (c : After-append g)
+    → length c.self.inside.log.entries < c.self.inside.table.limit
 has_room g c = omega (arith, c.self.invariant.limit, c.in_ok-refuse_full.ensures.accepted.0 refl)
 
 -- the kernel afterwards is the one after the tick

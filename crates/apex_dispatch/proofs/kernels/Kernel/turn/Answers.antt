@@ -36,7 +36,8 @@ carry_out-deed-requires-clause-time g c =
     let within = c.self.invariant.lawful.limit in
     omega (arith, kept_time c.self.invariant, within, c.self.invariant.limit, c.in_ok-refuse_full.ensures.accepted.0 refl)
 
-has_room : (g : Over) (c : After-append g) → length c.self.inside.log.entries < c.self.inside.table.limit
+has_room : (g : Over) (c : After-append g)
+    → length c.self.inside.log.entries < c.self.inside.table.limit
 has_room g c = omega (arith, c.self.invariant.limit, c.in_ok-refuse_full.ensures.accepted.0 refl)
 
 -- the kernel afterwards is the one after the turn
