@@ -1,8 +1,8 @@
 //! The program `apex`: replays the partition of a table, and writes its history.
 #![tactic(auto)]
 
+mod events;
 mod faults;
-mod playing;
 mod program;
 mod replays;
 mod schedule;

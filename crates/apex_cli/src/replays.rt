@@ -3,8 +3,8 @@ ghost use Rattle.apex_types.specs.Lines.{lines_of, IsPrintable};
 ghost use Rattle.apex_cli.specs.Faults.{IsUsageOrMemory};
 ghost use Rattle.apex_cli.specs.Replay.{answer_of, writes, items_asked, Refuses};
 
+use crate::events::first_events;
 use crate::faults::CliFault;
-use crate::playing::play;
 use crate::schedule::{Item, are_cores_below, read_schedule};
 use crate::words::schedule_in;
 use apex_dispatch::Kernel;
@@ -48,10 +48,11 @@ pub fn replayed(alloc: Global, items: &[Item], text: &[u8]) -> Result<Replay, Cl
     if !are_cores_below(table.cores(), items) {
         return Err(CliFault::Usage);
     }
+    let events = first_events(alloc, items, table.limit() as usize + 1)?;
     let store = PlainStore::new(alloc, &table)?;
     let mut kernel = Kernel::boot(alloc, table, store)?;
     let page = Page::new(alloc)?;
-    let fault = match play(&mut kernel, items) {
+    let fault = match kernel.run(events.as_slice()) {
         Ok(()) => None,
         Err(full) => Some(CliFault::HistoryFull(full.entries)),
     };

@@ -295,6 +295,17 @@ fn histories_are_written(rt: HostRuntime) -> Result<(), Fail> {
             fault: "apex: history full after 9 entries",
         },
         Case {
+            name: "schedule_far_beyond_the_limit",
+            words: &["replay", "--schedule", "0*9 1*65536 t1 0*65536 1*65536"],
+            table: &[TWO_CORES, "history = 9\n", WAITER, SIGNALLER, SEMAPHORE],
+            status: 4,
+            written: &[
+                STARTED,
+                "9 0 core0 1 WAIT_SEMAPHORE S infinite -> BLOCKED\n",
+            ],
+            fault: "apex: history full after 9 entries",
+        },
+        Case {
             name: "history_that_is_just_full",
             words: &["replay", "--schedule", "0*8 0"],
             table: &[TWO_CORES, "history = 9\n", WAITER, SIGNALLER, SEMAPHORE],

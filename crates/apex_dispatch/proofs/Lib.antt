@@ -10,7 +10,7 @@ pub mod TimeTold
 pub mod Exact
 pub mod Turns
 pub mod TickTold
-pub mod Kept
-pub mod States
 pub mod Runs
+pub mod Sound
+pub mod States
 pub mod Replays

@@ -1,13 +1,11 @@
 -- What every contract sees of a kernel, and what each kernel keeps.
-use Rattle.std.specs.Prelude.{◌≡◌, ℕ, ◌+◌, ◌*◌, ◌≤◌, length, pos, ◌≤ℤ◌, All}
+use Rattle.std.specs.Prelude.{◌≡◌, ℕ, List, All}
+use Rattle.apex_types.specs.declared.Entry.{Entry}
 use Rattle.apex_types.specs.Table.{Table, IsLawful}
+use Rattle.apex_types.specs.Roster.{Roster}
 use Rattle.apex_types.specs.History.{Objects, objects_after, init_count}
-use Rattle.apex_types.specs.Lines.{IsPrintable}
-use Rattle.apex_types.specs.Machine.{Machine}
-use Rattle.apex_types.specs.Distinct.{IsStamped}
-use Rattle.apex_types.specs.Dues.{HasNoPastDue}
-use Rattle.apex_types.specs.Stamps.{WaitsForOne}
-use Rattle.apex_dispatch.specs.AskedWaits.{AreEnough, AreBounded, AreAsked}
+use Rattle.apex_types.specs.Machine.{Machine, events_of, machine_with, replay}
+use Rattle.apex_dispatch.specs.Events.{IsWithin}
 
 -- a kernel: its table, the machine's state, and the running values of its objects
 pub record KernelState : Type 0 where
@@ -23,26 +21,21 @@ kernel_in table machine = record {
   objects = objects_after table machine.history;
 }
 
--- what holds of a kernel after every list of events: the running values are the history's, stamps differ,
--- stamps are left for all that the history's limit still admits, no due that stands is past, who suspended
--- itself waits for nothing else, and the ids of each entry are the table's
-pub record IsSound (kernel : KernelState) (init_made log_limit : ℕ) : Type 0 where
+-- the kernel with these running values, this roster and this history
+abbrev pub kernel_with : Table → Objects → Roster → List Entry → KernelState
+kernel_with table objects roster history = record {
+  table = table;
+  machine = machine_with table roster history;
+  objects = objects;
+}
+
+-- what each kernel keeps: its table is lawful, its log's limit is the table's, its counter of init
+-- steps and its running values are the history's, and the events that its history tells of are in
+-- range and, run anew, give the machine's very state
+pub record IsKept (kernel : KernelState) (init_made log_limit : ℕ) : Type 0 where
   pub lawful : IsLawful kernel.table
   pub limit : log_limit ≡ kernel.table.limit
   pub init : init_made ≡ init_count kernel.machine.history
-  pub records : length kernel.machine.roster.records ≡ length kernel.table.processes
   pub objects : kernel.objects ≡ objects_after kernel.table kernel.machine.history
-  pub stamps : kernel.machine.roster.young ≤ℤ pos (64 + 64 * length kernel.machine.history)
-  pub stamped : IsStamped kernel.machine.roster
-  pub dues : HasNoPastDue kernel.machine.roster
-  pub one : WaitsForOne kernel.machine.roster
-  pub known : All (IsPrintable kernel.table) kernel.machine.history
-  pub enough : AreEnough kernel.table kernel.machine.history
-  pub bounded : AreBounded kernel.table kernel.machine.history
-  pub waiting : AreAsked kernel.machine.roster kernel.machine.history
-
--- what each kernel keeps: that, and as its ticks are of 1,048,576 at the most, so is the time for each
--- entry of the history
-pub record IsKept (kernel : KernelState) (init_made log_limit : ℕ) : Type 0 where
-  pub sound : IsSound kernel init_made log_limit
-  pub time : kernel.machine.roster.now ≤ 1048576 * length kernel.machine.history
+  pub events : All (IsWithin kernel.table.cores) (events_of kernel.machine.history)
+  pub replays : replay kernel.table kernel.machine.history ≡ kernel.machine

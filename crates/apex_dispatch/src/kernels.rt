@@ -1,7 +1,7 @@
 ghost use Rattle.std.specs.Prelude.{◌≡◌, ◌<◌, ◌≤◌, ◌↔◌, ◌+◌, ◌^◌, [], ◌∷◌, ◌++◌, length, slice_get, ◌&&◌, ◌==◌, if◌then◌else◌, None, is_some, All, IfOk, IfErr, OnOk, OnErr, IsOk};
 ghost use Rattle.apex_types.specs.Roster.{opening_roster, is_cold_start};
 ghost use Rattle.apex_types.specs.Lines.{IsPrintable};
-ghost use Rattle.apex_types.specs.Machine.{opening, turn, tick, happen, run};
+ghost use Rattle.apex_types.specs.Machine.{opening, turn, tick, happen, run, replay, events_of};
 ghost use Rattle.apex_types.specs.Table.{IsLawful};
 ghost use Rattle.apex_types.specs.Distinct.{HasDistinctStamps};
 ghost use Rattle.apex_dispatch.specs.Events.{IsWithin};
@@ -29,13 +29,14 @@ pub struct Kernel<S: Store> {
 }
 
 impl<S: Store> Model for Kernel<S> {
-    ghost use Rattle.apex_dispatch.specs.Kernel.{KernelState, IsKept};
+    ghost use Rattle.apex_dispatch.specs.Kernel.{KernelState, kernel_with, IsKept};
 
     ghost Value = { KernelState };
 
-    ghost view = { λ k. record { table = k.table; machine = record { roster = S.roster k.store; history = k.log.entries }; objects = k.objects } };
+    ghost view = { λ k. kernel_with k.table k.objects (S.roster k.store) k.log.entries };
 
-    ghost invariant = { λ k. IsKept (record { table = k.table; machine = record { roster = S.roster k.store; history = k.log.entries }; objects = k.objects }) k.init_made k.log.limit };
+    ghost invariant = { λ k. IsKept (kernel_with k.table k.objects (S.roster k.store) k.log.entries)
+        k.init_made k.log.limit };
 }
 
 /// The init step that is due in a turn of the core, where so many were carried out.
@@ -176,10 +177,12 @@ impl<S: Store> Kernel<S> {
     }
 
     /// The events, one after the other, up to the first for which the history has no room; those
-    /// before it stand.
+    /// before it stand. So the state is that after the events of the history and these.
     pub fn run(&mut self, events: &[Event]) -> Result<(), Full>
         requires { All (IsWithin self.old.table.cores) events.now }
-        ensures done { self.new ≡ kernel_in self.old.table (run self.old.table self.old.machine events.now) }
+        ensures done { self.new ≡ kernel_in self.old.table
+            (run self.old.table (opening self.old.table)
+            (events_of self.old.machine.history ++ events.now)) }
         ensures accepted { IsOk result ↔ (length self.old.machine.history + length events.now ≤ self.old.table.limit) }
         ensures full { IfErr result (λ e. e.entries ≡ self.old.table.limit) }
     {
@@ -190,11 +193,16 @@ impl<S: Store> Kernel<S> {
         Ok(())
     }
 
-    /// What holds of every kernel: its running values are those that its history gives, its history
-    /// is within the table's limit, its time is at most 2^36 ticks, no two of its processes have the
-    /// same stamp, and the ids that its entries name are the table's.
+    /// What holds of every kernel: its running values are those that its history gives; the events
+    /// that its history tells of are in range and, run anew, give its very state; it has a record for
+    /// each process of the table, and no two of them have the same stamp; its history is within the
+    /// table's limit; its time is at most 2^36 ticks; and the ids that its entries name are the
+    /// table's.
     pub fn holds(&self)
         ensures values { self.now ≡ kernel_in self.now.table self.now.machine }
+        ensures replays { replay self.now.table self.now.machine.history ≡ self.now.machine }
+        ensures events { All (IsWithin self.now.table.cores) (events_of self.now.machine.history) }
+        ensures records { length self.now.machine.roster.records ≡ length self.now.table.processes }
         ensures within { length self.now.machine.history ≤ self.now.table.limit }
         ensures time { self.now.machine.roster.now ≤ 2 ^ 36 }
         ensures lawful { IsLawful self.now.table }

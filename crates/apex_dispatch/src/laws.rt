@@ -63,7 +63,7 @@ pub fn runs_stay_within(table: &Table)
 pub fn histories_replay(table: &Table)
     ensures { HistoriesReplay table.now }
 {
-    let _table = table;
+    table.lawful();
 }
 
 /// In every run time never goes back, and no due that stands is below now: no wait outlasts its due

@@ -1,4 +1,5 @@
--- The machine: what each event does to a partition. It has records and a history, and no more.
+-- The machine: what each event does to a partition. It has records, a history, and the records after
+-- each entry.
 use Rattle.std.specs.Prelude.{ℕ, ◌+◌, ◌-◌, false, List, [], ◌∷◌, ◌++◌, length, map, Option, None, Some, ◌==◌, nat_lt, ◌&&◌, slice_get, slice_set, slice_index_or, if◌then◌else◌}
 use Rattle.apex_types.specs.declared.calls.Call.{Call}
 use Rattle.apex_types.specs.declared.calls.Call.TheVariants.{Partition, Process as ToProcess, Time, Semaphore}
@@ -26,9 +27,10 @@ use Rattle.apex_types.specs.TimeServices.{TimeOutcome, time_service}
 use Rattle.apex_types.specs.Ticks.{tick_goal, pass_time}
 use Rattle.apex_types.specs.PartitionServices.{PartitionOutcome, partition_service}
 
--- the state of the machine
+-- the state of the machine: its roster, the roster after each entry, and the entries, oldest first
 pub record Machine : Type 0 where
   pub roster : Roster
+  pub past : List Roster
   pub history : List Entry
 
 -- what a service leaves and answers
@@ -176,6 +178,7 @@ entry_of number who deed = record {
 abbrev pub after_deed : Machine → Who → Deed → Machine
 after_deed machine who deed = record {
   roster = deed.outcome.roster;
+  past = machine.past ++ deed.outcome.roster ∷ [];
   history = machine.history ++ entry_of (length machine.history + 1) who deed ∷ [];
 }
 
@@ -203,7 +206,7 @@ run table machine (event ∷ events) = run table (accept table machine event) ev
 
 -- the machine before any event
 abbrev pub opening : Table → Machine
-opening table = record { roster = opening_roster table; history = [] }
+opening table = record { roster = opening_roster table; past = []; history = [] }
 
 -- the event that an entry tells of; a ticker's entry has a reply that says how many ticks were asked for
 abbrev pub asked_ticks : Reply → ℕ
@@ -219,3 +222,12 @@ event_of e = event_by e.who e.reply
 
 abbrev pub events_of : List Entry → List Event
 events_of history = map event_of history
+
+-- the run of the events that the history tells of
+abbrev pub replay : Table → List Entry → Machine
+replay table history = run table (opening table) (events_of history)
+
+-- the machine with this roster and this history; its past is that of the history's replay
+abbrev pub machine_with : Table → Roster → List Entry → Machine
+machine_with table roster history =
+    record { roster = roster; past = (replay table history).past; history = history }

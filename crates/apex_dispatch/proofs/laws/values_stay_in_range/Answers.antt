@@ -1,9 +1,7 @@
-use Rattle.apex_types.specs.Machine.{opening}
-use Rattle.apex_dispatch.proofs.Runs.{well_opening, well_run}
+use Rattle.apex_dispatch.proofs.Sound.{sound_run}
 use Rattle.apex_dispatch.proofs.laws.values_stay_in_range.Goals as goal
 
 pub returns : goal.returns
 returns c events s within =
-    let table = c.args.table.now in
-    let kept = (well_run table (opening table) events (well_opening table c.lawful.ensures)).sound.1 in
-    record { served = kept.enough s within; most = kept.bounded s within }
+    let sound = sound_run c.args.table.now c.lawful.ensures events in
+    record { served = sound.enough s within; most = sound.bounded s within }

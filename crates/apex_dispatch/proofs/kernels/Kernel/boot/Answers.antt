@@ -1,4 +1,4 @@
-use Rattle.apex_dispatch.proofs.Kept.{kept_opening}
+use Rattle.apex_dispatch.proofs.Replays.{kept_opening}
 use Rattle.apex_dispatch.proofs.kernels.Kernel.boot.Goals as goal
 
 pub invariant_of-result : goal.invariant_of-result

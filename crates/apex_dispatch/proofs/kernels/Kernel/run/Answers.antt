@@ -1,8 +1,22 @@
 use Rattle.std.proofs.Common.{◌≡◌, ◌<◌, ◌≤◌, length, drop, refl, sym, ap, ◌∙◌, arith}
-use Rattle.apex_types.specs.Machine.{Machine, happen}
+use Rattle.apex_types.specs.Machine.{Machine, happen, run, opening, events_of}
 use Rattle.apex_dispatch.specs.Kernel.{KernelState, kernel_in}
-use Rattle.apex_dispatch.proofs.Runs.{run-full, run-step, length-happen}
+use Rattle.apex_dispatch.proofs.Runs.{run-append, run-full, run-step, length-happen}
 use Rattle.apex_dispatch.proofs.kernels.Kernel.run.Goals as goal
+
+pub loop-event-init : goal.loop-event-init
+loop-event-init g c =
+    let table = c.args.self.now.table in
+    let machine = c.args.self.now.machine in
+    let events = c.args.events.now in
+    let again = run-append table (opening table) (events_of machine.history) events in
+    record {
+      table = refl;
+      values = c.holds.ensures.values;
+      rest = sym (again ∙ ap (λ (m : Machine). run table m events) c.holds.ensures.replays);
+      count = omega arith;
+      within = c.holds.ensures.within;
+    }
 
 pub returns-in_err-accept-clause-done : goal.returns-in_err-accept-clause-done
 returns-in_err-accept-clause-done g c =
