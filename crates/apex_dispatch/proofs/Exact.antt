@@ -66,9 +66,10 @@ flags_set entries history e p within one =
 -- an entry that says nothing of any semaphore leaves them all
 semaphores_same : (table : Table) (history : List Entry) (e : Entry) → AreEnough table history
     → ((s : ℕ) → IsQuiet s history e)
-    → map_places (semaphore_after (history ++ e ∷ [])) 0 table.semaphores ≡ map_places (semaphore_after history) 0 table.semaphores
+    → (objects_after table (history ++ e ∷ [])).semaphores ≡ (objects_after table history).semaphores
 semaphores_same table history e enough quiet =
-    map_places_same (semaphore_after (history ++ e ∷ [])) (semaphore_after history) table.semaphores no_semaphore no_object
+    map_places_same (semaphore_after (history ++ e ∷ [])) (semaphore_after history) table.semaphores
+    no_semaphore no_object
     (λ k within. (after_quiet k (semaphore_entry table k) history e (enough k within) (quiet k)).is)
 
 objects_by : (a b : List Bool) (x y : List SemaphoreObject) → a ≡ b → x ≡ y
@@ -218,19 +219,21 @@ known_target many (GetSemaphoreId (semaphore.Known t)) s is h = omega (arith, h,
 known_target many (GetSemaphoreId (semaphore.Unknown name)) s is h = absurd (none-some s is)
 known_target many (GetSemaphoreStatus t) s is h = omega (arith, h, same_Some t s is)
 
--- an entry is exact: the objects and who waits are as the history then says, and the values account for
--- all satisfied calls and stay in range
-pub record IsExact (table : Table) (history : List Entry) (e : Entry) (left : Objects) (new : Roster) : Type 0 where
+-- an entry is exact: the objects and who waits are as the history then says, and the values account
+-- for all satisfied calls and stay in range
+pub record IsExact (table : Table) (history : List Entry) (e : Entry) (left : Objects)
+    (new : Roster) : Type 0 where
   pub objects : objects_after table (history ++ e ∷ []) ≡ left
   pub enough : AreEnough table (history ++ e ∷ [])
   pub bounded : AreBounded table (history ++ e ∷ [])
   pub waiting : AreAsked new (history ++ e ∷ [])
 
 module _ (table : Table) (history : List Entry) (roster : Roster)
-    (enough : AreEnough table history) (bounded : AreBounded table history) (asked : AreAsked roster history) where
-  -- an entry more leaves each semaphore but one, or all, and says who waits
+    (enough : AreEnough table history) (bounded : AreBounded table history)
+    (asked : AreAsked roster history) where
+  -- an entry that says nothing of any semaphore
   exact_quiet : (e : Entry) (new : Roster) (created : List Bool) → ((s : ℕ) → IsQuiet s history e)
-      → map_places (process_after (history ++ e ∷ [])) 0 table.processes ≡ created
+      → (objects_after table (history ++ e ∷ [])).processes ≡ created
       → IsIdle e.process roster → Asks e.process e.call roster new
       → IsExact table history e (record (objects_after table history) { processes = created }) new
   exact_quiet e new created quiet flags idle asks =
@@ -239,16 +242,17 @@ module _ (table : Table) (history : List Entry) (roster : Roster)
       record {
         objects = objects_by _ _ _ _ flags (semaphores_same table history e enough quiet);
         enough = λ s within. (after s within).enough;
-        bounded = λ s within. rw (ap (λ (o : SemaphoreObject). o.value) (after s within).is) (bounded s within);
+        bounded = λ s within.
+            rw (ap (λ (o : SemaphoreObject). o.value) (after s within).is) (bounded s within);
         waiting = asked-push history e roster new idle asked asks;
       }
 
-  -- an entry of no semaphore's call, whom it wakes with NO_ERROR waited for time
+  -- an entry of no semaphore's call, where all whom it wakes with NO_ERROR waited for time
   pub exact_timed : (e : Entry) (new : Roster) (created : List Bool)
       → ((s : ℕ) (c : Call) → e.call ≡ Some c → IsElsewhere s c)
       → ((s : ℕ) → creates_semaphore s e ≡ false)
       → ((p : ℕ) → wakes p e.notices ≡ true → awaited (record_at roster p) ≡ Some Time)
-      → map_places (process_after (history ++ e ∷ [])) 0 table.processes ≡ created
+      → (objects_after table (history ++ e ∷ [])).processes ≡ created
       → IsIdle e.process roster → Asks e.process e.call roster new
       → IsExact table history e (record (objects_after table history) { processes = created }) new
   exact_timed e new created unnamed uncreated timed =
@@ -257,7 +261,8 @@ module _ (table : Table) (history : List Entry) (roster : Roster)
         timed_calls s =
             All-append (IsElsewhere s) (own_call e) (flat_map (answered_by history) e.notices)
             (own (is_accepted e.reply) e.call (unnamed s))
-            (All-weaker (λ c. begins c ≡ Some Time) (IsElsewhere s) (λ c begun. begins_names c Time begun s) _
+            (All-weaker (λ c. begins c ≡ Some Time) (IsElsewhere s)
+            (λ c begun. begins_names c Time begun s) _
             (handed roster history e.notices Time asked timed)) where
               own : (accepted : Bool) (called : Option Call)
                   → ((c : Call) → called ≡ Some c → IsElsewhere s c)
@@ -267,42 +272,48 @@ module _ (table : Table) (history : List Entry) (roster : Roster)
               own true (Some c) h =
                   All-cons (IsElsewhere s) c [] (h c refl) (All-nil (IsElsewhere s))
 
--- an entry without a call changes no object, where whom it wakes with NO_ERROR waited for time
+-- an entry without a call changes no object, where all whom it wakes with NO_ERROR waited for time
 pub exact_uncalled : (table : Table) (history : List Entry) (old new : Roster) (e : Entry)
     → e.call ≡ None → e.process ≡ Nobody
     → ((p : ℕ) → wakes p e.notices ≡ true → awaited (record_at old p) ≡ Some Time) → Frees old new
     → AreEnough table history → AreBounded table history → AreAsked old history
     → IsExact table history e (objects_after table history) new
 exact_uncalled table history old new e no_call nobody timed frees enough bounded asked =
-    exact_timed table history old enough bounded asked e new (map_places (process_after history) 0 table.processes)
+    exact_timed table history old enough bounded asked e new (objects_after table history).processes
     (λ s c is. absurd (none-some c (sym no_call ∙ is))) (λ s. rw no_call refl) timed
     (flags_same table.processes history e (λ p. rw no_call refl))
-    (λ q w by h. absurd (both_ways false refl (rw nobody at by))) (asks_freed e.process e.call old new frees)
+    (λ q w by h. absurd (both_ways false refl (rw nobody at by)))
+    (asks_freed e.process e.call old new frees)
 
 module _ (number now : ℕ) (who : Who) (table : Table) (history : List Entry) (roster : Roster)
-    (enough : AreEnough table history) (bounded : AreBounded table history) (asked : AreAsked roster history) (one : WaitsForOne roster) where
+    (enough : AreEnough table history) (bounded : AreBounded table history)
+    (asked : AreAsked roster history) (one : WaitsForOne roster) where
   -- after a service the objects, and who waits, are as the history then says
   abbrev pub IsServed : Caller → Call → Outcome → Type 0
   IsServed caller call o =
-      IsExact table history (entry_with number now who caller history call o.reply o.notices) o.objects o.roster
+      let e = entry_with number now who caller history call o.reply o.notices in
+      IsExact table history e o.objects o.roster
 
   abbrev objects : Objects
   objects = objects_after table history
 
-  exact_semaphore : (caller : Caller) (idle : IsIdle caller roster) (call : SemaphoreCall) (s : ℕ) → semaphore_of call ≡ Some s → s < length table.semaphores
-      → IsServed caller (ToSemaphore call)
-      (after_semaphore objects s
-      (semaphore_service roster (semaphore_after history s (semaphore_entry table s)) s caller call))
+  exact_semaphore : (caller : Caller) (idle : IsIdle caller roster) (call : SemaphoreCall) (s : ℕ)
+      → semaphore_of call ≡ Some s → s < length table.semaphores →
+      let semaphore = semaphore_after history s (semaphore_entry table s) in
+      IsServed caller (ToSemaphore call)
+      (after_semaphore objects s (semaphore_service roster semaphore s caller call))
   exact_semaphore caller idle call s is within =
       let entry = semaphore_entry table s in
       let o = semaphore_service roster (semaphore_after history s entry) s caller call in
       let e = entry_with number now who caller history (ToSemaphore call) o.reply o.notices in
-      let told = told_service number now who caller history roster asked s entry (enough s within) call is in
+      let told =
+      told_service number now who caller history roster asked s entry (enough s within) call is in
       let after = λ (t : ℕ) (inside : t < length table.semaphores) (differs : t ≢ s).
       after_quiet t (semaphore_entry table t) history e (enough t inside) (told.others t differs) in
       record {
         objects = objects_by _ _ _ _ (flags_same table.processes history e (λ p. refl))
-            (sym (set-map_places (semaphore_after history) (semaphore_after (history ++ e ∷ [])) table.semaphores s o.semaphore no_semaphore no_object within
+            (sym (set-map_places (semaphore_after history) (semaphore_after (history ++ e ∷ []))
+            table.semaphores s o.semaphore no_semaphore no_object within
             (sym told.own.is) (λ k h differs. sym (after k h differs).is)));
         enough = λ t inside. elim (cases_eq t s) [
           | inl same ↦ rw same told.own.enough
@@ -310,21 +321,25 @@ module _ (number now : ℕ) (who : Who) (table : Table) (history : List Entry) (
         ];
         bounded = λ t inside. elim (cases_eq t s) [
           | inl same ↦
-              let below = below_service roster (semaphore_after history s entry) (bounded s within) s caller call in
+              let object = semaphore_after history s entry in
+              let below = below_service roster object (bounded s within) s caller call in
               rw same (rw (ap (λ (x : SemaphoreObject). x.value) told.own.is) below)
-          | inr differs ↦ rw (ap (λ (x : SemaphoreObject). x.value) (after t inside differs).is) (bounded t inside)
+          | inr differs ↦
+              rw (ap (λ (x : SemaphoreObject). x.value) (after t inside differs).is) (bounded t inside)
         ];
         waiting = asked-push history e roster o.roster idle asked told.asks;
       }
 
   -- a call of a name that is no entry's
-  exact_unknown : (caller : Caller) (idle : IsIdle caller roster) (call : SemaphoreCall) → semaphore_of call ≡ None → (code : ReturnCode) → is_no_error code ≡ false
+  exact_unknown : (caller : Caller) (idle : IsIdle caller roster) (call : SemaphoreCall)
+      → semaphore_of call ≡ None → (code : ReturnCode) → is_no_error code ≡ false
       → IsServed caller (ToSemaphore call) (refused roster objects code)
   exact_unknown caller idle call is code bad =
       let e = entry_with number now who caller history (ToSemaphore call) (Code code) [] in
       exact_timed table history roster enough bounded asked e roster objects.processes
-      (λ s c same. rw (sym (same_Some (ToSemaphore call) c same), is) refl) (λ s. rw bad (and_false _))
-      (λ p woken. absurd (both_ways false refl woken)) (flags_same table.processes history e (λ p. refl))
+      (λ s c same. rw (sym (same_Some (ToSemaphore call) c same), is) refl)
+      (λ s. rw bad (and_false _)) (λ p woken. absurd (both_ways false refl woken))
+      (flags_same table.processes history e (λ p. refl))
       idle (asks_freed caller (Some (ToSemaphore call)) roster roster (frees_none roster))
 
   no_semaphore_refused : (call : SemaphoreCall) → is_no_error (no_semaphore_code roster call) ≡ false
@@ -337,10 +352,12 @@ module _ (number now : ℕ) (who : Who) (table : Table) (history : List Entry) (
   no_semaphore_refused (GetSemaphoreId named) = refl
   no_semaphore_refused (GetSemaphoreStatus s) = refl
 
-  exact_target : (caller : Caller) (idle : IsIdle caller roster) (call : SemaphoreCall) (target : Option ℕ) → semaphore_of call ≡ target
+  exact_target : (caller : Caller) (idle : IsIdle caller roster) (call : SemaphoreCall)
+      (target : Option ℕ) → semaphore_of call ≡ target
       → IsKnownToSemaphores (length table.semaphores) call
       → IsServed caller (ToSemaphore call) (semaphore_deed roster objects caller call target)
-  exact_target caller idle call None is known = exact_unknown caller idle call is (no_semaphore_code roster call) (no_semaphore_refused call)
+  exact_target caller idle call None is known =
+      exact_unknown caller idle call is (no_semaphore_code roster call) (no_semaphore_refused call)
   exact_target caller idle call (Some s) is known =
       let within = known_target (length table.semaphores) call s is known in
       let z : 0 + s ≡ s = omega arith in
@@ -353,27 +370,32 @@ module _ (number now : ℕ) (who : Who) (table : Table) (history : List Entry) (
       → (call : Call) (reply : Reply) (notices : List Notice) (new : Roster) (created : List Bool)
       → ((s : ℕ) → IsElsewhere s call) → ((s : ℕ) → is_creation_of_semaphore s (Some call) ≡ false)
       → Keeps caller call roster new notices
-      → map_places (process_after (history ++ entry_with number now who caller history call reply notices ∷ [])) 0 table.processes ≡ created
-      → IsServed caller call
-      (record { roster = new; objects = record objects { processes = created }; reply = reply; notices = notices })
+      → let e = entry_with number now who caller history call reply notices in
+      (objects_after table (history ++ e ∷ [])).processes ≡ created
+      → IsExact table history e (record objects { processes = created }) new
   exact_other caller idle call reply notices new created unnamed uncreated keeps flags =
-      exact_timed table history roster enough bounded asked (entry_with number now who caller history call reply notices) new created
-      (λ s c same. rw (sym (same_Some call c same)) (unnamed s)) (λ s. rw (uncreated s) refl) keeps.timed flags idle keeps.asks
+      let e = entry_with number now who caller history call reply notices in
+      exact_timed table history roster enough bounded asked e new created
+      (λ s c same. rw (sym (same_Some call c same)) (unnamed s)) (λ s. rw (uncreated s) refl)
+      keeps.timed flags idle keeps.asks
 
   pub exact_service : (caller : Caller) (idle : IsIdle caller roster) (call : Call) → IsKnown table call
       → IsServed caller call (service table.cores roster objects caller call)
   exact_service caller idle (Partition call) known =
       let o = partition_service table.cores roster call in
-      exact_other caller idle (Partition call) o.reply o.notices o.roster objects.processes (λ s. refl) (λ s. refl)
-      (keeps_spared caller (Partition call) roster o.roster o.notices (partition_spares table.cores roster call))
+      let spares = partition_spares table.cores roster call in
+      exact_other caller idle (Partition call) o.reply o.notices o.roster objects.processes
+      (λ s. refl) (λ s. refl) (keeps_spared caller (Partition call) roster o.roster o.notices spares)
       (flags_same table.processes history _ (λ p. refl))
   exact_service caller idle (ToProcess call) known =
       let o = process_service table.cores roster objects.processes caller call in
-      exact_other caller idle (ToProcess call) o.reply o.notices o.roster o.created (λ s. refl) (λ s. refl)
-      (process_keeps roster objects.processes table.cores one caller call)
-      (flagged_service number now who caller history table.processes table.cores roster call known).is
+      let entries = table.processes in
+      exact_other caller idle (ToProcess call) o.reply o.notices o.roster o.created
+      (λ s. refl) (λ s. refl) (process_keeps roster objects.processes table.cores one caller call)
+      (flagged_service number now who caller history entries table.cores roster call known).is
   exact_service caller idle (ToTime call) known =
       let o = time_service roster caller call in
-      exact_other caller idle (ToTime call) o.reply [] o.roster objects.processes (λ s. refl) (λ s. refl)
-      (time_keeps roster caller call) (flags_same table.processes history _ (λ p. refl))
-  exact_service caller idle (ToSemaphore call) known = exact_target caller idle call (semaphore_of call) refl known
+      exact_other caller idle (ToTime call) o.reply [] o.roster objects.processes
+      (λ s. refl) (λ s. refl) (time_keeps roster caller call) (flags_same table.processes history _ (λ p. refl))
+  exact_service caller idle (ToSemaphore call) known =
+      exact_target caller idle call (semaphore_of call) refl known

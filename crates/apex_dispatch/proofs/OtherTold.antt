@@ -54,7 +54,8 @@ pub spares_none : (roster : Roster) → Spares roster roster []
 spares_none roster = record { frees = frees_none roster; quiet = λ q. refl }
 
 -- who waits asked for it, and whom the service wakes with NO_ERROR had waited for time
-pub record Keeps (caller : Caller) (call : Call) (old new : Roster) (notices : List Notice) : Type 0 where
+pub record Keeps (caller : Caller) (call : Call) (old new : Roster)
+    (notices : List Notice) : Type 0 where
   pub asks : Asks caller (Some call) old new
   pub timed : (q : ℕ) → wakes q notices ≡ true → awaited (record_at old q) ≡ Some Time
 
@@ -248,10 +249,12 @@ resume_keeps : (caller : Caller) (roster : Roster) → stamps.WaitsForOne roster
     → (p : ℕ) (by_itself : Bool)
     → stamps.is_by_itself (record_at roster p).suspended ≡ by_itself
     → Keeps caller (ToProcess (Resume p)) roster
-    (cond by_itself (stamps.unblock roster p) (stamps.readied roster p (stamps.unsuspended roster p)))
+    (cond by_itself (stamps.unblock roster p)
+    (stamps.readied roster p (stamps.unsuspended roster p)))
     (cond by_itself (Woken p NoError ∷ []) [])
 resume_keeps caller roster one p true is = record {
-  asks = asks_freed caller (Some (ToProcess (Resume p))) roster (stamps.unblock roster p) (frees_unblock roster p);
+  asks = asks_freed caller (Some (ToProcess (Resume p))) roster (stamps.unblock roster p)
+      (frees_unblock roster p);
   timed = λ q woken.
       let here = eqb-true q p (only (q == p) woken) in
       let free = one p is in
@@ -261,8 +264,9 @@ resume_keeps caller roster one p true is = record {
   only true h = refl
   only false h = h
 resume_keeps caller roster one p false is =
-    keeps_spared caller (ToProcess (Resume p)) roster (stamps.readied roster p (stamps.unsuspended roster p)) []
-    (record { frees = frees_lessened roster p (stamps.unsuspended roster p) (λ w h. rw is h); quiet = λ q. refl })
+    let r = stamps.unsuspended roster p in
+    keeps_spared caller (ToProcess (Resume p)) roster (stamps.readied roster p r) []
+    (record { frees = frees_lessened roster p r (λ w h. rw is h); quiet = λ q. refl })
 
 -- any service of process management
 module _ (roster : Roster) (created : List Bool) where
@@ -282,25 +286,29 @@ module _ (roster : Roster) (created : List Bool) where
       → KeepsAll caller (Resume p) (processes.resume_process roster created caller p)
   keeps_resume one caller p =
       let r = record_at roster p in
-      keeps_if caller (Resume p) (is_by_process p caller) _ _ (same_kept caller (Resume p))
-      (keeps_if caller (Resume p) (not (processes.is_created created p)) _ _ (same_kept caller (Resume p))
-      (keeps_if caller (Resume p) (not r.started) _ _ (same_kept caller (Resume p))
-      (keeps_if caller (Resume p) (is_none r.suspended) _ _ (same_kept caller (Resume p))
+      let same = same_kept caller (Resume p) in
+      keeps_if caller (Resume p) (is_by_process p caller) _ _ same
+      (keeps_if caller (Resume p) (not (processes.is_created created p)) _ _ same
+      (keeps_if caller (Resume p) (not r.started) _ _ same
+      (keeps_if caller (Resume p) (is_none r.suspended) _ _ same
       (resume_keeps caller roster one p (stamps.is_by_itself r.suspended) refl))))
 
   keeps_suspended : (p : ℕ) (timeout : Timeout)
       → KeepsAll (Process p) (SuspendSelf timeout) (processes.suspended_for roster created p timeout)
-  keeps_suspended p timeout = record {
-    asks =
-        asks_waiting p (ToProcess (SuspendSelf timeout)) Time (record (stamps.self_suspended roster p (due_after roster timeout)) { since = roster.young })
-        roster (stamps.suspend_self roster p (due_after roster timeout)) refl refl refl;
-    timed = λ q woken. absurd (both_ways false refl woken);
-  }
+  keeps_suspended p timeout =
+      let due = due_after roster timeout in
+      let r = record (stamps.self_suspended roster p due) { since = roster.young } in
+      record {
+        asks = asks_waiting p (ToProcess (SuspendSelf timeout)) Time r roster
+            (stamps.suspend_self roster p due) refl refl refl;
+        timed = λ q woken. absurd (both_ways false refl woken);
+      }
 
   keeps_own_of : (p : ℕ) (call : ProcessCall)
       → KeepsAll (Process p) call (processes.own_service roster created p call)
   keeps_own_of p StopSelf =
-      keeps_spared (Process p) (ToProcess StopSelf) roster (stamps.stop roster p) [] (stopped_spares roster created p)
+      keeps_spared (Process p) (ToProcess StopSelf) roster (stamps.stop roster p) []
+      (stopped_spares roster created p)
   keeps_own_of p (SuspendSelf Poll) = same_kept (Process p) (SuspendSelf Poll)
   keeps_own_of p (SuspendSelf timeout) = keeps_suspended p timeout
   keeps_own_of p call = same_kept (Process p) call

@@ -27,7 +27,7 @@ use Rattle.apex_types.specs.Roster.{Roster, is_normal}
 use Rattle.apex_types.specs.Stamps.{block, unblock}
 use Rattle.apex_types.specs.Table.{SemaphoreEntry}
 use Rattle.apex_types.specs.Waiters.{first_waiter, waiter_count}
-use Rattle.apex_types.specs.Satisfied.{is_no_error, is_accepted, answered_by, satisfied_by, calls_where, semaphore_value}
+use Rattle.apex_types.specs.Satisfied.{is_no_error, is_accepted, answered_by, satisfied_by}
 use Rattle.apex_types.specs.History.{semaphore_after, creates_semaphore, SemaphoreObject}
 use Rattle.apex_types.specs.SemaphoreServices.{SemaphoreOutcome, refused_semaphore, create_semaphore, blocked_on, wait_at_zero, wait_semaphore, raise_semaphore, signal_to, signal_semaphore, get_semaphore_id, get_semaphore_status, wait_by, semaphore_service}
 use Rattle.apex_dispatch.specs.AskedWaits.{IsAccounted, AreAsked, begins}

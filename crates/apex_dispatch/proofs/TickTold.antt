@@ -3,6 +3,7 @@ use Rattle.std.proofs.Common.{◌≡◌, ℕ, ◌+◌, Bool, true, false, ◌&&�
 use Rattle.std.proofs.lemmas.Bool.{cases_Bool, and_parts, eqb-true, both_ways}
 use Rattle.std.proofs.lemmas.List.Folds.{list_any-append}
 use Rattle.apex_types.specs.declared.Notice.{Notice}
+use Rattle.apex_types.specs.declared.Record.{Record}
 use Rattle.apex_types.specs.declared.Wait.{Wait}
 use Rattle.apex_types.specs.declared.Wait.TheVariants.{Normal, Start, Time, Semaphore}
 use Rattle.apex_types.specs.declared.Who.TheVariants.{Ticker}
@@ -62,9 +63,10 @@ one_served : (old roster : Roster) (notices : List Notice) (p : ℕ) → IsServe
 one_served old roster notices p served =
     let free = without_due roster p in
     let wait = (record_at roster p).wait in
+    let r : Record = record (record_at roster p) { due = None } in
     record {
       frees = frees_then served.frees
-          (frees_then (frees_moved roster free p (record (record_at roster p) { due = None }) refl (λ w h. h))
+          (frees_then (frees_moved roster free p r refl (λ w h. h))
           (rw (over_roster free p wait) (frees_unblock free p)));
       timed = λ q h. elim (cases_Bool (wakes q notices)) [
         | inl before ↦ served.timed q before

@@ -1,5 +1,5 @@
 -- The services of time wake nobody, and their caller waits for the time that it asked for.
-use Rattle.std.proofs.Common.{◌+◌, false, Some, [], refl}
+use Rattle.std.proofs.Common.{false, [], refl}
 use Rattle.std.proofs.lemmas.Bool.{both_ways}
 use Rattle.apex_types.specs.declared.Call.TheVariants.{Time as ToTime}
 use Rattle.apex_types.specs.declared.Caller.{Caller}

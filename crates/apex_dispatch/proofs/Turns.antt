@@ -58,7 +58,8 @@ module _ (table : Table) (lawful : IsLawful table) (history : List Entry) (numbe
       → IsDeedExact table history number (Core core) (served table.cores roster (objects_after table history) caller call)
   exact_served roster before one caller idle call known =
       let o = service table.cores roster (objects_after table history) caller call in
-      exact_service number o.roster.now (Core core) table history roster enough bounded before one caller idle call known
+      exact_service number o.roster.now (Core core) table history roster enough bounded before one
+      caller idle call known
 
   module _ (roster : Roster) (before : AreAsked roster history) (one : WaitsForOne roster) where
     exact_script : (p : ℕ) → p < length table.processes → awaited (record_at roster p) ≡ None
@@ -72,7 +73,8 @@ module _ (table : Table) (lawful : IsLawful table) (history : List Entry) (numbe
         let place = next_place (process_entry table p) r.step in
         let moved = set_step roster p place in
         let frees = frees_moved roster moved p (record r { step = place }) refl (λ w h. h) in
-        exact_served moved (λ q w h. before q w (frees.still q w h)) (one_step roster p place one) (Process p)
+        exact_served moved (λ q w h. before q w (frees.still q w h)) (one_step roster p place one)
+        (Process p)
         (λ q w by h. none-some w (sym free ∙ rw (eqb-true q p by) at (frees.still q w h)))
         call (known_script_step table p r.step call lawful is)
 
@@ -95,7 +97,8 @@ module _ (table : Table) (lawful : IsLawful table) (history : List Entry) (numbe
         → (found : Option ℕ) → chosen roster core ≡ found
         → IsDeedExact table history number (Core core) (chosen_deed table roster (objects_after table history) found)
     exact_chosen known None is =
-        exact_uncalled table history roster roster _ refl refl (λ p woken. absurd (both_ways false refl woken))
+        exact_uncalled table history roster roster _ refl refl
+        (λ p woken. absurd (both_ways false refl woken))
         (frees_none roster) enough bounded before
     exact_chosen known (Some p) is =
         exact_script p (known p is) (chosen_free p is) (step_of table roster p) refl
