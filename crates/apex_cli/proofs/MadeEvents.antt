@@ -103,7 +103,7 @@ pub fault_fits : (table : Table) (events : List Event)
     → fault_of_events table events ≡ None
 fault_fits table events fits =
     let few : nat_le (length events) table.limit ≡ true =
-        le-leb _ _ (omega (arith, length-take (table.limit + 1) events)) in
+    le-leb _ _ (omega (arith, length-take (table.limit + 1) events)) in
     rw few refl
 
 pub fault_full : (table : Table) (events : List Event)
@@ -111,5 +111,5 @@ pub fault_full : (table : Table) (events : List Event)
     → fault_of_events table events ≡ Some (HistoryFull table.limit)
 fault_full table events full =
     let many : nat_le (length events) table.limit ≡ false =
-        lt-leb _ _ (omega (arith, length-take (table.limit + 1) events)) in
+    lt-leb _ _ (omega (arith, length-take (table.limit + 1) events)) in
     rw many refl
