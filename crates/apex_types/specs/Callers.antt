@@ -1,10 +1,17 @@
 -- Who may call a service.
-use Rattle.std.specs.Prelude.{ℕ, ◌<◌}
+use Rattle.std.specs.Prelude.{◌≡◌, ℕ, ◌<◌, true, length}
 use Rattle.apex_types.specs.declared.entries.Caller.{Caller}
 use Rattle.apex_types.specs.declared.entries.Caller.TheVariants.{Process, Init, Nobody}
+use Rattle.apex_types.specs.Roster.{Roster, record_at}
+use Rattle.apex_types.specs.Running.{is_eligible}
 
--- a process that calls is one of so many
-abbrev pub IsKnownCaller : ℕ → Caller → Type 0
-IsKnownCaller many (Process p) = p < many
-IsKnownCaller many Init = Unit {0}
-IsKnownCaller many Nobody = Unit {0}
+-- process p is one of the roster's, and is eligible
+pub record IsReady (roster : Roster) (p : ℕ) : Type 0 where
+  pub known : p < length roster.records
+  pub eligible : is_eligible roster.mode (record_at roster p) ≡ true
+
+-- a process that calls is an eligible one
+abbrev pub IsReadyCaller : Roster → Caller → Type 0
+IsReadyCaller roster (Process p) = IsReady roster p
+IsReadyCaller roster Init = Unit {0}
+IsReadyCaller roster Nobody = Unit {0}
