@@ -1,13 +1,14 @@
 -- Each change of a roster leaves it with distinct stamps, all given before the next one.
 use Rattle.std.proofs.Common.{◌≡◌, ◌≢◌, ℕ, ◌+◌, ◌<◌, ◌<ℤ◌, pos, Option, None, Some, length, refl, sym, ◌∙◌, ap, inl, inr, arith}
-use Rattle.std.proofs.lemmas.Bool.{cases_eq}
+use Rattle.std.proofs.lemmas.Bool.{cases_eq, cond_both}
 use Rattle.std.proofs.lemmas.Int.{ints}
 use Rattle.std.proofs.lemmas.List.{length-set}
 use Rattle.apex_types.specs.declared.records.Mode.{Mode}
 use Rattle.apex_types.specs.declared.records.Record.{Record}
 use Rattle.apex_types.specs.Roster.{Roster, record_at, with_record, nobody, opening_record, opening_roster}
 use Rattle.apex_types.specs.Table.{Table, no_process}
-use Rattle.apex_types.specs.Stamps.{newest, advance_to, without_due_of, take_due, set_mode}
+use Rattle.apex_types.specs.Running.{is_eligible}
+use Rattle.apex_types.specs.Stamps.{newest, readied, awake, unsuspended, is_by_itself, resume, advance_to, without_due_of, take_due, set_mode}
 use Rattle.apex_types.specs.Distinct.{IsStamped}
 use Rattle.apex_types.specs.Dues.{is_due_at, by_number, first_due}
 use Rattle.apex_types.proofs.Choice.{place_within}
@@ -92,6 +93,15 @@ module _ (roster : Roster) (p : ℕ) (known : p < length roster.records) (stampe
     newer = newer_newest r;
     distinct = record { distinct = distinct_newest r };
   }
+
+  pub stamped_readied : (r : Record) → r.since ≡ (record_at roster p).since → IsStamped (readied roster p r)
+  stamped_readied r same =
+      cond_both {A = Roster} (is_eligible roster.mode r) _ _ IsStamped (λ _. stamped_newest r) (λ _. stamped_record r same)
+
+  pub stamped_resume : IsStamped (resume roster p)
+  stamped_resume =
+      cond_both {A = Roster} (is_by_itself (record_at roster p).suspended) _ _ IsStamped
+      (λ _. stamped_readied (awake (record_at roster p)) refl) (λ _. stamped_readied (unsuspended (record_at roster p)) refl)
 
 pub stamped_set_mode : (roster : Roster) → IsStamped roster → (mode : Mode) → IsStamped (set_mode roster mode)
 stamped_set_mode roster stamped mode = record {
