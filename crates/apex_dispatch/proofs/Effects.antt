@@ -1,6 +1,7 @@
 -- What each service does to who waits, and to the objects that are read off the history.
 use Rattle.std.proofs.Common.{◌≡◌, ◌≢◌, ℕ, ◌<◌, Bool, true, false, List, [], ◌∷◌, length, Option, None, Some, nat_lt, ◌&&◌, not, ◌⊎◌, refl, sym, ◌∙◌, ap, arith, inl, inr, set, get_or}
 use Rattle.std.specs.List.{list_any}
+use Rattle.std.specs.Option.{option_and_then}
 use Rattle.std.proofs.lemmas.List.{get_or-set_other, get_or_past, length-set}
 use Rattle.std.proofs.lemmas.Option.{none-some, same_Some}
 use Rattle.std.proofs.lemmas.Grind.{get_or-set_at}
@@ -16,13 +17,14 @@ use Rattle.apex_types.specs.declared.Reply.TheVariants.{Blocked}
 use Rattle.apex_types.specs.declared.ReturnCode.TheVariants.{NoError}
 use Rattle.apex_types.specs.declared.Suspender.{Suspender}
 use Rattle.apex_types.specs.declared.Suspender.TheVariants.{Itself, Other}
+use Rattle.apex_types.specs.declared.Queue.TheVariants as queues
 use Rattle.apex_types.specs.declared.Wait.{Wait}
 use Rattle.apex_types.specs.declared.Wait.TheVariants.{Normal, Start, Time, Semaphore}
 use Rattle.apex_types.specs.Roster.{Roster, nobody, record_at, with_record}
 use Rattle.apex_types.specs.Stamps.{is_by_itself, suspension_awake, awake, block, unblock, newest, readied}
-use Rattle.apex_types.specs.Waiters.{waits_in, waits_before, discipline_of, is_wait_for, is_same_wait, first_waiter}
+use Rattle.apex_types.specs.Waiters.{is_same_wait, queue_of, first_waiter}
 use Rattle.apex_types.specs.Running.{is_eligible}
-use Rattle.apex_types.proofs.Choice.{place_passes}
+use Rattle.apex_types.proofs.Starts.{first_stands}
 use Rattle.apex_dispatch.specs.OpenWaits.{asked_of, or_suspended, awaited}
 use Rattle.apex_dispatch.proofs.Truths.{and_true}
 use Rattle.apex_dispatch.proofs.Waits.{other}
@@ -62,20 +64,18 @@ wait_after records p q r w h = elim (cases_eq q p) [
 ]
 
 -- a process that is in the queue of a semaphore asked for it
-awaits_semaphore : (s : ℕ) (wait : Option Wait) (by_itself : Bool) → is_wait_for (Semaphore s) wait ≡ true
+awaits_semaphore : (s : ℕ) (wait : Option Wait) (by_itself : Bool) → option_and_then queue_of wait ≡ Some (queues.Semaphore s)
     → or_suspended (asked_of wait) by_itself ≡ Some (Semaphore s)
 awaits_semaphore s None by_itself h = cc
-awaits_semaphore s (Some Normal) by_itself h = cc
+awaits_semaphore s (Some (Normal delay)) by_itself h = cc
 awaits_semaphore s (Some Start) by_itself h = cc
 awaits_semaphore s (Some Time) by_itself h = cc
-awaits_semaphore s (Some (Semaphore t)) by_itself h = ap (λ t. Some (Semaphore t)) (sym (eqb-true s t h))
+awaits_semaphore s (Some (Semaphore t)) by_itself h = let same : t ≡ s = cc in ap (λ (u : ℕ). Some (Semaphore u)) same
 
 -- the first waiter for a semaphore waits for it
-pub first_waits : (roster : Roster) (s p : ℕ) → first_waiter roster (Semaphore s) ≡ Some p
+pub first_waits : (roster : Roster) (s p : ℕ) → first_waiter roster (queues.Semaphore s) ≡ Some p
     → awaited (record_at roster p) ≡ Some (Semaphore s)
-unfolding waits_in
-first_waits roster s p e =
-    awaits_semaphore s _ _ (place_passes (waits_in (Semaphore s)) (waits_before (discipline_of roster (Semaphore s))) roster.records p nobody e)
+first_waits roster s p e = awaits_semaphore s (record_at roster p).wait _ (first_stands roster (queues.Semaphore s) p e)
 
 -- who waits for what it asked for afterwards waited for it before
 pub record Frees (old new : Roster) : Type 0 where
@@ -179,7 +179,7 @@ awake_free (Some Other) = refl
 
 pub freed_unblock : (roster : Roster) (p q : ℕ) (w : Wait) → awaited (record_at (unblock roster p) q) ≡ Some w
     → (q ≢ p) × (awaited (record_at roster q) ≡ Some w)
-freed_unblock roster p = freed_readied roster p (awake roster p) (awake_free (record_at roster p).suspended)
+freed_unblock roster p = freed_readied roster p (awake (record_at roster p)) (awake_free (record_at roster p).suspended)
 
 pub frees_unblock : (roster : Roster) (p : ℕ) → Frees roster (unblock roster p)
 frees_unblock roster p = record { still = λ q w h. (freed_unblock roster p q w h).1 }

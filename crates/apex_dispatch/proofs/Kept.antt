@@ -2,6 +2,7 @@
 use Rattle.std.proofs.Common.{◌≡◌, ℕ, zero, suc, ◌+◌, ◌≤◌, Bool, false, List, [], ◌∷◌, ◌++◌, length, get_or, Option, None, Some, is_some, pos, ◌+ℤ◌, ◌≤ℤ◌, refl, sym, ◌∙◌, arith, length-append, if◌then◌else◌, IfSome}
 use Rattle.std.proofs.lemmas.List.Elements.{All-nil, All-push}
 use Rattle.std.proofs.lemmas.Int.{ints}
+use Rattle.std.proofs.lemmas.Bool.{both_ways}
 use Rattle.std.proofs.lemmas.Option.{none-some}
 use Rattle.std.proofs.lemmas.List.Sums.{sum_by-append}
 use Rattle.apex_types.specs.declared.Call.{Call}
@@ -15,7 +16,7 @@ use Rattle.apex_types.specs.Roster.{Roster, nobody, record_at, opening_record}
 use Rattle.apex_types.specs.Running.{chosen}
 use Rattle.apex_types.specs.Dues.{HasNoPastDue}
 use Rattle.apex_types.specs.Distinct.{IsStamped}
-use Rattle.apex_types.specs.Stamps.{advance_to, WaitsForOne}
+use Rattle.apex_types.specs.Stamps.{advance_to, WaitsForOne, HasOrderlyStarts}
 use Rattle.apex_types.specs.Ticks.{tick_goal, pass_time}
 use Rattle.apex_types.specs.History.{Objects, objects_after, init_count, is_by_init}
 use Rattle.apex_types.specs.Lines.{IsPrintable}
@@ -57,12 +58,12 @@ init_count-push history e b h =
 sound_deed : (table : Table) (machine : Machine) (who : Who) (deed : Deed) (init_made room : ℕ) (made : Bool) → IsSound (kernel_in table machine) init_made room
     → is_by_init deed.caller ≡ made
     → length deed.outcome.roster.records ≡ length machine.roster.records
-    → deed.outcome.roster.young ≤ℤ (machine.roster.young +ℤ pos 64)
-    → IsStamped deed.outcome.roster → HasNoPastDue deed.outcome.roster → WaitsForOne deed.outcome.roster
+    → deed.outcome.roster.young ≤ℤ (machine.roster.young +ℤ pos 64) → machine.roster.old ≤ℤ (deed.outcome.roster.old +ℤ pos 64)
+    → IsStamped deed.outcome.roster → HasNoPastDue deed.outcome.roster → WaitsForOne deed.outcome.roster → HasOrderlyStarts deed.outcome.roster
     → IfSome deed.call (IsKnown table)
     → IsDeedExact table machine.history (length machine.history + 1) who deed
     → IsSound (kernel_in table (after_deed machine who deed)) (init_made + (if made then 1 else 0)) room
-sound_deed table machine who deed init_made room made sound by many few stamped dues one known exact =
+sound_deed table machine who deed init_made room made sound by many few older stamped dues one starts known exact =
     let history = machine.history in
     let e = entry_of (length history + 1) who deed in
     let longer : length (history ++ e ∷ []) ≡ length history + 1 = rw length-append refl in
@@ -73,9 +74,11 @@ sound_deed table machine who deed init_made room made sound by many few stamped 
       records = many ∙ sound.records;
       objects = refl;
       stamps = rw longer (omega (arith, ints, few, sound.stamps));
+      older = rw longer (omega (arith, ints, older, sound.older));
       stamped = stamped;
       dues = dues;
       one = one;
+      starts = starts;
       known = All-push (IsPrintable table) history e sound.known known;
       enough = exact.enough;
       bounded = exact.bounded;
@@ -88,7 +91,7 @@ turn_reaches : (table : Table) (machine : Machine) (core init_made room : ℕ) �
 turn_reaches table machine core init_made room sound =
     let roster = machine.roster in
     let count = sound.lawful.process_count in
-    reach_turn table (objects_after table machine.history) roster (omega (arith, sound.records, count)) sound.records
+    reach_turn table (objects_after table machine.history) roster sound.starts sound.one (omega (arith, sound.records, count)) sound.records
     (λ p call h e. known_script_step table p (record_at roster p).step call sound.lawful e)
     core (due_init_call table machine core) (due_known table machine core sound.lawful)
 
@@ -102,7 +105,7 @@ sound_turn table machine core init_made room sound =
     let reaches = turn_reaches table machine core init_made room sound in
     sound_deed table machine (Core core) (deed_of table machine core) init_made room (is_some due) sound
     (turn_caller table machine.roster (objects_after table machine.history) core due)
-    reaches.many reaches.stamps (reaches.stamped sound.stamped) (reaches.dues sound.dues) (reaches.one sound.one)
+    reaches.many reaches.stamps reaches.older (reaches.stamped sound.stamped) (reaches.dues sound.dues) (reaches.one sound.one) (reaches.starts sound.starts)
     (deed_known table sound.lawful machine core)
     (exact_deed table machine core sound.lawful sound.records sound.enough sound.bounded sound.waiting sound.one)
 
@@ -111,10 +114,15 @@ pub now_turn : (table : Table) (machine : Machine) (core init_made room : ℕ) �
 unfolding turn
 now_turn table machine core init_made room sound = (turn_reaches table machine core init_made room sound).time
 
+-- time that goes on leaves the order of starts
+advanced_starts : (roster : Roster) (t : ℕ) → HasOrderlyStarts roster → HasOrderlyStarts (advance_to roster t)
+advanced_starts roster t starts = record { dormant = starts.dormant; early = starts.early; undue = starts.undue }
+
 -- after a tick
-tick_reaches : (roster : Roster) (n : ℕ) → Reaches (length roster.records) (advance_to roster (tick_goal roster n)) (pass_time roster n).roster
+tick_reaches : (roster : Roster) (n : ℕ) → HasOrderlyStarts roster → Reaches (length roster.records) (advance_to roster (tick_goal roster n)) (pass_time roster n).roster
 unfolding pass_time
-tick_reaches roster n = reach_serve_dues (advance_to roster (tick_goal roster n))
+tick_reaches roster n starts =
+    reach_serve_dues (advance_to roster (tick_goal roster n)) (advanced_starts roster (tick_goal roster n) starts)
 
 pub sound_tick : (table : Table) (machine : Machine) (n init_made room : ℕ) → IsSound (kernel_in table machine) init_made room
     → IsSound (kernel_in table (tick table machine n)) init_made room
@@ -122,22 +130,22 @@ unfolding tick
 sound_tick table machine n init_made room sound =
     let roster = machine.roster in
     let objects = objects_after table machine.history in
-    let reaches = tick_reaches roster n in
+    let reaches = tick_reaches roster n sound.starts in
     let count = sound.lawful.process_count in
     let same : init_made + 0 ≡ init_made = omega arith in
     rw same at (sound_deed table machine Ticker (tick_deed roster objects n) init_made room false sound refl
-    reaches.many (omega (arith, ints, reaches.stamps, sound.records, count))
+    reaches.many (omega (arith, ints, reaches.stamps, sound.records, count)) (omega (arith, ints, reaches.older, sound.records, count))
     (reaches.stamped (stamped_advance_to roster sound.stamped (tick_goal roster n)))
-    (reaches.dues (goal_not_past roster n)) (reaches.one sound.one) tt
+    (reaches.dues (goal_not_past roster n)) (reaches.one sound.one) (reaches.starts (advanced_starts roster (tick_goal roster n) sound.starts)) tt
     (exact_tick table machine n sound.enough sound.bounded sound.waiting))
 
 -- a tick goes forward, and n at the most
-pub now_tick : (table : Table) (machine : Machine) (n : ℕ) → HasNoPastDue machine.roster
+pub now_tick : (table : Table) (machine : Machine) (n : ℕ) → HasOrderlyStarts machine.roster → HasNoPastDue machine.roster
     → (machine.roster.now ≤ (tick table machine n).roster.now) × ((tick table machine n).roster.now ≤ machine.roster.now + n)
 unfolding tick
-now_tick table machine n dues =
+now_tick table machine n starts dues =
     let roster = machine.roster in
-    let same = (tick_reaches roster n).time in
+    let same = (tick_reaches roster n starts).time in
     (rw same (goal_forward roster n dues), rw same (goal_near roster n))
 
 pub length-turn : (table : Table) (machine : Machine) (core : ℕ) → length (turn table machine core).history ≡ length machine.history + 1
@@ -161,7 +169,7 @@ pub kept_tick : (table : Table) (machine : Machine) (n init_made room : ℕ) →
     → IsKept (kernel_in table (tick table machine n)) init_made room
 kept_tick table machine n init_made room few kept = record {
   sound = sound_tick table machine n init_made room kept.sound;
-  time = rw (length-tick table machine n) (omega (arith, kept.time, few, (now_tick table machine n kept.sound.dues).1));
+  time = rw (length-tick table machine n) (omega (arith, kept.time, few, (now_tick table machine n kept.sound.starts kept.sound.dues).1));
 }
 
 -- what a turn leaves, where its deed was carried out on the running values
@@ -214,9 +222,15 @@ sound_opening table lawful =
       records = size;
       objects = refl;
       stamps = omega (arith, ints, count);
+      older = omega (arith, ints);
       stamped = stamped_opening table;
       dues = λ p t h. omega arith;
       one = λ p h. opening_waits table.processes 0 p;
+      starts = record {
+        dormant = λ p e. opening_waits table.processes 0 p;
+        early = λ e p h. absurd (both_ways _ (opening_dormant table.processes 0 p) h);
+        undue = λ e p. opening_undue table.processes 0 p;
+      };
       known = All-nil (IsPrintable table);
       enough = λ s h. omega arith;
       bounded = λ s h. omega (arith, (lawful.semaphores s h).initial);
@@ -226,6 +240,16 @@ sound_opening table lawful =
       opening_waits [] q p = refl
       opening_waits (e ∷ entries) q zero = refl
       opening_waits (e ∷ entries) q (suc p) = opening_waits entries (q + 1) p
+
+      opening_dormant : (entries : List ProcessEntry) (q p : ℕ) → (get_or (map_places opening_record q entries) p nobody).started ≡ false
+      opening_dormant [] q p = refl
+      opening_dormant (e ∷ entries) q zero = refl
+      opening_dormant (e ∷ entries) q (suc p) = opening_dormant entries (q + 1) p
+
+      opening_undue : (entries : List ProcessEntry) (q p : ℕ) → (get_or (map_places opening_record q entries) p nobody).due ≡ None
+      opening_undue [] q p = refl
+      opening_undue (e ∷ entries) q zero = refl
+      opening_undue (e ∷ entries) q (suc p) = opening_undue entries (q + 1) p
 
       opening_free : (entries : List ProcessEntry) (q p : ℕ) (w : Wait) → awaited (get_or (map_places opening_record q entries) p nobody) ≡ Some w → ⊥
       opening_free [] q p w h = none-some w h

@@ -75,7 +75,7 @@ well_opening table lawful = record { sound = (0, sound_opening table lawful); wi
 -- time goes forward
 now_happen : (table : Table) (machine : Machine) (event : Event) → IsWell table machine → machine.roster.now ≤ (happen table machine event).roster.now
 now_happen table machine (Turn core) well = omega (arith, now_turn table machine core well.sound.0 table.limit well.sound.1)
-now_happen table machine (Tick n) well = (now_tick table machine n well.sound.1.dues).0
+now_happen table machine (Tick n) well = (now_tick table machine n well.sound.1.starts well.sound.1.dues).0
 
 now_accept : (table : Table) (machine : Machine) (event : Event) → IsWell table machine → machine.roster.now ≤ (accept table machine event).roster.now
 now_accept table machine event well =

@@ -17,6 +17,7 @@ use Rattle.apex_types.specs.declared.Reply.{Reply}
 use Rattle.apex_types.specs.declared.Reply.TheVariants.{Code, Value, Status, Blocked}
 use Rattle.apex_types.specs.declared.ReturnCode.{ReturnCode}
 use Rattle.apex_types.specs.declared.ReturnCode.TheVariants.{NoError, NoAction, NotAvailable, InvalidParam, InvalidConfig, InvalidMode}
+use Rattle.apex_types.specs.declared.Queue.TheVariants as queues
 use Rattle.apex_types.specs.declared.Wait.TheVariants.{Semaphore}
 use Rattle.apex_types.specs.declared.Who.{Who}
 use Rattle.apex_types.specs.Dues.{due_after}
@@ -94,7 +95,7 @@ module _ (number now : ℕ) (who : Who) (caller : Caller) (history : List Entry)
   unblock_kept p =
       kept_woken caller (ToSemaphore (SignalSemaphore s)) roster idle (Code NoError) p (unblock roster p) (freed_unblock roster p)
 
-  told_signal_to : (first : Option ℕ) → first_waiter roster (Semaphore s) ≡ first
+  told_signal_to : (first : Option ℕ) → first_waiter roster (queues.Semaphore s) ≡ first
       → IsTold (SignalSemaphore s) (signal_to roster (semaphore_after history s entry) first)
   told_signal_to None is = told_raise
   told_signal_to (Some p) is =
@@ -116,13 +117,13 @@ module _ (number now : ℕ) (who : Who) (caller : Caller) (history : List Entry)
   told_signal : IsTold (SignalSemaphore s) (signal_semaphore roster (semaphore_after history s entry) s)
   told_signal =
       told_if (SignalSemaphore s) (not (semaphore_after history s entry).created) _ _ (λ _. told_refused (SignalSemaphore s) InvalidParam refl)
-      (λ _. told_signal_to (first_waiter roster (Semaphore s)) refl)
+      (λ _. told_signal_to (first_waiter roster (queues.Semaphore s)) refl)
 
   told_status : IsTold (GetSemaphoreStatus s) (get_semaphore_status roster (semaphore_after history s entry) s)
   told_status =
       let call = GetSemaphoreStatus s in
       told_if call (not (semaphore_after history s entry).created) _ _ (λ _. told_refused call InvalidParam refl) (λ _.
-      let e = told call (Status (semaphore_value entry.initial s history) (waiter_count roster (Semaphore s))) [] in
+      let e = told call (Status (semaphore_value entry.initial s history) (waiter_count roster (queues.Semaphore s))) [] in
       let quiet = λ (t : ℕ). quiet_refused t history e refl (λ p. refl) in
       record {
         own = after_quiet s entry history e enough (quiet s);
@@ -243,6 +244,6 @@ module _ (roster : Roster) (semaphore : SemaphoreObject) (below : semaphore.valu
   below_service s caller (CreateSemaphore named) = below_create
   below_service s caller (WaitSemaphore t timeout) = below_wait_by s caller timeout
   below_service s caller (SignalSemaphore t) =
-      below_if (not semaphore.created) _ _ (λ _. below) (λ _. below_signal_to (first_waiter roster (Semaphore s)))
+      below_if (not semaphore.created) _ _ (λ _. below) (λ _. below_signal_to (first_waiter roster (queues.Semaphore s)))
   below_service s caller (GetSemaphoreId named) = below_if (not semaphore.created) _ _ (λ _. below) (λ _. below)
   below_service s caller (GetSemaphoreStatus t) = below_if (not semaphore.created) _ _ (λ _. below) (λ _. below)

@@ -107,10 +107,14 @@ pub goal_not_past : (roster : Roster) (n : ℕ) → HasNoDueBelow roster (tick_g
 goal_not_past roster n =
     advanced_not_past roster (tick_goal roster n) (at_most_next (roster.now + n) (next_instant roster))
 
+-- an instant from now on
+pub from_now : (now n : ℕ) → IsFrom now (Some (now + n))
+from_now now n t e = omega (arith, same_Some _ _ e)
+
 -- a wait that begins now ends no sooner
 pub due_later : (roster : Roster) (timeout : Timeout) → IsFrom roster.now (due_after roster timeout)
 due_later roster Poll t e = absurd (none-some t e)
-due_later roster (Ticks n) t e = omega (arith, same_Some _ _ e)
+due_later roster (Ticks n) t e = from_now roster.now n t e
 due_later roster Infinite t e = absurd (none-some t e)
 
 -- a due that is this instant

@@ -21,6 +21,7 @@ use Rattle.apex_types.specs.PartitionServices.{enter_idle}
 use Rattle.apex_types.specs.InTurn.{Changed, next_and, in_turn}
 use Rattle.apex_types.proofs.Rosters.{changes_record, changes_newest, at_record}
 use Rattle.apex_types.proofs.DistinctStamps.{stamped_record, stamped_newest, stamped_set_mode}
+use Rattle.apex_types.proofs.Dues.{from_now}
 use Rattle.apex_types.proofs.Starts.{IsOrderlyIn, orderly_at, orderly_all}
 
 -- as many records, the same time, at most so many stamps given; and stamps that differ, dues that are
@@ -180,14 +181,10 @@ module _ (roster : Roster) (p : ℕ) (known : p < length roster.records) where
   reaches_block wait due later begun normal =
       reaches_newest (waiting (record_at roster p) wait due) (waiting_fits (record_at roster p) wait due later begun normal)
 
-  -- an instant from now on
-  from_now : (delay : ℕ) → IsFrom roster.now (Some (roster.now + delay))
-  from_now delay t e = omega (arith, same_Some _ _ e)
-
   pub reaches_begin : (delay : ℕ) → (record_at roster p).started ≡ true → (is_normal roster.mode ≡ false → ⊥) → Reaches 1 roster (begin roster p delay)
   reaches_begin delay begun normal =
       cond_both {A = Roster} (delay == 0) (release roster p) (block roster p Start (Some (roster.now + delay))) (Reaches 1 roster)
-      (λ _. reaches_release normal) (λ _. reaches_block Start (Some (roster.now + delay)) (from_now delay) begun normal)
+      (λ _. reaches_release normal) (λ _. reaches_block Start (Some (roster.now + delay)) (from_now roster.now delay) begun normal)
 
   -- of two changes of one record the later one stands
   newest_twice : (r s : Record) → newest (with_record roster p r) p s ≡ newest roster p s
@@ -225,7 +222,7 @@ module _ (roster : Roster) (p : ℕ) (known : p < length roster.records) where
       cond_both {A = Roster} (is_normal roster.mode) (begin fresh p delay) (block fresh p (Normal delay) None) (Reaches 1 roster)
       (λ normal. cond_both {A = Roster} (delay == 0) (release fresh p) (block fresh p Start due) (Reaches 1 roster)
       (λ _. subst (Reaches 1 roster) (sym fresh_released) (reaches_readied (awake r) refl (awake_fits r (late normal))))
-      (λ _. subst (Reaches 1 roster) (sym (fresh_blocked Start due)) (reaches_newest (waiting r Start due) (waiting_fits r Start due (from_now delay) refl (late normal)))))
+      (λ _. subst (Reaches 1 roster) (sym (fresh_blocked Start due)) (reaches_newest (waiting r Start due) (waiting_fits r Start due (from_now roster.now delay) refl (late normal)))))
       (λ _. subst (Reaches 1 roster) (sym (fresh_blocked (Normal delay) None)) (reaches_newest (waiting r (Normal delay) None) (early_fits delay)))
 
   pub reaches_stop : Reaches 1 roster (stop roster p)
@@ -274,6 +271,16 @@ module _ (roster : Roster) (p : ℕ) (known : p < length roster.records) where
 
   pub reaches_set_step : (step : ℕ) → Reaches 0 roster (set_step roster p step)
   reaches_set_step step = reaches_record _ refl (own_fits _ refl refl refl (λ h. h))
+
+-- a start that begins leaves the mode
+mode_readied : (roster : Roster) (p : ℕ) (r : Record) → (readied roster p r).mode ≡ roster.mode
+mode_readied roster p r =
+    cond_both {A = Roster} (is_eligible roster.mode r) _ _ (λ (after : Roster). after.mode ≡ roster.mode) (λ _. refl) (λ _. refl)
+
+pub mode_begin : (roster : Roster) (p delay : ℕ) → (begin roster p delay).mode ≡ roster.mode
+mode_begin roster p delay =
+    cond_both {A = Roster} (delay == 0) (release roster p) (block roster p Start (Some (roster.now + delay))) (λ (after : Roster). after.mode ≡ roster.mode)
+    (λ _. mode_readied roster p (awake (record_at roster p))) (λ _. refl)
 
 -- the entry into NORMAL
 pub reaches_set_mode : (roster : Roster) (mode : Mode) → is_normal mode ≡ true → Reaches 0 roster (set_mode roster mode)

@@ -9,10 +9,13 @@ use Rattle.apex_types.specs.declared.records.Record.{Record}
 use Rattle.apex_types.specs.declared.records.Wait.{Wait}
 use Rattle.apex_types.specs.declared.records.Wait.TheVariants.{Normal, Start, Time, Semaphore}
 use Rattle.apex_types.specs.Roster.{Roster, nobody, record_at, is_normal}
-use Rattle.apex_types.specs.Running.{is_eligible}
-use Rattle.apex_types.specs.Stamps.{HasOrderlyStarts, is_free, may_wait}
+use Rattle.apex_types.specs.Running.{is_eligible, chosen, runs_on, is_before}
+use Rattle.apex_types.specs.Stamps.{HasOrderlyStarts, is_free, may_wait, set_step}
+use Rattle.apex_types.specs.Callers.{IsReady}
+use Rattle.apex_types.proofs.Rosters.{at_record}
+use Rattle.std.proofs.lemmas.List.{length-set}
 use Rattle.apex_types.specs.Waiters.{is_queue, is_same_queue, queue_of, queue_in, waits_in, waits_before, discipline_of, first_waiter}
-use Rattle.apex_types.proofs.Choice.{place_passes}
+use Rattle.apex_types.proofs.Choice.{place_passes, place_within}
 
 -- the order of starts, of one record
 pub record IsOrderlyIn (mode : Mode) (r : Record) : Type 0 where
@@ -59,15 +62,31 @@ eligible_may_wait mode r e = let is = runnable mode r e in rw (is.started, is.fr
 pub early_ineligible : (mode : Mode) (r : Record) → is_normal mode ≡ false → is_eligible mode r ≡ false
 early_ineligible mode r e = rw e
 
+-- a process that is ready stays so at its next step
+pub ready_step : (roster : Roster) (p step : ℕ) → IsReady roster p → IsReady (set_step roster p step) p
+ready_step roster p step ready =
+    let r : Record = record (record_at roster p) { step = step } in
+    record { known = rw (length-set roster.records p r) ready.known; eligible = rw (at_record roster p ready.known r) ready.eligible }
+
+-- the chosen process of a core is ready
+pub chosen_ready : (roster : Roster) (core p : ℕ) → chosen roster core ≡ Some p → IsReady roster p
+unfolding runs_on
+chosen_ready roster core p e = record {
+  known = place_within (runs_on roster.mode core) is_before roster.records p e;
+  eligible = (and_parts _ _ (place_passes (runs_on roster.mode core) is_before roster.records p nobody e)).0;
+}
+
+-- a process that waits for nothing stands in no queue
+pub waitless_queue : (r : Record) (q : Queue) → r.wait ≡ None → queue_in r ≡ Some q → ⊥
+waitless_queue r q free is = none-some q (rw free at is)
+
 -- the entry into NORMAL makes nobody eligible
-normal_none : (wait : Option Wait) → wait ≡ None → queue_in (record nobody { wait = wait }) ≡ Some queues.Normal → ⊥
-normal_none wait e is = none-some queues.Normal (rw e at is)
 
 pub readies_nobody : (roster : Roster) → HasOrderlyStarts roster → is_normal roster.mode ≡ false → (mode : Mode) (p : ℕ)
     → is_eligible mode (record_at roster p) ≡ true → is_eligible roster.mode (record_at roster p) ≡ true
 readies_nobody roster orderly early mode p e =
     let is = runnable mode (record_at roster p) e in
-    absurd (normal_none _ is.free (orderly.early early p is.started))
+    absurd (waitless_queue (record_at roster p) queues.Normal is.free (orderly.early early p is.started))
 
 -- a process that waits in a queue stands there
 same_queue : (q r : Queue) → is_same_queue q r ≡ true → q ≡ r
@@ -96,6 +115,9 @@ waits_there q r e = rw e (queue_itself q)
 pub first_stands : (roster : Roster) (q : Queue) (p : ℕ) → first_waiter roster q ≡ Some p → queue_in (record_at roster p) ≡ Some q
 first_stands roster q p e =
     stands_in q (record_at roster p) (place_passes (waits_in q) (waits_before (discipline_of roster q)) roster.records p nobody e)
+
+pub first_within : (roster : Roster) (q : Queue) (p : ℕ) → first_waiter roster q ≡ Some p → p < length roster.records
+first_within roster q p e = place_within (waits_in q) (waits_before (discipline_of roster q)) roster.records p e
 
 -- a process that stands in a queue is started
 waiter_started : (r : Record) (started : Bool) → r.started ≡ started → (r.started ≡ false → r.wait ≡ None) → (q : Queue) → queue_in r ≡ Some q → started ≡ true
