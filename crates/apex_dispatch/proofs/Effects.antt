@@ -1,5 +1,6 @@
 -- What each change of records does to who waits for what it asked for.
 use Rattle.std.proofs.Common.{◌≡◌, ℕ, ◌<◌, Bool, true, List, length, Option, None, Some, nat_lt, ◌⊎◌, refl, sym, ◌∙◌, ap, arith, inl, inr, set, get_or}
+use Rattle.std.specs.Option.{option_and_then}
 use Rattle.std.proofs.lemmas.List.{get_or-set_other, get_or_past, length-set}
 use Rattle.std.proofs.lemmas.Option.{none-some}
 use Rattle.std.proofs.lemmas.Grind.{get_or-set_at}
@@ -10,13 +11,14 @@ use Rattle.apex_types.specs.declared.Caller.TheVariants.{Process}
 use Rattle.apex_types.specs.declared.Record.{Record}
 use Rattle.apex_types.specs.declared.Suspender.{Suspender}
 use Rattle.apex_types.specs.declared.Suspender.TheVariants.{Itself, Other}
+use Rattle.apex_types.specs.declared.Queue.TheVariants as queues
 use Rattle.apex_types.specs.declared.Wait.{Wait}
 use Rattle.apex_types.specs.declared.Wait.TheVariants.{Normal, Start, Time, Semaphore}
 use Rattle.apex_types.specs.Roster.{Roster, nobody, record_at, with_record}
 use Rattle.apex_types.specs.Stamps.{is_by_itself, suspension_awake, awake, waiting, block, unblock, newest, readied}
-use Rattle.apex_types.specs.Waiters.{waits_in, waits_before, discipline_of, is_wait_for, first_waiter}
+use Rattle.apex_types.specs.Waiters.{queue_of, first_waiter}
 use Rattle.apex_types.specs.Running.{is_eligible}
-use Rattle.apex_types.proofs.Choice.{place_passes}
+use Rattle.apex_types.proofs.Starts.{first_stands}
 use Rattle.apex_dispatch.specs.AskedWaits.{begins, asked_of, or_suspended, awaited}
 use Rattle.apex_dispatch.proofs.Satisfied.{Asks}
 
@@ -39,20 +41,20 @@ wait_after records p q r w h = elim (cases_eq q p) [
 ]
 
 -- a process that is in the queue of a semaphore asked for it
-awaits_semaphore : (s : ℕ) (wait : Option Wait) (by_itself : Bool) → is_wait_for (Semaphore s) wait ≡ true
+awaits_semaphore : (s : ℕ) (wait : Option Wait) (by_itself : Bool)
+    → option_and_then queue_of wait ≡ Some (queues.Semaphore s)
     → or_suspended (asked_of wait) by_itself ≡ Some (Semaphore s)
 awaits_semaphore s None by_itself h = cc
-awaits_semaphore s (Some Normal) by_itself h = cc
+awaits_semaphore s (Some (Normal delay)) by_itself h = cc
 awaits_semaphore s (Some Start) by_itself h = cc
 awaits_semaphore s (Some Time) by_itself h = cc
-awaits_semaphore s (Some (Semaphore t)) by_itself h = ap (λ t. Some (Semaphore t)) (sym (eqb-true s t h))
+awaits_semaphore s (Some (Semaphore t)) by_itself h = let same : t ≡ s = cc in ap (λ (u : ℕ). Some (Semaphore u)) same
 
 -- the first waiter for a semaphore waits for it
-pub first_waits : (roster : Roster) (s p : ℕ) → first_waiter roster (Semaphore s) ≡ Some p
+pub first_waits : (roster : Roster) (s p : ℕ) → first_waiter roster (queues.Semaphore s) ≡ Some p
     → awaited (record_at roster p) ≡ Some (Semaphore s)
-unfolding waits_in
 first_waits roster s p e =
-    awaits_semaphore s _ _ (place_passes (waits_in (Semaphore s)) (waits_before (discipline_of roster (Semaphore s))) roster.records p nobody e)
+    awaits_semaphore s (record_at roster p).wait _ (first_stands roster (queues.Semaphore s) p e)
 
 -- who waits for what it asked for afterwards waited for it before
 pub record Frees (old new : Roster) : Type 0 where
@@ -97,7 +99,7 @@ awake_free (Some Other) = refl
 
 pub frees_unblock : (roster : Roster) (p : ℕ) → Frees roster (unblock roster p)
 frees_unblock roster p =
-    frees_lessened roster p (awake roster p)
+    frees_lessened roster p (awake (record_at roster p))
     (λ w h. absurd (none-some w (sym (awake_free (record_at roster p).suspended) ∙ h)))
 
 -- a change by which nobody waits who did not wait before
@@ -122,6 +124,6 @@ pub asks_blocked : (p : ℕ) (call : Call) (wait : Wait) (due : Option ℕ) (ros
     → begins call ≡ Some wait → Asks (Process p) (Some call) roster (block roster p wait due)
 asks_blocked p call wait due roster plain begun =
     let suspended = suspension_awake (record_at roster p).suspended in
-    asks_waiting p call wait (record (waiting roster p wait due) { since = roster.young }) roster
+    asks_waiting p call wait (record (waiting (record_at roster p) wait due) { since = roster.young }) roster
     (block roster p wait due) refl
     (ap (λ a. or_suspended a (is_by_itself suspended)) plain) begun

@@ -2,7 +2,7 @@
 -- for time.
 use Rattle.std.proofs.Common.{◌≡◌, ℕ, zero, suc, ◌+◌, ◌==◌, set, Bool, true, false, cond, ◌&&◌, ◌||◌, not, List, [], ◌∷◌, map, get_or, length, Option, None, Some, is_some, is_none, nat_lt, nat_le, if◌then◌else◌, refl, ap, sym, ◌∙◌}
 use Rattle.std.proofs.lemmas.Option.{none-some}
-use Rattle.std.proofs.lemmas.Bool.{both_ways, eqb-true}
+use Rattle.std.proofs.lemmas.Bool.{both_ways, cond_both, eqb-true}
 use Rattle.std.proofs.lemmas.List.Folds.{list_any-append}
 use Rattle.apex_types.specs.declared.Call.{Call}
 use Rattle.apex_types.specs.declared.Call.TheVariants.{Process as ToProcess}
@@ -27,15 +27,14 @@ use Rattle.apex_types.specs.declared.Wait.TheVariants.{Normal, Start, Time, Sema
 use Rattle.apex_types.specs.declared.Timeout.{Timeout}
 use Rattle.apex_types.specs.declared.Timeout.TheVariants.{Poll, Ticks, Infinite}
 use Rattle.apex_types.specs.Dues.{due_after}
-use Rattle.apex_types.specs.Roster.{Roster, nobody, record_at, is_normal}
+use Rattle.apex_types.specs.Roster.{Roster, nobody, record_at, with_record, is_normal}
 use Rattle.apex_types.specs.Running.{is_eligible}
-use Rattle.apex_types.specs.Waiters.{is_ranked, is_wait_for, waits_in, waits_before, discipline_of}
+use Rattle.apex_types.specs.Waiters.{goes_by_priority, queue_in}
 use Rattle.apex_types.specs.Stamps as stamps
 use Rattle.apex_types.specs.Callers.{is_by_process}
 use Rattle.apex_types.specs.ProcessServices as processes
 use Rattle.apex_types.specs.PartitionServices as partitions
 use Rattle.apex_types.specs.Ticks as ticks
-use Rattle.apex_types.proofs.Choice.{place_passes}
 use Rattle.apex_types.proofs.InTurn.{holds_in_turn}
 use Rattle.apex_dispatch.specs.AskedWaits.{asked_of, or_suspended, awaited}
 use Rattle.apex_dispatch.proofs.Satisfied.{is_waking, wakes, Asks}
@@ -66,54 +65,46 @@ keeps_spared caller call old new notices spares = record {
   timed = λ q woken. absurd (both_ways _ (spares.quiet q) woken);
 }
 
--- the notices of a start wake nobody
-start_quiet : (now : Bool) (p : ℕ) → AreQuiet (if now then Released p ∷ [] else [])
-start_quiet true p q = refl
-start_quiet false p q = refl
+begin_quiet : (p delay : ℕ) → AreQuiet (ticks.begin_notices p delay)
+begin_quiet p delay =
+    cond_both {A = List Notice} (delay == 0) (Released p ∷ []) [] AreQuiet (λ _ q. refl) (λ _ q. refl)
 
--- who is started did not ask for what it waits for
-start_free : (normal at_once : Bool)
-    → or_suspended (asked_of (if not normal then Some Normal else if at_once then None else Some Start)) false ≡ None
-start_free false at_once = refl
-start_free true true = refl
-start_free true false = refl
+-- a process waits for what it did not ask for
+blocked_frees : (roster : Roster) (p : ℕ) (wait : Wait) (due : Option ℕ) → asked_of (Some wait) ≡ None
+    → Frees roster (stamps.block roster p wait due)
+blocked_frees roster p wait due plain =
+    let awake = stamps.suspension_awake (record_at roster p).suspended in
+    let r : Record = record (stamps.waiting (record_at roster p) wait due) { since = roster.young } in
+    frees_changed roster (stamps.block roster p wait due) p r refl
+    (ap (λ asked. or_suspended asked (stamps.is_by_itself awake)) plain
+    ∙ awake_free (record_at roster p).suspended)
 
--- a process that waits for NORMAL asked for nothing
-asks_nothing : (wait : Option Wait) → is_wait_for Normal wait ≡ true → asked_of wait ≡ None
-asks_nothing None h = cc
-asks_nothing (Some Normal) h = refl
-asks_nothing (Some Start) h = cc
-asks_nothing (Some Time) h = cc
-asks_nothing (Some (Semaphore s)) h = cc
+-- a start begins
+begin_frees : (roster : Roster) (p delay : ℕ) → Frees roster (stamps.begin roster p delay)
+begin_frees roster p delay =
+    let due = Some (roster.now + delay) in
+    cond_both {A = Roster} (delay == 0) (stamps.release roster p) (stamps.block roster p Start due) (Frees roster)
+    (λ _. frees_unblock roster p) (λ _. blocked_frees roster p Start due refl)
 
-starting : (roster : Roster) (p : ℕ) → partitions.first_to_start roster ≡ Some p → asked_of (record_at roster p).wait ≡ None
-unfolding waits_in
-starting roster p e =
-    asks_nothing _ (place_passes (waits_in Normal) (waits_before (discipline_of roster Normal)) roster.records p nobody e)
-
--- the entry into NORMAL
-begin_frees : (roster : Roster) (p : ℕ) → asked_of (record_at roster p).wait ≡ None → (at_once : Bool) (due : Option ℕ)
-    → Frees roster (cond at_once (ticks.released roster p) (record { roster = stamps.block roster p Start due; notices = [] })).roster
-begin_frees roster p plain true due = frees_unblock roster p
-begin_frees roster p plain false due =
-    let r : Record = record (record_at roster p) { suspended = stamps.suspension_awake (record_at roster p).suspended; wait = Some Start; due = due; since = roster.young } in
-    frees_changed roster (stamps.block roster p Start due) p r refl (awake_free (record_at roster p).suspended)
-
-begin_quiet : (roster : Roster) (p : ℕ) (at_once : Bool) (due : Option ℕ)
-    → AreQuiet (cond at_once (ticks.released roster p) (record { roster = stamps.block roster p Start due; notices = [] })).notices
-begin_quiet roster p true due q = refl
-begin_quiet roster p false due q = refl
+-- who is suspended no longer, or by another, waits for no more than before
+suspended_less : (wait : Option Wait) (by_itself : Bool) (w : Wait)
+    → or_suspended (asked_of wait) false ≡ Some w
+    → or_suspended (asked_of wait) by_itself ≡ Some w
+suspended_less wait by_itself w h = by_asked (asked_of wait) h where
+  by_asked : (asked : Option Wait) → or_suspended asked false ≡ Some w → or_suspended asked by_itself ≡ Some w
+  by_asked (Some v) h = h
+  by_asked None h = absurd (none-some w h)
 
 enter_spares : (roster : Roster) → Spares roster (partitions.enter_normal roster).roster (partitions.enter_normal roster).notices
 unfolding partitions.enter_normal
 enter_spares roster =
-    holds_in_turn partitions.first_to_start partitions.begin_start (Spares roster)
+    holds_in_turn partitions.first_to_start partitions.begin_waiter (Spares roster)
     (λ r notices p is holds.
-    let delay = (record_at r p).delay in
-    let quiet = begin_quiet r p (delay == 0) (Some (r.now + delay)) in
+    let delay = partitions.delay_of (record_at r p).wait in
     record {
-      frees = frees_then holds.frees (begin_frees r p (starting r p is) (delay == 0) (Some (r.now + delay)));
-      quiet = λ q. list_any-append (is_waking q) notices (partitions.begin_start r p).notices ∙ rw (holds.quiet q, quiet q) refl;
+      frees = frees_then holds.frees (begin_frees r p delay);
+      quiet = λ q. list_any-append (is_waking q) notices (ticks.begin_notices p delay)
+          ∙ rw (holds.quiet q, begin_quiet p delay q) refl;
     })
     (length roster.records) (stamps.set_mode roster mode.Normal) []
     (record { frees = record { still = λ q w h. h }; quiet = λ q. refl })
@@ -171,12 +162,22 @@ module _ (roster : Roster) (created : List Bool) where
       (spares_if (not (nat_lt core cores)) _ _ same
       (moved (stamps.set_core roster p core) p (record (record_at roster p) { core = core }) refl (λ w h. h))))
 
+  start_frees : (p delay : ℕ) → Frees roster (stamps.start roster p delay)
+  start_frees p delay =
+      let r = record_at roster p in
+      let fresh = with_record roster p (stamps.reset r) in
+      frees_then (frees_moved roster fresh p (stamps.reset r) refl (suspended_less r.wait (stamps.is_by_itself r.suspended)))
+      (cond_both {A = Roster} (is_normal roster.mode) (stamps.begin fresh p delay)
+      (stamps.block fresh p (Normal delay) None) (Frees fresh)
+      (λ _. begin_frees fresh p delay) (λ _. blocked_frees fresh p (Normal delay) None refl))
+
+  start_quiet : (p delay : ℕ) → AreQuiet (processes.start_notices roster p delay)
+  start_quiet p delay =
+      cond_both {A = List Notice} (is_normal roster.mode) (ticks.begin_notices p delay) [] AreQuiet
+      (λ _. begin_quiet p delay) (λ _ q. refl)
+
   after_spares : (p delay : ℕ) → SparesAll (processes.started_after roster created p delay)
-  after_spares p delay = record {
-    frees = frees_changed roster (stamps.start roster p delay) p (record (stamps.started roster p delay) { since = roster.young }) refl
-        (start_free (is_normal roster.mode) (delay == 0));
-    quiet = start_quiet (is_normal roster.mode && delay == 0) p;
-  }
+  after_spares p delay = record { frees = start_frees p delay; quiet = start_quiet p delay }
 
   started_spares : (p : ℕ) (delay : Timeout) → SparesAll (processes.started_by roster created p delay)
   started_spares p Poll = after_spares p 0
@@ -199,14 +200,6 @@ module _ (roster : Roster) (created : List Bool) where
       spares_if (is_by_process p caller) _ _ same (spares_if (not (processes.is_created created p)) _ _ same
       (spares_if (not (record_at roster p).started) _ _ same (stopped_spares p)))
 
-  -- who is suspended by another waits for no more than before
-  suspended_less : (wait : Option Wait) (by_itself : Bool) (w : Wait) → or_suspended (asked_of wait) false ≡ Some w
-      → or_suspended (asked_of wait) by_itself ≡ Some w
-  suspended_less wait by_itself w h = by_asked (asked_of wait) h where
-    by_asked : (asked : Option Wait) → or_suspended asked false ≡ Some w → or_suspended asked by_itself ≡ Some w
-    by_asked (Some v) h = h
-    by_asked None h = absurd (none-some w h)
-
   suspend_spares : (caller : Caller) (p : ℕ) → SparesAll (processes.suspend_process roster created caller p)
   suspend_spares caller p =
       let r = record_at roster p in
@@ -216,26 +209,21 @@ module _ (roster : Roster) (created : List Bool) where
       (suspended_less r.wait (stamps.is_by_itself r.suspended))))))
 
   -- a new priority changes no wait
-  priority_frees : (p priority : ℕ) (newly : Bool)
-      → Frees roster (cond newly (stamps.place_newest (stamps.set_base roster p priority) p) (stamps.set_base roster p priority))
-  priority_frees p priority newly =
-      let base = stamps.set_base roster p priority in
-      let changed = frees_moved roster base p (record (record_at roster p) { base = priority }) refl (λ w h. h) in
-      by_newly newly changed where
-        by_newly : (newly : Bool) → Frees roster (stamps.set_base roster p priority)
-            → Frees roster (cond newly (stamps.place_newest (stamps.set_base roster p priority) p) (stamps.set_base roster p priority))
-        by_newly true changed =
-            let base = stamps.set_base roster p priority in
-            frees_then changed (frees_moved base (stamps.place_newest base p) p (record (record_at base p) { since = base.young }) refl (λ w h. h))
-        by_newly false changed = changed
+  priority_frees : (p priority : ℕ) → Frees roster (stamps.set_priority roster p priority)
+  priority_frees p priority =
+      let r = record_at roster p in
+      let changed : Record = record r { base = priority } in
+      cond_both {A = Roster} (is_eligible roster.mode r || goes_by_priority roster (queue_in r))
+      (stamps.newest roster p changed) (with_record roster p changed) (Frees roster)
+      (λ _. frees_moved roster (stamps.newest roster p changed) p (record changed { since = roster.young }) refl (λ w h. h))
+      (λ _. frees_moved roster (with_record roster p changed) p changed refl (λ w h. h))
 
   priority_spares : (p priority : ℕ) → SparesAll (processes.set_priority roster created p priority)
   priority_spares p priority =
-      let r = record_at roster p in
       spares_if (not (processes.is_created created p)) _ _ same
       (spares_if (not (nat_le 1 priority && nat_le priority 239)) _ _ same
-      (spares_if (not r.started) _ _ same
-      (record { frees = priority_frees p priority (is_eligible roster.mode r || is_ranked roster r.wait); quiet = λ q. refl })))
+      (spares_if (not (record_at roster p).started) _ _ same
+      (record { frees = priority_frees p priority; quiet = λ q. refl })))
 
   id_spares : (named : NamedProcess) → SparesAll (processes.get_process_id roster created named)
   id_spares (Known p) = spares_if (not (processes.is_created created p)) _ _ same same
@@ -250,7 +238,7 @@ resume_keeps : (caller : Caller) (roster : Roster) → stamps.WaitsForOne roster
     → stamps.is_by_itself (record_at roster p).suspended ≡ by_itself
     → Keeps caller (ToProcess (Resume p)) roster
     (cond by_itself (stamps.unblock roster p)
-    (stamps.readied roster p (stamps.unsuspended roster p)))
+    (stamps.readied roster p (stamps.unsuspended (record_at roster p))))
     (cond by_itself (Woken p NoError ∷ []) [])
 resume_keeps caller roster one p true is = record {
   asks = asks_freed caller (Some (ToProcess (Resume p))) roster (stamps.unblock roster p)
@@ -264,7 +252,7 @@ resume_keeps caller roster one p true is = record {
   only true h = refl
   only false h = h
 resume_keeps caller roster one p false is =
-    let r = stamps.unsuspended roster p in
+    let r = stamps.unsuspended (record_at roster p) in
     keeps_spared caller (ToProcess (Resume p)) roster (stamps.readied roster p r) []
     (record { frees = frees_lessened roster p r (λ w h. rw is h); quiet = λ q. refl })
 
@@ -297,7 +285,7 @@ module _ (roster : Roster) (created : List Bool) where
       → KeepsAll (Process p) (SuspendSelf timeout) (processes.suspended_for roster created p timeout)
   keeps_suspended p timeout =
       let due = due_after roster timeout in
-      let r = record (stamps.self_suspended roster p due) { since = roster.young } in
+      let r = record (stamps.self_suspended (record_at roster p) due) { since = roster.young } in
       record {
         asks = asks_waiting p (ToProcess (SuspendSelf timeout)) Time r roster
             (stamps.suspend_self roster p due) refl refl refl;

@@ -11,7 +11,8 @@ use Rattle.apex_types.specs.declared.Who.TheVariants.{Core, Ticker}
 use Rattle.apex_types.specs.Table.{Table, IsLawful}
 use Rattle.apex_types.specs.Roster.{Roster, opening_roster}
 use Rattle.apex_types.specs.Running.{chosen}
-use Rattle.apex_types.specs.History.{Objects, objects_after, init_count, is_by_init}
+use Rattle.apex_types.specs.Callers.{is_by_init}
+use Rattle.apex_types.specs.History.{Objects, objects_after, init_count}
 use Rattle.apex_types.specs.Machine.{Machine, turn, tick, happen, replay, machine_with, events_of, entry_of, due_init_call, script_deed, chosen_deed, step_of, turn_deed, tick_deed}
 use Rattle.apex_dispatch.specs.Events.{IsWithin}
 use Rattle.apex_dispatch.specs.Premises.{HasManyStamps}
@@ -71,7 +72,10 @@ pub kept_stamps : {kernel : KernelState} {init_made log_limit : ℕ}
 kept_stamps kept =
     let sound = kept_sound kept in
     let limit = kept.lawful.limit in
-    omega (arith, ints, sound.stamps, sound.within, limit)
+    record {
+      young = omega (arith, ints, sound.stamps, sound.within, limit);
+      old = omega (arith, ints, sound.older, sound.within, limit);
+    }
 
 -- a machine that replays is the one with its roster and its history
 machine_is : (table : Table) (machine : Machine) → replay table machine.history ≡ machine

@@ -19,6 +19,7 @@ use Rattle.apex_types.specs.declared.Reply.{Reply}
 use Rattle.apex_types.specs.declared.Reply.TheVariants.{Code, Value, Status, Blocked}
 use Rattle.apex_types.specs.declared.ReturnCode.{ReturnCode}
 use Rattle.apex_types.specs.declared.ReturnCode.TheVariants.{NoError, NoAction, NotAvailable, InvalidParam, InvalidConfig, InvalidMode}
+use Rattle.apex_types.specs.declared.Queue.TheVariants as queues
 use Rattle.apex_types.specs.declared.Wait.TheVariants.{Semaphore}
 use Rattle.apex_types.specs.declared.Who.{Who}
 use Rattle.apex_types.specs.Calls.{names_semaphore, is_wait, is_signal, semaphore_of}
@@ -156,7 +157,7 @@ module _ (number now : ℕ) (who : Who) (caller : Caller) (history : List Entry)
       (λ _. told_refused call NoAction refl)
 
   -- a signal that is handed to the first waiter satisfies itself and then that wait
-  told_signal_to : (first : Option ℕ) → first_waiter roster (Semaphore s) ≡ first
+  told_signal_to : (first : Option ℕ) → first_waiter roster (queues.Semaphore s) ≡ first
       → IsTold (SignalSemaphore s) (signal_to roster semaphore first)
   told_signal_to None is = told_raise
   told_signal_to (Some p) is =
@@ -174,13 +175,13 @@ module _ (number now : ℕ) (who : Who) (caller : Caller) (history : List Entry)
   told_signal =
       told_if (SignalSemaphore s) (not semaphore.created) _ _
       (λ _. told_refused (SignalSemaphore s) InvalidParam refl)
-      (λ _. told_signal_to (first_waiter roster (Semaphore s)) refl)
+      (λ _. told_signal_to (first_waiter roster (queues.Semaphore s)) refl)
 
   told_status : IsTold (GetSemaphoreStatus s) (get_semaphore_status roster semaphore s)
   told_status =
       let call = GetSemaphoreStatus s in
       told_if call (not semaphore.created) _ _ (λ _. told_refused call InvalidParam refl) (λ _.
-      let waiters = waiter_count roster (Semaphore s) in
+      let waiters = waiter_count roster (queues.Semaphore s) in
       told_plain call (Status semaphore.value waiters) roster refl (unasked call))
 
   told_id : IsTold (GetSemaphoreId (Known s)) (get_semaphore_id roster semaphore s)
@@ -264,6 +265,6 @@ module _ (roster : Roster) (semaphore : SemaphoreObject) (below : semaphore.valu
   below_service s caller (CreateSemaphore named) = below_create
   below_service s caller (WaitSemaphore t timeout) = below_wait_by s caller timeout
   below_service s caller (SignalSemaphore t) =
-      below_if (not semaphore.created) _ _ (λ _. below) (λ _. below_signal_to (first_waiter roster (Semaphore s)))
+      below_if (not semaphore.created) _ _ (λ _. below) (λ _. below_signal_to (first_waiter roster (queues.Semaphore s)))
   below_service s caller (GetSemaphoreId named) = below_if (not semaphore.created) _ _ (λ _. below) (λ _. below)
   below_service s caller (GetSemaphoreStatus t) = below_if (not semaphore.created) _ _ (λ _. below) (λ _. below)

@@ -1,7 +1,7 @@
 -- What holds after every list of events: at the opening, after each turn, and after each tick.
-use Rattle.std.proofs.Common.{◌≡◌, ℕ, zero, suc, ◌+◌, ◌*◌, ◌<◌, ◌≤◌, nat_lt, subst, List, [], ◌∷◌, ◌++◌, length, get_or, None, Some, pos, ◌+ℤ◌, ◌≤ℤ◌, refl, sym, ◌∙◌, arith, length-append, IfSome}
+use Rattle.std.proofs.Common.{◌≡◌, ℕ, zero, suc, ◌+◌, ◌*◌, ◌<◌, ◌≤◌, nat_lt, subst, false, List, [], ◌∷◌, ◌++◌, length, get_or, None, Some, pos, ◌+ℤ◌, ◌≤ℤ◌, refl, sym, ◌∙◌, arith, length-append, IfSome}
 use Rattle.std.specs.Prelude.{All}
-use Rattle.std.proofs.lemmas.Bool.{cond_both, ltb-true}
+use Rattle.std.proofs.lemmas.Bool.{both_ways, cond_both, ltb-true}
 use Rattle.std.proofs.lemmas.List.{map-append}
 use Rattle.std.proofs.lemmas.List.Elements.{All-nil, All-pop, All-push}
 use Rattle.std.proofs.lemmas.Int.{ints}
@@ -16,7 +16,7 @@ use Rattle.apex_types.specs.Table.{Table, ProcessEntry, IsLawful, IsKnown}
 use Rattle.apex_types.specs.Roster.{Roster, nobody, record_at, opening_record}
 use Rattle.apex_types.specs.Dues.{HasNoPastDue}
 use Rattle.apex_types.specs.Distinct.{IsStamped}
-use Rattle.apex_types.specs.Stamps.{advance_to, WaitsForOne}
+use Rattle.apex_types.specs.Stamps.{advance_to, WaitsForOne, HasOrderlyStarts}
 use Rattle.apex_types.specs.Ticks.{tick_goal, pass_time}
 use Rattle.apex_types.specs.History.{objects_after}
 use Rattle.apex_types.specs.Lines.{IsPrintable}
@@ -40,14 +40,16 @@ IsTimely table machine = All (IsWithin table.cores) (events_of machine.history)
 
 -- what holds of the machine after every list of events on an accepted table: stamps differ, and are
 -- left for all that the history's limit still admits, no due that stands is past, who suspended itself
--- waits for nothing else, the ids of each entry are the table's, semaphores' values are in range, who
+-- waits for nothing else, starts are in order, the ids of each entry are the table's, semaphores' values are in range, who
 -- waits asked for it last, the history is within the limit and replays, and time is in range
 pub record IsSound (table : Table) (machine : Machine) : Type 0 where
   pub records : length machine.roster.records ≡ length table.processes
   pub stamps : machine.roster.young ≤ℤ pos (64 + 64 * length machine.history)
+  pub older : pos 0 ≤ℤ (machine.roster.old +ℤ pos (64 * length machine.history))
   pub stamped : IsStamped machine.roster
   pub dues : HasNoPastDue machine.roster
   pub one : WaitsForOne machine.roster
+  pub starts : HasOrderlyStarts machine.roster
   pub known : All (IsPrintable table) machine.history
   pub enough : AreEnough table machine.history
   pub bounded : AreBounded table machine.history
@@ -95,13 +97,14 @@ module _ (table : Table) (machine : Machine) (sound : IsSound table machine) whe
       → happen table machine event ≡ after_deed machine who deed
       → length deed.outcome.roster.records ≡ length machine.roster.records
       → deed.outcome.roster.young ≤ℤ (machine.roster.young +ℤ pos 64)
+      → machine.roster.old ≤ℤ (deed.outcome.roster.old +ℤ pos 64)
       → IsStamped deed.outcome.roster → HasNoPastDue deed.outcome.roster
-      → WaitsForOne deed.outcome.roster
+      → WaitsForOne deed.outcome.roster → HasOrderlyStarts deed.outcome.roster
       → IfSome deed.call (IsKnown table)
       → IsDeedExact table machine.history (length machine.history + 1) who deed
       → GoesOn table.cores event machine.roster deed.outcome.roster
       → IsSound table (after_deed machine who deed)
-  sound_deed event who deed room is many few stamped dues one known exact goes =
+  sound_deed event who deed room is many few older stamped dues one starts known exact goes =
       let history = machine.history in
       let e = entry_of (length history + 1) who deed in
       let longer : length (history ++ e ∷ []) ≡ length history + 1 = rw length-append refl in
@@ -109,9 +112,11 @@ module _ (table : Table) (machine : Machine) (sound : IsSound table machine) whe
       record {
         records = many ∙ sound.records;
         stamps = rw longer (omega (arith, ints, few, sound.stamps));
+        older = rw longer (omega (arith, ints, older, sound.older));
         stamped = stamped;
         dues = dues;
         one = one;
+        starts = starts;
         known = All-push (IsPrintable table) history e sound.known known;
         enough = exact.enough;
         bounded = exact.bounded;
@@ -132,7 +137,7 @@ module _ (table : Table) (lawful : IsLawful table) (machine : Machine) (sound : 
   turn_reaches core =
       let roster = machine.roster in
       let count = lawful.process_count in
-      reach_turn table (objects_after table machine.history) roster (omega (arith, sound.records, count)) sound.records
+      reach_turn table (objects_after table machine.history) roster sound.starts sound.one (omega (arith, sound.records, count)) sound.records
       (λ p call h e. known_script_step table p (record_at roster p).step call lawful e)
       core (due_init_call table machine core) (due_known table machine core lawful)
 
@@ -148,7 +153,8 @@ module _ (table : Table) (lawful : IsLawful table) (machine : Machine) (sound : 
   sound_turn core room =
       let reaches = turn_reaches core in
       sound_deed table machine sound (Turn core) (Core core) (deed_of table machine core) room refl
-      reaches.many reaches.stamps (reaches.stamped sound.stamped) (reaches.dues sound.dues) (reaches.one sound.one)
+      reaches.many reaches.stamps reaches.older (reaches.stamped sound.stamped) (reaches.dues sound.dues)
+      (reaches.one sound.one) (reaches.starts sound.starts)
       (deed_known table lawful machine core) (turn_exact core) (turn_goes core)
 
   -- a tick's deed, by the objects of the history
@@ -159,10 +165,16 @@ module _ (table : Table) (lawful : IsLawful table) (machine : Machine) (sound : 
       → IsDeedExact table machine.history (length machine.history + 1) Ticker (ticked n)
   tick_exact n = exact_tick table machine n sound.enough sound.bounded sound.waiting
 
+  -- time that goes on leaves the order of starts
+  advanced_starts : (n : ℕ) → HasOrderlyStarts (advance_to machine.roster (tick_goal machine.roster n))
+  advanced_starts n =
+      let starts = sound.starts in
+      record { dormant = starts.dormant; early = starts.early; undue = starts.undue }
+
   tick_reaches : (n : ℕ)
       → Reaches (length machine.roster.records) (advance_to machine.roster (tick_goal machine.roster n)) (pass_time machine.roster n).roster
   unfolding pass_time
-  tick_reaches n = reach_serve_dues (advance_to machine.roster (tick_goal machine.roster n))
+  tick_reaches n = reach_serve_dues (advance_to machine.roster (tick_goal machine.roster n)) (advanced_starts n)
 
   tick_goes : (n : ℕ) → GoesOn table.cores (Tick n) machine.roster (ticked n).outcome.roster
   tick_goes n =
@@ -181,8 +193,10 @@ module _ (table : Table) (lawful : IsLawful table) (machine : Machine) (sound : 
       let count = lawful.process_count in
       sound_deed table machine sound (Tick n) Ticker (ticked n) room refl
       reaches.many (omega (arith, ints, reaches.stamps, sound.records, count))
+      (omega (arith, ints, reaches.older, sound.records, count))
       (reaches.stamped (stamped_advance_to roster sound.stamped (tick_goal roster n)))
-      (reaches.dues (goal_not_past roster n)) (reaches.one sound.one) tt (tick_exact n) (tick_goes n)
+      (reaches.dues (goal_not_past roster n)) (reaches.one sound.one) (reaches.starts (advanced_starts n))
+      tt (tick_exact n) (tick_goes n)
 
   pub sound_happen : (event : Event) → length machine.history < table.limit
       → IsSound table (happen table machine event)
@@ -228,9 +242,15 @@ sound_opening table lawful =
     record {
       records = size;
       stamps = omega (arith, ints, count);
+      older = omega (arith, ints);
       stamped = stamped_opening table;
       dues = λ p t h. omega arith;
       one = λ p h. opening_waits table.processes 0 p;
+      starts = record {
+        dormant = λ p e. opening_waits table.processes 0 p;
+        early = λ e p h. absurd (both_ways _ (opening_dormant table.processes 0 p) h);
+        undue = λ e p. opening_undue table.processes 0 p;
+      };
       known = All-nil (IsPrintable table);
       enough = λ s h. omega arith;
       bounded = λ s h. omega (arith, (lawful.semaphores s h).initial);
@@ -244,6 +264,18 @@ sound_opening table lawful =
       opening_waits [] q p = refl
       opening_waits (e ∷ entries) q zero = refl
       opening_waits (e ∷ entries) q (suc p) = opening_waits entries (q + 1) p
+
+      opening_dormant : (entries : List ProcessEntry) (q p : ℕ)
+          → (get_or (map_places opening_record q entries) p nobody).started ≡ false
+      opening_dormant [] q p = refl
+      opening_dormant (e ∷ entries) q zero = refl
+      opening_dormant (e ∷ entries) q (suc p) = opening_dormant entries (q + 1) p
+
+      opening_undue : (entries : List ProcessEntry) (q p : ℕ)
+          → (get_or (map_places opening_record q entries) p nobody).due ≡ None
+      opening_undue [] q p = refl
+      opening_undue (e ∷ entries) q zero = refl
+      opening_undue (e ∷ entries) q (suc p) = opening_undue entries (q + 1) p
 
       opening_free : (entries : List ProcessEntry) (q p : ℕ) (w : Wait)
           → awaited (get_or (map_places opening_record q entries) p nobody) ≡ Some w → ⊥

@@ -30,7 +30,7 @@ is_for_time _ = false
 for_time : (wait : Option Wait) (by_itself : Bool) → is_for_time wait ≡ true → or_suspended (asked_of wait) by_itself ≡ Some Time
 unfolding is_for_time
 for_time (Some Time) by_itself h = refl
-for_time (Some Normal) by_itself h = cc
+for_time (Some (Normal delay)) by_itself h = cc
 for_time (Some Start) by_itself h = cc
 for_time (Some (Semaphore s)) by_itself h = cc
 for_time None by_itself h = cc
@@ -39,7 +39,7 @@ for_time None by_itself h = cc
 over_roster : (roster : Roster) (p : ℕ) (wait : Option Wait) → (wait_over roster p wait).roster ≡ unblock roster p
 over_roster roster p (Some Time) = refl
 over_roster roster p (Some Start) = refl
-over_roster roster p (Some Normal) = refl
+over_roster roster p (Some (Normal delay)) = refl
 over_roster roster p (Some (Semaphore s)) = refl
 over_roster roster p None = refl
 
@@ -48,7 +48,7 @@ over_waking : (roster : Roster) (p q : ℕ) (wait : Option Wait)
 unfolding is_for_time
 over_waking roster p q (Some Time) = or_false (q == p && true)
 over_waking roster p q (Some Start) = sym (and_false (q == p))
-over_waking roster p q (Some Normal) = or_false (q == p && false)
+over_waking roster p q (Some (Normal delay)) = or_false (q == p && false)
 over_waking roster p q (Some (Semaphore s)) = or_false (q == p && false)
 over_waking roster p q None = or_false (q == p && false)
 

@@ -13,6 +13,7 @@ IsKnownTo objects (ToProcess call) = IsKnownToProcesses (length objects.processe
 IsKnownTo objects (Time call) = Unit {0}
 IsKnownTo objects (Semaphore call) = IsKnownToSemaphores (length objects.semaphores) call
 
--- there are stamps left for all that one event may stamp
-abbrev pub HasManyStamps : Roster → Type 0
-HasManyStamps roster = (roster.young +ℤ pos 256) <ℤ pos (2 ^ 40)
+-- there are stamps left, upwards and downwards, for all that one event may stamp
+pub record HasManyStamps (roster : Roster) : Type 0 where
+  pub young : (roster.young +ℤ pos 256) <ℤ pos (2 ^ 40)
+  pub old : pos 256 <ℤ (roster.old +ℤ pos (2 ^ 40))

@@ -1,6 +1,8 @@
 ghost use Rattle.std.specs.Prelude.{◌≡◌, ◌<◌, ◌≤◌, [], length, Some};
 ghost use Rattle.std.specs.Option.{ForSome};
+ghost use Rattle.apex_types.specs.Callers.{IsReady};
 ghost use Rattle.apex_types.specs.Dues.{HasTime};
+ghost use Rattle.apex_types.specs.Stamps.{HasOrderlyStarts};
 ghost use Rattle.apex_types.specs.Table.{IsKnown};
 ghost use Rattle.apex_types.specs.Machine.{chosen_deed, next_place, turn_deed};
 ghost use Rattle.apex_dispatch.specs.Premises.{HasManyStamps};
@@ -40,9 +42,11 @@ fn carry_out_step<S: Store>(
     notices: &mut Notices,
 ) -> Deed
     requires process { process < length table.now.processes }
+    requires ready { IsReady (S.roster store.old) process }
     requires records { length (S.roster store.old).records ≡ length table.now.processes }
     requires processes { length objects.old.processes ≡ length table.now.processes }
     requires semaphores { length objects.old.semaphores ≡ length table.now.semaphores }
+    requires starts { HasOrderlyStarts (S.roster store.old) }
     requires stamps { HasManyStamps (S.roster store.old) }
     requires time { HasTime (S.roster store.old) }
     requires quiet { notices.old ≡ [] }
@@ -91,6 +95,7 @@ pub(crate) fn carry_out<S: Store>(
     requires records { length (S.roster store.old).records ≡ length table.now.processes }
     requires processes { length objects.old.processes ≡ length table.now.processes }
     requires semaphores { length objects.old.semaphores ≡ length table.now.semaphores }
+    requires starts { HasOrderlyStarts (S.roster store.old) }
     requires stamps { HasManyStamps (S.roster store.old) }
     requires time { HasTime (S.roster store.old) }
     requires quiet { notices.old ≡ [] }

@@ -9,7 +9,7 @@ ghost use Rattle.apex_dispatch.specs.Worked.{SignalWakesWaiter, SignalBeforeWait
 use crate::kernels::Kernel;
 use apex_store::Store;
 use apex_table::Table;
-use apex_types::{CoreId, Wait};
+use apex_types::{CoreId, Queue};
 
 /// In every kernel each core's running process is the highest-priority, longest-ready one bound to it
 /// (ARINC 653 Part 1, process management; here core by core).
@@ -22,7 +22,7 @@ pub fn most_urgent_runs<S: Store>(kernel: &Kernel<S>, core: CoreId)
 
 /// In every kernel the first waiter of a queue is before every other one there, by the queue's
 /// discipline.
-pub fn first_waiter_is_first<S: Store>(kernel: &Kernel<S>, queue: Wait)
+pub fn first_waiter_is_first<S: Store>(kernel: &Kernel<S>, queue: Queue)
     ensures { FirstWaiterIsFirst kernel.now.machine.roster queue }
 {
     kernel.holds();

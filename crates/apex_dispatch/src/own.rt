@@ -1,7 +1,7 @@
 //! The services that a process asks for itself.
 
 ghost use Rattle.std.specs.Prelude.{◌≡◌, ◌<◌, Bool, List, [], length};
-ghost use Rattle.apex_types.specs.Callers.{IsKnownCaller};
+ghost use Rattle.apex_types.specs.Callers.{IsReady, IsReadyCaller};
 ghost use Rattle.apex_types.specs.Dues.{HasTime};
 ghost use Rattle.apex_types.specs.ProcessServices as services;
 ghost use Rattle.apex_types.specs.Stamps.{HasStamps};
@@ -11,7 +11,7 @@ use apex_types::{Caller, ProcessCall, ProcessId, Reply, ReturnCode, Timeout};
 
 /// SUSPEND_SELF by a process.
 fn suspend_self<S: Store>(store: &mut S, process: ProcessId, timeout: Timeout) -> Reply
-    requires known { process < length (S.roster store.old).records }
+    requires ready { IsReady (S.roster store.old) process }
     requires stamps { HasStamps (S.roster store.old) }
     requires time { HasTime (S.roster store.old) }
     ensures roster { (created : List Bool) → S.roster store.new ≡ (services.suspend_self (S.roster store.old) created process timeout).roster }
@@ -31,7 +31,7 @@ fn suspend_self<S: Store>(store: &mut S, process: ProcessId, timeout: Timeout) -
 
 /// A service that the process asks for itself.
 fn serve_process_itself<S: Store>(store: &mut S, process: ProcessId, call: &ProcessCall) -> Reply
-    requires known { process < length (S.roster store.old).records }
+    requires ready { IsReady (S.roster store.old) process }
     requires stamps { HasStamps (S.roster store.old) }
     requires time { HasTime (S.roster store.old) }
     ensures roster { (created : List Bool) → S.roster store.new ≡ (services.own_service (S.roster store.old) created process call.now).roster }
@@ -55,7 +55,7 @@ fn serve_process_itself<S: Store>(store: &mut S, process: ProcessId, call: &Proc
 
 /// Carries out a service that the caller asks for itself. INVALID_MODE where no process calls.
 pub(crate) fn serve_own<S: Store>(store: &mut S, caller: &Caller, call: &ProcessCall) -> Reply
-    requires known { IsKnownCaller (length (S.roster store.old).records) caller.now }
+    requires caller { IsReadyCaller (S.roster store.old) caller.now }
     requires stamps { HasStamps (S.roster store.old) }
     requires time { HasTime (S.roster store.old) }
     ensures roster { (created : List Bool) → S.roster store.new ≡ (services.own_service_by (S.roster store.old) created caller.now call.now).roster }

@@ -1,26 +1,39 @@
-ghost use Rattle.std.specs.Prelude.{◌≡◌, ◌<◌, ◌≤◌, [], ◌++◌, length, IfSome};
+ghost use Rattle.std.specs.Prelude.{◌≡◌, ◌<◌, ◌≤◌, true, false, [], ◌++◌, length, IfSome};
 ghost use Rattle.apex_types.specs.Dues.{HasTime};
-ghost use Rattle.apex_types.specs.Stamps.{HasStamps};
+ghost use Rattle.apex_types.specs.Roster.{is_normal, record_at};
+ghost use Rattle.apex_types.specs.Stamps.{HasOrderlyStarts, HasStamps, may_wait};
 ghost use Rattle.apex_types.specs.PartitionServices as services;
 ghost use Rattle.apex_dispatch.specs.Premises.{HasManyStamps};
 
 use crate::statuses::mode_number;
 use apex_store::Store;
 use apex_types::{
-    Mode, Notice, Notices, PartitionCall, ProcessId, Reply, RequestedMode, ReturnCode, Wait,
+    Mode, Notice, Notices, PartitionCall, ProcessId, Queue, Reply, RequestedMode, ReturnCode, Wait,
 };
 
-/// The start of a process that waited for NORMAL: a release where it has no delay, else a wait for
-/// its start.
-fn begin_start<S: Store>(store: &mut S, process: ProcessId, notices: &mut Notices)
+/// The delay in ticks of a start that waits for NORMAL.
+fn delay_of(wait: Option<Wait>) -> u32
+    ensures { result ≡ services.delay_of wait }
+{
+    match wait {
+        Some(Wait::Normal(delay)) => delay,
+        _ => 0,
+    }
+}
+
+/// The start of a process that waited for NORMAL begins: a release where it has no delay, else a wait
+/// for its start.
+#[tactic(auto, using(apex_types::proofs::Dues::from_now))]
+fn begin_waiter<S: Store>(store: &mut S, process: ProcessId, notices: &mut Notices)
     requires known { process < length (S.roster store.old).records }
+    requires free { may_wait (record_at (S.roster store.old) process) ≡ true }
     requires stamps { HasStamps (S.roster store.old) }
     requires time { HasTime (S.roster store.old) }
     requires room { length notices.old < 64 }
-    ensures roster { S.roster store.new ≡ (services.begin_start (S.roster store.old) process).roster }
-    ensures notices { notices.new ≡ notices.old ++ (services.begin_start (S.roster store.old) process).notices }
+    ensures roster { S.roster store.new ≡ (services.begin_waiter (S.roster store.old) process).roster }
+    ensures notices { notices.new ≡ notices.old ++ (services.begin_waiter (S.roster store.old) process).notices }
 {
-    let delay = store.record(process).delay;
+    let delay = delay_of(store.record(process).wait);
     if delay == 0 {
         store.release(process);
         notices.push(Notice::Released(process));
@@ -35,13 +48,15 @@ fn first_to_start<S: Store>(store: &S) -> Option<ProcessId>
     ensures value { result ≡ services.first_to_start (S.roster store.now) }
     ensures known { IfSome result (λ p. p < length (S.roster store.now).records) }
 {
-    store.first(Wait::Normal)
+    store.first(Queue::Normal)
 }
 
 /// The entry into NORMAL: begins the starts of all who wait for it, who waits longest first.
 #[tactic(auto, unfolding(apex_types::specs::PartitionServices::enter_normal))]
 fn enter_normal<S: Store>(store: &mut S, notices: &mut Notices)
     requires few { length (S.roster store.old).records ≤ 32 }
+    requires early { is_normal (S.roster store.old).mode ≡ false }
+    requires starts { HasOrderlyStarts (S.roster store.old) }
     requires stamps { HasManyStamps (S.roster store.old) }
     requires time { HasTime (S.roster store.old) }
     requires quiet { notices.old ≡ [] }
@@ -51,7 +66,7 @@ fn enter_normal<S: Store>(store: &mut S, notices: &mut Notices)
     store.set_mode(Mode::Normal);
     for turn in 0..store.process_count() {
         match first_to_start(store) {
-            Some(process) => begin_start(store, process, notices),
+            Some(process) => begin_waiter(store, process, notices),
             None => return,
         }
     }
@@ -75,6 +90,7 @@ fn set_partition_mode<S: Store>(
     notices: &mut Notices,
 ) -> Reply
     requires few { length (S.roster store.old).records ≤ 32 }
+    requires starts { HasOrderlyStarts (S.roster store.old) }
     requires stamps { HasManyStamps (S.roster store.old) }
     requires time { HasTime (S.roster store.old) }
     requires quiet { notices.old ≡ [] }
@@ -105,6 +121,7 @@ pub(crate) fn serve_partition<S: Store>(
     notices: &mut Notices,
 ) -> Reply
     requires few { length (S.roster store.old).records ≤ 32 }
+    requires starts { HasOrderlyStarts (S.roster store.old) }
     requires stamps { HasManyStamps (S.roster store.old) }
     requires time { HasTime (S.roster store.old) }
     requires quiet { notices.old ≡ [] }

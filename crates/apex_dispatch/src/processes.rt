@@ -1,5 +1,5 @@
 ghost use Rattle.std.specs.Prelude.{◌≡◌, ◌<◌, ◌≤◌, Bool, List, [], length};
-ghost use Rattle.apex_types.specs.Callers.{IsKnownCaller};
+ghost use Rattle.apex_types.specs.Callers.{IsReadyCaller};
 ghost use Rattle.apex_types.specs.Dues.{HasTime};
 ghost use Rattle.apex_types.specs.Roster.{Roster};
 ghost use Rattle.apex_types.specs.Stamps.{HasStamps, start};
@@ -55,6 +55,7 @@ fn create_named<S: Store>(store: &S, created: &mut [bool], named: &NamedProcess)
 }
 
 /// INITIALIZE_PROCESS_CORE_AFFINITY in a partition of `cores` cores.
+#[tactic(auto, using(apex_types::proofs::Starts::early_ineligible))]
 fn initialize_core_affinity<S: Store>(
     cores: u8,
     store: &mut S,
@@ -142,7 +143,7 @@ pub(crate) fn serve_process<S: Store>(
     requires few { cores ≤ 8 }
     requires call { IsKnownToProcesses (length created.old) call.now }
     requires many { length (S.roster store.old).records ≡ length created.old }
-    requires known { IsKnownCaller (length (S.roster store.old).records) caller.now }
+    requires caller { IsReadyCaller (S.roster store.old) caller.now }
     requires stamps { HasStamps (S.roster store.old) }
     requires time { HasTime (S.roster store.old) }
     requires quiet { notices.old ≡ [] }

@@ -1,9 +1,9 @@
 ghost use Rattle.std.specs.Prelude.{◌≡◌, ◌≤◌, [], length};
 ghost use Rattle.apex_types.specs.Machine.{semaphore_deed, service};
 ghost use Rattle.apex_types.specs.SemaphoreServices.{no_semaphore_code, semaphore_of};
-ghost use Rattle.apex_types.specs.Stamps.{HasStamps};
+ghost use Rattle.apex_types.specs.Stamps.{HasOrderlyStarts, HasStamps};
 ghost use Rattle.apex_types.specs.Table.{IsKnownToSemaphores};
-ghost use Rattle.apex_types.specs.Callers.{IsKnownCaller};
+ghost use Rattle.apex_types.specs.Callers.{IsReadyCaller};
 ghost use Rattle.apex_types.specs.Dues.{HasTime};
 ghost use Rattle.apex_dispatch.specs.Premises.{IsKnownTo, HasManyStamps};
 
@@ -33,7 +33,7 @@ fn serve_any_semaphore<S: Store>(
     call: &SemaphoreCall,
     notices: &mut Notices,
 ) -> Reply
-    requires caller { IsKnownCaller (length (S.roster store.old).records) caller.now }
+    requires caller { IsReadyCaller (S.roster store.old) caller.now }
     requires known { IsKnownToSemaphores (length objects.old.semaphores) call.now }
     requires stamps { HasStamps (S.roster store.old) }
     requires time { HasTime (S.roster store.old) }
@@ -64,8 +64,9 @@ pub(crate) fn serve<S: Store>(
     requires few_cores { cores ≤ 8 }
     requires few { length (S.roster store.old).records ≤ 32 }
     requires many { length (S.roster store.old).records ≡ length objects.old.processes }
-    requires caller { IsKnownCaller (length (S.roster store.old).records) caller.now }
+    requires caller { IsReadyCaller (S.roster store.old) caller.now }
     requires known { IsKnownTo objects.old call.now }
+    requires starts { HasOrderlyStarts (S.roster store.old) }
     requires stamps { HasManyStamps (S.roster store.old) }
     requires time { HasTime (S.roster store.old) }
     requires quiet { notices.old ≡ [] }

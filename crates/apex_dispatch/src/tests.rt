@@ -7,8 +7,8 @@ use crate::{
 use apex_store::{PlainStore, Store};
 use apex_table::read_table;
 use apex_types::{
-    Caller, CoreId, Event, Full, Mode, Notice, ProcessId, Reply, ReturnCode, SemaphoreId, State,
-    Wait, Who,
+    Caller, CoreId, Event, Full, Mode, Notice, ProcessId, Queue, Reply, ReturnCode, SemaphoreId,
+    State, Who,
 };
 use std::alloc::Global;
 use std::process::Abort;
@@ -144,7 +144,7 @@ fn laws_hold_of_a_kernel_over_the_plain_store(rt: HostRuntime) -> Result<(), Fai
     let has_kept_the_limit = kernel.entries().len() <= kernel.table().limit() as usize;
     prove!(has_kept_the_limit);
     most_urgent_runs(&kernel, core);
-    first_waiter_is_first(&kernel, Wait::Semaphore(SemaphoreId::at(0)));
+    first_waiter_is_first(&kernel, Queue::Semaphore(SemaphoreId::at(0)));
     each_has_one_state(kernel.table());
     values_stay_in_range(kernel.table());
     runs_compose(&kernel);

@@ -1,7 +1,7 @@
 ghost use Rattle.std.specs.Prelude.{◌≡◌, ◌+◌, ◌-◌, ◌<◌, ◌≤◌, ◌^◌, [], ◌++◌, length};
 ghost use Rattle.apex_types.specs.Dues.{HasNoPastDue, HasTime};
 ghost use Rattle.apex_types.specs.Roster.{record_at};
-ghost use Rattle.apex_types.specs.Stamps.{HasStamps};
+ghost use Rattle.apex_types.specs.Stamps.{HasOrderlyStarts, HasStamps};
 ghost use Rattle.apex_types.specs.Ticks as ticks;
 ghost use Rattle.apex_dispatch.specs.Premises.{HasManyStamps};
 
@@ -44,7 +44,7 @@ fn end_wait<S: Store>(store: &mut S, process: ProcessId, wait: Option<Wait>, not
             store.release(process);
             notices.push(Notice::Released(process));
         }
-        Some(Wait::Normal) | Some(Wait::Semaphore(_)) | None => {
+        Some(Wait::Normal(_)) | Some(Wait::Semaphore(_)) | None => {
             store.unblock(process);
             notices.push(Notice::Woken(process, ReturnCode::TimedOut));
         }
@@ -54,6 +54,7 @@ fn end_wait<S: Store>(store: &mut S, process: ProcessId, wait: Option<Wait>, not
 /// The dues at now, by process number.
 fn serve_dues<S: Store>(store: &mut S, notices: &mut Notices)
     requires few { length (S.roster store.old).records ≤ 32 }
+    requires starts { HasOrderlyStarts (S.roster store.old) }
     requires stamps { HasManyStamps (S.roster store.old) }
     requires quiet { notices.old ≡ [] }
     ensures roster { S.roster store.new ≡ (ticks.serve_dues (S.roster store.old)).roster }
@@ -75,6 +76,7 @@ fn serve_dues<S: Store>(store: &mut S, notices: &mut Notices)
 #[tactic(auto, unfolding(apex_types::specs::Ticks::pass_time))]
 pub(crate) fn pass_time<S: Store>(store: &mut S, n: u32, notices: &mut Notices) -> u32
     requires few { length (S.roster store.old).records ≤ 32 }
+    requires starts { HasOrderlyStarts (S.roster store.old) }
     requires stamps { HasManyStamps (S.roster store.old) }
     requires near { (S.roster store.old).now + n ≤ 2 ^ 36 }
     requires dues { HasNoPastDue (S.roster store.old) }

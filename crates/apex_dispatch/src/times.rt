@@ -1,5 +1,5 @@
 ghost use Rattle.std.specs.Prelude.{◌≡◌, ◌<◌, length};
-ghost use Rattle.apex_types.specs.Callers.{IsKnownCaller};
+ghost use Rattle.apex_types.specs.Callers.{IsReady, IsReadyCaller};
 ghost use Rattle.apex_types.specs.Dues.{HasTime};
 ghost use Rattle.apex_types.specs.Stamps.{HasStamps};
 ghost use Rattle.apex_types.specs.TimeServices as services;
@@ -8,8 +8,9 @@ use apex_store::{Store, due_after};
 use apex_types::{Caller, ProcessId, Reply, ReturnCode, TimeCall, Timeout, Wait};
 
 /// TIMED_WAIT by a process.
+#[tactic(auto, using(apex_types::proofs::Starts::eligible_may_wait))]
 fn timed_wait<S: Store>(store: &mut S, process: ProcessId, timeout: Timeout) -> Reply
-    requires known { process < length (S.roster store.old).records }
+    requires ready { IsReady (S.roster store.old) process }
     requires stamps { HasStamps (S.roster store.old) }
     requires time { HasTime (S.roster store.old) }
     ensures roster { S.roster store.new ≡ (services.timed_wait (S.roster store.old) process timeout).roster }
@@ -31,7 +32,7 @@ fn timed_wait<S: Store>(store: &mut S, process: ProcessId, timeout: Timeout) -> 
 
 /// Carries out a call of a service of time management.
 pub(crate) fn serve_time<S: Store>(store: &mut S, caller: &Caller, call: &TimeCall) -> Reply
-    requires known { IsKnownCaller (length (S.roster store.old).records) caller.now }
+    requires caller { IsReadyCaller (S.roster store.old) caller.now }
     requires stamps { HasStamps (S.roster store.old) }
     requires time { HasTime (S.roster store.old) }
     ensures roster { S.roster store.new ≡ (services.time_service (S.roster store.old) caller.now call.now).roster }

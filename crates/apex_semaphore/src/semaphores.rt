@@ -2,13 +2,13 @@ ghost use Rattle.std.specs.Prelude.{◌≡◌, ◌<◌, ◌++◌, [], length, fa
 ghost use Rattle.apex_types.specs.Roster.{Roster};
 ghost use Rattle.apex_types.specs.Stamps.{HasStamps};
 ghost use Rattle.apex_types.specs.Dues.{HasTime};
-ghost use Rattle.apex_types.specs.Callers.{IsKnownCaller};
+ghost use Rattle.apex_types.specs.Callers.{IsReady, IsReadyCaller};
 ghost use Rattle.apex_types.specs.SemaphoreServices as services;
 
 use apex_store::{Store, due_after};
 use apex_types::{
-    Caller, Notice, Notices, ProcessId, Reply, ReturnCode, SemaphoreCall, SemaphoreId, Timeout,
-    Wait,
+    Caller, Notice, Notices, ProcessId, Queue, Reply, ReturnCode, SemaphoreCall, SemaphoreId,
+    Timeout, Wait,
 };
 use std::marker::Model;
 
@@ -62,6 +62,7 @@ pub fn create_semaphore<S: Store>(store: &S, semaphore: &mut Semaphore) -> Reply
 
 /// WAIT_SEMAPHORE by a process: takes one of the value, else waits for the time that it may, in
 /// ticks. INVALID_PARAM where the semaphore isn't created, NOT_AVAILABLE where it may not wait.
+#[tactic(auto, using(apex_types::proofs::Starts::eligible_may_wait))]
 pub fn wait_semaphore<S: Store>(
     store: &mut S,
     semaphore: &mut Semaphore,
@@ -69,7 +70,7 @@ pub fn wait_semaphore<S: Store>(
     process: ProcessId,
     timeout: Timeout,
 ) -> Reply
-    requires known { process < length (S.roster store.old).records }
+    requires ready { IsReady (S.roster store.old) process }
     requires stamps { HasStamps (S.roster store.old) }
     requires time { HasTime (S.roster store.old) }
     ensures roster { S.roster store.new ≡ (services.wait_semaphore (S.roster store.old) semaphore.old id process timeout).roster }
@@ -112,7 +113,7 @@ pub fn signal_semaphore<S: Store>(
     if !semaphore.created {
         return Reply::Code(ReturnCode::InvalidParam);
     }
-    match store.first(Wait::Semaphore(id)) {
+    match store.first(Queue::Semaphore(id)) {
         Some(waiter) => {
             store.unblock(waiter);
             notices.push(Notice::Woken(waiter, ReturnCode::NoError));
@@ -148,7 +149,7 @@ pub fn get_semaphore_status<S: Store>(store: &S, semaphore: &Semaphore, id: Sema
     if !semaphore.created {
         return Reply::Code(ReturnCode::InvalidParam);
     }
-    let waiting = store.waiting(Wait::Semaphore(id));
+    let waiting = store.waiting(Queue::Semaphore(id));
     Reply::Status(u64::from(semaphore.value), waiting as u64)
 }
 
@@ -176,7 +177,7 @@ pub fn serve_semaphore<S: Store>(
     call: &SemaphoreCall,
     notices: &mut Notices,
 ) -> Reply
-    requires known { IsKnownCaller (length (S.roster store.old).records) caller.now }
+    requires caller { IsReadyCaller (S.roster store.old) caller.now }
     requires stamps { HasStamps (S.roster store.old) }
     requires time { HasTime (S.roster store.old) }
     requires room { length notices.old < 64 }

@@ -1,4 +1,4 @@
-ghost use Rattle.std.specs.Prelude.{◌≡◌, pos, length, true, IfOk};
+ghost use Rattle.std.specs.Prelude.{◌≡◌, ◌<◌, ◌<ℤ◌, ◌≤◌, pos, length, true, IfOk};
 ghost use Rattle.apex_types.specs.Roster.{is_cold_start};
 
 use crate::{
@@ -8,7 +8,7 @@ use crate::{
 use apex_store::{PlainStore, Store};
 use apex_table::read_table;
 use apex_types::{
-    Caller, NamedSemaphore, Notice, Notices, ProcessId, Reply, ReturnCode, SemaphoreCall,
+    Caller, Mode, NamedSemaphore, Notice, Notices, ProcessId, Reply, ReturnCode, SemaphoreCall,
     SemaphoreId, Timeout,
 };
 use std::alloc::Global;
@@ -70,6 +70,7 @@ fn two_processes(rt: &impl Abort, alloc: Global) -> Result<PlainStore, Fail>
     ensures records { IfOk result (λ store. length store.records ≡ 2) }
     ensures stamps { IfOk result (λ store. store.young ≡ pos 3) }
     ensures mode { IfOk result (λ store. is_cold_start store.mode ≡ true) }
+    ensures old { IfOk result (λ store. store.old ≡ pos 0) }
     ensures time { IfOk result (λ store. store.now ≡ 0) }
 {
     let table = read_table(alloc, TWO_PROCESSES.as_bytes())?;
@@ -88,6 +89,24 @@ fn created<S: Store>(rt: &impl Abort, store: &S) -> Semaphore
     let created = create_semaphore(store, &mut semaphore);
     assert_eq!(rt; created, Reply::Code(ReturnCode::NoError));
     semaphore
+}
+
+/// Both processes run in NORMAL.
+fn both_run<S: Store>(rt: &impl Abort, store: &mut S)
+    requires records { length (S.roster store.old).records ≡ 2 }
+    requires stamps { (S.roster store.old).young ≡ pos 3 }
+    requires old { (S.roster store.old).old ≡ pos 0 }
+    requires time { (S.roster store.old).now ≤ 7 }
+    ensures records { length (S.roster store.new).records ≡ 2 }
+    ensures stamps { (S.roster store.new).young <ℤ pos 100 }
+    ensures old { (S.roster store.new).old ≡ pos 0 }
+    ensures time { (S.roster store.new).now ≡ (S.roster store.old).now }
+{
+    assert!(rt; !store.record(slow()).is_eligible(Mode::Normal));
+    assert!(rt; !store.record(urgent()).is_eligible(Mode::Normal));
+    store.set_mode(Mode::Normal);
+    store.start(slow(), 0);
+    store.start(urgent(), 0);
 }
 
 #[test]
@@ -110,9 +129,12 @@ fn a_full_semaphore_takes_no_signal(rt: HostRuntime) -> Result<(), Fail> {
 #[test]
 fn a_wait_at_zero_is_due_after_its_timeout(rt: HostRuntime) -> Result<(), Fail> {
     let mut store = two_processes(&rt, rt.alloc())?;
+    assert_eq!(rt; store.next_instant(), None);
     store.advance_to(7);
     let mut semaphore = created(&rt, &store);
+    both_run(&rt, &mut store);
     let (id, timeout) = (the_semaphore(), Timeout::Ticks(5));
+    assert!(rt; store.record(slow()).is_eligible(store.mode()));
     let waited = wait_semaphore(&mut store, &mut semaphore, id, slow(), timeout);
     assert_eq!(rt; waited, Reply::Blocked);
     assert_eq!(rt; store.record(slow()).due, Some(12));
@@ -123,20 +145,25 @@ fn a_wait_at_zero_is_due_after_its_timeout(rt: HostRuntime) -> Result<(), Fail> 
 fn signal_wakes_the_first<S: Store>(rt: &impl Abort, store: &mut S)
     requires records { length (S.roster store.old).records ≡ 2 }
     requires stamps { (S.roster store.old).young ≡ pos 3 }
+    requires old { (S.roster store.old).old ≡ pos 0 }
     requires mode { is_cold_start (S.roster store.old).mode ≡ true }
     requires time { (S.roster store.old).now ≡ 0 }
 {
     let mut semaphore = created(rt, store);
+    both_run(rt, store);
     let id = the_semaphore();
     let mut notices = Notices::new();
     let wait = SemaphoreCall::WaitSemaphore(the_semaphore(), Timeout::Infinite);
     let (first, second) = (Caller::Process(slow()), Caller::Process(urgent()));
+    assert!(rt; store.record(slow()).is_eligible(store.mode()));
     let waited = serve_semaphore(store, &mut semaphore, id, &first, &wait, &mut notices);
     assert_eq!(rt; waited, Reply::Blocked);
+    assert!(rt; store.record(urgent()).is_eligible(store.mode()));
     let waited = serve_semaphore(store, &mut semaphore, id, &second, &wait, &mut notices);
     assert_eq!(rt; waited, Reply::Blocked);
     let signal = SemaphoreCall::SignalSemaphore(the_semaphore());
-    let signalled = serve_semaphore(store, &mut semaphore, id, &second, &signal, &mut notices);
+    let init = Caller::Init;
+    let signalled = serve_semaphore(store, &mut semaphore, id, &init, &signal, &mut notices);
     assert_eq!(rt; signalled, Reply::Code(ReturnCode::NoError));
     let woken = Notice::Woken(slow(), ReturnCode::NoError);
     assert_eq!(rt; notices.as_slice(), [woken].as_slice());
@@ -148,13 +175,17 @@ fn signal_wakes_the_first<S: Store>(rt: &impl Abort, store: &mut S)
 fn signal_wakes_the_most_urgent<S: Store>(rt: &impl Abort, store: &mut S)
     requires records { length (S.roster store.old).records ≡ 2 }
     requires stamps { (S.roster store.old).young ≡ pos 3 }
+    requires old { (S.roster store.old).old ≡ pos 0 }
     requires mode { is_cold_start (S.roster store.old).mode ≡ true }
     requires time { (S.roster store.old).now ≡ 0 }
 {
     let mut semaphore = created(rt, store);
+    both_run(rt, store);
     let (id, timeout) = (the_ranked_semaphore(), Timeout::Infinite);
+    assert!(rt; store.record(slow()).is_eligible(store.mode()));
     let waited = wait_semaphore(store, &mut semaphore, id, slow(), timeout);
     assert_eq!(rt; waited, Reply::Blocked);
+    assert!(rt; store.record(urgent()).is_eligible(store.mode()));
     let waited = wait_semaphore(store, &mut semaphore, id, urgent(), timeout);
     assert_eq!(rt; waited, Reply::Blocked);
     let mut notices = Notices::new();

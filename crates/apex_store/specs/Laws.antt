@@ -3,6 +3,7 @@ use Rattle.std.specs.Prelude.{◌≡◌, ◌≢◌, ℕ, ◌<◌, ◌≤◌, ◌
 use Rattle.apex_types.specs.declared.records.Mode.{Mode}
 use Rattle.apex_types.specs.declared.records.Record.{Record}
 use Rattle.apex_types.specs.declared.records.State.TheVariants.{Running}
+use Rattle.apex_types.specs.declared.records.Queue.{Queue}
 use Rattle.apex_types.specs.declared.records.Wait.{Wait}
 use Rattle.apex_types.specs.Roster.{Roster, record_at}
 use Rattle.apex_types.specs.Choice.{IsLeast}
@@ -10,7 +11,7 @@ use Rattle.apex_types.specs.Distinct.{IsStamped}
 use Rattle.apex_types.specs.Dues.{first_due, next_instant}
 use Rattle.apex_types.specs.Running.{chosen, current_priority, is_before, is_eligible, process_state, runs_on}
 use Rattle.apex_types.specs.Stamps as stamps
-use Rattle.apex_types.specs.Waiters.{discipline_of, first_waiter, next_waiter, waits_before, waits_behind, waits_in}
+use Rattle.apex_types.specs.Waiters.{discipline_of, first_waiter, next_waiter, queue_in, waits_before, waits_behind, waits_in}
 
 -- who is found passes and is before every other that does; no second one is; and none is found only
 -- where none passes
@@ -25,12 +26,12 @@ ChosenIsFirst roster core =
     IsTheLeast (runs_on roster.mode core) is_before roster.records (chosen roster core)
 
 -- the first waiter is in the queue, and before every other one there by the queue's discipline
-abbrev pub FirstWaiterIsFirst : Roster → Wait → Type 0
+abbrev pub FirstWaiterIsFirst : Roster → Queue → Type 0
 FirstWaiterIsFirst roster queue =
     IsTheLeast (waits_in queue) (waits_before (discipline_of roster queue)) roster.records (first_waiter roster queue)
 
 -- the next waiter is behind process p in the queue, and in front of every other one who is
-abbrev pub NextWaiterIsNext : Roster → Wait → ℕ → Type 0
+abbrev pub NextWaiterIsNext : Roster → Queue → ℕ → Type 0
 NextWaiterIsNext roster queue p =
     let discipline = discipline_of roster queue in
     IsTheLeast (waits_behind discipline queue (record_at roster p)) (waits_before discipline) roster.records (next_waiter roster queue p)
@@ -52,10 +53,10 @@ pub record RunsMostUrgent (roster : Roster) (core : ℕ) : Type 0 where
   pub first : (p q : ℕ) → chosen roster core ≡ Some p → MayRun roster core q → q ≢ p → IsMoreUrgent (record_at roster p) (record_at roster q)
   pub idle : chosen roster core ≡ None → (p : ℕ) → ¬ (MayRun roster core p)
 
--- a process that waits is in the queue that it waits for, and in no other
+-- a process is in the queue of what it waits for, and in no other
 pub record WaitsInOneQueue (r : Record) : Type 0 where
-  pub own : (w : Wait) → r.wait ≡ Some w → waits_in w r ≡ true
-  pub only : (v w : Wait) → waits_in v r ≡ true → waits_in w r ≡ true → v ≡ w
+  pub own : (queue : Queue) → queue_in r ≡ Some queue → waits_in queue r ≡ true
+  pub only : (queue : Queue) → waits_in queue r ≡ true → queue_in r ≡ Some queue
 
 -- a core runs one process at the most
 abbrev pub RunsOneProcess : Roster → Type 0
@@ -94,7 +95,7 @@ pub record StampsStayDistinct (roster : Roster) : Type 0 where
   pub suspend : (p : ℕ) → p < length roster.records → IsStamped (stamps.suspend roster p)
   pub suspend_self : (p : ℕ) (due : Option ℕ) → p < length roster.records → IsStamped (stamps.suspend_self roster p due)
   pub resume : (p : ℕ) → p < length roster.records → IsStamped (stamps.resume roster p)
-  pub set_base : (p base : ℕ) → p < length roster.records → IsStamped (stamps.set_base roster p base)
+  pub set_priority : (p base : ℕ) → p < length roster.records → IsStamped (stamps.set_priority roster p base)
   pub place_newest : (p : ℕ) → p < length roster.records → IsStamped (stamps.place_newest roster p)
   pub advance_to : (t : ℕ) → IsStamped (stamps.advance_to roster t)
   pub take_due : IsStamped (stamps.take_due roster)

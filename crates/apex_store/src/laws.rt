@@ -5,7 +5,7 @@ ghost use Rattle.apex_store.specs.Laws as laws;
 
 use crate::store::Store;
 use apex_table::Table;
-use apex_types::{CoreId, ProcessId, Wait};
+use apex_types::{CoreId, ProcessId, Queue};
 
 /// Where no two stamps are the same, the chosen process of a core is eligible, bound to the core and
 /// before every other such process (ARINC 653 Part 1, process management).
@@ -33,18 +33,18 @@ pub fn one_process_runs<S: Store>(store: &S)
 
 /// Where no two stamps are the same, the first waiter of a queue is before every other one there, by
 /// the queue's discipline.
-pub fn first_waiter_is_first<S: Store>(store: &S, queue: Wait)
+pub fn first_waiter_is_first<S: Store>(store: &S, queue: Queue)
     requires { HasDistinctStamps (S.roster store.now) }
     ensures { laws.FirstWaiterIsFirst (S.roster store.now) queue }
 {}
 
 /// Where no two stamps are the same, the next waiter behind a process is the first of those behind it.
-pub fn next_waiter_is_next<S: Store>(store: &S, queue: Wait, process: ProcessId)
+pub fn next_waiter_is_next<S: Store>(store: &S, queue: Queue, process: ProcessId)
     requires { HasDistinctStamps (S.roster store.now) }
     ensures { laws.NextWaiterIsNext (S.roster store.now) queue process }
 {}
 
-/// A process that waits is in the queue that it waits for, and in no other.
+/// A process is in one queue at the most: that of what it waits for.
 pub fn waits_in_one_queue<S: Store>(store: &S, process: ProcessId)
     ensures { laws.WaitsInOneQueue (record_at (S.roster store.now) process) }
 {}

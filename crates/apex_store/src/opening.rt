@@ -4,7 +4,7 @@ ghost use Rattle.apex_types.specs.Roster.{opening_record};
 ghost use Rattle.apex_types.specs.Table.{SemaphoreEntry};
 
 use apex_table::{Process, Table};
-use apex_types::{CoreId, Discipline, ProcessId, Record, SemaphoreId};
+use apex_types::{Attributes, CoreId, Discipline, ProcessId, Record, SemaphoreId};
 use std::alloc::{AllocError, Global};
 
 /// Adds the record of a process before any event: dormant on core 0, and as old as its place says.
@@ -17,15 +17,14 @@ fn push_opening(records: &mut Vec<Record>, place: usize, process: &Process)
 {
     let priority = process.priority();
     records.push_reserved(Record {
+        attributes: Attributes { priority },
         core: CoreId::new(0),
-        priority,
         base: priority,
         started: false,
         suspended: None,
         wait: None,
         since: place as i64 + 1,
         due: None,
-        delay: 0,
         step: 0,
     });
 }

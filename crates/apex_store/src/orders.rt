@@ -1,9 +1,9 @@
 ghost use Rattle.std.specs.Prelude.{◌≡◌};
 ghost use Rattle.apex_types.specs.Running.{is_before, is_older, runs_on};
 ghost use Rattle.apex_types.specs.Dues.{by_number, is_due_at};
-ghost use Rattle.apex_types.specs.Waiters.{is_same_wait, is_wait_for, waits_before, waits_behind, waits_in};
+ghost use Rattle.apex_types.specs.Waiters.{is_queue, is_same_queue, waits_before, waits_behind, waits_in};
 
-use apex_types::{CoreId, Discipline, Mode, Record, Wait};
+use apex_types::{CoreId, Discipline, Mode, Queue, Record};
 
 /// The process is eligible and bound to the core.
 #[tactic(auto, unfolding(apex_types::specs::Running::runs_on))]
@@ -28,19 +28,19 @@ pub fn is_before(first: &Record, second: &Record) -> bool
     other < mine || (mine == other && is_older(first, second))
 }
 
-fn is_same_wait(one: Wait, other: Wait) -> bool
-    ensures { result ≡ is_same_wait one other }
+fn is_same_queue(one: Queue, other: Queue) -> bool
+    ensures { result ≡ is_same_queue one other }
 {
     one == other
 }
 
 /// The process waits in the queue.
 #[tactic(auto, unfolding(apex_types::specs::Waiters::waits_in))]
-pub fn waits_in(queue: Wait, row: &Record) -> bool
+pub fn waits_in(queue: Queue, row: &Record) -> bool
     ensures { result ≡ waits_in queue row.now }
 {
-    match row.wait {
-        Some(wait) => is_same_wait(queue, wait),
+    match row.queue() {
+        Some(other) => is_same_queue(queue, other),
         None => false,
     }
 }
@@ -57,7 +57,7 @@ pub fn waits_before(discipline: Discipline, first: &Record, second: &Record) -> 
 
 /// The process waits in the queue of this discipline, behind that one.
 #[tactic(auto, unfolding(apex_types::specs::Waiters::waits_behind))]
-pub fn waits_behind(discipline: Discipline, queue: Wait, ahead: &Record, row: &Record) -> bool
+pub fn waits_behind(discipline: Discipline, queue: Queue, ahead: &Record, row: &Record) -> bool
     ensures { result ≡ waits_behind discipline queue ahead.now row.now }
 {
     waits_in(queue, row) && waits_before(discipline, ahead, row)

@@ -1,16 +1,17 @@
-ghost use Rattle.std.specs.Prelude.{◌≡◌, ℕ, ◌<◌, length, IfOk};
-ghost use Rattle.apex_types.specs.Roster.{Roster, opening_roster, record_at, with_record};
+ghost use Rattle.std.specs.Prelude.{◌≡◌, ◌<◌, length, IfOk};
+ghost use Rattle.apex_types.specs.Roster.{opening_roster, with_record};
+ghost use Rattle.apex_types.specs.Dues.{HasTime};
 ghost use Rattle.apex_types.specs.Running.{is_process};
 ghost use Rattle.apex_types.specs.Stamps as stamps;
-ghost use Rattle.apex_types.specs.Waiters.{discipline_of};
+ghost use Rattle.apex_types.specs.Waiters.{discipline_of, goes_by_priority};
 
-use crate::dues::{earliest_due, start_due, start_wait};
+use crate::dues::earliest_due;
 use crate::opening::{disciplines_of, opening_records};
 use crate::orders::waits_in;
 use crate::scan::{Behind, Due, Runnable, Waiting, first_of};
 use crate::store::Store;
 use apex_table::Table;
-use apex_types::{CoreId, Discipline, Mode, ProcessId, Record, State, Suspender, Wait};
+use apex_types::{CoreId, Discipline, Mode, ProcessId, Queue, Record, State, Suspender, Wait};
 use std::alloc::{AllocError, Global};
 use std::marker::Model;
 
@@ -59,12 +60,25 @@ fn suspension_awake(suspended: Option<Suspender>) -> Option<Suspender>
 
 /// The record of a process that wakes: it waits for nothing, and is not suspended by itself.
 fn awake(row: Record) -> Record
-    ensures { (roster : Roster) (p : ℕ) → record_at roster p ≡ row → result ≡ stamps.awake roster p }
+    ensures { result ≡ stamps.awake row }
 {
     Record {
         suspended: suspension_awake(row.suspended),
         wait: None,
         due: None,
+        ..row
+    }
+}
+
+/// The record of a process at its start: not suspended, at the table's priority and at the first step.
+fn reset(row: Record) -> Record
+    ensures { result ≡ stamps.reset row }
+{
+    Record {
+        base: row.attributes.priority,
+        started: true,
+        suspended: None,
+        step: 0,
         ..row
     }
 }
@@ -88,15 +102,25 @@ impl PlainStore {
     }
 
     /// The discipline of the queue: a semaphore's is the table's.
-    fn discipline(&self, queue: &Wait) -> Discipline
+    fn discipline(&self, queue: &Queue) -> Discipline
         ensures { result ≡ discipline_of self.now queue.now }
     {
         match queue {
-            Wait::Semaphore(semaphore) => match self.disciplines.get(semaphore.place()) {
+            Queue::Semaphore(semaphore) => match self.disciplines.get(semaphore.place()) {
                 Some(discipline) => *discipline,
                 None => Discipline::Fifo,
             },
-            Wait::Normal | Wait::Start | Wait::Time => Discipline::Fifo,
+            Queue::Normal => Discipline::Fifo,
+        }
+    }
+
+    /// There is a queue, and the more urgent comes first in it.
+    fn goes_by_priority(&self, queue: Option<Queue>) -> bool
+        ensures { result ≡ goes_by_priority self.now queue }
+    {
+        match queue {
+            Some(queue) => self.discipline(&queue) == Discipline::Priority,
+            None => false,
         }
     }
 
@@ -132,6 +156,37 @@ impl PlainStore {
             self.put_newest(process, row);
         } else {
             self.put(process, row);
+        }
+    }
+
+    /// The process begins to wait, until the instant that is due where there is one.
+    fn put_waiting(&mut self, process: ProcessId, wait: Wait, due: Option<u64>)
+        requires known { process < length self.old.records }
+        requires stamps { stamps.HasStamps self.old }
+        ensures { self.new ≡ stamps.block self.old process wait due }
+    {
+        let row = self.record(process);
+        let blocked = Record {
+            suspended: suspension_awake(row.suspended),
+            wait: Some(wait),
+            due,
+            ..row
+        };
+        self.put_newest(process, blocked);
+    }
+
+    /// The start of the process begins after a delay in ticks.
+    fn begin(&mut self, process: ProcessId, delay: u32)
+        requires known { process < length self.old.records }
+        requires stamps { stamps.HasStamps self.old }
+        requires time { HasTime self.old }
+        ensures { self.new ≡ stamps.begin self.old process delay }
+    {
+        if delay == 0 {
+            self.release(process);
+        } else {
+            let due = self.time + u64::from(delay);
+            self.put_waiting(process, Wait::Start, Some(due));
         }
     }
 }
@@ -176,7 +231,7 @@ impl Store for PlainStore {
         }
     }
 
-    fn first(&self, queue: Wait) -> Option<ProcessId> {
+    fn first(&self, queue: Queue) -> Option<ProcessId> {
         let order = Waiting {
             discipline: self.discipline(&queue),
             queue,
@@ -184,7 +239,7 @@ impl Store for PlainStore {
         first_of(&order, &self.records)
     }
 
-    fn next_after(&self, queue: Wait, process: ProcessId) -> Option<ProcessId> {
+    fn next_after(&self, queue: Queue, process: ProcessId) -> Option<ProcessId> {
         let order = Behind {
             discipline: self.discipline(&queue),
             queue,
@@ -197,14 +252,7 @@ impl Store for PlainStore {
         earliest_due(&self.records)
     }
 
-    fn is_ranked(&self, process: ProcessId) -> bool {
-        match self.record(process).wait {
-            Some(queue) => self.discipline(&queue) == Discipline::Priority,
-            None => false,
-        }
-    }
-
-    fn waiting(&self, queue: Wait) -> usize {
+    fn waiting(&self, queue: Queue) -> usize {
         self.records
             .iter()
             .filter(|row| waits_in(queue, row))
@@ -213,17 +261,12 @@ impl Store for PlainStore {
 
     fn start(&mut self, process: ProcessId, delay: u32) {
         let row = self.record(process);
-        let started = Record {
-            base: row.priority,
-            started: true,
-            suspended: None,
-            step: 0,
-            wait: start_wait(self.mode, delay),
-            due: start_due(self.mode, self.time, delay),
-            delay,
-            ..row
-        };
-        self.put_newest(process, started);
+        self.put(process, reset(row));
+        if self.mode.is_normal() {
+            self.begin(process, delay);
+        } else {
+            self.put_waiting(process, Wait::Normal(delay), None);
+        }
     }
 
     fn stop(&mut self, process: ProcessId) {
@@ -240,14 +283,7 @@ impl Store for PlainStore {
     }
 
     fn block(&mut self, process: ProcessId, wait: Wait, due: Option<u64>) {
-        let row = self.record(process);
-        let blocked = Record {
-            suspended: suspension_awake(row.suspended),
-            wait: Some(wait),
-            due,
-            ..row
-        };
-        self.put_newest(process, blocked);
+        self.put_waiting(process, wait, due);
     }
 
     fn unblock(&mut self, process: ProcessId) {
@@ -293,9 +329,14 @@ impl Store for PlainStore {
         }
     }
 
-    fn set_base(&mut self, process: ProcessId, base: u8) {
+    fn set_priority(&mut self, process: ProcessId, base: u8) {
         let row = self.record(process);
-        self.put(process, Record { base, ..row });
+        let changed = Record { base, ..row };
+        if row.is_eligible(self.mode) || self.goes_by_priority(row.queue()) {
+            self.put_newest(process, changed);
+        } else {
+            self.put(process, changed);
+        }
     }
 
     fn place_newest(&mut self, process: ProcessId) {

@@ -6,7 +6,7 @@ ghost use Rattle.apex_types.specs.Dues.{by_number, is_due_at};
 ghost use Rattle.apex_types.specs.Waiters.{waits_before, waits_behind, waits_in};
 
 use crate::orders;
-use apex_types::{CoreId, Discipline, Mode, ProcessId, Record, Wait};
+use apex_types::{CoreId, Discipline, Mode, ProcessId, Queue, Record};
 
 /// Which processes a scan looks at, and which of two comes first.
 pub trait Order {
@@ -46,7 +46,7 @@ impl Order for Runnable {
 #[derive(Drop)]
 pub struct Waiting {
     pub discipline: Discipline,
-    pub queue: Wait,
+    pub queue: Queue,
 }
 
 impl Order for Waiting {
@@ -67,7 +67,7 @@ impl Order for Waiting {
 #[derive(Drop)]
 pub struct Behind {
     pub discipline: Discipline,
-    pub queue: Wait,
+    pub queue: Queue,
     pub ahead: Record,
 }
 

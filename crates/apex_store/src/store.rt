@@ -1,17 +1,18 @@
-ghost use Rattle.std.specs.Prelude.{◌≡◌, ◌+◌, ◌<◌, ◌≤◌, ◌^◌, length, IfSome};
+ghost use Rattle.std.specs.Prelude.{◌≡◌, ◌<◌, ◌≤◌, ◌^◌, true, false, length, IfSome};
 ghost use Rattle.apex_types.specs.Roster.{Roster, record_at};
-ghost use Rattle.apex_types.specs.Running.{chosen, process_state};
-ghost use Rattle.apex_types.specs.Waiters.{first_waiter, is_ranked, next_waiter, waiter_count};
-ghost use Rattle.apex_types.specs.Dues.{next_instant, first_due, HasTime};
+ghost use Rattle.apex_types.specs.Running.{chosen, is_eligible, process_state};
+ghost use Rattle.apex_types.specs.Waiters.{first_waiter, next_waiter, waiter_count, waits_in};
+ghost use Rattle.apex_types.specs.Dues.{next_instant, first_due, HasNoDueBelow, HasTime, IsFrom};
 ghost use Rattle.apex_types.specs.Stamps as stamps;
 
-use apex_types::{CoreId, Mode, ProcessId, Record, State, Wait};
+use apex_types::{CoreId, Mode, ProcessId, Queue, Record, State, Wait};
 
 /// The processes of a partition: their records, the mode and the time.
 ///
 /// A contract sees a store as its roster alone: one record a process, and the two counters of
 /// stamps. No call fails, and none takes memory. The rules are those of ARINC 653 Part 1, process
-/// management, and of this profile.
+/// management, and of this profile. The conditions let a store keep its queues as linked lists: only
+/// the entry into NORMAL may have to compare stamps.
 pub trait Store: Drop {
     ghost roster: { Self → Roster };
 
@@ -39,31 +40,27 @@ pub trait Store: Drop {
         ensures { result ≡ process_state (roster self.now) process };
 
     /// Who is first in the queue, by its discipline.
-    fn first(&self, queue: Wait) -> Option<ProcessId>
+    fn first(&self, queue: Queue) -> Option<ProcessId>
         ensures value { result ≡ first_waiter (roster self.now) queue }
         ensures known { IfSome result (λ p. p < length (roster self.now).records) };
 
-    /// Who is next in the queue behind this process.
-    fn next_after(&self, queue: Wait, process: ProcessId) -> Option<ProcessId>
+    /// Who is next in the queue behind this process, which stands there.
+    fn next_after(&self, queue: Queue, process: ProcessId) -> Option<ProcessId>
         requires known { process < length (roster self.now).records }
+        requires waits { waits_in queue (record_at (roster self.now) process) ≡ true }
         ensures value { result ≡ next_waiter (roster self.now) queue process }
         ensures known { IfSome result (λ p. p < length (roster self.now).records) };
+
+    /// How many wait in the queue.
+    fn waiting(&self, queue: Queue) -> usize
+        ensures { result ≡ waiter_count (roster self.now) queue };
 
     /// The next instant at which a wait ends by itself: the least due of all processes.
     fn next_instant(&self) -> Option<u64>
         ensures { result ≡ next_instant (roster self.now) };
 
-    /// Whether the process waits in a queue in which the more urgent comes first.
-    fn is_ranked(&self, process: ProcessId) -> bool
-        requires known { process < length (roster self.now).records }
-        ensures { result ≡ is_ranked (roster self.now) (record_at (roster self.now) process).wait };
-
-    /// How many wait in the queue.
-    fn waiting(&self, queue: Wait) -> usize
-        ensures { result ≡ waiter_count (roster self.now) queue };
-
-    /// Starts a dormant process after a delay in ticks, which begins to run at once in NORMAL, else
-    /// with the entry into NORMAL.
+    /// Resets a dormant process and starts it after a delay in ticks, which begins to run at once in
+    /// NORMAL, else with the entry into NORMAL.
     fn start(&mut self, process: ProcessId, delay: u32)
         requires known { process < length (roster self.old).records }
         requires stamps { stamps.HasStamps (roster self.old) }
@@ -74,9 +71,12 @@ pub trait Store: Drop {
         requires known { process < length (roster self.old).records }
         ensures { roster self.new ≡ stamps.stop (roster self.old) process };
 
-    /// The process begins to wait, until the instant that is due where there is one.
+    /// The process, which is started and waits for nothing or for NORMAL, begins to wait, until the
+    /// instant that is due where there is one.
     fn block(&mut self, process: ProcessId, wait: Wait, due: Option<u64>)
         requires known { process < length (roster self.old).records }
+        requires free { stamps.may_wait (record_at (roster self.old) process) ≡ true }
+        requires due { IsFrom (roster self.old).now due }
         requires stamps { stamps.HasStamps (roster self.old) }
         ensures { roster self.new ≡ stamps.block (roster self.old) process wait due };
 
@@ -97,9 +97,12 @@ pub trait Store: Drop {
         requires known { process < length (roster self.old).records }
         ensures { roster self.new ≡ stamps.suspend (roster self.old) process };
 
-    /// The process suspends itself, until the instant that is due where there is one.
+    /// The process, which is eligible, suspends itself, until the instant that is due where there is
+    /// one.
     fn suspend_self(&mut self, process: ProcessId, due: Option<u64>)
         requires known { process < length (roster self.old).records }
+        requires eligible { is_eligible (roster self.old).mode (record_at (roster self.old) process) ≡ true }
+        requires due { IsFrom (roster self.old).now due }
         requires stamps { stamps.HasStamps (roster self.old) }
         ensures { roster self.new ≡ stamps.suspend_self (roster self.old) process due };
 
@@ -109,10 +112,12 @@ pub trait Store: Drop {
         requires stamps { stamps.HasStamps (roster self.old) }
         ensures { roster self.new ≡ stamps.resume (roster self.old) process };
 
-    /// Sets the base priority.
-    fn set_base(&mut self, process: ProcessId, base: u8)
+    /// Sets the base priority. The process becomes the newest where it is eligible or waits in a queue
+    /// in which the more urgent comes first.
+    fn set_priority(&mut self, process: ProcessId, base: u8)
         requires known { process < length (roster self.old).records }
-        ensures { roster self.new ≡ stamps.set_base (roster self.old) process base };
+        requires stamps { stamps.HasStamps (roster self.old) }
+        ensures { roster self.new ≡ stamps.set_priority (roster self.old) process base };
 
     /// The process goes behind all others of its priority.
     fn place_newest(&mut self, process: ProcessId)
@@ -120,10 +125,11 @@ pub trait Store: Drop {
         requires stamps { stamps.HasStamps (roster self.old) }
         ensures { roster self.new ≡ stamps.place_newest (roster self.old) process };
 
-    /// Time goes on to this instant, in ticks.
+    /// Time goes on to this instant, in ticks, and passes over no due.
     fn advance_to(&mut self, instant: u64)
         requires forward { (roster self.old).now ≤ instant }
         requires near { instant ≤ 2 ^ 36 }
+        requires dues { HasNoDueBelow (roster self.old) instant }
         ensures { roster self.new ≡ stamps.advance_to (roster self.old) instant };
 
     /// The process of the lowest number whose due is now; it has no due afterwards.
@@ -132,11 +138,15 @@ pub trait Store: Drop {
         ensures known { IfSome result (λ p. p < length (roster self.old).records) }
         ensures taken { roster self.new ≡ stamps.take_due (roster self.old) };
 
+    /// Sets the mode, by which nobody becomes eligible.
     fn set_mode(&mut self, mode: Mode)
+        requires { stamps.ReadiesNobody (roster self.old) mode }
         ensures { roster self.new ≡ stamps.set_mode (roster self.old) mode };
 
+    /// Binds a process that isn't eligible to the core.
     fn set_core(&mut self, process: ProcessId, core: CoreId)
         requires known { process < length (roster self.old).records }
+        requires out { is_eligible (roster self.old).mode (record_at (roster self.old) process) ≡ false }
         ensures { roster self.new ≡ stamps.set_core (roster self.old) process core };
 
     /// Sets the process's place in its script, counted from 0.

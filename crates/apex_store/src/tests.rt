@@ -1,7 +1,11 @@
-ghost use Rattle.std.specs.Prelude.{◌≡◌, IfOk};
+ghost use Rattle.std.specs.Prelude.{◌≡◌, ◌<◌, ◌≤◌, ◌^◌, true, length, IfOk, IfSome};
 ghost use Rattle.apex_types.specs.Distinct.{IsStamped};
+ghost use Rattle.apex_types.specs.Dues.{IsFrom};
+ghost use Rattle.apex_types.specs.Stamps as stamps;
+ghost use Rattle.apex_types.specs.Waiters.{next_waiter};
 ghost use Rattle.apex_store.specs.Opened.{IsJustOpened};
 
+use crate::orders::waits_in;
 use crate::plain_store::PlainStore;
 use crate::store::Store;
 use crate::{
@@ -10,7 +14,7 @@ use crate::{
     running_is_chosen, stamps_stay_distinct, waits_in_one_queue,
 };
 use apex_table::read_table;
-use apex_types::{CoreId, Mode, ProcessId, SemaphoreId, State, Wait};
+use apex_types::{CoreId, Mode, ProcessId, Queue, Record, SemaphoreId, State, Wait};
 use std::alloc::Global;
 use std::process::Abort;
 use std::test::Fail;
@@ -53,14 +57,88 @@ fn urgent() -> ProcessId
     ProcessId::at(1)
 }
 
-/// The queue of a semaphore in which who waits longest comes first.
-fn in_turn() -> Wait {
-    Wait::Semaphore(SemaphoreId::at(0))
+/// A semaphore in whose queue who waits longest comes first.
+fn in_turn() -> SemaphoreId {
+    SemaphoreId::at(0)
 }
 
-/// The queue of a semaphore in which the more urgent comes first.
-fn ranked() -> Wait {
-    Wait::Semaphore(SemaphoreId::at(1))
+/// A semaphore in whose queue the more urgent comes first.
+fn ranked() -> SemaphoreId {
+    SemaphoreId::at(1)
+}
+
+/// The process is started, and waits for nothing or for NORMAL.
+fn may_wait(row: &Record) -> bool
+    ensures { result ≡ stamps.may_wait row.now }
+{
+    row.started && matches!(row.wait, None | Some(Wait::Normal(_)))
+}
+
+/// The due, where there is one, is not below the instant, in ticks.
+fn is_from(instant: u64, due: Option<u64>) -> bool
+    ensures { result ≡ true → IsFrom instant due }
+{
+    match due {
+        Some(due) => instant <= due,
+        None => true,
+    }
+}
+
+/// The process begins to wait, as it may.
+fn block<S: Store>(rt: &impl Abort, store: &mut S, process: ProcessId, wait: Wait, due: Option<u64>)
+    requires known { process < length (S.roster store.old).records }
+    requires stamps { stamps.HasStamps (S.roster store.old) }
+    ensures { S.roster store.new ≡ stamps.block (S.roster store.old) process wait due }
+{
+    assert!(rt; may_wait(&store.record(process)));
+    assert!(rt; is_from(store.now(), due));
+    store.block(process, wait, due);
+}
+
+/// The process, which is eligible, suspends itself.
+fn suspend_self<S: Store>(rt: &impl Abort, store: &mut S, process: ProcessId, due: Option<u64>)
+    requires known { process < length (S.roster store.old).records }
+    requires stamps { stamps.HasStamps (S.roster store.old) }
+    ensures { S.roster store.new ≡ stamps.suspend_self (S.roster store.old) process due }
+{
+    assert!(rt; store.record(process).is_eligible(store.mode()));
+    assert!(rt; is_from(store.now(), due));
+    store.suspend_self(process, due);
+}
+
+/// Time goes on, and passes over no due.
+#[tactic(auto, using(apex_types::proofs::Dues::advanced_not_past))]
+fn advance_to<S: Store>(rt: &impl Abort, store: &mut S, instant: u64)
+    requires forward { (S.roster store.old).now ≤ instant }
+    requires near { instant ≤ 2 ^ 36 }
+    ensures { S.roster store.new ≡ stamps.advance_to (S.roster store.old) instant }
+{
+    assert!(rt; is_from(instant, store.next_instant()));
+    store.advance_to(instant);
+}
+
+/// Who is next behind this process, which stands in the queue.
+fn next_after<S: Store>(
+    rt: &impl Abort,
+    store: &S,
+    queue: &Queue,
+    process: ProcessId,
+) -> Option<ProcessId>
+    requires known { process < length (S.roster store.now).records }
+    ensures { result ≡ next_waiter (S.roster store.now) queue.now process }
+{
+    assert!(rt; waits_in(*queue, &store.record(process)));
+    store.next_after(*queue, process)
+}
+
+/// The entry into NORMAL, by which neither of the two becomes eligible.
+fn enter_normal<S: Store>(rt: &impl Abort, store: &mut S)
+    requires { length (S.roster store.old).records ≡ 2 }
+    ensures { S.roster store.new ≡ stamps.set_mode (S.roster store.old) Mode.Normal }
+{
+    assert!(rt; !store.record(slow()).is_eligible(Mode::Normal));
+    assert!(rt; !store.record(urgent()).is_eligible(Mode::Normal));
+    store.set_mode(Mode::Normal);
 }
 
 fn two_processes(rt: &impl Abort, alloc: Global) -> Result<PlainStore, Fail>
@@ -82,13 +160,16 @@ fn opens_dormant(rt: HostRuntime) -> Result<(), Fail> {
     assert_eq!(rt; store.now(), 0);
     assert_eq!(rt; store.process_count(), 2);
     let row = store.record(urgent());
-    assert_eq!(rt; (row.core.number(), row.priority, row.base), (0, 20, 20));
+    assert_eq!(rt;
+        (row.core.number(), row.attributes.priority, row.base),
+        (0, 20, 20)
+    );
     assert_eq!(rt;
         (row.started, row.wait, row.since, row.step),
         (false, None, 2, 0)
     );
     assert_eq!(rt; store.state(slow()), State::Dormant);
-    assert_eq!(rt; (row.due, row.delay), (None, 0));
+    assert_eq!(rt; row.due, None);
     assert_eq!(rt; store.chosen(CoreId::new(0)), None);
     assert_eq!(rt; store.next_instant(), None);
     Ok(())
@@ -101,11 +182,14 @@ fn released_run_by_priority<S: Store>(rt: &impl Abort, store: &mut S)
     store.start(slow(), 0);
     store.start(urgent(), 0);
     assert_eq!(rt; store.state(slow()), State::Waiting);
-    assert_eq!(rt; store.first(Wait::Normal), Some(slow()));
-    assert_eq!(rt; store.next_after(Wait::Normal, slow()), Some(urgent()));
-    assert_eq!(rt; store.next_after(Wait::Normal, urgent()), None);
-    assert_eq!(rt; store.waiting(Wait::Normal), 2);
-    store.set_mode(Mode::Normal);
+    assert_eq!(rt; store.first(Queue::Normal), Some(slow()));
+    assert_eq!(rt;
+        next_after(rt, store, &Queue::Normal, slow()),
+        Some(urgent())
+    );
+    assert_eq!(rt; next_after(rt, store, &Queue::Normal, urgent()), None);
+    assert_eq!(rt; store.waiting(Queue::Normal), 2);
+    enter_normal(rt, store);
     store.release(slow());
     store.release(urgent());
     assert_eq!(rt; store.chosen(CoreId::new(0)), Some(urgent()));
@@ -117,14 +201,14 @@ fn released_run_by_priority<S: Store>(rt: &impl Abort, store: &mut S)
 fn cores_go_to_the_next<S: Store>(rt: &impl Abort, store: &mut S)
     requires { IsJustOpened (S.roster store.old) }
 {
-    store.set_mode(Mode::Normal);
+    enter_normal(rt, store);
     store.start(slow(), 0);
     store.start(urgent(), 0);
-    store.block(urgent(), in_turn(), None);
+    block(rt, store, urgent(), Wait::Semaphore(in_turn()), None);
     assert_eq!(rt; store.chosen(CoreId::new(0)), Some(slow()));
-    assert_eq!(rt; store.first(in_turn()), Some(urgent()));
+    assert_eq!(rt; store.first(Queue::Semaphore(in_turn())), Some(urgent()));
     store.unblock(urgent());
-    assert_eq!(rt; store.waiting(in_turn()), 0);
+    assert_eq!(rt; store.waiting(Queue::Semaphore(in_turn())), 0);
     assert_eq!(rt; store.chosen(CoreId::new(0)), Some(urgent()));
     store.stop(urgent());
     assert_eq!(rt; store.state(urgent()), State::Dormant);
@@ -134,9 +218,10 @@ fn cores_go_to_the_next<S: Store>(rt: &impl Abort, store: &mut S)
 fn runs_on_its_core<S: Store>(rt: &impl Abort, store: &mut S)
     requires { IsJustOpened (S.roster store.old) }
 {
-    store.set_mode(Mode::Normal);
-    store.start(slow(), 0);
+    assert!(rt; !store.record(slow()).is_eligible(store.mode()));
     store.set_core(slow(), CoreId::new(1));
+    enter_normal(rt, store);
+    store.start(slow(), 0);
     assert_eq!(rt; store.chosen(CoreId::new(0)), None);
     assert_eq!(rt; store.chosen(CoreId::new(1)), Some(slow()));
     store.set_step(slow(), 3);
@@ -147,44 +232,38 @@ fn runs_on_its_core<S: Store>(rt: &impl Abort, store: &mut S)
 fn dues_come_by_instant_and_number<S: Store>(rt: &impl Abort, store: &mut S)
     requires { IsJustOpened (S.roster store.old) }
 {
-    store.set_mode(Mode::Normal);
+    enter_normal(rt, store);
     store.start(slow(), 0);
     store.start(urgent(), 0);
-    store.block(urgent(), Wait::Time, Some(4));
-    store.block(slow(), in_turn(), Some(9));
+    block(rt, store, urgent(), Wait::Time, Some(4));
+    block(rt, store, slow(), Wait::Semaphore(in_turn()), Some(9));
     assert_eq!(rt; store.next_instant(), Some(4));
     assert_eq!(rt; store.take_due(), None);
-    store.advance_to(4);
+    advance_to(rt, store, 4);
     assert_eq!(rt; store.now(), 4);
     assert_eq!(rt; store.take_due(), Some(urgent()));
     assert_eq!(rt; store.record(urgent()).wait, Some(Wait::Time));
-    store.block(urgent(), Wait::Time, Some(9));
-    store.block(slow(), in_turn(), Some(9));
-    store.advance_to(9);
+    store.unblock(urgent());
+    block(rt, store, urgent(), Wait::Time, Some(9));
+    advance_to(rt, store, 9);
     assert_eq!(rt; store.take_due(), Some(slow()));
     assert_eq!(rt; store.take_due(), Some(urgent()));
     assert_eq!(rt; store.take_due(), None);
     assert_eq!(rt; store.next_instant(), None);
 }
 
-/// The delay of a start runs from the start in NORMAL, and before NORMAL it is only kept.
+/// The delay of a start runs from the start in NORMAL, and before NORMAL the wait keeps it.
 fn delays_run_in_normal<S: Store>(rt: &impl Abort, store: &mut S)
     requires { IsJustOpened (S.roster store.old) }
 {
-    store.advance_to(2);
+    advance_to(rt, store, 2);
     store.start(slow(), 3);
     let early = store.record(slow());
-    assert_eq!(rt;
-        (early.wait, early.due, early.delay),
-        (Some(Wait::Normal), None, 3)
-    );
-    store.set_mode(Mode::Normal);
+    assert_eq!(rt; (early.wait, early.due), (Some(Wait::Normal(3)), None));
+    enter_normal(rt, store);
     store.start(urgent(), 3);
     let late = store.record(urgent());
-    assert_eq!(rt;
-        (late.wait, late.due, late.delay),
-        (Some(Wait::Start), Some(5), 3)
-    );
+    assert_eq!(rt; (late.wait, late.due), (Some(Wait::Start), Some(5)));
     assert_eq!(rt; store.state(urgent()), State::Waiting);
     store.release(urgent());
     assert_eq!(rt; store.next_instant(), None);
@@ -198,23 +277,29 @@ fn newest_goes_last<S: Store>(rt: &impl Abort, store: &mut S)
     store.start(slow(), 0);
     store.start(urgent(), 0);
     store.place_newest(slow());
-    assert_eq!(rt; store.first(Wait::Normal), Some(urgent()));
-    assert_eq!(rt; store.next_after(Wait::Normal, urgent()), Some(slow()));
+    assert_eq!(rt; store.first(Queue::Normal), Some(urgent()));
+    assert_eq!(rt;
+        next_after(rt, store, &Queue::Normal, urgent()),
+        Some(slow())
+    );
 }
 
 /// Another process's suspension lets a wait go on, and lasts until the process is resumed.
 fn suspension_outlasts_a_wake<S: Store>(rt: &impl Abort, store: &mut S)
     requires { IsJustOpened (S.roster store.old) }
 {
-    store.set_mode(Mode::Normal);
+    enter_normal(rt, store);
     store.start(urgent(), 0);
-    store.block(urgent(), in_turn(), Some(9));
+    block(rt, store, urgent(), Wait::Semaphore(in_turn()), Some(9));
     store.suspend(urgent());
-    assert_eq!(rt; store.first(in_turn()), Some(urgent()));
+    assert_eq!(rt; store.first(Queue::Semaphore(in_turn())), Some(urgent()));
     store.resume(urgent());
     assert_eq!(rt; store.state(urgent()), State::Waiting);
     assert_eq!(rt;
-        (store.first(in_turn()), store.next_instant()),
+        (
+            store.first(Queue::Semaphore(in_turn())),
+            store.next_instant()
+        ),
         (Some(urgent()), Some(9))
     );
     store.suspend(urgent());
@@ -225,15 +310,15 @@ fn suspension_outlasts_a_wake<S: Store>(rt: &impl Abort, store: &mut S)
     assert_eq!(rt; store.state(urgent()), State::Running);
 }
 
-/// A suspension of itself ends with a RESUME, a wait or a START, and the core goes to another one
+/// A suspension of itself ends with a RESUME, a wake or a START, and the core goes to another one
 /// meanwhile.
 fn suspension_of_itself_ends<S: Store>(rt: &impl Abort, store: &mut S)
     requires { IsJustOpened (S.roster store.old) }
 {
-    store.set_mode(Mode::Normal);
+    enter_normal(rt, store);
     store.start(slow(), 0);
     store.start(urgent(), 0);
-    store.suspend_self(urgent(), Some(4));
+    suspend_self(rt, store, urgent(), Some(4));
     assert_eq!(rt; store.state(urgent()), State::Waiting);
     assert_eq!(rt;
         (store.record(urgent()).wait, store.next_instant()),
@@ -245,8 +330,7 @@ fn suspension_of_itself_ends<S: Store>(rt: &impl Abort, store: &mut S)
         (store.state(urgent()), store.next_instant()),
         (State::Running, None)
     );
-    store.suspend_self(urgent(), None);
-    store.block(urgent(), in_turn(), None);
+    suspend_self(rt, store, urgent(), None);
     store.unblock(urgent());
     assert_eq!(rt; store.state(urgent()), State::Running);
     store.suspend(urgent());
@@ -259,15 +343,15 @@ fn suspension_of_itself_ends<S: Store>(rt: &impl Abort, store: &mut S)
 fn base_decides_until_a_start<S: Store>(rt: &impl Abort, store: &mut S)
     requires { IsJustOpened (S.roster store.old) }
 {
-    store.set_mode(Mode::Normal);
+    enter_normal(rt, store);
     store.start(slow(), 0);
     store.start(urgent(), 0);
-    store.set_base(slow(), 30);
+    store.set_priority(slow(), 30);
     store.set_step(slow(), 3);
     assert_eq!(rt; store.chosen(CoreId::new(0)), Some(slow()));
     store.stop(slow());
     let stopped = store.record(slow());
-    assert_eq!(rt; (stopped.base, stopped.since, stopped.step), (30, 3, 0));
+    assert_eq!(rt; (stopped.base, stopped.since, stopped.step), (30, 5, 0));
     store.start(slow(), 0);
     assert_eq!(rt; store.record(slow()).base, 10);
     assert_eq!(rt; store.chosen(CoreId::new(0)), Some(urgent()));
@@ -277,21 +361,49 @@ fn base_decides_until_a_start<S: Store>(rt: &impl Abort, store: &mut S)
 fn queues_have_their_disciplines<S: Store>(rt: &impl Abort, store: &mut S)
     requires { IsJustOpened (S.roster store.old) }
 {
-    store.set_mode(Mode::Normal);
+    enter_normal(rt, store);
     store.start(slow(), 0);
     store.start(urgent(), 0);
-    store.block(slow(), in_turn(), None);
-    store.block(urgent(), in_turn(), None);
-    assert_eq!(rt; store.first(in_turn()), Some(slow()));
-    assert_eq!(rt; store.next_after(in_turn(), slow()), Some(urgent()));
-    assert_eq!(rt; store.is_ranked(slow()), false);
-    store.block(slow(), ranked(), None);
-    store.block(urgent(), ranked(), None);
-    assert_eq!(rt; store.first(ranked()), Some(urgent()));
-    assert_eq!(rt; store.next_after(ranked(), urgent()), Some(slow()));
-    assert_eq!(rt; store.is_ranked(slow()), true);
-    store.set_base(slow(), 20);
-    assert_eq!(rt; store.first(ranked()), Some(slow()));
+    block(rt, store, slow(), Wait::Semaphore(in_turn()), None);
+    block(rt, store, urgent(), Wait::Semaphore(in_turn()), None);
+    assert_eq!(rt; store.first(Queue::Semaphore(in_turn())), Some(slow()));
+    assert_eq!(rt;
+        next_after(rt, store, &Queue::Semaphore(in_turn()), slow()),
+        Some(urgent())
+    );
+    store.unblock(slow());
+    store.unblock(urgent());
+    block(rt, store, slow(), Wait::Semaphore(ranked()), None);
+    block(rt, store, urgent(), Wait::Semaphore(ranked()), None);
+    assert_eq!(rt; store.first(Queue::Semaphore(ranked())), Some(urgent()));
+    assert_eq!(rt;
+        next_after(rt, store, &Queue::Semaphore(ranked()), urgent()),
+        Some(slow())
+    );
+}
+
+/// A new priority places a ready process and a waiter in a PRIORITY queue last among their equals, and
+/// leaves a waiter in a FIFO queue where it stands.
+fn priorities_place_by_queue<S: Store>(rt: &impl Abort, store: &mut S)
+    requires { IsJustOpened (S.roster store.old) }
+{
+    enter_normal(rt, store);
+    store.start(slow(), 0);
+    store.start(urgent(), 0);
+    store.set_priority(slow(), 20);
+    assert_eq!(rt; store.chosen(CoreId::new(0)), Some(urgent()));
+    block(rt, store, slow(), Wait::Semaphore(ranked()), None);
+    block(rt, store, urgent(), Wait::Semaphore(ranked()), None);
+    store.set_priority(slow(), 20);
+    assert_eq!(rt; store.first(Queue::Semaphore(ranked())), Some(urgent()));
+    store.stop(slow());
+    store.stop(urgent());
+    store.start(slow(), 0);
+    store.start(urgent(), 0);
+    block(rt, store, slow(), Wait::Semaphore(in_turn()), None);
+    block(rt, store, urgent(), Wait::Semaphore(in_turn()), None);
+    store.set_priority(slow(), 20);
+    assert_eq!(rt; store.first(Queue::Semaphore(in_turn())), Some(slow()));
 }
 
 #[test]
@@ -306,6 +418,7 @@ fn plain_store_serves_the_trait(rt: HostRuntime) -> Result<(), Fail> {
     suspension_of_itself_ends(&rt, &mut two_processes(&rt, rt.alloc())?);
     base_decides_until_a_start(&rt, &mut two_processes(&rt, rt.alloc())?);
     queues_have_their_disciplines(&rt, &mut two_processes(&rt, rt.alloc())?);
+    priorities_place_by_queue(&rt, &mut two_processes(&rt, rt.alloc())?);
     Ok(())
 }
 
@@ -318,8 +431,8 @@ fn laws_hold<S: Store>(store: &S)
     most_urgent_runs(store, core);
     running_is_chosen(store, slow());
     one_process_runs(store);
-    first_waiter_is_first(store, in_turn());
-    next_waiter_is_next(store, in_turn(), slow());
+    first_waiter_is_first(store, Queue::Semaphore(in_turn()));
+    next_waiter_is_next(store, Queue::Semaphore(in_turn()), slow());
     waits_in_one_queue(store, slow());
     next_instant_is_least(store);
     first_due_is_lowest(store);

@@ -1,13 +1,14 @@
 -- Each change of a roster leaves it with distinct stamps, all given before the next one.
 use Rattle.std.proofs.Common.{◌≡◌, ◌≢◌, ℕ, ◌+◌, ◌<◌, ◌<ℤ◌, pos, Option, None, Some, length, refl, sym, ◌∙◌, ap, inl, inr, arith}
-use Rattle.std.proofs.lemmas.Bool.{cases_eq}
+use Rattle.std.proofs.lemmas.Bool.{cases_eq, cond_both}
 use Rattle.std.proofs.lemmas.Int.{ints}
 use Rattle.std.proofs.lemmas.List.{length-set}
 use Rattle.apex_types.specs.declared.records.Mode.{Mode}
 use Rattle.apex_types.specs.declared.records.Record.{Record}
 use Rattle.apex_types.specs.Roster.{Roster, record_at, with_record, nobody, opening_record, opening_roster}
 use Rattle.apex_types.specs.Table.{Table, no_process}
-use Rattle.apex_types.specs.Stamps.{newest, advance_to, without_due_of, take_due, set_mode}
+use Rattle.apex_types.specs.Running.{is_eligible}
+use Rattle.apex_types.specs.Stamps.{newest, readied, awake, unsuspended, is_by_itself, resume, advance_to, without_due_of, take_due, set_mode}
 use Rattle.apex_types.specs.Distinct.{IsStamped}
 use Rattle.apex_types.specs.Dues.{is_due_at, by_number, first_due}
 use Rattle.apex_types.proofs.Choice.{place_within}
@@ -26,6 +27,7 @@ module _ (roster : Roster) (p : ℕ) (known : p < length roster.records) (stampe
   pub stamped_record : (r : Record) → r.since ≡ (record_at roster p).since → IsStamped (with_record roster p r)
   stamped_record r same = record {
     given = λ q within. rw (since_stays r same q) (stamped.given q (rw (length-set roster.records p r) at within));
+    newer = λ q within. rw (since_stays r same q) (stamped.newer q (rw (length-set roster.records p r) at within));
     distinct = record {
       distinct = λ q s within there e.
           stamped.distinct.distinct q s (rw (length-set roster.records p r) at within) (rw (length-set roster.records p r) at there)
@@ -50,6 +52,15 @@ module _ (roster : Roster) (p : ℕ) (known : p < length roster.records) (stampe
         | inr apart ↦
             let others = since_others r q apart in
             let before = stamped.given q (within_newest r q within) in omega (arith, ints)
+      ]
+
+  newer_newest : (r : Record) (q : ℕ) → q < length (newest roster p r).records → roster.old <ℤ (record_at (newest roster p r) q).since
+  newer_newest r q within =
+      elim (cases_eq q p) [
+        | inl e ↦
+            let before = stamped.given p known in
+            let after = stamped.newer p known in rw (e, since_newest r) (omega (arith, ints))
+        | inr apart ↦ rw (since_others r q apart) (stamped.newer q (within_newest r q within))
       ]
 
   other_than_newest : (r : Record) (s : ℕ) → s < length (newest roster p r).records → roster.young ≡ (record_at (newest roster p r) s).since → s ≡ p
@@ -79,18 +90,30 @@ module _ (roster : Roster) (p : ℕ) (known : p < length roster.records) (stampe
   pub stamped_newest : (r : Record) → IsStamped (newest roster p r)
   stamped_newest r = record {
     given = given_newest r;
+    newer = newer_newest r;
     distinct = record { distinct = distinct_newest r };
   }
+
+  pub stamped_readied : (r : Record) → r.since ≡ (record_at roster p).since → IsStamped (readied roster p r)
+  stamped_readied r same =
+      cond_both {A = Roster} (is_eligible roster.mode r) _ _ IsStamped (λ _. stamped_newest r) (λ _. stamped_record r same)
+
+  pub stamped_resume : IsStamped (resume roster p)
+  stamped_resume =
+      cond_both {A = Roster} (is_by_itself (record_at roster p).suspended) _ _ IsStamped
+      (λ _. stamped_readied (awake (record_at roster p)) refl) (λ _. stamped_readied (unsuspended (record_at roster p)) refl)
 
 pub stamped_set_mode : (roster : Roster) → IsStamped roster → (mode : Mode) → IsStamped (set_mode roster mode)
 stamped_set_mode roster stamped mode = record {
   given = stamped.given;
+  newer = stamped.newer;
   distinct = record { distinct = stamped.distinct.distinct };
 }
 
 pub stamped_advance_to : (roster : Roster) → IsStamped roster → (t : ℕ) → IsStamped (advance_to roster t)
 stamped_advance_to roster stamped t = record {
   given = stamped.given;
+  newer = stamped.newer;
   distinct = record { distinct = stamped.distinct.distinct };
 }
 
@@ -114,6 +137,9 @@ opening_within table p within = rw (length-map_places opening_record 0 table.pro
 pub stamped_opening : (table : Table) → IsStamped (opening_roster table)
 stamped_opening table = record {
   given = λ p within.
+      let inside = opening_within table p within in
+      rw (opening_since table p inside) (omega (arith, ints));
+  newer = λ p within.
       let inside = opening_within table p within in
       rw (opening_since table p inside) (omega (arith, ints));
   distinct = record {

@@ -7,8 +7,9 @@ use Rattle.std.proofs.lemmas.Option.{none-some, same_Some, slice_get-get_or}
 use Rattle.apex_types.specs.declared.records.Record.{Record}
 use Rattle.apex_types.specs.Roster.{Roster, nobody, record_at}
 use Rattle.apex_types.specs.Choice.{better, least}
-use Rattle.apex_types.specs.Dues.{sooner, earliest_due, next_instant, is_instant, is_due_at, by_number, first_due, HasNoPastDue}
-use Rattle.apex_types.specs.Stamps.{advance_to}
+use Rattle.apex_types.specs.declared.calls.Timeout.{Timeout}
+use Rattle.apex_types.specs.declared.calls.Timeout.TheVariants.{Poll, Ticks, Infinite}
+use Rattle.apex_types.specs.Dues.{sooner, earliest_due, next_instant, is_instant, is_due_at, by_number, first_due, due_after, IsFrom, HasNoDueBelow, HasNoPastDue}
 use Rattle.apex_types.specs.Ticks.{not_beyond, tick_goal}
 use Rattle.apex_types.proofs.Choice.{place_none, place_passes, place_within}
 
@@ -75,7 +76,7 @@ pub next_not_past : (roster : Roster) → HasNoPastDue roster → (t : ℕ) → 
 next_not_past roster not_past = earliest_at_least roster.records roster.now not_past
 
 -- time that goes no further than the next instant, if there is one, passes over no due
-pub advanced_not_past : (roster : Roster) (t : ℕ) → ((next : ℕ) → next_instant roster ≡ Some next → t ≤ next) → HasNoPastDue (advance_to roster t)
+pub advanced_not_past : (roster : Roster) (t : ℕ) → ((next : ℕ) → next_instant roster ≡ Some next → t ≤ next) → HasNoDueBelow roster t
 advanced_not_past roster t within p u due =
     let least = earliest_is_least roster.records p u due in omega (arith, least.2, within least.0 least.1)
 
@@ -102,9 +103,19 @@ pub goal_near : (roster : Roster) (n : ℕ) → tick_goal roster n ≤ roster.no
 goal_near roster n = at_most_near (roster.now + n) (next_instant roster)
 
 -- a tick passes over no due
-pub goal_not_past : (roster : Roster) (n : ℕ) → HasNoPastDue (advance_to roster (tick_goal roster n))
+pub goal_not_past : (roster : Roster) (n : ℕ) → HasNoDueBelow roster (tick_goal roster n)
 goal_not_past roster n =
     advanced_not_past roster (tick_goal roster n) (at_most_next (roster.now + n) (next_instant roster))
+
+-- an instant from now on
+pub from_now : (now n : ℕ) → IsFrom now (Some (now + n))
+from_now now n t e = omega (arith, same_Some _ _ e)
+
+-- a wait that begins now ends no sooner
+pub due_later : (roster : Roster) (timeout : Timeout) → IsFrom roster.now (due_after roster timeout)
+due_later roster Poll t e = absurd (none-some t e)
+due_later roster (Ticks n) t e = from_now roster.now n t e
+due_later roster Infinite t e = absurd (none-some t e)
 
 -- a due that is this instant
 due_of_test : (t : ℕ) (due : Option ℕ) → is_instant t due ≡ true → due ≡ Some t

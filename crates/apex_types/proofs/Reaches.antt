@@ -1,8 +1,8 @@
 -- From one roster to another by changes of single processes at one instant: what such changes keep.
-use Rattle.std.proofs.Common.{◌≡◌, ℕ, zero, suc, ◌+◌, ◌<◌, ◌≤◌, ◌≤ℤ◌, pos, ◌+ℤ◌, ◌==◌, ◌&&◌, not, Bool, true, false, List, [], ◌∷◌, ◌++◌, map, get_or, length, Option, None, Some, refl, sym, ◌∙◌, ap, inl, inr, arith, if◌then◌else◌}
+use Rattle.std.proofs.Common.{◌≡◌, ℕ, zero, suc, ◌+◌, ◌<◌, ◌≤◌, ◌≤ℤ◌, pos, ◌+ℤ◌, ◌==◌, ◌||◌, Bool, true, false, List, [], ◌∷◌, ◌++◌, map, get_or, length, Option, None, Some, refl, sym, ◌∙◌, ap, subst, inl, inr, arith, if◌then◌else◌}
 use Rattle.std.proofs.lemmas.Bool.{both_ways, cases_eq, cond_both}
 use Rattle.std.proofs.lemmas.Int.{ints}
-use Rattle.std.proofs.lemmas.List.{length-map}
+use Rattle.std.proofs.lemmas.List.{length-map, set-set}
 use Rattle.std.proofs.lemmas.Option.{none-some, same_Some}
 use Rattle.apex_types.specs.declared.entries.Notice.{Notice}
 use Rattle.apex_types.specs.declared.records.Mode.{Mode}
@@ -10,34 +10,42 @@ use Rattle.apex_types.specs.declared.records.Record.{Record}
 use Rattle.apex_types.specs.declared.records.Suspender.{Suspender}
 use Rattle.apex_types.specs.declared.records.Suspender.TheVariants.{Itself, Other}
 use Rattle.apex_types.specs.declared.records.Wait.{Wait}
+use Rattle.apex_types.specs.declared.records.Wait.TheVariants.{Normal, Start}
 use Rattle.apex_types.specs.Roster.{Roster, nobody, record_at, with_record, is_normal}
 use Rattle.apex_types.specs.Running.{is_eligible}
-use Rattle.apex_types.specs.Dues.{HasNoPastDue}
+use Rattle.apex_types.specs.Dues.{IsFrom, HasNoPastDue}
 use Rattle.apex_types.specs.Distinct.{IsStamped}
-use Rattle.apex_types.specs.Stamps.{WaitsForOne, suspension_awake, newest, readied, started, start, stop, stopped, is_by_itself, suspend, self_suspended, suspend_self, unsuspended, resume, set_base, awake, waiting, block, unblock, release, place_newest, without_due, set_mode, set_core, set_step}
+use Rattle.apex_types.specs.Waiters.{goes_by_priority, queue_in}
+use Rattle.apex_types.specs.Stamps.{WaitsForOne, HasOrderlyStarts, suspension_awake, newest, readied, reset, begin, start, stop, stopped, is_by_itself, suspend, self_suspended, suspend_self, unsuspended, resume, set_priority, awake, waiting, block, unblock, release, place_newest, without_due, set_mode, set_core, set_step}
 use Rattle.apex_types.specs.PartitionServices.{enter_idle}
 use Rattle.apex_types.specs.InTurn.{Changed, next_and, in_turn}
 use Rattle.apex_types.proofs.Rosters.{changes_record, changes_newest, at_record}
 use Rattle.apex_types.proofs.DistinctStamps.{stamped_record, stamped_newest, stamped_set_mode}
+use Rattle.apex_types.proofs.Dues.{from_now}
+use Rattle.apex_types.proofs.Starts.{IsOrderlyIn, orderly_at, orderly_all}
 
 -- as many records, the same time, at most so many stamps given; and stamps that differ, dues that are
--- not past, and processes that wait for one thing at the most, stay so
+-- not past, processes that wait for one thing at the most, and the order of starts stay so
 pub record Reaches (most : ℕ) (old new : Roster) : Type 0 where
   pub many : length new.records ≡ length old.records
   pub time : new.now ≡ old.now
   pub stamps : new.young ≤ℤ (old.young +ℤ pos most)
+  pub older : old.old ≤ℤ (new.old +ℤ pos most)
   pub stamped : IsStamped old → IsStamped new
   pub dues : HasNoPastDue old → HasNoPastDue new
   pub one : WaitsForOne old → WaitsForOne new
+  pub starts : HasOrderlyStarts old → HasOrderlyStarts new
 
 pub reaches_none : (most : ℕ) (roster : Roster) → Reaches most roster roster
 reaches_none most roster = record {
   many = refl;
   time = refl;
   stamps = omega (arith, ints);
+  older = omega (arith, ints);
   stamped = λ h. h;
   dues = λ h. h;
   one = λ h. h;
+  starts = λ h. h;
 }
 
 pub reaches_then : {first second third : Roster} (n m : ℕ) → Reaches n first second → Reaches m second third → Reaches (n + m) first third
@@ -45,9 +53,11 @@ reaches_then n m g h = record {
   many = h.many ∙ g.many;
   time = h.time ∙ g.time;
   stamps = omega (arith, ints, g.stamps, h.stamps);
+  older = omega (arith, ints, g.older, h.older);
   stamped = λ s. h.stamped (g.stamped s);
   dues = λ d. h.dues (g.dues d);
   one = λ o. h.one (g.one o);
+  starts = λ o. h.starts (g.starts o);
 }
 
 pub reaches_more : {old new : Roster} (n m : ℕ) → n ≤ m → Reaches n old new → Reaches m old new
@@ -55,131 +65,234 @@ reaches_more n m few g = record {
   many = g.many;
   time = g.time;
   stamps = omega (arith, ints, g.stamps, few);
+  older = omega (arith, ints, g.older, few);
   stamped = g.stamped;
   dues = g.dues;
   one = g.one;
+  starts = g.starts;
 }
+
+-- a record of which all holds that holds of every record of the roster
+pub record Fits (roster : Roster) (r : Record) : Type 0 where
+  pub due : HasNoPastDue roster → IsFrom roster.now r.due
+  pub one : WaitsForOne roster → is_by_itself r.suspended ≡ true → r.wait ≡ None
+  pub starts : HasOrderlyStarts roster → IsOrderlyIn roster.mode r
 
 -- one process has another record
 module _ (roster : Roster) (p : ℕ) (known : p < length roster.records) where
-  -- the record's due is not past, where no due is
-  abbrev pub IsDueLater : Record → Type 0
-  IsDueLater r = HasNoPastDue roster → (t : ℕ) → r.due ≡ Some t → roster.now ≤ t
-
-  dues_record : (r : Record) → IsDueLater r → HasNoPastDue roster → HasNoPastDue (with_record roster p r)
-  dues_record r later before q t e =
+  -- what holds of every record, and of the new one, holds of every record then
+  all_stay : (P : Record → Type 0) (r : Record) → ((q : ℕ) → P (record_at roster q)) → P r → (q : ℕ) → P (record_at (with_record roster p r) q)
+  all_stay P r before here q =
       elim (cases_eq q p) [
-        | inl same ↦ later before t (ap (λ (x : Record). x.due) (sym (at_record roster p known r)) ∙ ap (λ (k : ℕ). (record_at (with_record roster p r) k).due) (sym same) ∙ e)
-        | inr apart ↦ before q t (ap (λ (x : Record). x.due) (sym ((changes_record roster p r).others q apart)) ∙ e)
+        | inl same ↦ subst P (sym (ap (record_at (with_record roster p r)) same ∙ at_record roster p known r)) here
+        | inr apart ↦ subst P (sym ((changes_record roster p r).others q apart)) (before q)
       ]
 
-  -- the record waits for nothing but the end of its suspension of itself, where no record waits for more
-  abbrev pub IsForOne : Record → Type 0
-  IsForOne r = WaitsForOne roster → is_by_itself r.suspended ≡ true → r.wait ≡ None
+  one_stays : (r : Record) → Fits roster r → WaitsForOne roster → WaitsForOne (with_record roster p r)
+  one_stays r fits before = all_stay (λ (x : Record). is_by_itself x.suspended ≡ true → x.wait ≡ None) r before (fits.one before)
 
-  one_record : (r : Record) → IsForOne r → WaitsForOne roster → WaitsForOne (with_record roster p r)
-  one_record r single before q =
-      elim (cases_eq q p) [
-        | inl same ↦
-            let here : record_at (with_record roster p r) q ≡ r = ap (record_at (with_record roster p r)) same ∙ at_record roster p known r in
-            λ h. ap (λ (x : Record). x.wait) here ∙ single before (ap (λ (x : Record). is_by_itself x.suspended) (sym here) ∙ h)
-        | inr apart ↦
-            let here : record_at (with_record roster p r) q ≡ record_at roster q = (changes_record roster p r).others q apart in
-            λ h. ap (λ (x : Record). x.wait) here ∙ before q (ap (λ (x : Record). is_by_itself x.suspended) (sym here) ∙ h)
-      ]
+  dues_stay : (r : Record) → Fits roster r → HasNoPastDue roster → HasNoPastDue (with_record roster p r)
+  dues_stay r fits before = all_stay (λ (x : Record). IsFrom roster.now x.due) r before (fits.due before)
 
-  pub reaches_record : (r : Record) → r.since ≡ (record_at roster p).since → IsDueLater r → IsForOne r → Reaches 0 roster (with_record roster p r)
-  reaches_record r same later single =
+  starts_stay : (r : Record) → Fits roster r → HasOrderlyStarts roster → HasOrderlyStarts (with_record roster p r)
+  starts_stay r fits before =
+      orderly_all (with_record roster p r) (all_stay (IsOrderlyIn roster.mode) r (orderly_at roster before) (fits.starts before))
+
+  pub reaches_record : (r : Record) → r.since ≡ (record_at roster p).since → Fits roster r → Reaches 0 roster (with_record roster p r)
+  reaches_record r same fits =
       let changes = changes_record roster p r in
       record {
         many = changes.count;
         time = refl;
         stamps = omega (arith, ints);
+        older = omega (arith, ints);
         stamped = λ stamped. stamped_record roster p known stamped r same;
-        dues = dues_record r later;
-        one = one_record r single;
+        dues = dues_stay r fits;
+        one = one_stays r fits;
+        starts = starts_stay r fits;
       }
 
-  pub reaches_newest : (r : Record) → IsDueLater r → IsForOne r → Reaches 1 roster (newest roster p r)
-  reaches_newest r later single =
+  pub reaches_newest : (r : Record) → Fits roster r → Reaches 1 roster (newest roster p r)
+  reaches_newest r fits =
       let changes = changes_newest roster p r in
+      let young : Record = record r { since = roster.young } in
+      let fits_so : Fits roster young = record {
+        due = fits.due;
+        one = fits.one;
+        starts = λ before. let is = fits.starts before in record { dormant = is.dormant; early = is.early; undue = is.undue };
+      } in
       record {
         many = changes.count;
         time = refl;
         stamps = changes.one_more;
+        older = omega (arith, ints);
         stamped = λ stamped. stamped_newest roster p known stamped r;
-        dues = dues_record (record r { since = roster.young }) later;
-        one = one_record (record r { since = roster.young }) single;
+        dues = dues_stay young fits_so;
+        one = one_stays young fits_so;
+        starts = λ before. let after = starts_stay young fits_so before in record { dormant = after.dormant; early = after.early; undue = after.undue };
       }
 
-  pub reaches_readied : (r : Record) → r.since ≡ (record_at roster p).since → IsDueLater r → IsForOne r → Reaches 1 roster (readied roster p r)
-  reaches_readied r same later single =
+  pub reaches_readied : (r : Record) → r.since ≡ (record_at roster p).since → Fits roster r → Reaches 1 roster (readied roster p r)
+  reaches_readied r same fits =
       cond_both {A = Roster} (is_eligible roster.mode r) _ _ (Reaches 1 roster)
-      (λ _. reaches_newest r later single) (λ _. reaches_more 0 1 (omega arith) (reaches_record r same later single))
+      (λ _. reaches_newest r fits) (λ _. reaches_more 0 1 (omega arith) (reaches_record r same fits))
 
-  -- a record that is not suspended by itself, and one that waits for nothing
+  -- a record that is not suspended by itself
   awake_one : (suspended : Option Suspender) → is_by_itself (suspension_awake suspended) ≡ true → ⊥
   awake_one None h = both_ways false refl h
   awake_one (Some Itself) h = both_ways false refl h
   awake_one (Some Other) h = both_ways false refl h
 
-  start_later : (b : Bool) (delay : ℕ) (t : ℕ) → (if b then Some (roster.now + delay) else None) ≡ Some t → roster.now ≤ t
-  start_later true delay t e = omega (arith, same_Some _ _ e)
-  start_later false delay t e = absurd (none-some t e)
+  -- the process's own record, but for what no law is about
+  own_fits : (r : Record) → r.started ≡ (record_at roster p).started → r.wait ≡ (record_at roster p).wait
+      → r.due ≡ (record_at roster p).due → (is_by_itself r.suspended ≡ true → is_by_itself (record_at roster p).suspended ≡ true) → Fits roster r
+  own_fits r started wait due suspended = record {
+    due = λ before. rw due (before p);
+    one = λ before h. wait ∙ before p (suspended h);
+    starts = λ before. record {
+      dormant = λ e. wait ∙ before.dormant p (sym started ∙ e);
+      early = λ e h. let queue : queue_in r ≡ queue_in (record_at roster p) = rw wait refl in queue ∙ before.early e p (sym started ∙ h);
+      undue = λ e. due ∙ before.undue e p;
+    };
+  }
+
+  awake_fits : (r : Record) → (is_normal roster.mode ≡ false → ⊥) → Fits roster (awake r)
+  awake_fits r normal = record {
+    due = λ before t e. absurd (none-some t e);
+    one = λ before h. refl;
+    starts = λ before. record { dormant = λ e. refl; early = λ e. absurd (normal e); undue = λ e. refl };
+  }
+
+  waiting_fits : (r : Record) (wait : Wait) (due : Option ℕ) → IsFrom roster.now due → r.started ≡ true → (is_normal roster.mode ≡ false → ⊥) → Fits roster (waiting r wait due)
+  waiting_fits r wait due later begun normal = record {
+    due = λ before. later;
+    one = λ before h. absurd (awake_one r.suspended h);
+    starts = λ before. record { dormant = λ e. absurd (both_ways _ e begun); early = λ e. absurd (normal e); undue = λ e. absurd (normal e) };
+  }
+
+  pub reaches_unblock : (is_normal roster.mode ≡ false → ⊥) → Reaches 1 roster (unblock roster p)
+  reaches_unblock normal = reaches_readied (awake (record_at roster p)) refl (awake_fits (record_at roster p) normal)
+
+  pub reaches_release : (is_normal roster.mode ≡ false → ⊥) → Reaches 1 roster (release roster p)
+  reaches_release = reaches_unblock
+
+  pub reaches_block : (wait : Wait) (due : Option ℕ) → IsFrom roster.now due → (record_at roster p).started ≡ true → (is_normal roster.mode ≡ false → ⊥)
+      → Reaches 1 roster (block roster p wait due)
+  reaches_block wait due later begun normal =
+      reaches_newest (waiting (record_at roster p) wait due) (waiting_fits (record_at roster p) wait due later begun normal)
+
+  pub reaches_begin : (delay : ℕ) → (record_at roster p).started ≡ true → (is_normal roster.mode ≡ false → ⊥) → Reaches 1 roster (begin roster p delay)
+  reaches_begin delay begun normal =
+      cond_both {A = Roster} (delay == 0) (release roster p) (block roster p Start (Some (roster.now + delay))) (Reaches 1 roster)
+      (λ _. reaches_release normal) (λ _. reaches_block Start (Some (roster.now + delay)) (from_now roster.now delay) begun normal)
+
+  -- of two changes of one record the later one stands
+  newest_twice : (r s : Record) → newest (with_record roster p r) p s ≡ newest roster p s
+  newest_twice r s = rw set-set
+
+  readied_twice : (r s : Record) → readied (with_record roster p r) p s ≡ readied roster p s
+  readied_twice r s = rw (set-set roster.records p r (record s { since = roster.young }), set-set roster.records p r s)
+
+  abbrev fresh : Roster
+  fresh = with_record roster p (reset (record_at roster p))
+
+  at_fresh : record_at fresh p ≡ reset (record_at roster p)
+  at_fresh = at_record roster p known (reset (record_at roster p))
+
+  fresh_released : release fresh p ≡ readied roster p (awake (reset (record_at roster p)))
+  fresh_released = ap (λ (r : Record). readied fresh p (awake r)) at_fresh ∙ readied_twice (reset (record_at roster p)) (awake (reset (record_at roster p)))
+
+  fresh_blocked : (wait : Wait) (due : Option ℕ) → block fresh p wait due ≡ newest roster p (waiting (reset (record_at roster p)) wait due)
+  fresh_blocked wait due = ap (λ (r : Record). newest fresh p (waiting r wait due)) at_fresh ∙ newest_twice (reset (record_at roster p)) (waiting (reset (record_at roster p)) wait due)
+
+  late : is_normal roster.mode ≡ true → is_normal roster.mode ≡ false → ⊥
+  late normal e = both_ways _ e normal
+
+  early_fits : (delay : ℕ) → Fits roster (waiting (reset (record_at roster p)) (Normal delay) None)
+  early_fits delay = record {
+    due = λ before t e. absurd (none-some t e);
+    one = λ before h. absurd (both_ways false refl h);
+    starts = λ before. record { dormant = λ e. absurd (both_ways true e refl); early = λ e h. refl; undue = λ e. refl };
+  }
 
   pub reaches_start : (delay : ℕ) → Reaches 1 roster (start roster p delay)
   reaches_start delay =
-      reaches_newest (started roster p delay) (λ before t e. start_later (is_normal roster.mode && not (delay == 0)) delay t e)
-      (λ before h. absurd (both_ways false refl h))
+      let r = reset (record_at roster p) in
+      let due = Some (roster.now + delay) in
+      cond_both {A = Roster} (is_normal roster.mode) (begin fresh p delay) (block fresh p (Normal delay) None) (Reaches 1 roster)
+      (λ normal. cond_both {A = Roster} (delay == 0) (release fresh p) (block fresh p Start due) (Reaches 1 roster)
+      (λ _. subst (Reaches 1 roster) (sym fresh_released) (reaches_readied (awake r) refl (awake_fits r (late normal))))
+      (λ _. subst (Reaches 1 roster) (sym (fresh_blocked Start due)) (reaches_newest (waiting r Start due) (waiting_fits r Start due (from_now roster.now delay) refl (late normal)))))
+      (λ _. subst (Reaches 1 roster) (sym (fresh_blocked (Normal delay) None)) (reaches_newest (waiting r (Normal delay) None) (early_fits delay)))
 
   pub reaches_stop : Reaches 1 roster (stop roster p)
-  reaches_stop = reaches_more 0 1 (omega arith) (reaches_record _ refl (λ before t e. absurd (none-some t e)) (λ before h. refl))
-
-  pub reaches_block : (wait : Wait) (due : Option ℕ) → ((t : ℕ) → due ≡ Some t → roster.now ≤ t) → Reaches 1 roster (block roster p wait due)
-  reaches_block wait due later =
-      reaches_newest (waiting roster p wait due) (λ before. later) (λ before h. absurd (awake_one (record_at roster p).suspended h))
-
-  pub reaches_unblock : Reaches 1 roster (unblock roster p)
-  reaches_unblock = reaches_readied (awake roster p) refl (λ before t e. absurd (none-some t e)) (λ before h. refl)
-
-  pub reaches_release : Reaches 1 roster (release roster p)
-  reaches_release = reaches_readied (awake roster p) refl (λ before t e. absurd (none-some t e)) (λ before h. refl)
+  reaches_stop = reaches_more 0 1 (omega arith) (reaches_record _ refl (record {
+    due = λ before t e. absurd (none-some t e);
+    one = λ before h. refl;
+    starts = λ before. record { dormant = λ e. refl; early = λ e h. absurd (both_ways false refl h); undue = λ e. refl };
+  }))
 
   pub reaches_suspend : Reaches 0 roster (suspend roster p)
-  reaches_suspend = reaches_record _ refl (λ before t e. before p t e) (λ before h. absurd (both_ways false refl h))
+  reaches_suspend = reaches_record _ refl (own_fits _ refl refl refl (λ h. absurd (both_ways false refl h)))
 
-  pub reaches_suspend_self : (due : Option ℕ) → ((t : ℕ) → due ≡ Some t → roster.now ≤ t) → Reaches 1 roster (suspend_self roster p due)
-  reaches_suspend_self due later = reaches_newest (self_suspended roster p due) (λ before. later) (λ before h. refl)
+  pub reaches_suspend_self : (due : Option ℕ) → IsFrom roster.now due → (record_at roster p).started ≡ true → (is_normal roster.mode ≡ false → ⊥)
+      → Reaches 1 roster (suspend_self roster p due)
+  reaches_suspend_self due later begun normal = reaches_newest (self_suspended (record_at roster p) due) (record {
+    due = λ before. later;
+    one = λ before h. refl;
+    starts = λ before. record { dormant = λ e. refl; early = λ e. absurd (normal e); undue = λ e. absurd (normal e) };
+  })
 
-  pub reaches_resume : Reaches 1 roster (resume roster p)
-  reaches_resume =
+  pub reaches_resume : (is_by_itself (record_at roster p).suspended ≡ true → is_normal roster.mode ≡ false → ⊥) → Reaches 1 roster (resume roster p)
+  reaches_resume normal =
       cond_both {A = Roster} (is_by_itself (record_at roster p).suspended) _ _ (Reaches 1 roster)
-      (λ _. reaches_unblock)
-      (λ _. reaches_readied (unsuspended roster p) refl (λ before t e. before p t e) (λ before h. absurd (both_ways false refl h)))
+      (λ by. reaches_unblock (normal by))
+      (λ _. reaches_readied (unsuspended (record_at roster p)) refl (own_fits _ refl refl refl (λ h. absurd (both_ways false refl h))))
 
-  pub reaches_set_base : (base : ℕ) → Reaches 0 roster (set_base roster p base)
-  reaches_set_base base = reaches_record _ refl (λ before t e. before p t e) (λ before. before p)
+  pub reaches_set_priority : (base : ℕ) → Reaches 1 roster (set_priority roster p base)
+  reaches_set_priority base =
+      let r = record_at roster p in
+      let fits : Fits roster (record r { base = base }) = own_fits _ refl refl refl (λ h. h) in
+      cond_both {A = Roster} (is_eligible roster.mode r || goes_by_priority roster (queue_in r)) _ _ (Reaches 1 roster)
+      (λ _. reaches_newest (record r { base = base }) fits) (λ _. reaches_more 0 1 (omega arith) (reaches_record (record r { base = base }) refl fits))
 
   pub reaches_place_newest : Reaches 1 roster (place_newest roster p)
-  reaches_place_newest = reaches_newest (record_at roster p) (λ before t e. before p t e) (λ before. before p)
+  reaches_place_newest = reaches_newest (record_at roster p) (own_fits _ refl refl refl (λ h. h))
 
   pub reaches_without_due : Reaches 0 roster (without_due roster p)
-  reaches_without_due = reaches_record _ refl (λ before t e. absurd (none-some t e)) (λ before. before p)
+  reaches_without_due = reaches_record _ refl (record {
+    due = λ before t e. absurd (none-some t e);
+    one = λ before. before p;
+    starts = λ before. record { dormant = before.dormant p; early = λ e. before.early e p; undue = λ e. refl };
+  })
 
   pub reaches_set_core : (core : ℕ) → Reaches 0 roster (set_core roster p core)
-  reaches_set_core core = reaches_record _ refl (λ before t e. before p t e) (λ before. before p)
+  reaches_set_core core = reaches_record _ refl (own_fits _ refl refl refl (λ h. h))
 
   pub reaches_set_step : (step : ℕ) → Reaches 0 roster (set_step roster p step)
-  reaches_set_step step = reaches_record _ refl (λ before t e. before p t e) (λ before. before p)
+  reaches_set_step step = reaches_record _ refl (own_fits _ refl refl refl (λ h. h))
 
-pub reaches_set_mode : (roster : Roster) (mode : Mode) → Reaches 0 roster (set_mode roster mode)
-reaches_set_mode roster mode = record {
+-- a start that begins leaves the mode
+mode_readied : (roster : Roster) (p : ℕ) (r : Record) → (readied roster p r).mode ≡ roster.mode
+mode_readied roster p r =
+    cond_both {A = Roster} (is_eligible roster.mode r) _ _ (λ (after : Roster). after.mode ≡ roster.mode) (λ _. refl) (λ _. refl)
+
+pub mode_begin : (roster : Roster) (p delay : ℕ) → (begin roster p delay).mode ≡ roster.mode
+mode_begin roster p delay =
+    cond_both {A = Roster} (delay == 0) (release roster p) (block roster p Start (Some (roster.now + delay))) (λ (after : Roster). after.mode ≡ roster.mode)
+    (λ _. mode_readied roster p (awake (record_at roster p))) (λ _. refl)
+
+-- the entry into NORMAL
+pub reaches_set_mode : (roster : Roster) (mode : Mode) → is_normal mode ≡ true → Reaches 0 roster (set_mode roster mode)
+reaches_set_mode roster mode normal = record {
   many = refl;
   time = refl;
   stamps = omega (arith, ints);
+  older = omega (arith, ints);
   stamped = λ stamped. stamped_set_mode roster stamped mode;
   dues = λ before p t e. before p t e;
   one = λ before p h. before p h;
+  starts = λ before. record { dormant = before.dormant; early = λ e. absurd (both_ways _ e normal); undue = λ e. absurd (both_ways _ e normal) };
 }
 
 -- every process is stopped, and no mode but IDLE follows
@@ -191,33 +304,44 @@ stopped_at (r ∷ rs) (suc p) = stopped_at rs p
 pub reaches_enter_idle : (roster : Roster) → Reaches 0 roster (enter_idle roster)
 reaches_enter_idle roster =
     let many : length (map stopped roster.records) ≡ length roster.records = length-map roster.records stopped in
-    let same : (p : ℕ) → (record_at (enter_idle roster) p).since ≡ (record_at roster p).since = λ p. ap (λ (r : Record). r.since) (stopped_at roster.records p) in
+    let at = stopped_at roster.records in
+    let same : (p : ℕ) → (record_at (enter_idle roster) p).since ≡ (record_at roster p).since = λ p. ap (λ (r : Record). r.since) (at p) in
+    let free : (p : ℕ) → (record_at (enter_idle roster) p).wait ≡ None = λ p. ap (λ (r : Record). r.wait) (at p) in
+    let undue : (p : ℕ) → (record_at (enter_idle roster) p).due ≡ None = λ p. ap (λ (r : Record). r.due) (at p) in
     record {
       many = many;
       time = refl;
       stamps = omega (arith, ints);
+      older = omega (arith, ints);
       stamped = λ stamped. record {
         given = λ p within. rw (same p) (stamped.given p (rw many at within));
+        newer = λ p within. rw (same p) (stamped.newer p (rw many at within));
         distinct = record {
           distinct = λ p q within there e. stamped.distinct.distinct p q (rw many at within) (rw many at there) (sym (same p) ∙ e ∙ same q);
         };
       };
-      dues = λ before p t e. absurd (none-some t (ap (λ (r : Record). r.due) (sym (stopped_at roster.records p)) ∙ e));
-      one = λ before p h. ap (λ (r : Record). r.wait) (stopped_at roster.records p);
+      dues = λ before p t e. absurd (none-some t (sym (undue p) ∙ e));
+      one = λ before p h. free p;
+      starts = λ before. record {
+        dormant = λ p e. free p;
+        early = λ e p h. absurd (both_ways _ (ap (λ (r : Record). r.started) (at p)) h);
+        undue = λ e p. undue p;
+      };
     }
 
--- changes of several processes, each of which gives one stamp at the most
-module _ (next : Roster → Option ℕ) (change : Roster → ℕ → Changed)
-    (one : (roster : Roster) (p : ℕ) → next roster ≡ Some p → Reaches 1 roster (change roster p).roster) where
-  reaches_and : (left : ℕ) (others : Roster → List Notice → Changed) → ((roster : Roster) (notices : List Notice) → Reaches left roster (others roster notices).roster)
-      → (roster : Roster) (notices : List Notice) (found : Option ℕ) → next roster ≡ found
+-- changes of several processes, each of which gives one stamp at the most, while this holds
+module _ (next : Roster → Option ℕ) (change : Roster → ℕ → Changed) (Holds : Roster → Type 0)
+    (stays : (roster : Roster) (p : ℕ) → Holds roster → next roster ≡ Some p → Holds (change roster p).roster)
+    (one : (roster : Roster) (p : ℕ) → Holds roster → next roster ≡ Some p → Reaches 1 roster (change roster p).roster) where
+  reaches_and : (left : ℕ) (others : Roster → List Notice → Changed) → ((roster : Roster) (notices : List Notice) → Holds roster → Reaches left roster (others roster notices).roster)
+      → (roster : Roster) (notices : List Notice) → Holds roster → (found : Option ℕ) → next roster ≡ found
       → Reaches (1 + left) roster (next_and others change roster notices found).roster
-  reaches_and left others rest roster notices None is = reaches_none (1 + left) roster
-  reaches_and left others rest roster notices (Some p) is =
-      reaches_then 1 left (one roster p is) (rest (change roster p).roster (notices ++ (change roster p).notices))
+  reaches_and left others rest roster notices holds None is = reaches_none (1 + left) roster
+  reaches_and left others rest roster notices holds (Some p) is =
+      reaches_then 1 left (one roster p holds is) (rest (change roster p).roster (notices ++ (change roster p).notices) (stays roster p holds is))
 
-  pub reaches_in_turn : (left : ℕ) (roster : Roster) (notices : List Notice) → Reaches left roster (in_turn next change left roster notices).roster
-  reaches_in_turn zero roster notices = reaches_none 0 roster
-  reaches_in_turn (suc left) roster notices =
+  pub reaches_in_turn : (left : ℕ) (roster : Roster) (notices : List Notice) → Holds roster → Reaches left roster (in_turn next change left roster notices).roster
+  reaches_in_turn zero roster notices holds = reaches_none 0 roster
+  reaches_in_turn (suc left) roster notices holds =
       reaches_more (1 + left) (suc left) (omega arith)
-      (reaches_and left (in_turn next change left) (reaches_in_turn left) roster notices (next roster) refl)
+      (reaches_and left (in_turn next change left) (reaches_in_turn left) roster notices holds (next roster) refl)

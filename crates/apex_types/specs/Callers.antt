@@ -1,7 +1,9 @@
 -- Who calls a service, and who may.
-use Rattle.std.specs.Prelude.{ℕ, ◌<◌, Bool, false, ◌==◌}
+use Rattle.std.specs.Prelude.{◌≡◌, ℕ, ◌<◌, Bool, true, false, ◌==◌, length}
 use Rattle.apex_types.specs.declared.entries.Caller.{Caller}
 use Rattle.apex_types.specs.declared.entries.Caller.TheVariants.{Process, Init, Nobody}
+use Rattle.apex_types.specs.Roster.{Roster, record_at}
+use Rattle.apex_types.specs.Running.{is_eligible}
 
 -- process p asked for the call
 abbrev pub is_by_process : ℕ → Caller → Bool
@@ -9,8 +11,19 @@ is_by_process p (Process q) = p == q
 is_by_process p Init = false
 is_by_process p Nobody = false
 
--- a process that calls is one of so many
-abbrev pub IsKnownCaller : ℕ → Caller → Type 0
-IsKnownCaller many (Process p) = p < many
-IsKnownCaller many Init = Unit {0}
-IsKnownCaller many Nobody = Unit {0}
+-- the init list asked for the call
+abbrev pub is_by_init : Caller → Bool
+is_by_init (Process q) = false
+is_by_init Init = true
+is_by_init Nobody = false
+
+-- process p is one of the roster's, and is eligible
+pub record IsReady (roster : Roster) (p : ℕ) : Type 0 where
+  pub known : p < length roster.records
+  pub eligible : is_eligible roster.mode (record_at roster p) ≡ true
+
+-- a process that calls is an eligible one
+abbrev pub IsReadyCaller : Roster → Caller → Type 0
+IsReadyCaller roster (Process p) = IsReady roster p
+IsReadyCaller roster Init = Unit {0}
+IsReadyCaller roster Nobody = Unit {0}

@@ -6,7 +6,8 @@ use Rattle.apex_types.specs.Roster.{Roster, record_at}
 pub record HasDistinctStamps (roster : Roster) : Type 0 where
   pub distinct : (p q : ℕ) → p < length roster.records → q < length roster.records → (record_at roster p).since ≡ (record_at roster q).since → p ≡ q
 
--- every process's stamp was given before the next one, and to no other process
+-- every process's stamp stands between the two counters, and is no other process's
 pub record IsStamped (roster : Roster) : Type 0 where
   pub given : (p : ℕ) → p < length roster.records → (record_at roster p).since <ℤ roster.young
+  pub newer : (p : ℕ) → p < length roster.records → roster.old <ℤ (record_at roster p).since
   pub distinct : HasDistinctStamps roster

@@ -49,6 +49,14 @@ due_after roster Infinite = None
 abbrev pub HasTime : Roster → Type 0
 HasTime roster = roster.now ≤ 2 ^ 36
 
+-- the due, where there is one, is not below this instant
+abbrev pub IsFrom : ℕ → Option ℕ → Type 0
+IsFrom t due = (u : ℕ) → due ≡ Some u → t ≤ u
+
+-- no due that stands is below this instant
+abbrev pub HasNoDueBelow : Roster → ℕ → Type 0
+HasNoDueBelow roster t = (p : ℕ) → IsFrom t (record_at roster p).due
+
 -- no due that stands is below now
 abbrev pub HasNoPastDue : Roster → Type 0
-HasNoPastDue roster = (p t : ℕ) → (record_at roster p).due ≡ Some t → roster.now ≤ t
+HasNoPastDue roster = HasNoDueBelow roster roster.now

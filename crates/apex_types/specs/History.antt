@@ -9,18 +9,11 @@ use Rattle.apex_types.specs.declared.calls.ProcessCall.{ProcessCall}
 use Rattle.apex_types.specs.declared.calls.ProcessCall.TheVariants.{CreateProcess}
 use Rattle.apex_types.specs.declared.calls.SemaphoreCall.{SemaphoreCall}
 use Rattle.apex_types.specs.declared.calls.SemaphoreCall.TheVariants.{CreateSemaphore}
-use Rattle.apex_types.specs.declared.entries.Caller.{Caller}
-use Rattle.apex_types.specs.declared.entries.Caller.TheVariants.{Process, Init, Nobody}
 use Rattle.apex_types.specs.declared.entries.Entry.{Entry}
 use Rattle.apex_types.specs.Places.{map_places}
+use Rattle.apex_types.specs.Callers.{is_by_init}
 use Rattle.apex_types.specs.Satisfied.{is_accepted, semaphore_value}
 use Rattle.apex_types.specs.Table.{Table, ProcessEntry, SemaphoreEntry}
-
--- the init list asked for the call
-abbrev pub is_by_init : Caller → Bool
-is_by_init (Process q) = false
-is_by_init Init = true
-is_by_init Nobody = false
 
 -- the call is CREATE_PROCESS of process p
 abbrev pub is_process_create : ℕ → ProcessCall → Bool

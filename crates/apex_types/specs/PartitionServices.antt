@@ -1,6 +1,6 @@
 -- The services of partition management, row by row (ARINC 653 Part 1, partition management; the
 -- order of releases is this profile's).
-use Rattle.std.specs.Prelude.{ℕ, ◌+◌, List, [], length, map, Option, Some, ◌==◌, if◌then◌else◌}
+use Rattle.std.specs.Prelude.{ℕ, List, [], length, map, Option, Some, if◌then◌else◌}
 use Rattle.apex_types.specs.declared.calls.PartitionCall.{PartitionCall}
 use Rattle.apex_types.specs.declared.calls.PartitionCall.TheVariants.{SetPartitionMode, GetPartitionStatus}
 use Rattle.apex_types.specs.declared.calls.RequestedMode.{RequestedMode}
@@ -11,12 +11,14 @@ use Rattle.apex_types.specs.declared.entries.Reply.TheVariants.{Code, Status, Go
 use Rattle.apex_types.specs.declared.entries.ReturnCode.TheVariants.{NoError, NoAction}
 use Rattle.apex_types.specs.declared.records.Mode.{Mode}
 use Rattle.apex_types.specs.declared.records.Mode.TheVariants as mode
+use Rattle.apex_types.specs.declared.records.Queue.TheVariants as queues
+use Rattle.apex_types.specs.declared.records.Wait.{Wait}
 use Rattle.apex_types.specs.declared.records.Wait.TheVariants as wait
 use Rattle.apex_types.specs.Roster.{Roster, record_at, is_normal}
-use Rattle.apex_types.specs.Stamps.{block, set_mode, stopped}
+use Rattle.apex_types.specs.Stamps.{set_mode, stopped}
 use Rattle.apex_types.specs.Waiters.{first_waiter}
 use Rattle.apex_types.specs.InTurn.{Changed, in_turn}
-use Rattle.apex_types.specs.Ticks.{released}
+use Rattle.apex_types.specs.Ticks.{begun}
 
 -- what a service of partition management leaves and answers
 pub record PartitionOutcome : Type 0 where
@@ -24,21 +26,22 @@ pub record PartitionOutcome : Type 0 where
   pub reply : Reply
   pub notices : List Notice
 
--- the start of process p, which waited for NORMAL: a release where it has no delay, else a wait for its
--- start
-abbrev pub begin_start : Roster → ℕ → Changed
-begin_start roster p =
-    let delay = (record_at roster p).delay in
-    if delay == 0 then released roster p
-    else record { roster = block roster p wait.Start (Some (roster.now + delay)); notices = [] }
-
 -- who has waited for NORMAL for the longest time
 abbrev pub first_to_start : Roster → Option ℕ
-first_to_start roster = first_waiter roster wait.Normal
+first_to_start roster = first_waiter roster queues.Normal
+
+-- the delay of a start that waits for NORMAL
+abbrev pub delay_of : Option Wait → ℕ
+delay_of (Some (wait.Normal delay)) = delay
+delay_of _ = 0
+
+-- the start of process p, which waited for NORMAL, begins
+abbrev pub begin_waiter : Roster → ℕ → Changed
+begin_waiter roster p = begun roster p (delay_of (record_at roster p).wait)
 
 -- the entry into NORMAL: the mode is set, and the starts of all who wait for it begin in order of since
 unfoldable pub enter_normal : Roster → Changed
-enter_normal roster = in_turn first_to_start begin_start (length roster.records) (set_mode roster mode.Normal) []
+enter_normal roster = in_turn first_to_start begin_waiter (length roster.records) (set_mode roster mode.Normal) []
 
 -- accepted, with these changes
 abbrev pub entered_normal : Changed → PartitionOutcome

@@ -1,6 +1,6 @@
 -- The services of process management, row by row: the first guard that holds answers and changes
 -- nothing (ARINC 653 Part 1, process management; the guards are this profile's).
-use Rattle.std.specs.Prelude.{ℕ, ◌+◌, Bool, true, false, List, [], ◌∷◌, nat_lt, nat_le, is_some, is_none, not, ◌==◌, ◌&&◌, ◌||◌, slice_index_or, slice_set, if◌then◌else◌}
+use Rattle.std.specs.Prelude.{ℕ, ◌+◌, Bool, true, false, List, [], ◌∷◌, nat_lt, nat_le, is_some, is_none, not, ◌==◌, ◌&&◌, slice_index_or, slice_set, if◌then◌else◌}
 use Rattle.apex_types.specs.declared.calls.NamedProcess.{NamedProcess}
 use Rattle.apex_types.specs.declared.calls.NamedProcess.TheVariants.{Known, Unknown}
 use Rattle.apex_types.specs.declared.calls.ProcessCall.{ProcessCall}
@@ -10,7 +10,7 @@ use Rattle.apex_types.specs.declared.calls.Timeout.TheVariants.{Poll, Ticks, Inf
 use Rattle.apex_types.specs.declared.entries.Caller.{Caller}
 use Rattle.apex_types.specs.declared.entries.Caller.TheVariants.{Process, Init, Nobody}
 use Rattle.apex_types.specs.declared.entries.Notice.{Notice}
-use Rattle.apex_types.specs.declared.entries.Notice.TheVariants.{Woken, Released}
+use Rattle.apex_types.specs.declared.entries.Notice.TheVariants.{Woken}
 use Rattle.apex_types.specs.declared.entries.Reply.{Reply}
 use Rattle.apex_types.specs.declared.entries.Reply.TheVariants.{Code, Value, Status, Blocked, Gone}
 use Rattle.apex_types.specs.declared.entries.ReturnCode.{ReturnCode}
@@ -18,11 +18,11 @@ use Rattle.apex_types.specs.declared.entries.ReturnCode.TheVariants.{NoError, No
 use Rattle.apex_types.specs.Roster.{Roster, record_at, is_normal}
 use Rattle.apex_types.specs.declared.records.State.{State}
 use Rattle.apex_types.specs.declared.records.State.TheVariants as state
-use Rattle.apex_types.specs.Running.{is_eligible, current_priority, process_state}
-use Rattle.apex_types.specs.Waiters.{is_ranked}
+use Rattle.apex_types.specs.Running.{current_priority, process_state}
 use Rattle.apex_types.specs.Dues.{due_after}
 use Rattle.apex_types.specs.Callers.{is_by_process}
 use Rattle.apex_types.specs.Stamps as stamps
+use Rattle.apex_types.specs.Ticks.{begin_notices}
 
 -- what a service of process management leaves and answers; created says which processes are created
 pub record ProcessOutcome : Type 0 where
@@ -62,9 +62,9 @@ initialize_core_affinity cores roster created p core =
     else if not (nat_lt core cores) then refused_process roster created InvalidConfig
     else record { roster = stamps.set_core roster p core; created = created; reply = Code NoError; notices = [] }
 
--- a start without delay in NORMAL releases the process at once
+-- a start begins at once in NORMAL
 abbrev pub start_notices : Roster → ℕ → ℕ → List Notice
-start_notices roster p delay = if is_normal roster.mode && delay == 0 then Released p ∷ [] else []
+start_notices roster p delay = if is_normal roster.mode then begin_notices p delay else []
 
 -- process p is started after a delay
 abbrev pub started_after : Roster → List Bool → ℕ → ℕ → ProcessOutcome
@@ -92,20 +92,13 @@ told_process roster created reply = record { roster = roster; created = created;
 abbrev pub done_process : Roster → List Bool → ProcessOutcome
 done_process roster created = record { roster = roster; created = created; reply = Code NoError; notices = [] }
 
--- SET_PRIORITY: a process that is ready or running becomes the newest, and so does a waiter whose queue
--- goes by priority
-abbrev pub with_priority : Roster → ℕ → ℕ → Roster
-with_priority roster p priority =
-    let r = record_at roster p in
-    let changed = stamps.set_base roster p priority in
-    if is_eligible roster.mode r || is_ranked roster r.wait then stamps.place_newest changed p else changed
-
+-- SET_PRIORITY
 abbrev pub set_priority : Roster → List Bool → ℕ → ℕ → ProcessOutcome
 set_priority roster created p priority =
     if not (is_created created p) then refused_process roster created InvalidParam
     else if not (nat_le 1 priority && nat_le priority 239) then refused_process roster created InvalidParam
     else if not (record_at roster p).started then refused_process roster created InvalidMode
-    else done_process (with_priority roster p priority) created
+    else done_process (stamps.set_priority roster p priority) created
 
 -- STOP of another process
 abbrev pub stop_process : Roster → List Bool → Caller → ℕ → ProcessOutcome

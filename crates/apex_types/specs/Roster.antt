@@ -19,7 +19,17 @@ pub record Roster : Type 0 where
 
 -- a record that no process has, for a place past the end
 abbrev pub nobody : Record
-nobody = record { core = 0; priority = 0; base = 0; started = false; suspended = None; wait = None; since = pos 0; due = None; delay = 0; step = 0 }
+nobody = record {
+  attributes = record { priority = 0 };
+  core = 0;
+  base = 0;
+  started = false;
+  suspended = None;
+  wait = None;
+  since = pos 0;
+  due = None;
+  step = 0;
+}
 
 -- the record of process p
 abbrev pub record_at : Roster → ℕ → Record
@@ -44,15 +54,14 @@ is_cold_start Normal = false
 -- the record with which the process of a table's entry opens, dormant on core 0 (this profile)
 abbrev pub opening_record : ℕ → ProcessEntry → Record
 opening_record p entry = record {
+  attributes = record { priority = entry.priority };
   core = 0;
-  priority = entry.priority;
   base = entry.priority;
   started = false;
   suspended = None;
   wait = None;
   since = pos (p + 1);
   due = None;
-  delay = 0;
   step = 0;
 }
 

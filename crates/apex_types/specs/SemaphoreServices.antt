@@ -13,6 +13,7 @@ use Rattle.apex_types.specs.declared.entries.Reply.{Reply}
 use Rattle.apex_types.specs.declared.entries.Reply.TheVariants.{Code, Value, Status, Blocked}
 use Rattle.apex_types.specs.declared.entries.ReturnCode.{ReturnCode}
 use Rattle.apex_types.specs.declared.entries.ReturnCode.TheVariants.{NoError, NoAction, NotAvailable, InvalidParam, InvalidConfig, InvalidMode}
+use Rattle.apex_types.specs.declared.records.Queue.TheVariants as queues
 use Rattle.apex_types.specs.declared.records.Wait.TheVariants.{Semaphore}
 pub use Rattle.apex_types.specs.Calls.{known_semaphore, semaphore_of}
 use Rattle.apex_types.specs.Roster.{Roster, is_normal}
@@ -76,7 +77,7 @@ signal_to roster semaphore (Some p) =
 abbrev pub signal_semaphore : Roster → SemaphoreObject → ℕ → SemaphoreOutcome
 signal_semaphore roster semaphore s =
     if not semaphore.created then refused_semaphore roster semaphore InvalidParam
-    else signal_to roster semaphore (first_waiter roster (Semaphore s))
+    else signal_to roster semaphore (first_waiter roster (queues.Semaphore s))
 
 -- WAIT_SEMAPHORE; it needs a process that calls, and no init step asks for it
 abbrev pub wait_by : Roster → SemaphoreObject → ℕ → Caller → Timeout → SemaphoreOutcome
@@ -88,7 +89,7 @@ wait_by roster semaphore s Nobody timeout = refused_semaphore roster semaphore I
 abbrev pub get_semaphore_status : Roster → SemaphoreObject → ℕ → SemaphoreOutcome
 get_semaphore_status roster semaphore s =
     if not semaphore.created then refused_semaphore roster semaphore InvalidParam
-    else record { roster = roster; semaphore = semaphore; reply = Status semaphore.value (waiter_count roster (Semaphore s)); notices = [] }
+    else record { roster = roster; semaphore = semaphore; reply = Status semaphore.value (waiter_count roster (queues.Semaphore s)); notices = [] }
 
 -- GET_SEMAPHORE_ID: users see the place counted from 1
 abbrev pub get_semaphore_id : Roster → SemaphoreObject → ℕ → SemaphoreOutcome

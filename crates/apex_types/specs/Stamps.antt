@@ -1,6 +1,7 @@
 -- How records change and when a process takes a new stamp (this profile).
-use Rattle.std.specs.Prelude.{◌≡◌, ℕ, ◌+◌, Bool, true, false, Option, None, Some, pos, ◌+ℤ◌, ◌<ℤ◌, ◌^◌, ◌==◌, ◌&&◌, not, slice_set, if◌then◌else◌}
+use Rattle.std.specs.Prelude.{◌≡◌, ℕ, ◌+◌, Bool, true, false, Option, None, Some, pos, ◌+ℤ◌, ◌<ℤ◌, ◌^◌, ◌==◌, ◌&&◌, ◌||◌, slice_set, if◌then◌else◌}
 use Rattle.apex_types.specs.declared.records.Mode.{Mode}
+use Rattle.apex_types.specs.declared.records.Queue.TheVariants as queues
 use Rattle.apex_types.specs.declared.records.Record.{Record}
 use Rattle.apex_types.specs.declared.records.Suspender.{Suspender}
 use Rattle.apex_types.specs.declared.records.Suspender.TheVariants.{Itself, Other}
@@ -8,11 +9,13 @@ use Rattle.apex_types.specs.declared.records.Wait.{Wait}
 use Rattle.apex_types.specs.declared.records.Wait.TheVariants.{Normal, Start}
 use Rattle.apex_types.specs.Roster.{Roster, record_at, with_record, is_normal}
 use Rattle.apex_types.specs.Running.{is_eligible}
+use Rattle.apex_types.specs.Waiters.{goes_by_priority, queue_in}
 use Rattle.apex_types.specs.Dues.{first_due}
 
--- there are stamps left: no history is long enough to use them up
-abbrev pub HasStamps : Roster → Type 0
-HasStamps roster = roster.young <ℤ pos (2 ^ 40)
+-- there are stamps left, upwards and downwards: no history is long enough to use them up
+pub record HasStamps (roster : Roster) : Type 0 where
+  pub young : roster.young <ℤ pos (2 ^ 40)
+  pub old : pos 0 <ℤ (roster.old +ℤ pos (2 ^ 40))
 
 -- process p has this record with the next stamp upwards: it is the newest
 abbrev pub newest : Roster → ℕ → Record → Roster
@@ -25,32 +28,58 @@ newest roster p r = record roster {
 abbrev pub readied : Roster → ℕ → Record → Roster
 readied roster p r = if is_eligible roster.mode r then newest roster p r else with_record roster p r
 
--- what a process waits for after a start: for NORMAL before it, in NORMAL for the end of its delay
-abbrev pub start_wait : Mode → ℕ → Option Wait
-start_wait mode delay = if not (is_normal mode) then Some Normal else if delay == 0 then None else Some Start
+-- the process suspended itself
+abbrev pub is_by_itself : Option Suspender → Bool
+is_by_itself (Some Itself) = true
+is_by_itself _ = false
 
--- when that wait ends by itself: only in NORMAL, where the delay begins to run at once
-abbrev pub start_due : Roster → ℕ → Option ℕ
-start_due roster delay = if is_normal roster.mode && not (delay == 0) then Some (roster.now + delay) else None
+-- a suspension by another process stays when the process wakes, and one by itself ends
+abbrev pub suspension_awake : Option Suspender → Option Suspender
+suspension_awake (Some Other) = Some Other
+suspension_awake _ = None
 
--- the record of process p when it starts after a delay: back at the table's priority and at the first
--- step
-abbrev pub started : Roster → ℕ → ℕ → Record
-started roster p delay =
-    let r = record_at roster p in
-    record r {
-      base = r.priority;
-      started = true;
-      suspended = None;
-      step = 0;
-      wait = start_wait roster.mode delay;
-      due = start_due roster delay;
-      delay = delay;
-    }
+-- a process that wakes: it waits for nothing, and is not suspended by itself
+abbrev pub awake : Record → Record
+awake r = record r { suspended = suspension_awake r.suspended; wait = None; due = None }
 
--- START, after a delay; in NORMAL released at once where there is no delay
+-- the process's wait, or its suspension of itself, ends
+abbrev pub unblock : Roster → ℕ → Roster
+unblock roster p = readied roster p (awake (record_at roster p))
+
+-- a release: the process waits no more
+abbrev pub release : Roster → ℕ → Roster
+release roster p = readied roster p (awake (record_at roster p))
+
+-- who may begin to wait: a process that is started, and waits for nothing or for NORMAL
+abbrev pub is_free : Option Wait → Bool
+is_free None = true
+is_free (Some (Normal delay)) = true
+is_free _ = false
+
+abbrev pub may_wait : Record → Bool
+may_wait r = r.started && is_free r.wait
+
+-- a process that waits, until the due where there is one; who suspended itself waits for nothing else
+abbrev pub waiting : Record → Wait → Option ℕ → Record
+waiting r wait due = record r { suspended = suspension_awake r.suspended; wait = Some wait; due = due }
+
+-- the process begins to wait
+abbrev pub block : Roster → ℕ → Wait → Option ℕ → Roster
+block roster p wait due = newest roster p (waiting (record_at roster p) wait due)
+
+-- a process at its start: not suspended, at the table's priority and at the first step
+abbrev pub reset : Record → Record
+reset r = record r { base = r.attributes.priority; started = true; suspended = None; step = 0 }
+
+-- a start begins: without delay it is a release, else the process waits for its start until then
+abbrev pub begin : Roster → ℕ → ℕ → Roster
+begin roster p delay = if delay == 0 then release roster p else block roster p Start (Some (roster.now + delay))
+
+-- START, after a delay: the process is reset, and begins in NORMAL, else waits for NORMAL
 abbrev pub start : Roster → ℕ → ℕ → Roster
-start roster p delay = newest roster p (started roster p delay)
+start roster p delay =
+    let fresh = with_record roster p (reset (record_at roster p)) in
+    if is_normal roster.mode then begin fresh p delay else block fresh p (Normal delay) None
 
 -- a stop: not started, not suspended, waits for nothing, at the first step
 abbrev pub stopped : Record → Record
@@ -60,65 +89,36 @@ stopped r = record r { started = false; suspended = None; wait = None; due = Non
 abbrev pub stop : Roster → ℕ → Roster
 stop roster p = with_record roster p (stopped (record_at roster p))
 
--- a suspension by another process stays when the process wakes, and one by itself ends
-abbrev pub suspension_awake : Option Suspender → Option Suspender
-suspension_awake (Some Other) = Some Other
-suspension_awake _ = None
-
--- the record of process p when it wakes: it waits for nothing, and is not suspended by itself
-abbrev pub awake : Roster → ℕ → Record
-awake roster p =
-    let r = record_at roster p in
-    record r { suspended = suspension_awake r.suspended; wait = None; due = None }
-
--- the process's wait, or its suspension of itself, ends
-abbrev pub unblock : Roster → ℕ → Roster
-unblock roster p = readied roster p (awake roster p)
-
--- a release: the process waits no more
-abbrev pub release : Roster → ℕ → Roster
-release roster p = readied roster p (awake roster p)
-
--- the record of process p when it waits, until the due where there is one; who suspended itself waits
--- for nothing else
-abbrev pub waiting : Roster → ℕ → Wait → Option ℕ → Record
-waiting roster p wait due =
-    let r = record_at roster p in
-    record r { suspended = suspension_awake r.suspended; wait = Some wait; due = due }
-
--- the process begins to wait
-abbrev pub block : Roster → ℕ → Wait → Option ℕ → Roster
-block roster p wait due = newest roster p (waiting roster p wait due)
-
--- the process suspended itself
-abbrev pub is_by_itself : Option Suspender → Bool
-is_by_itself (Some Itself) = true
-is_by_itself _ = false
-
 -- another process suspends the process; this stamps nobody, and a wait goes on
 abbrev pub suspend : Roster → ℕ → Roster
 suspend roster p = with_record roster p (record (record_at roster p) { suspended = Some Other })
 
--- the record of process p, suspended by itself, until the due where there is one
-abbrev pub self_suspended : Roster → ℕ → Option ℕ → Record
-self_suspended roster p due = record (record_at roster p) { suspended = Some Itself; wait = None; due = due }
+-- a process suspended by itself, until the due where there is one
+abbrev pub self_suspended : Record → Option ℕ → Record
+self_suspended r due = record r { suspended = Some Itself; wait = None; due = due }
 
 -- the process suspends itself
 abbrev pub suspend_self : Roster → ℕ → Option ℕ → Roster
-suspend_self roster p due = newest roster p (self_suspended roster p due)
+suspend_self roster p due = newest roster p (self_suspended (record_at roster p) due)
 
--- the record of process p, suspended no more; its wait goes on
-abbrev pub unsuspended : Roster → ℕ → Record
-unsuspended roster p = record (record_at roster p) { suspended = None }
+-- a process suspended no more; its wait goes on
+abbrev pub unsuspended : Record → Record
+unsuspended r = record r { suspended = None }
 
 -- the process is suspended no more: one that suspended itself wakes, another one's wait goes on
 abbrev pub resume : Roster → ℕ → Roster
 resume roster p =
-    if is_by_itself (record_at roster p).suspended then unblock roster p else readied roster p (unsuspended roster p)
+    let r = record_at roster p in
+    if is_by_itself r.suspended then unblock roster p else readied roster p (unsuspended r)
 
--- the process has this base priority
-abbrev pub set_base : Roster → ℕ → ℕ → Roster
-set_base roster p base = with_record roster p (record (record_at roster p) { base = base })
+-- rule "set priority": the process has this base priority, and becomes the newest where it is eligible or
+-- waits in a queue in which the more urgent comes first
+abbrev pub set_priority : Roster → ℕ → ℕ → Roster
+set_priority roster p base =
+    let r = record_at roster p in
+    let changed : Record = record r { base = base } in
+    if is_eligible roster.mode r || goes_by_priority roster (queue_in r) then newest roster p changed
+    else with_record roster p changed
 
 -- the process goes behind all others of its priority
 abbrev pub place_newest : Roster → ℕ → Roster
@@ -153,6 +153,17 @@ set_core roster p core = with_record roster p (record (record_at roster p) { cor
 abbrev pub set_step : Roster → ℕ → ℕ → Roster
 set_step roster p step = with_record roster p (record (record_at roster p) { step = step })
 
+-- whoever is eligible in this mode is eligible already
+abbrev pub ReadiesNobody : Roster → Mode → Type 0
+ReadiesNobody roster mode =
+    (p : ℕ) → is_eligible mode (record_at roster p) ≡ true → is_eligible roster.mode (record_at roster p) ≡ true
+
 -- who suspended itself waits for nothing else
 abbrev pub WaitsForOne : Roster → Type 0
 WaitsForOne roster = (p : ℕ) → is_by_itself (record_at roster p).suspended ≡ true → (record_at roster p).wait ≡ None
+
+-- a dormant process waits for nothing; before NORMAL who is started waits for it, and nobody has a due
+pub record HasOrderlyStarts (roster : Roster) : Type 0 where
+  pub dormant : (p : ℕ) → (record_at roster p).started ≡ false → (record_at roster p).wait ≡ None
+  pub early : is_normal roster.mode ≡ false → (p : ℕ) → (record_at roster p).started ≡ true → queue_in (record_at roster p) ≡ Some queues.Normal
+  pub undue : is_normal roster.mode ≡ false → (p : ℕ) → (record_at roster p).due ≡ None

@@ -1,5 +1,6 @@
 -- A tick: how far time goes on, and which waits it ends (this profile).
-use Rattle.std.specs.Prelude.{ℕ, ◌+◌, [], ◌∷◌, length, Option, None, Some, min}
+use Rattle.std.specs.Prelude.{ℕ, ◌+◌, List, [], ◌∷◌, length, Option, None, Some, min, ◌==◌, if◌then◌else◌}
+use Rattle.apex_types.specs.declared.entries.Notice.{Notice}
 use Rattle.apex_types.specs.declared.entries.Notice.TheVariants.{Woken, Released}
 use Rattle.apex_types.specs.declared.entries.ReturnCode.{ReturnCode}
 use Rattle.apex_types.specs.declared.entries.ReturnCode.TheVariants.{NoError, TimedOut}
@@ -7,7 +8,7 @@ use Rattle.apex_types.specs.declared.records.Wait.{Wait}
 use Rattle.apex_types.specs.declared.records.Wait.TheVariants.{Start, Time}
 use Rattle.apex_types.specs.Roster.{Roster, record_at}
 use Rattle.apex_types.specs.Dues.{next_instant, first_due}
-use Rattle.apex_types.specs.Stamps.{unblock, release, advance_to, without_due}
+use Rattle.apex_types.specs.Stamps.{unblock, release, begin, advance_to, without_due}
 use Rattle.apex_types.specs.InTurn.{Changed, in_turn}
 
 -- the smaller of an instant and the next one, where there is one
@@ -26,6 +27,13 @@ woken roster p code = record { roster = unblock roster p; notices = Woken p code
 -- process p is released
 abbrev pub released : Roster → ℕ → Changed
 released roster p = record { roster = release roster p; notices = Released p ∷ [] }
+
+-- the start of process p begins after this delay: without one the process is released
+abbrev pub begin_notices : ℕ → ℕ → List Notice
+begin_notices p delay = if delay == 0 then Released p ∷ [] else []
+
+abbrev pub begun : Roster → ℕ → ℕ → Changed
+begun roster p delay = record { roster = begin roster p delay; notices = begin_notices p delay }
 
 -- the wait of process p ends at its due, by what it waited for; a process that waits for nothing and has
 -- a due suspended itself

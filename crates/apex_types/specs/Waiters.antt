@@ -1,7 +1,10 @@
 -- Who waits in a queue, and in which order (ARINC 653 Part 1, intrapartition communication).
 use Rattle.std.specs.Prelude.{ℕ, Bool, true, false, Option, None, Some, ◌==◌, ◌&&◌, count_by, slice_index_or}
+use Rattle.std.specs.Option.{option_and_then}
 use Rattle.apex_types.specs.declared.records.Discipline.{Discipline}
 use Rattle.apex_types.specs.declared.records.Discipline.TheVariants.{Fifo, Priority}
+use Rattle.apex_types.specs.declared.records.Queue.{Queue}
+use Rattle.apex_types.specs.declared.records.Queue.TheVariants as queues
 use Rattle.apex_types.specs.declared.records.Record.{Record}
 use Rattle.apex_types.specs.declared.records.Wait.{Wait}
 use Rattle.apex_types.specs.declared.records.Wait.TheVariants.{Normal, Start, Time, Semaphore}
@@ -11,30 +14,47 @@ use Rattle.apex_types.specs.Running.{is_older, is_before}
 
 -- the two wait for the same thing
 abbrev pub is_same_wait : Wait → Wait → Bool
-is_same_wait Normal Normal = true
+is_same_wait (Normal d) (Normal e) = true
 is_same_wait Start Start = true
 is_same_wait Time Time = true
 is_same_wait (Semaphore s) (Semaphore t) = s == t
 is_same_wait _ _ = false
+
+-- the queue in which a wait stands: a wait for an instant stands in none
+abbrev pub queue_of : Wait → Option Queue
+queue_of (Normal delay) = Some queues.Normal
+queue_of (Semaphore s) = Some (queues.Semaphore s)
+queue_of Start = None
+queue_of Time = None
+
+-- the queue in which the process stands
+abbrev pub queue_in : Record → Option Queue
+queue_in r = option_and_then queue_of r.wait
+
+-- the two queues are the same
+abbrev pub is_same_queue : Queue → Queue → Bool
+is_same_queue queues.Normal queues.Normal = true
+is_same_queue (queues.Semaphore s) (queues.Semaphore t) = s == t
+is_same_queue _ _ = false
+
+-- there is a queue, and it is this one
+abbrev pub is_queue : Queue → Option Queue → Bool
+is_queue queue None = false
+is_queue queue (Some other) = is_same_queue queue other
+
+-- the process waits in this queue
+unfoldable pub waits_in : Queue → Record → Bool
+waits_in queue r = is_queue queue (queue_in r)
 
 -- the discipline is PRIORITY
 abbrev pub is_by_priority : Discipline → Bool
 is_by_priority Fifo = false
 is_by_priority Priority = true
 
--- this wait is for that thing
-abbrev pub is_wait_for : Wait → Option Wait → Bool
-is_wait_for wait None = false
-is_wait_for wait (Some other) = is_same_wait wait other
-
--- the process waits in this queue
-unfoldable pub waits_in : Wait → Record → Bool
-waits_in queue r = is_wait_for queue r.wait
-
 -- the discipline of a queue: a semaphore's is the table's; who waits for NORMAL is first in, first out
-abbrev pub discipline_of : Roster → Wait → Discipline
-discipline_of roster (Semaphore s) = slice_index_or roster.disciplines s Fifo
-discipline_of roster _ = Fifo
+abbrev pub discipline_of : Roster → Queue → Discipline
+discipline_of roster (queues.Semaphore s) = slice_index_or roster.disciplines s Fifo
+discipline_of roster queues.Normal = Fifo
 
 -- whether r comes before s in a queue of this discipline: the longer waiter, or the more urgent one and
 -- among equals the longer waiter
@@ -43,24 +63,25 @@ waits_before Fifo = is_older
 waits_before Priority = is_before
 
 -- the process waits in this queue, behind that one
-unfoldable pub waits_behind : Discipline → Wait → Record → Record → Bool
+unfoldable pub waits_behind : Discipline → Queue → Record → Record → Bool
 waits_behind discipline queue ahead r = waits_in queue r && waits_before discipline ahead r
 
 -- the first waiter of a queue
-abbrev pub first_waiter : Roster → Wait → Option ℕ
-first_waiter roster queue = place_of_least (waits_in queue) (waits_before (discipline_of roster queue)) roster.records
+abbrev pub first_waiter : Roster → Queue → Option ℕ
+first_waiter roster queue =
+    place_of_least (waits_in queue) (waits_before (discipline_of roster queue)) roster.records
 
 -- the first waiter behind process p
-abbrev pub next_waiter : Roster → Wait → ℕ → Option ℕ
+abbrev pub next_waiter : Roster → Queue → ℕ → Option ℕ
 next_waiter roster queue p =
     let discipline = discipline_of roster queue in
     place_of_least (waits_behind discipline queue (record_at roster p)) (waits_before discipline) roster.records
 
 -- how many wait in the queue
-abbrev pub waiter_count : Roster → Wait → ℕ
+abbrev pub waiter_count : Roster → Queue → ℕ
 waiter_count roster queue = count_by (waits_in queue) roster.records
 
--- the process waits in a queue in which the more urgent comes first
-abbrev pub is_ranked : Roster → Option Wait → Bool
-is_ranked roster None = false
-is_ranked roster (Some queue) = is_by_priority (discipline_of roster queue)
+-- there is a queue, and the more urgent comes first in it
+abbrev pub goes_by_priority : Roster → Option Queue → Bool
+goes_by_priority roster None = false
+goes_by_priority roster (Some queue) = is_by_priority (discipline_of roster queue)

@@ -20,4 +20,4 @@ pub use entries::{Caller, Entry, Event, Full, Notice, Notices, Reply, ReturnCode
 pub use identifiers::{CoreId, ProcessId, SemaphoreId};
 pub use names::Name;
 pub use numbers::{number, number_at_most};
-pub use records::{Discipline, Mode, Record, State, Suspender, Wait};
+pub use records::{Attributes, Discipline, Mode, Queue, Record, State, Suspender, Wait};

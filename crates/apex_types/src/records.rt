@@ -2,6 +2,7 @@ ghost use Rattle.std.specs.Prelude.{◌≡◌};
 ghost use Rattle.apex_types.specs.Roster.{is_normal};
 ghost use Rattle.apex_types.specs.Running.{current_priority, is_eligible};
 ghost use Rattle.apex_types.specs.Stamps.{is_by_itself};
+ghost use Rattle.apex_types.specs.Waiters.{queue_in, queue_of};
 
 use crate::identifiers::{CoreId, SemaphoreId};
 
@@ -33,13 +34,34 @@ pub enum State {
 /// What a process waits for.
 #[derive(Clone, Copy, Debug, PartialEq, Eq)]
 pub enum Wait {
-    /// The partition's entry into NORMAL, after a START or a DELAYED_START before it.
-    Normal,
+    /// The partition's entry into NORMAL, where its start begins with this delay in ticks.
+    Normal(u32),
     /// The instant of its start, after a DELAYED_START.
     Start,
     /// An instant, after a TIMED_WAIT.
     Time,
     Semaphore(SemaphoreId),
+}
+
+/// Where processes stand one behind the other while they wait.
+#[derive(Clone, Copy, Debug, PartialEq, Eq)]
+pub enum Queue {
+    /// Those that wait for the entry into NORMAL.
+    Normal,
+    Semaphore(SemaphoreId),
+}
+
+impl Wait {
+    /// The queue in which a process stands that waits for this. None where it waits for an instant.
+    pub fn queue(self) -> Option<Queue>
+        ensures { result ≡ queue_of self }
+    {
+        match self {
+            Wait::Normal(_) => Some(Queue::Normal),
+            Wait::Semaphore(semaphore) => Some(Queue::Semaphore(semaphore)),
+            Wait::Start | Wait::Time => None,
+        }
+    }
 }
 
 /// Who suspended a process.
@@ -58,12 +80,18 @@ pub enum Discipline {
     Priority,
 }
 
+/// What the table gives a process for good.
+#[derive(Clone, Copy, Debug)]
+pub struct Attributes {
+    /// The base priority to which a START goes back.
+    pub priority: u8,
+}
+
 /// What the partition keeps of a process.
 #[derive(Clone, Copy, Debug)]
 pub struct Record {
+    pub attributes: Attributes,
     pub core: CoreId,
-    /// The base priority that the table gives, to which a START goes back.
-    pub priority: u8,
     /// The base priority, 1 to 239; a greater one is more urgent.
     pub base: u8,
     pub started: bool,
@@ -74,9 +102,6 @@ pub struct Record {
     /// The instant in ticks at which its wait, or its suspension of itself, ends if it does so of its
     /// own.
     pub due: Option<u64>,
-    /// The delay in ticks of its last start, which begins to run at once in NORMAL, else with the entry
-    /// into NORMAL.
-    pub delay: u32,
     /// The place of its next step in its script, counted from 0.
     pub step: u8,
 }
@@ -94,6 +119,13 @@ impl Record {
         ensures { result ≡ current_priority self.now }
     {
         self.base
+    }
+
+    /// The queue in which the process stands, if it stands in one.
+    pub fn queue(&self) -> Option<Queue>
+        ensures { result ≡ queue_in self.now }
+    {
+        self.wait?.queue()
     }
 
     pub fn is_suspended_by_itself(&self) -> bool

@@ -35,7 +35,7 @@ loop-turn-preserved g c =
     let known : process < length old.records = first_due_within old process found in
     let freed : g.S.Store.roster c.take_due.new.self ≡ without_due old process = c.in-Some.ensures.taken ∙ ap (without_due_of old) found in
     let is = served_is old (g.S.Store.roster c.take_due.new.self) process c.record-wait.result.wait known freed (ap (λ (r : _). r.wait) c.record-wait.ensures) in
-    let reaches = reach_serve_due old process known in
+    let reaches = reach_serve_due old process c.loop-turn.invariant.starts found in
     let roster : g.S.Store.roster c.end_wait.new.store ≡ (serve_due old process).roster = c.end_wait.ensures.roster ∙ ap (λ (r : Changed). r.roster) is in
     let notices = c.end_wait.ensures.notices ∙ ap (λ (r : Changed). c.loop-turn.notices ++ r.notices) is in
     record {
@@ -46,6 +46,8 @@ loop-turn-preserved g c =
       many = rw roster (reaches.many ∙ c.loop-turn.invariant.many);
       few = c.loop-turn.invariant.few;
       room = rw (notices, length-append) (omega (arith, one_due old process, c.loop-turn.invariant.room));
+      starts = rw roster (reaches.starts c.loop-turn.invariant.starts);
+      older = rw roster (omega (arith, ints, reaches.older, c.loop-turn.invariant.older));
       stamps = rw roster (omega (arith, ints, reaches.stamps, c.loop-turn.invariant.stamps));
     }
 

@@ -13,6 +13,9 @@ pass_time-went-requires-clause-few g c =
     let few = c.self.invariant.lawful.process_count in
     omega (arith, (kept_sound c.self.invariant).records, few)
 
+pub pass_time-went-requires-clause-starts : goal.pass_time-went-requires-clause-starts
+pass_time-went-requires-clause-starts g c = (kept_sound c.self.invariant).starts
+
 pub pass_time-went-requires-clause-stamps : goal.pass_time-went-requires-clause-stamps
 pass_time-went-requires-clause-stamps g c = kept_stamps c.self.invariant
 

@@ -28,6 +28,9 @@ pub carry_out-deed-requires-clause-semaphores : goal.carry_out-deed-requires-cla
 carry_out-deed-requires-clause-semaphores g c =
     rw c.self.invariant.objects (length-map_places (semaphore_after c.self.inside.log.entries) 0 c.self.inside.table.semaphores)
 
+pub carry_out-deed-requires-clause-starts : goal.carry_out-deed-requires-clause-starts
+carry_out-deed-requires-clause-starts g c = (kept_sound c.self.invariant).starts
+
 pub carry_out-deed-requires-clause-stamps : goal.carry_out-deed-requires-clause-stamps
 carry_out-deed-requires-clause-stamps g c = kept_stamps c.self.invariant
 

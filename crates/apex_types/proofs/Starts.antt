@@ -1,0 +1,148 @@
+-- What changes of single processes keep of the order of starts.
+use Rattle.std.proofs.Common.{◌≡◌, ◌≢◌, ℕ, ◌<◌, ◌&&◌, Bool, true, false, Option, None, Some, is_none, length, refl, sym, ◌∙◌, ap, inl, inr}
+use Rattle.std.proofs.lemmas.Bool.{and_parts, both_ways, cases_eq, eqb-true, eq-eqb}
+use Rattle.std.proofs.lemmas.Option.{none-some}
+use Rattle.apex_types.specs.declared.records.Mode.{Mode}
+use Rattle.apex_types.specs.declared.records.Queue.{Queue}
+use Rattle.apex_types.specs.declared.records.Queue.TheVariants as queues
+use Rattle.apex_types.specs.declared.records.Record.{Record}
+use Rattle.apex_types.specs.declared.records.Wait.{Wait}
+use Rattle.apex_types.specs.declared.records.Wait.TheVariants.{Normal, Start, Time, Semaphore}
+use Rattle.apex_types.specs.Roster.{Roster, nobody, record_at, is_normal}
+use Rattle.apex_types.specs.Running.{is_eligible, chosen, runs_on, is_before}
+use Rattle.apex_types.specs.Stamps.{HasOrderlyStarts, is_free, may_wait, set_step}
+use Rattle.apex_types.specs.Callers.{IsReady}
+use Rattle.apex_types.proofs.Rosters.{at_record}
+use Rattle.std.proofs.lemmas.List.{length-set}
+use Rattle.apex_types.specs.Waiters.{is_queue, is_same_queue, queue_of, queue_in, waits_in, waits_before, discipline_of, first_waiter}
+use Rattle.apex_types.proofs.Choice.{place_passes, place_within}
+
+-- the order of starts, of one record
+pub record IsOrderlyIn (mode : Mode) (r : Record) : Type 0 where
+  pub dormant : r.started ≡ false → r.wait ≡ None
+  pub early : is_normal mode ≡ false → r.started ≡ true → queue_in r ≡ Some queues.Normal
+  pub undue : is_normal mode ≡ false → r.due ≡ None
+
+pub orderly_at : (roster : Roster) → HasOrderlyStarts roster → (p : ℕ) → IsOrderlyIn roster.mode (record_at roster p)
+orderly_at roster orderly p = record {
+  dormant = orderly.dormant p;
+  early = λ e. orderly.early e p;
+  undue = λ e. orderly.undue e p;
+}
+
+pub orderly_all : (roster : Roster) → ((p : ℕ) → IsOrderlyIn roster.mode (record_at roster p)) → HasOrderlyStarts roster
+orderly_all roster all = record {
+  dormant = λ p. (all p).dormant;
+  early = λ e p. (all p).early e;
+  undue = λ e p. (all p).undue e;
+}
+
+-- a process that is eligible is started, and waits for nothing, in NORMAL
+pub record IsRunnable (mode : Mode) (r : Record) : Type 0 where
+  pub normal : is_normal mode ≡ true
+  pub started : r.started ≡ true
+  pub free : r.wait ≡ None
+
+is_none_none : (wait : Option Wait) → is_none wait ≡ true → wait ≡ None
+is_none_none None e = refl
+is_none_none (Some w) e = cc
+
+pub runnable : (mode : Mode) (r : Record) → is_eligible mode r ≡ true → IsRunnable mode r
+runnable mode r e =
+    let free = and_parts (is_normal mode && r.started && is_none r.suspended) (is_none r.wait) e in
+    let active = and_parts (is_normal mode && r.started) (is_none r.suspended) free.0 in
+    let begun = and_parts (is_normal mode) r.started active.0 in
+    record { normal = begun.0; started = begun.1; free = is_none_none r.wait free.1 }
+
+-- it may begin to wait
+pub eligible_may_wait : (mode : Mode) (r : Record) → is_eligible mode r ≡ true → may_wait r ≡ true
+eligible_may_wait mode r e = let is = runnable mode r e in rw (is.started, is.free)
+
+-- nobody is eligible but in NORMAL
+pub early_ineligible : (mode : Mode) (r : Record) → is_normal mode ≡ false → is_eligible mode r ≡ false
+early_ineligible mode r e = rw e
+
+-- a process that is ready stays so at its next step
+pub ready_step : (roster : Roster) (p step : ℕ) → IsReady roster p → IsReady (set_step roster p step) p
+ready_step roster p step ready =
+    let r : Record = record (record_at roster p) { step = step } in
+    record { known = rw (length-set roster.records p r) ready.known; eligible = rw (at_record roster p ready.known r) ready.eligible }
+
+-- the chosen process of a core is ready
+pub chosen_ready : (roster : Roster) (core p : ℕ) → chosen roster core ≡ Some p → IsReady roster p
+unfolding runs_on
+chosen_ready roster core p e = record {
+  known = place_within (runs_on roster.mode core) is_before roster.records p e;
+  eligible = (and_parts _ _ (place_passes (runs_on roster.mode core) is_before roster.records p nobody e)).0;
+}
+
+-- a process that waits for nothing stands in no queue
+pub waitless_queue : (r : Record) (q : Queue) → r.wait ≡ None → queue_in r ≡ Some q → ⊥
+waitless_queue r q free is = none-some q (rw free at is)
+
+-- the entry into NORMAL makes nobody eligible
+
+pub readies_nobody : (roster : Roster) → HasOrderlyStarts roster → is_normal roster.mode ≡ false → (mode : Mode) (p : ℕ)
+    → is_eligible mode (record_at roster p) ≡ true → is_eligible roster.mode (record_at roster p) ≡ true
+readies_nobody roster orderly early mode p e =
+    let is = runnable mode (record_at roster p) e in
+    absurd (waitless_queue (record_at roster p) queues.Normal is.free (orderly.early early p is.started))
+
+-- a process that waits in a queue stands there
+same_queue : (q r : Queue) → is_same_queue q r ≡ true → q ≡ r
+same_queue queues.Normal queues.Normal e = refl
+same_queue (queues.Semaphore s) (queues.Semaphore t) e = ap queues.Semaphore (eqb-true s t e)
+same_queue queues.Normal (queues.Semaphore t) e = cc
+same_queue (queues.Semaphore s) queues.Normal e = cc
+
+queue_itself : (q : Queue) → is_same_queue q q ≡ true
+queue_itself queues.Normal = refl
+queue_itself (queues.Semaphore s) = eq-eqb s s refl
+
+is_queue_some : (q : Queue) (found : Option Queue) → is_queue q found ≡ true → found ≡ Some q
+is_queue_some q None e = cc
+is_queue_some q (Some r) e = ap Some (sym (same_queue q r e))
+
+pub stands_in : (q : Queue) (r : Record) → waits_in q r ≡ true → queue_in r ≡ Some q
+unfolding waits_in
+stands_in q r e = is_queue_some q (queue_in r) e
+
+pub waits_there : (q : Queue) (r : Record) → queue_in r ≡ Some q → waits_in q r ≡ true
+unfolding waits_in
+waits_there q r e = rw e (queue_itself q)
+
+-- so does the first waiter
+pub first_stands : (roster : Roster) (q : Queue) (p : ℕ) → first_waiter roster q ≡ Some p → queue_in (record_at roster p) ≡ Some q
+first_stands roster q p e =
+    stands_in q (record_at roster p) (place_passes (waits_in q) (waits_before (discipline_of roster q)) roster.records p nobody e)
+
+pub first_within : (roster : Roster) (q : Queue) (p : ℕ) → first_waiter roster q ≡ Some p → p < length roster.records
+first_within roster q p e = place_within (waits_in q) (waits_before (discipline_of roster q)) roster.records p e
+
+-- a process that stands in a queue is started
+waiter_started : (r : Record) (started : Bool) → r.started ≡ started → (r.started ≡ false → r.wait ≡ None) → (q : Queue) → queue_in r ≡ Some q → started ≡ true
+waiter_started r true is dormant q e = refl
+waiter_started r false is dormant q e = absurd (none-some q (rw (dormant is) at e))
+
+pub queued_started : (roster : Roster) → HasOrderlyStarts roster → (p : ℕ) (q : Queue) → queue_in (record_at roster p) ≡ Some q → (record_at roster p).started ≡ true
+queued_started roster orderly p q e = waiter_started (record_at roster p) (record_at roster p).started refl (orderly.dormant p) q e
+
+-- who stands in the queue of those that wait for NORMAL may begin another wait
+pub normal_free : (wait : Option Wait) → queue_in (record nobody { wait = wait }) ≡ Some queues.Normal → is_free wait ≡ true
+normal_free None e = cc
+normal_free (Some (Normal delay)) e = refl
+normal_free (Some Start) e = cc
+normal_free (Some Time) e = cc
+normal_free (Some (Semaphore s)) e = cc
+
+pub first_may_wait : (roster : Roster) → HasOrderlyStarts roster → (p : ℕ) → first_waiter roster queues.Normal ≡ Some p → may_wait (record_at roster p) ≡ true
+first_may_wait roster orderly p e =
+    let stands = first_stands roster queues.Normal p e in
+    rw (queued_started roster orderly p queues.Normal stands, normal_free _ stands)
+
+-- before NORMAL a process that stands in another queue is a contradiction
+pub queued_normal : (roster : Roster) → HasOrderlyStarts roster → (p s : ℕ) → queue_in (record_at roster p) ≡ Some (queues.Semaphore s) → is_normal roster.mode ≡ false → ⊥
+queued_normal roster orderly p s e early =
+    let started = queued_started roster orderly p (queues.Semaphore s) e in
+    let normal = orderly.early early p started in
+    let clash : Some queues.Normal ≡ Some (queues.Semaphore s) = sym normal ∙ e in cc
