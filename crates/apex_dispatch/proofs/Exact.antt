@@ -66,7 +66,8 @@ flags_set entries history e p within one =
 -- an entry that says nothing of any semaphore leaves them all
 semaphores_same : (table : Table) (history : List Entry) (e : Entry) → AreEnough table history
     → ((s : ℕ) → IsQuiet s history e)
-    → (objects_after table (history ++ e ∷ [])).semaphores ≡ (objects_after table history).semaphores
+    → (objects_after table (history ++ e ∷ [])).semaphores
+    ≡ (objects_after table history).semaphores
 semaphores_same table history e enough quiet =
     map_places_same (semaphore_after (history ++ e ∷ [])) (semaphore_after history) table.semaphores
     no_semaphore no_object
@@ -325,7 +326,8 @@ module _ (number now : ℕ) (who : Who) (table : Table) (history : List Entry) (
               let below = below_service roster object (bounded s within) s caller call in
               rw same (rw (ap (λ (x : SemaphoreObject). x.value) told.own.is) below)
           | inr differs ↦
-              rw (ap (λ (x : SemaphoreObject). x.value) (after t inside differs).is) (bounded t inside)
+              let same = ap (λ (x : SemaphoreObject). x.value) (after t inside differs).is in
+              rw same (bounded t inside)
         ];
         waiting = asked-push history e roster o.roster idle asked told.asks;
       }
@@ -385,7 +387,8 @@ module _ (number now : ℕ) (who : Who) (table : Table) (history : List Entry) (
       let o = partition_service table.cores roster call in
       let spares = partition_spares table.cores roster call in
       exact_other caller idle (Partition call) o.reply o.notices o.roster objects.processes
-      (λ s. refl) (λ s. refl) (keeps_spared caller (Partition call) roster o.roster o.notices spares)
+      (λ s. refl) (λ s. refl)
+      (keeps_spared caller (Partition call) roster o.roster o.notices spares)
       (flags_same table.processes history _ (λ p. refl))
   exact_service caller idle (ToProcess call) known =
       let o = process_service table.cores roster objects.processes caller call in
@@ -396,6 +399,7 @@ module _ (number now : ℕ) (who : Who) (table : Table) (history : List Entry) (
   exact_service caller idle (ToTime call) known =
       let o = time_service roster caller call in
       exact_other caller idle (ToTime call) o.reply [] o.roster objects.processes
-      (λ s. refl) (λ s. refl) (time_keeps roster caller call) (flags_same table.processes history _ (λ p. refl))
+      (λ s. refl) (λ s. refl) (time_keeps roster caller call)
+      (flags_same table.processes history _ (λ p. refl))
   exact_service caller idle (ToSemaphore call) known =
       exact_target caller idle call (semaphore_of call) refl known

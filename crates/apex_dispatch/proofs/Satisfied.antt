@@ -91,7 +91,8 @@ answered_all P history (Woken p code ∷ notices) holds =
       here true None holds = All-nil P
       here true (Some c) holds = All-cons P c [] (holds c refl refl) (All-nil P)
 
--- where all whom an entry wakes with NO_ERROR waited for w, the calls that it answers begin that wait
+-- where all whom an entry wakes with NO_ERROR waited for w, each call that it answers begins that
+-- wait
 pub handed : (roster : Roster) (history : List Entry) (notices : List Notice) (w : Wait)
     → AreAsked roster history
     → ((p : ℕ) → wakes p notices ≡ true → awaited (record_at roster p) ≡ Some w)

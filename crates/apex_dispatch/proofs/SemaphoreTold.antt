@@ -137,8 +137,8 @@ module _ (number now : ℕ) (who : Who) (caller : Caller) (history : List Entry)
         notices = [];
       })
   told_alone call v is creates balance =
-      told_accepted call roster [] [] v semaphore.created is refl (All-nil _) (λ t differs. creates t)
-      (rw (creates s) (or_false semaphore.created)) balance (unasked call)
+      told_accepted call roster [] [] v semaphore.created is refl (All-nil _)
+      (λ t differs. creates t) (rw (creates s) (or_false semaphore.created)) balance (unasked call)
 
   told_create : IsTold (CreateSemaphore (Known s)) (create_semaphore roster semaphore)
   told_create =

@@ -26,7 +26,8 @@ time_keeps roster (Process p) (TimedWait Poll) =
       quiet = λ q. refl;
     })
 time_keeps roster (Process p) (TimedWait (Ticks n)) = record {
-  asks = asks_blocked p (ToTime (TimedWait (Ticks n))) Time (due_after roster (Ticks n)) roster refl refl;
+  asks = asks_blocked p (ToTime (TimedWait (Ticks n))) Time (due_after roster (Ticks n)) roster
+      refl refl;
   timed = λ q woken. absurd (both_ways false refl woken);
 }
 time_keeps roster caller (TimedWait timeout) =

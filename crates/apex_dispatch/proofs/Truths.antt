@@ -20,4 +20,5 @@ and_true false = refl
 
 -- two numbers that differ
 pub other : (a b : ℕ) → a ≢ b → (a == b) ≡ false
-other a b differs = elim (eqb_tells a b) [ inl same ↦ absurd (differs same.1) | inr apart ↦ apart.0 ]
+other a b differs =
+    elim (eqb_tells a b) [ inl same ↦ absurd (differs same.1) | inr apart ↦ apart.0 ]

@@ -13,13 +13,15 @@ use Rattle.apex_dispatch.proofs.Satisfied.{calls-push, filter_all}
 use Rattle.apex_dispatch.proofs.Truths.{or_false}
 
 created-push : (s : ℕ) (history : List Entry) (e : Entry)
-    → is_semaphore_created s (history ++ e ∷ []) ≡ (is_semaphore_created s history || creates_semaphore s e)
+    → is_semaphore_created s (history ++ e ∷ [])
+    ≡ (is_semaphore_created s history || creates_semaphore s e)
 created-push s history e =
     list_any-append (creates_semaphore s) history (e ∷ [])
     ∙ ap (λ b. is_semaphore_created s history || b) (or_false (creates_semaphore s e))
 
 pub process_created-push : (p : ℕ) (history : List Entry) (e : Entry)
-    → is_process_created p (history ++ e ∷ []) ≡ (is_process_created p history || creates_process p e)
+    → is_process_created p (history ++ e ∷ [])
+    ≡ (is_process_created p history || creates_process p e)
 process_created-push p history e =
     list_any-append (creates_process p) history (e ∷ [])
     ∙ ap (λ b. is_process_created p history || b) (or_false (creates_process p e))
@@ -63,7 +65,8 @@ module _ (s : ℕ) (entry : SemaphoreEntry) (history : List Entry) (e : Entry)
       let all = accounts_more entry.initial before v old more enough balance in
       let calls : calls_where (names_semaphore s) (history ++ e ∷ []) ≡ old ++ more =
       calls-push (names_semaphore s) history e ∙ ap (λ c. old ++ c) is in
-      let value : entry.initial + count_by is_signal (old ++ more) - count_by is_wait (old ++ more) ≡ v =
+      let now = old ++ more in
+      let value : entry.initial + count_by is_signal now - count_by is_wait now ≡ v =
       omega (arith, all) in
       record {
         is = rw (created-push s history e, creates, calls, value) refl;

@@ -19,8 +19,8 @@ use Rattle.apex_types.specs.Satisfied.{latest_call, calls_where, semaphore_value
 abbrev pub Accounts : ℕ → List Call → ℕ → Type 0
 Accounts initial calls v = v + count_by is_wait calls ≡ initial + count_by is_signal calls
 
--- the value of semaphore s accounts for all its satisfied calls: no more waits are satisfied than its
--- start and its signals allow
+-- the value of semaphore s accounts for all its satisfied calls: no more waits are satisfied than
+-- its start and its signals allow
 abbrev pub IsAccounted : ℕ → ℕ → List Entry → Type 0
 IsAccounted initial s history =
     Accounts initial (calls_where (names_semaphore s) history) (semaphore_value initial s history)
