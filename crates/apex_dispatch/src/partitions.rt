@@ -21,8 +21,8 @@ fn delay_of(wait: Option<Wait>) -> u32
     }
 }
 
-/// The start of a process that waited for NORMAL begins: a release where it has no delay, else a wait
-/// for its start.
+/// The start of a process that waited for NORMAL begins: a release where it has no delay, else a
+/// wait for its start.
 #[tactic(auto, using(apex_types::proofs::Dues::from_now))]
 fn begin_waiter<S: Store>(store: &mut S, process: ProcessId, notices: &mut Notices)
     requires known { process < length (S.roster store.old).records }

@@ -1,5 +1,6 @@
-ghost use Rattle.std.specs.Prelude.{◌≡◌, ◌<◌, ◌<ℤ◌, ◌≤◌, pos, length, true, IfOk};
+ghost use Rattle.std.specs.Prelude.{◌≡◌, ◌<ℤ◌, ◌≤◌, pos, length, true, IfOk};
 ghost use Rattle.apex_types.specs.Roster.{is_cold_start};
+ghost use Rattle.apex_store.specs.Opened.{IsEarly};
 
 use crate::{
     Semaphore, create_semaphore, get_semaphore_id, get_semaphore_status, serve_semaphore,
@@ -91,6 +92,16 @@ fn created<S: Store>(rt: &impl Abort, store: &S) -> Semaphore
     semaphore
 }
 
+/// In NORMAL neither of the two processes would be eligible.
+fn is_early<S: Store>(store: &S) -> bool
+    requires { length (S.roster store.now).records ≡ 2 }
+    ensures first { result ≡ true → IsEarly (S.roster store.now) 0 }
+    ensures second { result ≡ true → IsEarly (S.roster store.now) 1 }
+{
+    !store.record(slow()).is_eligible(Mode::Normal)
+        && !store.record(urgent()).is_eligible(Mode::Normal)
+}
+
 /// Both processes run in NORMAL.
 fn both_run<S: Store>(rt: &impl Abort, store: &mut S)
     requires records { length (S.roster store.old).records ≡ 2 }
@@ -102,11 +113,13 @@ fn both_run<S: Store>(rt: &impl Abort, store: &mut S)
     ensures old { (S.roster store.new).old ≡ pos 0 }
     ensures time { (S.roster store.new).now ≡ (S.roster store.old).now }
 {
-    assert!(rt; !store.record(slow()).is_eligible(Mode::Normal));
-    assert!(rt; !store.record(urgent()).is_eligible(Mode::Normal));
-    store.set_mode(Mode::Normal);
-    store.start(slow(), 0);
-    store.start(urgent(), 0);
+    if is_early(store) {
+        store.set_mode(Mode::Normal);
+        store.start(slow(), 0);
+        store.start(urgent(), 0);
+    } else {
+        panic!(rt; "a process would be eligible");
+    }
 }
 
 #[test]
@@ -129,15 +142,13 @@ fn a_full_semaphore_takes_no_signal(rt: HostRuntime) -> Result<(), Fail> {
 #[test]
 fn a_wait_at_zero_is_due_after_its_timeout(rt: HostRuntime) -> Result<(), Fail> {
     let mut store = two_processes(&rt, rt.alloc())?;
-    assert_eq!(rt; store.next_instant(), None);
-    store.advance_to(7);
     let mut semaphore = created(&rt, &store);
     both_run(&rt, &mut store);
     let (id, timeout) = (the_semaphore(), Timeout::Ticks(5));
     assert!(rt; store.record(slow()).is_eligible(store.mode()));
     let waited = wait_semaphore(&mut store, &mut semaphore, id, slow(), timeout);
     assert_eq!(rt; waited, Reply::Blocked);
-    assert_eq!(rt; store.record(slow()).due, Some(12));
+    assert_eq!(rt; store.record(slow()).due, Some(5));
     Ok(())
 }
 

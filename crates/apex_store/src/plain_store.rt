@@ -70,7 +70,7 @@ fn awake(row: Record) -> Record
     }
 }
 
-/// The record of a process at its start: not suspended, at the table's priority and at the first step.
+/// The record of a process at its start: not suspended, at the table's priority and first step.
 fn reset(row: Record) -> Record
     ensures { result ≡ stamps.reset row }
 {

@@ -1,6 +1,6 @@
-ghost use Rattle.std.specs.Prelude.{◌≡◌, ◌<◌, ◌≤◌, ◌^◌, true, false, length, IfSome};
+ghost use Rattle.std.specs.Prelude.{◌≡◌, ◌<◌, ◌≤◌, ◌^◌, true, length, IfSome};
 ghost use Rattle.apex_types.specs.Roster.{Roster, record_at};
-ghost use Rattle.apex_types.specs.Running.{chosen, is_eligible, process_state};
+ghost use Rattle.apex_types.specs.Running.{chosen, process_state, IsEligible, IsIneligible};
 ghost use Rattle.apex_types.specs.Waiters.{first_waiter, next_waiter, waiter_count, waits_in};
 ghost use Rattle.apex_types.specs.Dues.{next_instant, first_due, HasNoDueBelow, HasTime, IsFrom};
 ghost use Rattle.apex_types.specs.Stamps as stamps;
@@ -11,8 +11,8 @@ use apex_types::{CoreId, Mode, ProcessId, Queue, Record, State, Wait};
 ///
 /// A contract sees a store as its roster alone: one record a process, and the two counters of
 /// stamps. No call fails, and none takes memory. The rules are those of ARINC 653 Part 1, process
-/// management, and of this profile. The conditions let a store keep its queues as linked lists: only
-/// the entry into NORMAL may have to compare stamps.
+/// management, and of this profile. The conditions let a store keep its queues as linked lists:
+/// only the entry into NORMAL may have to compare stamps.
 pub trait Store: Drop {
     ghost roster: { Self → Roster };
 
@@ -59,8 +59,8 @@ pub trait Store: Drop {
     fn next_instant(&self) -> Option<u64>
         ensures { result ≡ next_instant (roster self.now) };
 
-    /// Resets a dormant process and starts it after a delay in ticks, which begins to run at once in
-    /// NORMAL, else with the entry into NORMAL.
+    /// Resets a dormant process and starts it after a delay in ticks, which begins to run at once
+    /// in NORMAL, else with the entry into NORMAL.
     fn start(&mut self, process: ProcessId, delay: u32)
         requires known { process < length (roster self.old).records }
         requires stamps { stamps.HasStamps (roster self.old) }
@@ -97,11 +97,11 @@ pub trait Store: Drop {
         requires known { process < length (roster self.old).records }
         ensures { roster self.new ≡ stamps.suspend (roster self.old) process };
 
-    /// The process, which is eligible, suspends itself, until the instant that is due where there is
-    /// one.
+    /// The process, which is eligible, suspends itself, until the instant that is due where there
+    /// is one.
     fn suspend_self(&mut self, process: ProcessId, due: Option<u64>)
         requires known { process < length (roster self.old).records }
-        requires eligible { is_eligible (roster self.old).mode (record_at (roster self.old) process) ≡ true }
+        requires eligible { IsEligible (roster self.old) process }
         requires due { IsFrom (roster self.old).now due }
         requires stamps { stamps.HasStamps (roster self.old) }
         ensures { roster self.new ≡ stamps.suspend_self (roster self.old) process due };
@@ -112,8 +112,8 @@ pub trait Store: Drop {
         requires stamps { stamps.HasStamps (roster self.old) }
         ensures { roster self.new ≡ stamps.resume (roster self.old) process };
 
-    /// Sets the base priority. The process becomes the newest where it is eligible or waits in a queue
-    /// in which the more urgent comes first.
+    /// Sets the base priority. The process becomes the newest where it is eligible or waits in a
+    /// queue in which the more urgent comes first.
     fn set_priority(&mut self, process: ProcessId, base: u8)
         requires known { process < length (roster self.old).records }
         requires stamps { stamps.HasStamps (roster self.old) }
@@ -146,7 +146,7 @@ pub trait Store: Drop {
     /// Binds a process that isn't eligible to the core.
     fn set_core(&mut self, process: ProcessId, core: CoreId)
         requires known { process < length (roster self.old).records }
-        requires out { is_eligible (roster self.old).mode (record_at (roster self.old) process) ≡ false }
+        requires out { IsIneligible (roster self.old) process }
         ensures { roster self.new ≡ stamps.set_core (roster self.old) process core };
 
     /// Sets the process's place in its script, counted from 0.

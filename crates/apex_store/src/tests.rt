@@ -1,9 +1,9 @@
-ghost use Rattle.std.specs.Prelude.{◌≡◌, ◌<◌, ◌≤◌, ◌^◌, true, length, IfOk, IfSome};
+ghost use Rattle.std.specs.Prelude.{◌≡◌, ◌<◌, ◌≤◌, ◌^◌, true, length, IfOk};
 ghost use Rattle.apex_types.specs.Distinct.{IsStamped};
 ghost use Rattle.apex_types.specs.Dues.{IsFrom};
 ghost use Rattle.apex_types.specs.Stamps as stamps;
 ghost use Rattle.apex_types.specs.Waiters.{next_waiter};
-ghost use Rattle.apex_store.specs.Opened.{IsJustOpened};
+ghost use Rattle.apex_store.specs.Opened.{IsEarly, IsJustOpened};
 
 use crate::orders::waits_in;
 use crate::plain_store::PlainStore;
@@ -107,14 +107,16 @@ fn suspend_self<S: Store>(rt: &impl Abort, store: &mut S, process: ProcessId, du
 }
 
 /// Time goes on, and passes over no due.
-#[tactic(auto, using(apex_types::proofs::Dues::advanced_not_past))]
 fn advance_to<S: Store>(rt: &impl Abort, store: &mut S, instant: u64)
     requires forward { (S.roster store.old).now ≤ instant }
     requires near { instant ≤ 2 ^ 36 }
     ensures { S.roster store.new ≡ stamps.advance_to (S.roster store.old) instant }
 {
-    assert!(rt; is_from(instant, store.next_instant()));
-    store.advance_to(instant);
+    if is_from(instant, store.next_instant()) {
+        store.advance_to(instant);
+    } else {
+        panic!(rt; "a due would be passed over");
+    }
 }
 
 /// Who is next behind this process, which stands in the queue.
@@ -131,14 +133,26 @@ fn next_after<S: Store>(
     store.next_after(*queue, process)
 }
 
+/// In NORMAL neither of the two processes would be eligible.
+fn is_early<S: Store>(store: &S) -> bool
+    requires { length (S.roster store.now).records ≡ 2 }
+    ensures first { result ≡ true → IsEarly (S.roster store.now) 0 }
+    ensures second { result ≡ true → IsEarly (S.roster store.now) 1 }
+{
+    !store.record(slow()).is_eligible(Mode::Normal)
+        && !store.record(urgent()).is_eligible(Mode::Normal)
+}
+
 /// The entry into NORMAL, by which neither of the two becomes eligible.
 fn enter_normal<S: Store>(rt: &impl Abort, store: &mut S)
     requires { length (S.roster store.old).records ≡ 2 }
     ensures { S.roster store.new ≡ stamps.set_mode (S.roster store.old) Mode.Normal }
 {
-    assert!(rt; !store.record(slow()).is_eligible(Mode::Normal));
-    assert!(rt; !store.record(urgent()).is_eligible(Mode::Normal));
-    store.set_mode(Mode::Normal);
+    if is_early(store) {
+        store.set_mode(Mode::Normal);
+    } else {
+        panic!(rt; "a process would be eligible");
+    }
 }
 
 fn two_processes(rt: &impl Abort, alloc: Global) -> Result<PlainStore, Fail>
@@ -382,22 +396,24 @@ fn queues_have_their_disciplines<S: Store>(rt: &impl Abort, store: &mut S)
     );
 }
 
-/// A new priority places a ready process and a waiter in a PRIORITY queue last among their equals, and
-/// leaves a waiter in a FIFO queue where it stands.
-fn priorities_place_by_queue<S: Store>(rt: &impl Abort, store: &mut S)
+/// A new priority places a waiter in a PRIORITY queue last among its equals.
+fn priorities_place_ranked_waiters<S: Store>(rt: &impl Abort, store: &mut S)
     requires { IsJustOpened (S.roster store.old) }
 {
     enter_normal(rt, store);
     store.start(slow(), 0);
     store.start(urgent(), 0);
-    store.set_priority(slow(), 20);
-    assert_eq!(rt; store.chosen(CoreId::new(0)), Some(urgent()));
     block(rt, store, slow(), Wait::Semaphore(ranked()), None);
     block(rt, store, urgent(), Wait::Semaphore(ranked()), None);
     store.set_priority(slow(), 20);
     assert_eq!(rt; store.first(Queue::Semaphore(ranked())), Some(urgent()));
-    store.stop(slow());
-    store.stop(urgent());
+}
+
+/// It leaves a waiter in a FIFO queue where it stands.
+fn priorities_leave_fifo_waiters<S: Store>(rt: &impl Abort, store: &mut S)
+    requires { IsJustOpened (S.roster store.old) }
+{
+    enter_normal(rt, store);
     store.start(slow(), 0);
     store.start(urgent(), 0);
     block(rt, store, slow(), Wait::Semaphore(in_turn()), None);
@@ -418,7 +434,8 @@ fn plain_store_serves_the_trait(rt: HostRuntime) -> Result<(), Fail> {
     suspension_of_itself_ends(&rt, &mut two_processes(&rt, rt.alloc())?);
     base_decides_until_a_start(&rt, &mut two_processes(&rt, rt.alloc())?);
     queues_have_their_disciplines(&rt, &mut two_processes(&rt, rt.alloc())?);
-    priorities_place_by_queue(&rt, &mut two_processes(&rt, rt.alloc())?);
+    priorities_place_ranked_waiters(&rt, &mut two_processes(&rt, rt.alloc())?);
+    priorities_leave_fifo_waiters(&rt, &mut two_processes(&rt, rt.alloc())?);
     Ok(())
 }
 

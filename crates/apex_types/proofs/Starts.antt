@@ -1,5 +1,5 @@
 -- What changes of single processes keep of the order of starts.
-use Rattle.std.proofs.Common.{◌≡◌, ◌≢◌, ℕ, ◌<◌, ◌&&◌, Bool, true, false, Option, None, Some, is_none, length, refl, sym, ◌∙◌, ap, inl, inr}
+use Rattle.std.proofs.Common.{◌≡◌, ℕ, zero, suc, ◌<◌, ◌≤◌, arith, ◌&&◌, Bool, true, false, Option, None, Some, is_none, length, refl, sym, ◌∙◌, ap, inl, inr}
 use Rattle.std.proofs.lemmas.Bool.{and_parts, both_ways, cases_eq, eqb-true, eq-eqb}
 use Rattle.std.proofs.lemmas.Option.{none-some}
 use Rattle.apex_types.specs.declared.records.Mode.{Mode}
@@ -10,10 +10,10 @@ use Rattle.apex_types.specs.declared.records.Wait.{Wait}
 use Rattle.apex_types.specs.declared.records.Wait.TheVariants.{Normal, Start, Time, Semaphore}
 use Rattle.apex_types.specs.Roster.{Roster, nobody, record_at, is_normal}
 use Rattle.apex_types.specs.Running.{is_eligible, chosen, runs_on, is_before}
-use Rattle.apex_types.specs.Stamps.{HasOrderlyStarts, is_free, may_wait, set_step}
+use Rattle.apex_types.specs.Stamps.{HasOrderlyStarts, ReadiesNobody, is_free, may_wait, set_step}
 use Rattle.apex_types.specs.Callers.{IsReady}
 use Rattle.apex_types.proofs.Rosters.{at_record}
-use Rattle.std.proofs.lemmas.List.{length-set}
+use Rattle.std.proofs.lemmas.List.{get_or_past, length-set}
 use Rattle.apex_types.specs.Waiters.{is_queue, is_same_queue, queue_of, queue_in, waits_in, waits_before, discipline_of, first_waiter}
 use Rattle.apex_types.proofs.Choice.{place_passes, place_within}
 
@@ -87,6 +87,16 @@ pub readies_nobody : (roster : Roster) → HasOrderlyStarts roster → is_normal
 readies_nobody roster orderly early mode p e =
     let is = runnable mode (record_at roster p) e in
     absurd (waitless_queue (record_at roster p) queues.Normal is.free (orderly.early early p is.started))
+
+-- of two processes neither becomes eligible by this mode
+pub two_unready : (roster : Roster) (mode : Mode) → length roster.records ≡ 2
+    → is_eligible mode (record_at roster 0) ≡ false → is_eligible mode (record_at roster 1) ≡ false → ReadiesNobody roster mode
+two_unready roster mode two first second zero e = absurd (both_ways _ first e)
+two_unready roster mode two first second (suc zero) e = absurd (both_ways _ second e)
+two_unready roster mode two first second (suc (suc p)) e =
+    let past : length roster.records ≤ suc (suc p) = omega arith in
+    let none : record_at roster (suc (suc p)) ≡ nobody = get_or_past roster.records (suc (suc p)) nobody past in
+    absurd (both_ways _ (ap (λ (r : Record). r.started) none) (runnable mode (record_at roster (suc (suc p))) e).started)
 
 -- a process that waits in a queue stands there
 same_queue : (q r : Queue) → is_same_queue q r ≡ true → q ≡ r

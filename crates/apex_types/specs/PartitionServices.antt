@@ -41,7 +41,8 @@ begin_waiter roster p = begun roster p (delay_of (record_at roster p).wait)
 
 -- the entry into NORMAL: the mode is set, and the starts of all who wait for it begin in order of since
 unfoldable pub enter_normal : Roster → Changed
-enter_normal roster = in_turn first_to_start begin_waiter (length roster.records) (set_mode roster mode.Normal) []
+enter_normal roster =
+    in_turn first_to_start begin_waiter (length roster.records) (set_mode roster mode.Normal) []
 
 -- accepted, with these changes
 abbrev pub entered_normal : Changed → PartitionOutcome

@@ -1,5 +1,5 @@
 -- Which process each core runs (ARINC 653 Part 1, process management; here core by core).
-use Rattle.std.specs.Prelude.{ℕ, Bool, false, Option, None, Some, is_none, ◌==◌, nat_lt, int_lt, ◌&&◌, ◌||◌, not, if◌then◌else◌}
+use Rattle.std.specs.Prelude.{◌≡◌, ℕ, Bool, true, false, Option, None, Some, is_none, ◌==◌, nat_lt, int_lt, ◌&&◌, ◌||◌, not, if◌then◌else◌}
 use Rattle.apex_types.specs.declared.records.Mode.{Mode}
 use Rattle.apex_types.specs.declared.records.Record.{Record}
 use Rattle.apex_types.specs.declared.records.State.{State}
@@ -10,6 +10,14 @@ use Rattle.apex_types.specs.Choice.{place_of_least}
 -- eligible: the mode is NORMAL, and the process is started, not suspended, and waits for nothing
 abbrev pub is_eligible : Mode → Record → Bool
 is_eligible mode r = is_normal mode && r.started && is_none r.suspended && is_none r.wait
+
+-- process p is eligible
+abbrev pub IsEligible : Roster → ℕ → Type 0
+IsEligible roster p = is_eligible roster.mode (record_at roster p) ≡ true
+
+-- process p is not eligible
+abbrev pub IsIneligible : Roster → ℕ → Type 0
+IsIneligible roster p = is_eligible roster.mode (record_at roster p) ≡ false
 
 -- the current priority; a greater one is more urgent
 abbrev pub current_priority : Record → ℕ

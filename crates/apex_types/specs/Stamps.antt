@@ -59,9 +59,11 @@ is_free _ = false
 abbrev pub may_wait : Record → Bool
 may_wait r = r.started && is_free r.wait
 
--- a process that waits, until the due where there is one; who suspended itself waits for nothing else
+-- a process that waits, until the due where there is one; one that suspended itself waits for nothing
+-- else
 abbrev pub waiting : Record → Wait → Option ℕ → Record
-waiting r wait due = record r { suspended = suspension_awake r.suspended; wait = Some wait; due = due }
+waiting r wait due =
+    record r { suspended = suspension_awake r.suspended; wait = Some wait; due = due }
 
 -- the process begins to wait
 abbrev pub block : Roster → ℕ → Wait → Option ℕ → Roster
@@ -73,7 +75,8 @@ reset r = record r { base = r.attributes.priority; started = true; suspended = N
 
 -- a start begins: without delay it is a release, else the process waits for its start until then
 abbrev pub begin : Roster → ℕ → ℕ → Roster
-begin roster p delay = if delay == 0 then release roster p else block roster p Start (Some (roster.now + delay))
+begin roster p delay =
+    if delay == 0 then release roster p else block roster p Start (Some (roster.now + delay))
 
 -- START, after a delay: the process is reset, and begins in NORMAL, else waits for NORMAL
 abbrev pub start : Roster → ℕ → ℕ → Roster
@@ -111,14 +114,14 @@ resume roster p =
     let r = record_at roster p in
     if is_by_itself r.suspended then unblock roster p else readied roster p (unsuspended r)
 
--- rule "set priority": the process has this base priority, and becomes the newest where it is eligible or
--- waits in a queue in which the more urgent comes first
+-- rule "set priority": the process has this base priority, and becomes the newest where it is eligible
+-- or waits in a queue in which the more urgent comes first
 abbrev pub set_priority : Roster → ℕ → ℕ → Roster
 set_priority roster p base =
     let r = record_at roster p in
     let changed : Record = record r { base = base } in
-    if is_eligible roster.mode r || goes_by_priority roster (queue_in r) then newest roster p changed
-    else with_record roster p changed
+    let moves = is_eligible roster.mode r || goes_by_priority roster (queue_in r) in
+    if moves then newest roster p changed else with_record roster p changed
 
 -- the process goes behind all others of its priority
 abbrev pub place_newest : Roster → ℕ → Roster
@@ -155,15 +158,17 @@ set_step roster p step = with_record roster p (record (record_at roster p) { ste
 
 -- whoever is eligible in this mode is eligible already
 abbrev pub ReadiesNobody : Roster → Mode → Type 0
-ReadiesNobody roster mode =
-    (p : ℕ) → is_eligible mode (record_at roster p) ≡ true → is_eligible roster.mode (record_at roster p) ≡ true
+ReadiesNobody roster mode = (p : ℕ)
+    → is_eligible mode (record_at roster p) ≡ true → is_eligible roster.mode (record_at roster p) ≡ true
 
 -- who suspended itself waits for nothing else
 abbrev pub WaitsForOne : Roster → Type 0
 WaitsForOne roster = (p : ℕ) → is_by_itself (record_at roster p).suspended ≡ true → (record_at roster p).wait ≡ None
 
--- a dormant process waits for nothing; before NORMAL who is started waits for it, and nobody has a due
+-- a dormant process waits for nothing; before NORMAL who is started waits for it, and nobody has a
+-- due
 pub record HasOrderlyStarts (roster : Roster) : Type 0 where
   pub dormant : (p : ℕ) → (record_at roster p).started ≡ false → (record_at roster p).wait ≡ None
-  pub early : is_normal roster.mode ≡ false → (p : ℕ) → (record_at roster p).started ≡ true → queue_in (record_at roster p) ≡ Some queues.Normal
+  pub early : is_normal roster.mode ≡ false → (p : ℕ) → (record_at roster p).started ≡ true
+      → queue_in (record_at roster p) ≡ Some queues.Normal
   pub undue : is_normal roster.mode ≡ false → (p : ℕ) → (record_at roster p).due ≡ None
