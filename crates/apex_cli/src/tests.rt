@@ -1,3 +1,4 @@
+mod faults;
 mod processes;
 mod ticks;
 
