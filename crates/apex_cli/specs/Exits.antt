@@ -64,9 +64,10 @@ pub data Ends (asked : Option (List Item)) (before : Ports) : Option CliFault �
       → AWriteFails before after → Ends asked before (Some Write) after
 
 -- a line was written whole, or a beginning of it where a write failed
-abbrev pub Tells : List ℕ → Option (List ℕ) → Option (List ℕ) → ℕ → ℕ → Type 0
-Tells line old new failures after =
-    (Appends old new line × (after ≡ failures)) ⊎ (AppendsBeginning old new line × (after ≡ one_more failures))
+abbrev pub Told : List ℕ → Option (List ℕ) → Option (List ℕ) → ℕ → ℕ → Type 0
+Told line old new failures after =
+    (Appends old new line × (after ≡ failures))
+    ⊎ (AppendsBeginning old new line × (after ≡ one_more failures))
 
 -- the words had a fault: it is told, nothing was read and nothing written
 abbrev pub EndsAtOnce : CliFault → Ports → Option CliFault → Ports → Type 0

@@ -3,7 +3,7 @@ ghost use Rattle.apex_history.specs.Counted.{inner_of, failures_of};
 ghost use Rattle.apex_cli.specs.declared.faults.CliFault.{CliFault};
 ghost use Rattle.apex_cli.specs.Faults.{fault_in, line_told, status_of};
 ghost use Rattle.apex_cli.specs.Replay.{items_asked};
-ghost use Rattle.apex_cli.specs.Exits.{Ends, EndsAtOnce, Tells, ports};
+ghost use Rattle.apex_cli.specs.Exits.{Ends, EndsAtOnce, Told, ports};
 
 use crate::faults::{CliFault, line_told};
 use crate::replays::{items_asked, replayed};
@@ -87,16 +87,17 @@ pub fn run_on<R: Source, W: Sink>(
 
 /// Tells of the fault, if there is one, on the error writer.
 fn tell<E: Sink>(fault: Option<CliFault>, error_writer: &mut Counted<E>)
-    ensures { Tells (line_told fault) (E.contents (inner_of error_writer.old))
-        (E.contents (inner_of error_writer.new)) (failures_of error_writer.old) (failures_of error_writer.new) }
+    ensures { Told (line_told fault)
+        (E.contents (inner_of error_writer.old)) (E.contents (inner_of error_writer.new))
+        (failures_of error_writer.old) (failures_of error_writer.new) }
 {
     let line = line_told(fault);
     // The status tells of the fault also where its line cannot be written.
     let _ = error_writer.write_all(line.as_str().as_bytes());
 }
 
-/// The whole program: does what the words ask for, tells of the fault on the error writer, and gives
-/// the exit status. Where there are no words for a fault of theirs, that is told.
+/// The whole program: does what the words ask for, tells of the fault on the error writer, and
+/// gives the exit status. Where the words have a fault themselves, that one is told.
 pub fn serve<R: Source, W: Sink, E: Sink>(
     alloc: Global,
     words: Result<Vec<String>, CliFault>,
@@ -104,14 +105,18 @@ pub fn serve<R: Source, W: Sink, E: Sink>(
     writer: &mut Counted<W>,
     error_writer: &mut Counted<E>,
 ) -> u8
-    ensures { let before = ports (R.remaining (inner_of reader.old)) (W.contents (inner_of writer.old))
+    ensures { let before = ports
+        (R.remaining (inner_of reader.old)) (W.contents (inner_of writer.old))
         (failures_of reader.old) (failures_of writer.old) in
-        let after = ports (R.remaining (inner_of reader.new)) (W.contents (inner_of writer.new))
+        let after = ports
+        (R.remaining (inner_of reader.new)) (W.contents (inner_of writer.new))
         (failures_of reader.new) (failures_of writer.new) in
         (fault : Option CliFault) × (result ≡ status_of fault)
-        × Tells (line_told fault) (E.contents (inner_of error_writer.old))
-        (E.contents (inner_of error_writer.new)) (failures_of error_writer.old) (failures_of error_writer.new)
-        × MatchResult words (λ given. Ends (items_asked (map string_bytes given.items)) before fault after)
+        × Told (line_told fault)
+        (E.contents (inner_of error_writer.old)) (E.contents (inner_of error_writer.new))
+        (failures_of error_writer.old) (failures_of error_writer.new)
+        × MatchResult words
+        (λ given. Ends (items_asked (map string_bytes given.items)) before fault after)
         (λ found. EndsAtOnce found before fault after) }
 {
     let exit = match words {
