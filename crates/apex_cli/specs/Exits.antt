@@ -1,5 +1,5 @@
 -- How the program ends.
-use Rattle.std.specs.Prelude.{◌≡◌, ℕ, List, Option, None, Some, IfSome}
+use Rattle.std.specs.Prelude.{◌≡◌, ◌⊎◌, ℕ, List, Option, None, Some, IfSome}
 use Rattle.std.specs.Io.KnownBytes.{Appends, Keeps}
 use Rattle.apex_history.specs.Counted.{AppendsBeginning, one_more}
 use Rattle.apex_cli.specs.declared.schedule.Item.{Item}
@@ -62,3 +62,13 @@ pub data Ends (asked : Option (List Item)) (before : Ports) : Option CliFault �
   unwritten : (bytes : List ℕ) → {items : List Item} {text : List ℕ} {fault : Option CliFault} {after : Ports} → asked ≡ Some items
       → IsLeft bytes before → answer_of items bytes ≡ writes text fault → AppendsBeginning before.held after.held text
       → AWriteFails before after → Ends asked before (Some Write) after
+
+-- a line was written whole, or a beginning of it where a write failed
+abbrev pub Told : List ℕ → Option (List ℕ) → Option (List ℕ) → ℕ → ℕ → Type 0
+Told line old new failures after =
+    (Appends old new line × (after ≡ failures))
+    ⊎ (AppendsBeginning old new line × (after ≡ one_more failures))
+
+-- the words had a fault: it is told, nothing was read and nothing written
+abbrev pub EndsAtOnce : CliFault → Ports → Option CliFault → Ports → Type 0
+EndsAtOnce found before fault after = (fault ≡ Some found) × (after ≡ before)

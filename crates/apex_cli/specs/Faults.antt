@@ -1,8 +1,9 @@
 -- The faults of the program, and its exit status.
-use Rattle.std.specs.Prelude.{◌≡◌, ◌⊎◌, ℕ, Option, Some, None, Result, Ok, Err}
+use Rattle.std.specs.Prelude.{◌≡◌, ◌⊎◌, codes, decimal, ℕ, List, [], ◌∷◌, ◌++◌, Option, Some, None, Result, Ok, Err}
 use Rattle.apex_history.specs.declared.ReadFault.{ReadFault}
 use Rattle.apex_history.specs.declared.ReadFault.TheVariants as read
 use Rattle.apex_table.specs.declared.TableFault.{TableFault}
+use Rattle.apex_table.specs.Fault as tables
 use Rattle.apex_table.specs.declared.TableFault.TheVariants as table
 use Rattle.apex_cli.specs.declared.faults.CliFault.{CliFault}
 use Rattle.apex_cli.specs.declared.faults.CliFault.TheVariants.{Usage, Table, HistoryFull, Memory, Read, Write}
@@ -39,3 +40,17 @@ status_of (Some fault) = status_of_fault fault
 abbrev pub fault_in : {T : Type 0} → Result T CliFault → Option CliFault
 fault_in (Ok value) = None
 fault_in (Err fault) = Some fault
+
+-- what is told of a fault
+abbrev pub fault_text : CliFault → List ℕ
+fault_text Usage = codes "apex: usage: apex replay|status --schedule S, apex run --turns N --ticks K, apex check"
+fault_text (Table fault) = codes "apex: table refused: " ++ tables.fault_text fault
+fault_text (HistoryFull entries) = codes "apex: history full after " ++ decimal entries ++ codes " entries"
+fault_text Memory = codes "apex: out of memory"
+fault_text Read = codes "apex: read failed"
+fault_text Write = codes "apex: write failed"
+
+-- the line that is told at the end, with its line feed; nothing where all was done
+abbrev pub line_told : Option CliFault → List ℕ
+line_told None = []
+line_told (Some fault) = fault_text fault ++ (10 ∷ [])

@@ -1,32 +1,37 @@
-ghost use Rattle.std.specs.Prelude.{◌≡◌};
-ghost use Rattle.apex_cli.specs.Faults.{fault_of_read, fault_of_table, status_of_fault};
+ghost use Rattle.std.specs.Prelude.{◌≡◌, ◌+◌, ◌≤◌, ◌++◌, Some, decimal};
+ghost use Rattle.arrayvec.specs.ArrayString.{array_string_len};
+ghost use Rattle.apex_table.specs.Fault as tables;
+ghost use Rattle.apex_cli.specs.Faults.{fault_of_read, fault_of_table, fault_text, line_told, status_of_fault};
 ghost use Rattle.apex_cli.specs.declared.faults.CliFault.TheVariants.{Memory};
 
 use apex_history::ReadFault;
 use apex_table::TableFault;
+use arrayvec::ArrayString;
+use itoa::Buffer;
 use std::alloc::AllocError;
-use thiserror::Error;
+use std::error::Error;
+use std::fmt;
+
+const USAGE: &str =
+    "apex: usage: apex replay|status --schedule S, apex run --turns N --ticks K, apex check";
+
+/// A fault's line.
+pub type Line = ArrayString<128>;
 
 /// Why the program did not do all that was asked.
 ///
 /// Its text is the line that the program writes on standard error.
-#[derive(Clone, Copy, Debug, PartialEq, Eq, Error)]
+#[derive(Clone, Copy, Debug, PartialEq, Eq)]
 pub enum CliFault {
     /// The words ask for nothing that the program does, or the schedule is ill-formed or names a
     /// core that the table lacks.
-    #[error("apex: usage: apex replay|status --schedule S, apex run --turns N --ticks K, apex check")]
     Usage,
     /// The text is no table. The fault is never `TableFault::Memory`.
-    #[error("apex: table refused: {0}")]
     Table(TableFault),
     /// The history is full after so many entries, and the schedule has more events.
-    #[error("apex: history full after {0} entries")]
     HistoryFull(u32),
-    #[error("apex: out of memory")]
     Memory,
-    #[error("apex: read failed")]
     Read,
-    #[error("apex: write failed")]
     Write,
 }
 
@@ -43,7 +48,78 @@ impl CliFault {
             CliFault::Read | CliFault::Write => 6,
         }
     }
+
+    fn text(self) -> Line
+        ensures text { result.bytes ≡ fault_text self }
+        ensures short { array_string_len result ≤ 100 }
+    {
+        let mut text = Line::new();
+        match self {
+            CliFault::Usage => text.push_str(USAGE),
+            CliFault::Table(fault) => {
+                text.push_str("apex: table refused: ");
+                put_table_fault(&mut text, fault);
+            }
+            CliFault::HistoryFull(entries) => {
+                text.push_str("apex: history full after ");
+                put_number(&mut text, entries);
+                text.push_str(" entries");
+            }
+            CliFault::Memory => text.push_str("apex: out of memory"),
+            CliFault::Read => text.push_str("apex: read failed"),
+            CliFault::Write => text.push_str("apex: write failed"),
+        }
+        text
+    }
 }
+
+/// The line that tells of the fault, with its line feed; nothing where there is no fault.
+pub fn line_told(fault: Option<CliFault>) -> Line
+    ensures { result.bytes ≡ line_told fault }
+{
+    let Some(fault) = fault else {
+        return Line::new();
+    };
+    let mut line = fault.text();
+    line.push('\n');
+    line
+}
+
+#[tactic(auto, using(std::proofs::Common::append_assoc))]
+fn put_table_fault(text: &mut Line, fault: TableFault)
+    requires { array_string_len text.old ≤ 30 }
+    ensures text { text.new.bytes ≡ text.old.bytes ++ tables.fault_text fault }
+    ensures short { array_string_len text.new ≤ array_string_len text.old + 35 }
+{
+    let (word, place) = fault.parts();
+    text.push_str(word);
+    if let Some(place) = place {
+        text.push_str(" in ");
+        text.push_str(place.section.word());
+        text.push_str(" ");
+        put_number(text, place.number);
+    }
+}
+
+fn put_number(text: &mut Line, number: u32)
+    requires { array_string_len text.old + 10 ≤ 128 }
+    ensures text { text.new.bytes ≡ text.old.bytes ++ decimal number }
+    ensures short { array_string_len text.new ≤ array_string_len text.old + 10 }
+{
+    let mut buffer = Buffer::new();
+    text.push_str(buffer.format(number));
+}
+
+impl fmt::Display for CliFault {
+    ghost output = { λ fault. Some (fault_text fault) };
+
+    fn fmt<W: fmt::Write>(&self, f: &mut fmt::Formatter<W>) -> fmt::Result {
+        let text = self.text();
+        f.write_str(text.as_str())
+    }
+}
+
+impl Error for CliFault {}
 
 impl From<AllocError> for CliFault {
     ghost from_gives = { λ _ fault. fault ≡ Memory };

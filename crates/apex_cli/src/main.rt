@@ -10,34 +10,36 @@ mod schedule;
 mod tests;
 mod words;
 
+ghost use Rattle.std.specs.Prelude.{IfErr};
+ghost use Rattle.apex_cli.specs.Faults.{IsUsageOrMemory};
+
 use apex_history::Counted;
 use faults::CliFault;
-use program::{Exit, run_on};
+use program::serve;
 use std::process::ExitCode;
 use std::{env, io};
 
-fn run(rt: HostRuntime) -> Exit {
-    let args = match env::args(&rt) {
-        Ok(args) => args,
-        Err(error) if error.kind() == io::ErrorKind::OutOfMemory => {
-            return Exit::of(Err(CliFault::Memory));
-        }
+fn given_words(rt: &HostRuntime) -> Result<Vec<String>, CliFault>
+    ensures { IfErr result IsUsageOrMemory }
+{
+    match env::args(rt) {
+        Ok(args) => Ok(args.collect::<Vec<String>>(rt.alloc())?),
+        Err(error) if error.kind() == io::ErrorKind::OutOfMemory => Err(CliFault::Memory),
         // A word is no text.
-        Err(_) => return Exit::of(Err(CliFault::Usage)),
-    };
-    let Ok(words) = args.collect::<Vec<String>>(rt.alloc()) else {
-        return Exit::of(Err(CliFault::Memory));
-    };
-    let mut reader = Counted::new(rt.reader());
-    let mut writer = Counted::new(io::writer(&rt));
-    run_on(rt.alloc(), words.as_slice(), &mut reader, &mut writer)
+        Err(_) => Err(CliFault::Usage),
+    }
 }
 
 fn main(rt: HostRuntime) -> ExitCode {
-    let exit = run(rt);
-    if let Some(fault) = exit.fault {
-        // The status tells of the fault also where its line cannot be written.
-        let _ = eprintln!(rt; "{fault}");
-    }
-    ExitCode::from(exit.status)
+    let mut reader = Counted::new(rt.reader());
+    let mut writer = Counted::new(io::writer(&rt));
+    let mut error_writer = Counted::new(rt.stderr());
+    let status = serve(
+        rt.alloc(),
+        given_words(&rt),
+        &mut reader,
+        &mut writer,
+        &mut error_writer,
+    );
+    ExitCode::from(status)
 }

@@ -1,3 +1,4 @@
+mod faults;
 mod limits;
 mod outlines;
 mod processes;

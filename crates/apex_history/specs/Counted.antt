@@ -1,6 +1,7 @@
 -- What a counted reader or writer is in contracts: what it asks, how many of its calls failed, and how many reads it still lets through.
-use Rattle.std.specs.Prelude.{◌≡◌, ℕ, ◌+◌, ◌-◌, ◌^◌, min, List, ◌++◌, Option, Result, MatchResult}
+use Rattle.std.specs.Prelude.{◌≡◌, ◌⊎◌, ℕ, ◌+◌, ◌-◌, ◌^◌, ◌<◌, min, List, [], ◌++◌, length, drop, Option, Result, Ok, Err, MatchResult}
 use Rattle.std.specs.Io.KnownBytes.{Appends, Consumes}
+use Rattle.std.specs.declared.io.Error.{Error}
 use Rattle.apex_history.specs.declared.counting.Counted.{Counted}
 use Rattle.apex_history.specs.declared.reading.ReadFault.{ReadFault}
 use Rattle.apex_history.specs.declared.reading.ReadFault.TheVariants.{Memory, Read}
@@ -42,3 +43,16 @@ AppendsBeginning old new text =
 -- known bytes lose a beginning
 abbrev pub ConsumesSome : Option (List ℕ) → Option (List ℕ) → Type 0
 ConsumesSome old new = (done : List ℕ) × Consumes old new done
+
+-- what is told of a writer's answer to a write: that answer, but none taken of one byte or more is a failure
+abbrev pub Tells : (Result ℕ Error → Type 0) → List ℕ → Result ℕ Error → Type 0
+Tells answers buf (Ok n) = answers (Ok n)
+Tells answers buf (Err e) = answers (Err e) ⊎ ((0 < length buf) × answers (Ok 0))
+
+-- a text goes to a writer, write by write, to its end or to the first write of which a failure is told
+pub data Writes {W : Type 0} (accepts : W → List ℕ → Result ℕ Error → W → Type 0) : W → List ℕ → Result (Unit {0}) Error → W → Type 0 where
+  whole : {w : W} → Writes accepts w [] (Ok tt) w
+  part : {w v u : W} {text : List ℕ} {result : Result (Unit {0}) Error} (n : ℕ) → 0 < n → accepts w text (Ok n) v
+      → Writes accepts v (drop n text) result u → Writes accepts w text result u
+  failed : {w v : W} {text : List ℕ} {e : Error} → Tells (λ answer. accepts w text answer v) text (Err e)
+      → Writes accepts w text (Err e) v

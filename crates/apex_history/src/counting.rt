@@ -1,8 +1,9 @@
 ghost use Rattle.std.specs.Prelude.{◌≡◌, ℕ, ◌-◌, ◌^◌, ◌<◌, List, Option, length, IfOk, IsErr, OnOk, OnErr};
 ghost use Rattle.std.specs.Io.{ReadsAtMost, WritesAtMost};
 ghost use Rattle.std.specs.Io.KnownBytes.{Appends, Keeps, ReadConsumes, WriteAppends};
-ghost use Rattle.apex_history.specs.Counted.{inner_of, failures_of, reads_left_of, one_more, CountsFailure, AppendsBeginning};
+ghost use Rattle.apex_history.specs.Counted.{inner_of, failures_of, reads_left_of, one_more, CountsFailure, Tells, Writes, AppendsBeginning};
 
+use crate::sources::{Sink, Source};
 use std::io::{Error, ErrorKind, Read, Result, Write};
 
 /// How many reads a counted reader lets through.
@@ -50,7 +51,7 @@ impl<T> Counted<T> {
     }
 }
 
-impl<R: Read> Read for Counted<R> {
+impl<R: Source> Read for Counted<R> {
     ghost remaining = { λ c. R.remaining (inner_of c) };
 
     fn read(&mut self, buf: &mut [u8]) -> Result<usize>
@@ -58,6 +59,10 @@ impl<R: Read> Read for Counted<R> {
         ensures bytes { ReadConsumes (R.remaining (inner_of self.old)) (R.remaining (inner_of self.new)) result buf.new }
         ensures counted { CountsFailure result (failures_of self.old) (failures_of self.new) }
         ensures reads { reads_left_of self.new ≡ reads_left_of self.old - 1 }
+
+        // A read that is let through gives the answer of `T`.
+        ensures given { 0 < reads_left_of self.old
+            → R.gives (inner_of self.old) buf.old result buf.new (inner_of self.new) }
 
         // No read is let through any more.
         ensures spent { reads_left_of self.old ≡ 0 → IsErr result }
@@ -68,7 +73,7 @@ impl<R: Read> Read for Counted<R> {
             return Err(Error::new(ErrorKind::Other, "too many reads"));
         }
         self.reads_left -= 1;
-        let answer = self.inner.read(buf);
+        let answer = self.inner.give(buf);
         if answer.is_err() {
             self.count_failure();
         }
@@ -76,7 +81,7 @@ impl<R: Read> Read for Counted<R> {
     }
 }
 
-impl<W: Write> Write for Counted<W> {
+impl<W: Sink> Write for Counted<W> {
     ghost contents = { λ c. W.contents (inner_of c) };
 
     fn write(&mut self, buf: &[u8]) -> Result<usize>
@@ -84,9 +89,11 @@ impl<W: Write> Write for Counted<W> {
         ensures bytes { WriteAppends (W.contents (inner_of self.old)) (W.contents (inner_of self.new)) result buf.now }
         ensures counted { CountsFailure result (failures_of self.old) (failures_of self.new) }
         ensures taken { IfOk result (λ n. 0 < length buf.now → 0 < n) }
+        ensures given { Tells (λ answer. W.accepts (inner_of self.old) buf.now answer (inner_of self.new))
+            buf.now result }
         ensures reads { reads_left_of self.new ≡ reads_left_of self.old }
     {
-        let answer = match self.inner.write(buf) {
+        let answer = match self.inner.accept(buf) {
             Ok(0) if !buf.is_empty() => Err(Error::new(
                 ErrorKind::WriteZero,
                 "a write took nothing",
@@ -101,10 +108,11 @@ impl<W: Write> Write for Counted<W> {
 
     fn flush(&mut self) -> Result<()>
         ensures bytes { Keeps (W.contents (inner_of self.old)) (W.contents (inner_of self.new)) }
+        ensures given { W.drains (inner_of self.old) result (inner_of self.new) }
         ensures counted { CountsFailure result (failures_of self.old) (failures_of self.new) }
         ensures reads { reads_left_of self.new ≡ reads_left_of self.old }
     {
-        let answer = self.inner.flush();
+        let answer = self.inner.drain();
         if answer.is_err() {
             self.count_failure();
         }
@@ -117,6 +125,7 @@ impl<W: Write> Write for Counted<W> {
         ensures beginning { OnErr result (AppendsBeginning (W.contents (inner_of self.old)) (W.contents (inner_of self.new)) buf.now) }
         ensures counted { CountsFailure result (failures_of self.old) (failures_of self.new) }
         ensures reads { reads_left_of self.new ≡ reads_left_of self.old }
+        ensures given { Writes W.accepts (inner_of self.old) buf.now result (inner_of self.new) }
     {
         let mut rest = buf;
         while !rest.is_empty() {

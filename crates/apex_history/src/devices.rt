@@ -1,9 +1,8 @@
-ghost use Rattle.std.specs.Prelude.{◌≡◌, ℕ, ◌-◌, ◌≤◌, ◌↔◌, List, Some, length, take, min, vec_capacity, IsErr, IfOk, OnErr};
-ghost use Rattle.std.specs.Io.{ReadsAtMost, WritesAtMost};
-ghost use Rattle.std.specs.Io.KnownBytes.{Keeps, ReadConsumes, WriteAppends};
-ghost use Rattle.apex_history.specs.FailAt.{unread, called, after_read, after_write};
+ghost use Rattle.std.specs.Prelude.{◌≡◌, ◌↔◌, Some, length, take, min, vec_capacity, IsErr};
+ghost use Rattle.apex_history.specs.FailAt.{unread, called, FailsAt, Gives, Accepts, Drains};
 
-use std::io::{Error, ErrorKind, Read, Result, Write};
+use crate::sources::{Sink, Source};
+use std::io::{Error, ErrorKind, Result};
 use std::marker::Model;
 
 /// A reader and writer over memory whose call of a number that is known beforehand fails: a device
@@ -57,7 +56,7 @@ impl FailAt {
 
     // Makes one call more, and says whether it fails.
     fn call(&mut self) -> Result<()>
-        ensures fails { IsErr result ↔ (self.old.fails_in ≡ 1) }
+        ensures fails { FailsAt self.old result }
         ensures after { self.new ≡ called self.old }
     {
         let fails = self.fails_in == 1;
@@ -79,17 +78,12 @@ fn copy_front(to: &mut [u8], from: &[u8]) -> usize
     amount
 }
 
-impl Read for FailAt {
+impl Source for FailAt {
     ghost remaining = { λ f. Some (unread f) };
 
-    fn read(&mut self, buf: &mut [u8]) -> Result<usize>
-        ensures bound { ReadsAtMost result buf.new }
-        ensures bytes { ReadConsumes (Some (unread self.old)) (Some (unread self.new)) result buf.new }
-        ensures fails { IsErr result ↔ (self.old.fails_in ≡ 1) }
-        ensures amount { IfOk result (λ n. n ≡ min (length buf.old) (length (unread self.old))) }
-        ensures after { IfOk result (λ n. self.new ≡ after_read self.old n) }
-        ensures failed { OnErr result (self.new ≡ called self.old) }
-    {
+    ghost gives = { λ old buf result _ new. Gives old buf result new };
+
+    fn give(&mut self, buf: &mut [u8]) -> Result<usize> {
         self.call()?;
         let amount = copy_front(buf, &self.bytes[self.place..]);
         self.place += amount;
@@ -97,17 +91,14 @@ impl Read for FailAt {
     }
 }
 
-impl Write for FailAt {
+impl Sink for FailAt {
     ghost contents = { λ f. Some f.bytes };
 
-    fn write(&mut self, buf: &[u8]) -> Result<usize>
-        ensures bound { WritesAtMost result buf.now }
-        ensures bytes { WriteAppends (Some self.old.bytes) (Some self.new.bytes) result buf.now }
-        ensures fails { IsErr result ↔ (self.old.fails_in ≡ 1) }
-        ensures amount { IfOk result (λ n. n ≡ min (length buf.now) (self.old.room - length self.old.bytes)) }
-        ensures after { IfOk result (λ n. self.new ≡ after_write self.old (take n buf.now)) }
-        ensures failed { OnErr result (self.new ≡ called self.old) }
-    {
+    ghost accepts = { Accepts };
+
+    ghost drains = { Drains };
+
+    fn accept(&mut self, buf: &[u8]) -> Result<usize> {
         self.call()?;
         let amount = buf.len().min(self.room - self.bytes.len());
         let taken = self.bytes.extend_from_slice(&buf[..amount]);
@@ -116,11 +107,23 @@ impl Write for FailAt {
         Ok(amount)
     }
 
-    fn flush(&mut self) -> Result<()>
-        ensures bytes { Keeps (Some self.old.bytes) (Some self.new.bytes) }
-        ensures fails { IsErr result ↔ (self.old.fails_in ≡ 1) }
-        ensures after { self.new ≡ called self.old }
-    {
+    fn drain(&mut self) -> Result<()> {
         self.call()
+    }
+}
+
+impl Sink for &mut FailAt {
+    ghost contents = { λ f. Some f.now.bytes };
+
+    ghost accepts = { λ old buf result new. Accepts old.now buf result new.now };
+
+    ghost drains = { λ old result new. Drains old.now result new.now };
+
+    fn accept(&mut self, buf: &[u8]) -> Result<usize> {
+        (**self).accept(buf)
+    }
+
+    fn drain(&mut self) -> Result<()> {
+        (**self).drain()
     }
 }

@@ -9,6 +9,7 @@ mod pages;
 mod printing;
 mod puts;
 mod reading;
+mod sources;
 
 pub use counting::Counted;
 pub use devices::FailAt;
@@ -16,6 +17,7 @@ pub use histories::Log;
 pub use pages::Page;
 pub use printing::{print_entry, print_history};
 pub use reading::{ReadFault, read_all};
+pub use sources::{Sink, Source};
 
 #[cfg(test)]
 mod tests;

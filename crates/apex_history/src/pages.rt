@@ -5,6 +5,7 @@ ghost use Rattle.apex_history.specs.Page.{Passes};
 
 use crate::counting::Counted;
 use crate::puts::LINE_ROOM;
+use crate::sources::Sink;
 use std::alloc::{AllocError, Global};
 use std::io;
 use std::io::Write;
@@ -48,7 +49,7 @@ impl Page {
     }
 
     /// Writes the text out where a line may not fit behind it.
-    pub(crate) fn make_room<W: Write>(&mut self, writer: &mut Counted<W>) -> io::Result<()>
+    pub(crate) fn make_room<W: Sink>(&mut self, writer: &mut Counted<W>) -> io::Result<()>
         ensures ok { OnOk result (Passes (W.contents (inner_of writer.old)) (W.contents (inner_of writer.new)) self.old self.new) }
         ensures room { length self.new + 4096 ≤ 65536 }
         ensures empty { OnErr result (self.new ≡ []) }
@@ -72,7 +73,7 @@ impl Page {
     }
 
     /// Writes the text out, and forgets it also where a write failed.
-    pub(crate) fn hand_on<W: Write>(&mut self, writer: &mut Counted<W>) -> io::Result<()>
+    pub(crate) fn hand_on<W: Sink>(&mut self, writer: &mut Counted<W>) -> io::Result<()>
         ensures ok { OnOk result (Appends (W.contents (inner_of writer.old)) (W.contents (inner_of writer.new)) self.old) }
         ensures empty { self.new ≡ [] }
         ensures err { OnErr result (AppendsBeginning (W.contents (inner_of writer.old)) (W.contents (inner_of writer.new)) self.old) }

@@ -6,6 +6,7 @@ ghost use Rattle.apex_history.specs.Counted.{inner_of, failures_of, CountsFailur
 use crate::counting::Counted;
 use crate::pages::Page;
 use crate::puts::{Line, set_line};
+use crate::sources::Sink;
 use apex_table::Table;
 use apex_types::Entry;
 use std::io::{Result, Write};
@@ -13,7 +14,7 @@ use std::io::{Result, Write};
 /// Writes the line of the entry, with its line feed. Takes no memory.
 ///
 /// Where a write failed, a beginning of the line was written.
-pub fn print_entry<W: Write>(table: &Table, entry: &Entry, writer: &mut Counted<W>) -> Result<()>
+pub fn print_entry<W: Sink>(table: &Table, entry: &Entry, writer: &mut Counted<W>) -> Result<()>
     requires { IsPrintable table.now entry.now }
     ensures ok { OnOk result (Appends (W.contents (inner_of writer.old)) (W.contents (inner_of writer.new)) (line_of table.now entry.entry.now)) }
     ensures err { OnErr result (AppendsBeginning (W.contents (inner_of writer.old)) (W.contents (inner_of writer.new)) (line_of table.now entry.entry.now)) }
@@ -28,7 +29,7 @@ pub fn print_entry<W: Write>(table: &Table, entry: &Entry, writer: &mut Counted<
 /// gathered in the page.
 ///
 /// Where a write failed, a beginning of the lines was written. What the page held is forgotten.
-pub fn print_history<W: Write>(
+pub fn print_history<W: Sink>(
     table: &Table,
     entries: &[Entry],
     page: &mut Page,

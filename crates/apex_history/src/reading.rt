@@ -4,6 +4,7 @@ ghost use Rattle.apex_history.specs.Counted.{inner_of, failures_of, ConsumesSome
 ghost use Rattle.apex_history.specs.declared.reading.ReadFault.TheVariants.{Memory};
 
 use crate::counting::Counted;
+use crate::sources::Source;
 use std::alloc::{AllocError, Global};
 use std::io::Read;
 use thiserror::Error;
@@ -26,7 +27,7 @@ impl From<AllocError> for ReadFault {
 }
 
 /// Reads to the end, and gives all the bytes. It stops at the first read that fails.
-pub fn read_all<R: Read>(alloc: Global, reader: &mut Counted<R>) -> Result<Vec<u8>, ReadFault>
+pub fn read_all<R: Source>(alloc: Global, reader: &mut Counted<R>) -> Result<Vec<u8>, ReadFault>
     ensures bytes { IfOk result (λ all. IfSome (R.remaining (inner_of reader.old)) (λ xs. all.items ≡ xs)) }
     ensures end { OnOk result (IsAtEnd (R.remaining (inner_of reader.new))) }
     ensures beginning { OnErr result (ConsumesSome (R.remaining (inner_of reader.old)) (R.remaining (inner_of reader.new))) }

@@ -2,10 +2,12 @@ mod lines;
 mod steps;
 mod ticks;
 
-ghost use Rattle.std.specs.Prelude.{◌≡◌, [], None, Some};
+ghost use Rattle.std.specs.Prelude.{◌≡◌, ◌<◌, ◌↔◌, [], None, Some, IsErr};
+ghost use Rattle.apex_history.specs.Counted.{inner_of, reads_left_of};
 
-use crate::{Counted, FailAt, Log, Page, ReadFault, read_all};
+use crate::{Counted, FailAt, Log, Page, ReadFault, Sink, Source, read_all};
 use apex_types::{Call, Caller, CoreId, Entry, Notices, ProcessId, Reply, Who};
+use std::io;
 use std::io::{ErrorKind, Read, Write};
 use std::test::Fail;
 
@@ -56,19 +58,40 @@ fn called(number: u32, now: u64, process: ProcessId, call: Call, reply: Reply) -
 fn a_device_fails_at_its_call_alone(rt: HostRuntime) -> Result<(), Fail> {
     let mut device = device(rt, "abcdef", 2)?;
     let mut chunk = [0; 4];
-    assert_eq!(rt; device.read(&mut chunk)?, 4);
+    assert_eq!(rt; device.give(&mut chunk)?, 4);
     assert_eq!(rt; chunk.as_slice(), b"abcd".as_slice());
-    assert!(rt; device.read(&mut chunk).is_err());
-    assert_eq!(rt; device.read(&mut chunk)?, 2);
-    assert_eq!(rt; device.read(&mut chunk)?, 0);
+    assert!(rt; device.give(&mut chunk).is_err());
+    assert_eq!(rt; device.give(&mut chunk)?, 2);
+    assert_eq!(rt; device.give(&mut chunk)?, 0);
     assert_eq!(rt; device.held(), b"abcdef".as_slice());
 
     let mut paper = paper(rt, 3, 2)?;
-    assert_eq!(rt; paper.write(b"ab")?, 2);
-    assert!(rt; paper.flush().is_err());
-    assert_eq!(rt; paper.write(b"cd")?, 1);
-    assert_eq!(rt; paper.write(b"d")?, 0);
+    assert_eq!(rt; paper.accept(b"ab")?, 2);
+    assert!(rt; paper.drain().is_err());
+    assert_eq!(rt; paper.accept(b"cd")?, 1);
+    assert_eq!(rt; paper.accept(b"d")?, 0);
     assert_eq!(rt; paper.held(), b"abc".as_slice());
+    Ok(())
+}
+
+// What is known of the device is known of the counted one.
+fn read_once(reader: &mut Counted<FailAt>, buf: &mut [u8]) -> io::Result<usize>
+    requires { 0 < reads_left_of reader.old }
+    ensures { IsErr result ↔ ((inner_of reader.old).fails_in ≡ 1) }
+{
+    reader.read(buf)
+}
+
+#[test]
+fn a_counted_device_fails_at_its_call_alone(rt: HostRuntime) -> Result<(), Fail> {
+    let mut reader = Counted::new(device(rt, "abcdefghijklmnop", 9)?);
+    for call in 1..=12 {
+        let mut chunk = [0; 1];
+        assert_eq!(rt; reader.read(&mut chunk).is_err(), call == 9, "at {call}");
+    }
+    assert_eq!(rt; reader.failures(), 1);
+    let mut once = Counted::new(device(rt, "a", 1)?);
+    assert!(rt; read_once(&mut once, &mut [0; 1]).is_err());
     Ok(())
 }
 

@@ -1,11 +1,11 @@
-ghost use Rattle.std.specs.Prelude.{◌≡◌, ◌+◌, ◌<◌, Some};
-ghost use Rattle.apex_table.specs.Fault.{section_word};
+ghost use Rattle.std.specs.Prelude.{◌≡◌, ◌+◌, ◌<◌, ◌≤◌, ◌++◌, length, Some};
+ghost use Rattle.apex_table.specs.Fault.{section_word, place_text, place_after, fault_text};
 ghost use Rattle.apex_table.specs.Outcome.{place};
 ghost use Rattle.apex_table.specs.declared.fault.TableFault.TheVariants.{Memory};
 
 use std::alloc::{AllocError, AllocFailed};
+use std::error::Error;
 use std::fmt;
-use thiserror::Error;
 
 /// A section of the table's text.
 #[derive(Clone, Copy, Debug, PartialEq, Eq)]
@@ -17,8 +17,10 @@ pub enum Section {
 }
 
 impl Section {
-    fn word(self) -> &'static str
-        ensures { result.now ≡ section_word self }
+    /// The section's word in the text of a fault.
+    pub fn word(self) -> &'static str
+        ensures word { result.now ≡ section_word self }
+        ensures short { length result.now ≤ 9 }
     {
         match self {
             Section::Top => "top",
@@ -38,11 +40,20 @@ impl fmt::Display for Section {
 }
 
 /// Where a fault is: an entry of a section, counted from 1, or 0 for the section as a whole.
-#[derive(Clone, Copy, Debug, PartialEq, Eq, Error)]
-#[error("{section} {number}")]
+#[derive(Clone, Copy, Debug, PartialEq, Eq)]
 pub struct Place {
     pub section: Section,
     pub number: u32,
+}
+
+impl fmt::Display for Place {
+    ghost output = { λ place. Some (place_text place) };
+
+    fn fmt<W: fmt::Write>(&self, f: &mut fmt::Formatter<W>) -> fmt::Result {
+        let section = self.section;
+        let number = self.number;
+        write!(f, "{section} {number}")
+    }
 }
 
 impl Place {
@@ -66,46 +77,71 @@ impl Place {
 }
 
 /// Why a text is no table: the first of its faults in the order of the checks, or want of memory.
-#[derive(Clone, Copy, Debug, PartialEq, Eq, Error)]
+#[derive(Clone, Copy, Debug, PartialEq, Eq)]
 pub enum TableFault {
     /// A growth was refused.
-    #[error("Memory")]
     Memory,
     /// The text is no TOML, or no UTF-8.
-    #[error("NotToml")]
     NotToml,
     /// A key without a default is absent, or there is no process.
-    #[error("MissingKey in {0}")]
     MissingKey(Place),
     /// A value has another type than its key's.
-    #[error("WrongType in {0}")]
     WrongType(Place),
     /// A number is out of its range, a text is none of its key's words, or a script that begins anew
     /// has no step.
-    #[error("OutOfRange in {0}")]
     OutOfRange(Place),
     /// A name has no byte, more than 30, or one that is not visible.
-    #[error("BadName in {0}")]
     BadName(Place),
     /// An earlier entry of the section has the name.
-    #[error("DoubleName in {0}")]
     DoubleName(Place),
     /// A step names no entry of its kind.
-    #[error("UnknownName in {0}")]
     UnknownName(Place),
     /// A key that the section does not have.
-    #[error("UnknownKey in {0}")]
     UnknownKey(Place),
     /// A step has no service's form.
-    #[error("BadStep in {0}")]
     BadStep(Place),
     /// A step of the init list that only a script may have.
-    #[error("BadInitStep in {0}")]
     BadInitStep(Place),
     /// A section, a script or the init list is too long.
-    #[error("TooMany in {0}")]
     TooMany(Place),
 }
+
+impl TableFault {
+    /// The fault's word, and where it is: its text is the one, or both with ` in ` between them.
+    pub fn parts(self) -> (&'static str, Option<Place>)
+        ensures text { fault_text self ≡ result.0.now ++ place_after result.1 }
+        ensures short { length result.0.now ≤ 11 }
+    {
+        match self {
+            TableFault::Memory => ("Memory", None),
+            TableFault::NotToml => ("NotToml", None),
+            TableFault::MissingKey(place) => ("MissingKey", Some(place)),
+            TableFault::WrongType(place) => ("WrongType", Some(place)),
+            TableFault::OutOfRange(place) => ("OutOfRange", Some(place)),
+            TableFault::BadName(place) => ("BadName", Some(place)),
+            TableFault::DoubleName(place) => ("DoubleName", Some(place)),
+            TableFault::UnknownName(place) => ("UnknownName", Some(place)),
+            TableFault::UnknownKey(place) => ("UnknownKey", Some(place)),
+            TableFault::BadStep(place) => ("BadStep", Some(place)),
+            TableFault::BadInitStep(place) => ("BadInitStep", Some(place)),
+            TableFault::TooMany(place) => ("TooMany", Some(place)),
+        }
+    }
+}
+
+impl fmt::Display for TableFault {
+    ghost output = { λ fault. Some (fault_text fault) };
+
+    fn fmt<W: fmt::Write>(&self, f: &mut fmt::Formatter<W>) -> fmt::Result {
+        let (word, place) = self.parts();
+        match place {
+            None => f.write_str(word),
+            Some(place) => write!(f, "{word} in {place}"),
+        }
+    }
+}
+
+impl Error for TableFault {}
 
 impl From<AllocError> for TableFault {
     ghost from_gives = { λ _ e. e ≡ Memory };

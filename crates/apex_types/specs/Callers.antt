@@ -1,9 +1,9 @@
 -- Who calls a service, and who may.
-use Rattle.std.specs.Prelude.{◌≡◌, ℕ, ◌<◌, Bool, true, false, ◌==◌, length}
+use Rattle.std.specs.Prelude.{ℕ, ◌<◌, Bool, true, false, ◌==◌, length}
 use Rattle.apex_types.specs.declared.entries.Caller.{Caller}
 use Rattle.apex_types.specs.declared.entries.Caller.TheVariants.{Process, Init, Nobody}
-use Rattle.apex_types.specs.Roster.{Roster, record_at}
-use Rattle.apex_types.specs.Running.{is_eligible}
+use Rattle.apex_types.specs.Roster.{Roster}
+use Rattle.apex_types.specs.Running.{IsEligible}
 
 -- process p asked for the call
 abbrev pub is_by_process : ℕ → Caller → Bool
@@ -20,7 +20,7 @@ is_by_init Nobody = false
 -- process p is one of the roster's, and is eligible
 pub record IsReady (roster : Roster) (p : ℕ) : Type 0 where
   pub known : p < length roster.records
-  pub eligible : is_eligible roster.mode (record_at roster p) ≡ true
+  pub eligible : IsEligible roster p
 
 -- a process that calls is an eligible one
 abbrev pub IsReadyCaller : Roster → Caller → Type 0

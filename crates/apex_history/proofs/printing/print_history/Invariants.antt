@@ -7,6 +7,6 @@ use Rattle.apex_history.proofs.printing.print_history.Given as goal
 
 abbrev pub invariant-loop-entry : goal.invariant-loop-entry
 invariant-loop-entry g l = record {
-  lines : Passes (g.W.Write.contents (inner_of l.fn.writer)) (g.W.Write.contents (inner_of l.writer)) (lines_of l.table (take l.entry-index l.entries)) l.page;
+  lines : Passes (g.W.Sink.contents (inner_of l.fn.writer)) (g.W.Sink.contents (inner_of l.writer)) (lines_of l.table (take l.entry-index l.entries)) l.page;
   failures : failures_of l.writer ≡ failures_of l.fn.writer;
 }

@@ -6,7 +6,7 @@ use Rattle.apex_history.proofs.reading.read_all.Given as goal
 
 abbrev pub invariant-loop-count : goal.invariant-loop-count
 invariant-loop-count g l = record {
-  bytes : Consumes (g.R.Read.remaining (inner_of l.fn.reader)) (g.R.Read.remaining (inner_of l.reader)) l.all.items;
+  bytes : Consumes (g.R.Source.remaining (inner_of l.fn.reader)) (g.R.Source.remaining (inner_of l.reader)) l.all.items;
   failures : failures_of l.reader ≡ failures_of l.fn.reader;
 }
 
