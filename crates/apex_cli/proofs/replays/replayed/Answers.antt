@@ -1,8 +1,6 @@
 use Rattle.std.proofs.Common.{◌≡◌, ◌∙◌, ◌+◌, ap, sym, refl, true, false, Some, rules, take, arith}
 use Rattle.apex_cli.specs.declared.faults.CliFault.TheVariants.{HistoryFull}
 use Rattle.apex_cli.specs.Replay.{fault_of_events}
-use Rattle.apex_types.specs.Machine.{run, opening}
-use Rattle.apex_dispatch.specs.Kernel.{KernelState, kernel_in}
 use Rattle.apex_cli.specs.Schedule.{are_cores_below, events_of_items}
 use Rattle.apex_cli.proofs.MadeEvents.{answer_is, fault_fits, fault_full}
 use Rattle.apex_cli.proofs.replays.replayed.Goals as goal
