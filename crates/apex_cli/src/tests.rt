@@ -6,9 +6,8 @@ mod services;
 mod ticks;
 
 use crate::program::run_on;
-use apex_history::{Counted, FailAt};
+use apex_history::{Counted, FailAt, Source};
 use std::alloc::Global;
-use std::io::Read;
 use std::process::Abort;
 use std::test::Fail;
 
@@ -206,7 +205,7 @@ fn run_with(
 }
 
 // Runs the program from this reader to this paper.
-fn run_through<R: Read + Drop>(
+fn run_through<R: Source + Drop>(
     alloc: Global,
     words: &[&str],
     reader: R,

@@ -1,7 +1,7 @@
 // The greatest tables, histories, schedules and times, each with ample memory.
 use super::outlines::{lines_from, table_of};
 use super::{Done, check, refused, run_through};
-use apex_history::FailAt;
+use apex_history::{FailAt, Source};
 use std::alloc::Global;
 use std::io;
 use std::io::Read;
@@ -39,7 +39,7 @@ struct Limit<'a> {
     lines: &'a str,
 }
 
-fn replay<R: Read + Drop>(alloc: Global, reader: R, schedule: &str) -> Result<Done, Fail> {
+fn replay<R: Source + Drop>(alloc: Global, reader: R, schedule: &str) -> Result<Done, Fail> {
     let paper = FailAt::new(Vec::with_capacity(alloc, 1 << 22)?, 0);
     run_through(alloc, &["replay", "--schedule", schedule], reader, paper)
 }
