@@ -1,36 +1,44 @@
 -- Changes of several processes, one after the other.
-use Rattle.std.proofs.Common.{◌≡◌, ℕ, zero, suc, List, ◌++◌, Option, None, Some, refl}
+use Rattle.std.proofs.Common.{◌≡◌, ℕ, zero, suc, List, [], ◌++◌, Option, None, Some, refl, sym, ap, append-nil, append_assoc}
 use Rattle.apex_types.specs.declared.entries.Notice.{Notice}
 use Rattle.apex_types.specs.Roster.{Roster}
-use Rattle.apex_types.specs.InTurn.{Changed, all_changed, next_and, in_turn}
+use Rattle.apex_types.specs.InTurn.{Changed, unchanged, behind, next_and, in_turn}
 
 module _ (next : Roster → Option ℕ) (change : Roster → ℕ → Changed) where
   -- nobody is next
-  pub in_turn-none : (left : ℕ) (roster : Roster) (notices : List Notice)
-      → next roster ≡ None → in_turn next change left roster notices ≡ all_changed roster notices
-  in_turn-none zero roster notices e = refl
-  in_turn-none (suc left) roster notices e = rw e refl
+  pub in_turn-none : (left : ℕ) (roster : Roster) → next roster ≡ None
+      → in_turn next change left roster ≡ unchanged roster
+  in_turn-none zero roster e = refl
+  in_turn-none (suc left) roster e = rw e refl
 
   -- process p is next
-  pub in_turn-some : (left : ℕ) (roster : Roster) (notices : List Notice) (p : ℕ)
-      → next roster ≡ Some p
-      → in_turn next change (suc left) roster notices ≡ in_turn next change left (change roster p).roster (notices ++ (change roster p).notices)
-  in_turn-some left roster notices p e = rw e refl
+  pub in_turn-some : (left : ℕ) (roster : Roster) (before : List Notice) (p : ℕ) → next roster ≡ Some p
+      → behind before (in_turn next change (suc left) roster)
+      ≡ behind (before ++ (change roster p).notices) (in_turn next change left (change roster p).roster)
+  in_turn-some left roster before p e =
+      let changed = change roster p in
+      let rest = in_turn next change left changed.roster in
+      rw (e, append_assoc before changed.notices rest.notices) refl
 
   -- what holds at the start and stays at each change holds at the end
   module _ (Holds : Roster → List Notice → Type 0)
-      (stays : (roster : Roster) (notices : List Notice) (p : ℕ) → next roster ≡ Some p → Holds roster notices
-      → Holds (change roster p).roster (notices ++ (change roster p).notices)) where
-    holds_and : (others : Roster → List Notice → Changed)
-        → ((roster : Roster) (notices : List Notice) → Holds roster notices → Holds (others roster notices).roster (others roster notices).notices)
-        → (roster : Roster) (notices : List Notice) → Holds roster notices → (found : Option ℕ) → next roster ≡ found
-        → Holds (next_and others change roster notices found).roster (next_and others change roster notices found).notices
-    holds_and others rest roster notices holds None is = holds
-    holds_and others rest roster notices holds (Some p) is =
-        rest (change roster p).roster (notices ++ (change roster p).notices) (stays roster notices p is holds)
+      (stays : (roster : Roster) (before : List Notice) (p : ℕ) → next roster ≡ Some p → Holds roster before
+      → Holds (change roster p).roster (before ++ (change roster p).notices)) where
+    abbrev HoldsOf : List Notice → Changed → Type 0
+    HoldsOf before changed = Holds changed.roster (before ++ changed.notices)
 
-    pub holds_in_turn : (left : ℕ) (roster : Roster) (notices : List Notice) → Holds roster notices
-        → Holds (in_turn next change left roster notices).roster (in_turn next change left roster notices).notices
-    holds_in_turn zero roster notices holds = holds
-    holds_in_turn (suc left) roster notices holds =
-        holds_and (in_turn next change left) (holds_in_turn left) roster notices holds (next roster) refl
+    holds_and : (others : Roster → Changed)
+        → ((roster : Roster) (before : List Notice) → Holds roster before → HoldsOf before (others roster))
+        → (roster : Roster) (before : List Notice) → Holds roster before → (found : Option ℕ) → next roster ≡ found
+        → HoldsOf before (next_and others change roster found)
+    holds_and others rest roster before holds None is = rw (append-nil before) holds
+    holds_and others rest roster before holds (Some p) is =
+        let changed = change roster p in
+        let after = rest changed.roster (before ++ changed.notices) (stays roster before p is holds) in
+        rw (append_assoc before changed.notices (others changed.roster).notices) at after
+
+    pub holds_in_turn : (left : ℕ) (roster : Roster) (before : List Notice) → Holds roster before
+        → HoldsOf before (in_turn next change left roster)
+    holds_in_turn zero roster before holds = rw (append-nil before) holds
+    holds_in_turn (suc left) roster before holds =
+        holds_and (in_turn next change left) (holds_in_turn left) roster before holds (next roster) refl

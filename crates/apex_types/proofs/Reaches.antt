@@ -333,15 +333,15 @@ reaches_enter_idle roster =
 module _ (next : Roster → Option ℕ) (change : Roster → ℕ → Changed) (Holds : Roster → Type 0)
     (stays : (roster : Roster) (p : ℕ) → Holds roster → next roster ≡ Some p → Holds (change roster p).roster)
     (one : (roster : Roster) (p : ℕ) → Holds roster → next roster ≡ Some p → Reaches 1 roster (change roster p).roster) where
-  reaches_and : (left : ℕ) (others : Roster → List Notice → Changed) → ((roster : Roster) (notices : List Notice) → Holds roster → Reaches left roster (others roster notices).roster)
-      → (roster : Roster) (notices : List Notice) → Holds roster → (found : Option ℕ) → next roster ≡ found
-      → Reaches (1 + left) roster (next_and others change roster notices found).roster
-  reaches_and left others rest roster notices holds None is = reaches_none (1 + left) roster
-  reaches_and left others rest roster notices holds (Some p) is =
-      reaches_then 1 left (one roster p holds is) (rest (change roster p).roster (notices ++ (change roster p).notices) (stays roster p holds is))
+  reaches_and : (left : ℕ) (others : Roster → Changed) → ((roster : Roster) → Holds roster → Reaches left roster (others roster).roster)
+      → (roster : Roster) → Holds roster → (found : Option ℕ) → next roster ≡ found
+      → Reaches (1 + left) roster (next_and others change roster found).roster
+  reaches_and left others rest roster holds None is = reaches_none (1 + left) roster
+  reaches_and left others rest roster holds (Some p) is =
+      reaches_then 1 left (one roster p holds is) (rest (change roster p).roster (stays roster p holds is))
 
-  pub reaches_in_turn : (left : ℕ) (roster : Roster) (notices : List Notice) → Holds roster → Reaches left roster (in_turn next change left roster notices).roster
-  reaches_in_turn zero roster notices holds = reaches_none 0 roster
-  reaches_in_turn (suc left) roster notices holds =
+  pub reaches_in_turn : (left : ℕ) (roster : Roster) → Holds roster → Reaches left roster (in_turn next change left roster).roster
+  reaches_in_turn zero roster holds = reaches_none 0 roster
+  reaches_in_turn (suc left) roster holds =
       reaches_more (1 + left) (suc left) (omega arith)
-      (reaches_and left (in_turn next change left) (reaches_in_turn left) roster notices holds (next roster) refl)
+      (reaches_and left (in_turn next change left) (reaches_in_turn left) roster holds (next roster) refl)

@@ -1,41 +1,56 @@
--- What a call names, and what it does there.
+-- What a call names, and what it creates.
 use Rattle.std.specs.Prelude.{ℕ, Bool, true, false, Option, None, Some, ◌==◌}
 use Rattle.apex_types.specs.declared.calls.Call.{Call}
-use Rattle.apex_types.specs.declared.calls.Call.TheVariants.{Semaphore}
-use Rattle.apex_types.specs.declared.calls.NamedSemaphore.{NamedSemaphore}
-use Rattle.apex_types.specs.declared.calls.NamedSemaphore.TheVariants.{Known, Unknown}
-use Rattle.apex_types.specs.declared.calls.SemaphoreCall.{SemaphoreCall}
-use Rattle.apex_types.specs.declared.calls.SemaphoreCall.TheVariants.{CreateSemaphore, WaitSemaphore, SignalSemaphore, GetSemaphoreId, GetSemaphoreStatus}
+use Rattle.apex_types.specs.declared.calls.Call.TheVariants.{Process, Semaphore}
+use Rattle.apex_types.specs.declared.calls.Named.{Named}
+use Rattle.apex_types.specs.declared.calls.Named.TheVariants.{Known, Unknown}
+use Rattle.apex_types.specs.declared.calls.ObjectCall.{ObjectCall}
+use Rattle.apex_types.specs.declared.calls.ObjectCall.TheVariants.{Create, GetId, GetStatus, Own}
+use Rattle.apex_types.specs.declared.calls.SemaphoreService.TheVariants.{Wait, Signal}
 
--- the semaphore of a name, where an entry has it
-abbrev pub known_semaphore : NamedSemaphore → Option ℕ
-known_semaphore (Known s) = Some s
-known_semaphore (Unknown name) = None
+-- the thing of a name, where an entry has it
+abbrev pub known : {I : Type 0} → Named I → Option I
+known (Known i) = Some i
+known (Unknown name) = None
 
--- the semaphore that the call names, where it is an entry's
-abbrev pub semaphore_of : SemaphoreCall → Option ℕ
-semaphore_of (CreateSemaphore named) = known_semaphore named
-semaphore_of (WaitSemaphore s timeout) = Some s
-semaphore_of (SignalSemaphore s) = Some s
-semaphore_of (GetSemaphoreId named) = known_semaphore named
-semaphore_of (GetSemaphoreStatus s) = Some s
+-- the thing that the call names, where it is an entry's
+abbrev pub object_of : {I W : Type 0} → ObjectCall I W → Option I
+object_of (Create named) = known named
+object_of (GetId named) = known named
+object_of (GetStatus i) = Some i
+object_of (Own i service) = Some i
+
+-- the thing that the call creates, where it is a CREATE of an entry
+abbrev pub creation_of : {I W : Type 0} → ObjectCall I W → Option I
+creation_of (Create named) = known named
+creation_of _ = None
 
 -- there is such a place, and it is this one
 abbrev pub is_place : ℕ → Option ℕ → Bool
 is_place s None = false
 is_place s (Some t) = s == t
 
+-- the process that the call creates
+abbrev pub created_process : Call → Option ℕ
+created_process (Process call) = creation_of call
+created_process _ = None
+
+-- the semaphore that the call creates
+abbrev pub created_semaphore : Call → Option ℕ
+created_semaphore (Semaphore call) = creation_of call
+created_semaphore _ = None
+
 -- the call names semaphore s
 abbrev pub names_semaphore : ℕ → Call → Bool
-names_semaphore s (Semaphore call) = is_place s (semaphore_of call)
+names_semaphore s (Semaphore call) = is_place s (object_of call)
 names_semaphore s _ = false
 
 -- the call is WAIT_SEMAPHORE
 abbrev pub is_wait : Call → Bool
-is_wait (Semaphore (WaitSemaphore s timeout)) = true
+is_wait (Semaphore (Own s (Wait timeout))) = true
 is_wait _ = false
 
 -- the call is SIGNAL_SEMAPHORE
 abbrev pub is_signal : Call → Bool
-is_signal (Semaphore (SignalSemaphore s)) = true
+is_signal (Semaphore (Own s Signal)) = true
 is_signal _ = false

@@ -1,5 +1,5 @@
 -- Changes of several processes, one after the other.
-use Rattle.std.specs.Prelude.{ℕ, zero, suc, List, ◌++◌, Option, None, Some}
+use Rattle.std.specs.Prelude.{◌≡◌, ℕ, zero, suc, List, [], ◌++◌, Option, None, Some}
 use Rattle.apex_types.specs.declared.entries.Notice.{Notice}
 use Rattle.apex_types.specs.Roster.{Roster}
 
@@ -8,20 +8,31 @@ pub record Changed : Type 0 where
   pub roster : Roster
   pub notices : List Notice
 
--- nobody is next any more
-abbrev pub all_changed : Roster → List Notice → Changed
-all_changed roster notices = record { roster = roster; notices = notices }
+-- nothing changes
+abbrev pub unchanged : Roster → Changed
+unchanged roster = record { roster = roster; notices = [] }
 
--- process p is changed, and then the others
-abbrev pub change_and : (Roster → List Notice → Changed) → List Notice → Changed → Changed
-change_and others notices changed = others changed.roster (notices ++ changed.notices)
+-- one change, and then another of what it left
+abbrev pub followed_by : Changed → (Roster → Changed) → Changed
+followed_by first others =
+    let second = others first.roster in
+    record { roster = second.roster; notices = first.notices ++ second.notices }
 
 -- where somebody is next he is changed, and then the others
-abbrev pub next_and : (Roster → List Notice → Changed) → (Roster → ℕ → Changed) → Roster → List Notice → Option ℕ → Changed
-next_and others change roster notices None = all_changed roster notices
-next_and others change roster notices (Some p) = change_and others notices (change roster p)
+abbrev pub next_and : (Roster → Changed) → (Roster → ℕ → Changed) → Roster → Option ℕ → Changed
+next_and others change roster None = unchanged roster
+next_and others change roster (Some p) = followed_by (change roster p) others
 
 -- as long as somebody is next he is changed, n times at the most
-abbrev pub in_turn : (Roster → Option ℕ) → (Roster → ℕ → Changed) → ℕ → Roster → List Notice → Changed
-in_turn next change zero roster notices = all_changed roster notices
-in_turn next change (suc n) roster notices = next_and (in_turn next change n) change roster notices (next roster)
+abbrev pub in_turn : (Roster → Option ℕ) → (Roster → ℕ → Changed) → ℕ → Roster → Changed
+in_turn next change zero roster = unchanged roster
+in_turn next change (suc n) roster = next_and (in_turn next change n) change roster (next roster)
+
+-- a change whose notices stand behind those that were there
+abbrev pub behind : List Notice → Changed → Changed
+behind before changed = record { roster = changed.roster; notices = before ++ changed.notices }
+
+-- a change was made: this roster is left, and its notices stand behind those that were there
+pub record Makes (changed : Changed) (left : Roster) (before after : List Notice) : Type 0 where
+  pub roster : left ≡ changed.roster
+  pub notices : after ≡ before ++ changed.notices

@@ -14,8 +14,12 @@ pub mod Callers
 pub mod Calls
 pub mod Satisfied
 pub mod History
+pub mod Rows
+pub mod Objects
+pub mod Waiting
 pub mod SemaphoreServices
 pub mod ProcessServices
+pub mod CallerServices
 pub mod TimeServices
 pub mod PartitionServices
 pub mod Machine

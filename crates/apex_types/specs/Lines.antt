@@ -1,19 +1,21 @@
 -- The lines of a history: what is printed of each entry (this profile).
 use Rattle.std.specs.Prelude.{ℕ, ◌+◌, List, ◌++◌, flat_map, Option, None, Some, IfSome, codes, decimal}
 use Rattle.apex_types.specs.declared.calls.Call.{Call}
-use Rattle.apex_types.specs.declared.calls.Call.TheVariants.{Partition, Process, Time, Semaphore}
-use Rattle.apex_types.specs.declared.calls.NamedProcess.{NamedProcess}
-use Rattle.apex_types.specs.declared.calls.NamedProcess.TheVariants as process
-use Rattle.apex_types.specs.declared.calls.NamedSemaphore.{NamedSemaphore}
-use Rattle.apex_types.specs.declared.calls.NamedSemaphore.TheVariants as semaphore
+use Rattle.apex_types.specs.declared.calls.Call.TheVariants.{Partition, Process, Caller as ToCaller, Time, Semaphore}
+use Rattle.apex_types.specs.declared.calls.CallerCall.{CallerCall}
+use Rattle.apex_types.specs.declared.calls.CallerCall.TheVariants.{StopSelf, SuspendSelf, GetMyId, GetMyProcessorCoreId}
+use Rattle.apex_types.specs.declared.calls.Named.{Named}
+use Rattle.apex_types.specs.declared.calls.Named.TheVariants.{Known, Unknown}
+use Rattle.apex_types.specs.declared.calls.ObjectCall.{ObjectCall}
+use Rattle.apex_types.specs.declared.calls.ObjectCall.TheVariants.{Create, GetId, GetStatus, Own}
 use Rattle.apex_types.specs.declared.calls.PartitionCall.{PartitionCall}
 use Rattle.apex_types.specs.declared.calls.PartitionCall.TheVariants.{SetPartitionMode, GetPartitionStatus}
-use Rattle.apex_types.specs.declared.calls.ProcessCall.{ProcessCall}
-use Rattle.apex_types.specs.declared.calls.ProcessCall.TheVariants.{CreateProcess, InitializeProcessCoreAffinity, SetPriority, Start, DelayedStart, Stop, StopSelf, Suspend, Resume, SuspendSelf, GetMyId, GetMyProcessorCoreId, GetProcessId, GetProcessStatus}
+use Rattle.apex_types.specs.declared.calls.ProcessService.{ProcessService}
+use Rattle.apex_types.specs.declared.calls.ProcessService.TheVariants.{InitializeCoreAffinity, SetPriority, Start, DelayedStart, Stop, Suspend, Resume}
 use Rattle.apex_types.specs.declared.calls.RequestedMode.{RequestedMode}
 use Rattle.apex_types.specs.declared.calls.RequestedMode.TheVariants.{Idle, Normal}
-use Rattle.apex_types.specs.declared.calls.SemaphoreCall.{SemaphoreCall}
-use Rattle.apex_types.specs.declared.calls.SemaphoreCall.TheVariants.{CreateSemaphore, WaitSemaphore, SignalSemaphore, GetSemaphoreId, GetSemaphoreStatus}
+use Rattle.apex_types.specs.declared.calls.SemaphoreService.{SemaphoreService}
+use Rattle.apex_types.specs.declared.calls.SemaphoreService.TheVariants.{Wait, Signal}
 use Rattle.apex_types.specs.declared.calls.TimeCall.{TimeCall}
 use Rattle.apex_types.specs.declared.calls.TimeCall.TheVariants.{TimedWait, GetTime}
 use Rattle.apex_types.specs.declared.calls.Timeout.{Timeout}
@@ -69,54 +71,55 @@ abbrev pub partition_call_text : PartitionCall → List ℕ
 partition_call_text (SetPartitionMode mode) = codes "SET_PARTITION_MODE " ++ mode_text mode
 partition_call_text GetPartitionStatus = codes "GET_PARTITION_STATUS"
 
--- the name that a step gives
-abbrev pub named_process_text : Table → NamedProcess → List ℕ
-named_process_text table (process.Known p) = process_name table p
-named_process_text table (process.Unknown name) = name
+-- the name that a step gives; names are those that the table gives
+abbrev pub named_text : (ℕ → List ℕ) → Named ℕ → List ℕ
+named_text names (Known i) = names i
+named_text names (Unknown name) = name
 
-abbrev pub named_semaphore_text : Table → NamedSemaphore → List ℕ
-named_semaphore_text table (semaphore.Known s) = semaphore_name table s
-named_semaphore_text table (semaphore.Unknown name) = name
+-- a step about one thing of a kind, which has this word; own is the text of the kind's own services
+abbrev pub object_call_text : {W : Type 0} → List ℕ → (ℕ → List ℕ) → (List ℕ → W → List ℕ) → ObjectCall ℕ W → List ℕ
+object_call_text word names own (Create named) = codes "CREATE_" ++ word ++ codes " " ++ named_text names named
+object_call_text word names own (GetId named) = codes "GET_" ++ word ++ codes "_ID " ++ named_text names named
+object_call_text word names own (GetStatus i) = codes "GET_" ++ word ++ codes "_STATUS " ++ names i
+object_call_text word names own (Own i service) = own (names i) service
 
--- a step of process management
-abbrev pub process_call_text : Table → ProcessCall → List ℕ
-process_call_text table (CreateProcess named) = codes "CREATE_PROCESS " ++ named_process_text table named
-process_call_text table (InitializeProcessCoreAffinity p core) =
-    codes "INITIALIZE_PROCESS_CORE_AFFINITY " ++ process_name table p ++ codes " " ++ decimal core
-process_call_text table (SetPriority p priority) = codes "SET_PRIORITY " ++ process_name table p ++ codes " " ++ decimal priority
-process_call_text table (Start p) = codes "START " ++ process_name table p
-process_call_text table (DelayedStart p delay) =
-    codes "DELAYED_START " ++ process_name table p ++ codes " " ++ timeout_text delay
-process_call_text table (Stop p) = codes "STOP " ++ process_name table p
-process_call_text table StopSelf = codes "STOP_SELF"
-process_call_text table (Suspend p) = codes "SUSPEND " ++ process_name table p
-process_call_text table (Resume p) = codes "RESUME " ++ process_name table p
-process_call_text table (SuspendSelf timeout) = codes "SUSPEND_SELF " ++ timeout_text timeout
-process_call_text table GetMyId = codes "GET_MY_ID"
-process_call_text table GetMyProcessorCoreId = codes "GET_MY_PROCESSOR_CORE_ID"
-process_call_text table (GetProcessId named) = codes "GET_PROCESS_ID " ++ named_process_text table named
-process_call_text table (GetProcessStatus p) = codes "GET_PROCESS_STATUS " ++ process_name table p
+-- a service for the process of this name
+abbrev pub process_service_text : List ℕ → ProcessService → List ℕ
+process_service_text name (InitializeCoreAffinity core) =
+    codes "INITIALIZE_PROCESS_CORE_AFFINITY " ++ name ++ codes " " ++ decimal core
+process_service_text name (SetPriority priority) = codes "SET_PRIORITY " ++ name ++ codes " " ++ decimal priority
+process_service_text name Start = codes "START " ++ name
+process_service_text name (DelayedStart delay) = codes "DELAYED_START " ++ name ++ codes " " ++ timeout_text delay
+process_service_text name Stop = codes "STOP " ++ name
+process_service_text name Suspend = codes "SUSPEND " ++ name
+process_service_text name Resume = codes "RESUME " ++ name
+
+-- a step that a process asks for itself
+abbrev pub caller_call_text : CallerCall → List ℕ
+caller_call_text StopSelf = codes "STOP_SELF"
+caller_call_text (SuspendSelf timeout) = codes "SUSPEND_SELF " ++ timeout_text timeout
+caller_call_text GetMyId = codes "GET_MY_ID"
+caller_call_text GetMyProcessorCoreId = codes "GET_MY_PROCESSOR_CORE_ID"
 
 -- a step of time management
 abbrev pub time_call_text : TimeCall → List ℕ
 time_call_text (TimedWait timeout) = codes "TIMED_WAIT " ++ timeout_text timeout
 time_call_text GetTime = codes "GET_TIME"
 
--- a step of semaphores
-abbrev pub semaphore_call_text : Table → SemaphoreCall → List ℕ
-semaphore_call_text table (CreateSemaphore named) = codes "CREATE_SEMAPHORE " ++ named_semaphore_text table named
-semaphore_call_text table (WaitSemaphore s timeout) =
-    codes "WAIT_SEMAPHORE " ++ semaphore_name table s ++ codes " " ++ timeout_text timeout
-semaphore_call_text table (SignalSemaphore s) = codes "SIGNAL_SEMAPHORE " ++ semaphore_name table s
-semaphore_call_text table (GetSemaphoreId named) = codes "GET_SEMAPHORE_ID " ++ named_semaphore_text table named
-semaphore_call_text table (GetSemaphoreStatus s) = codes "GET_SEMAPHORE_STATUS " ++ semaphore_name table s
+-- a service of the semaphore of this name
+abbrev pub semaphore_service_text : List ℕ → SemaphoreService → List ℕ
+semaphore_service_text name (Wait timeout) = codes "WAIT_SEMAPHORE " ++ name ++ codes " " ++ timeout_text timeout
+semaphore_service_text name Signal = codes "SIGNAL_SEMAPHORE " ++ name
 
 -- a step as the table writes it
 abbrev pub call_text : Table → Call → List ℕ
 call_text table (Partition call) = partition_call_text call
-call_text table (Process call) = process_call_text table call
+call_text table (Process call) =
+    object_call_text (codes "PROCESS") (process_name table) process_service_text call
+call_text table (ToCaller call) = caller_call_text call
 call_text table (Time call) = time_call_text call
-call_text table (Semaphore call) = semaphore_call_text table call
+call_text table (Semaphore call) =
+    object_call_text (codes "SEMAPHORE") (semaphore_name table) semaphore_service_text call
 
 -- what stands in the place of a step: how many ticks were asked for, or nothing at an idle turn
 abbrev pub no_call_text : Reply → List ℕ

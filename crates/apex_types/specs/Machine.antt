@@ -1,31 +1,31 @@
 -- The machine: what each event does to a partition. It has records, a history, and the records after
 -- each entry.
-use Rattle.std.specs.Prelude.{ℕ, ◌+◌, ◌-◌, false, List, [], ◌∷◌, ◌++◌, length, map, Option, None, Some, ◌==◌, nat_lt, ◌&&◌, slice_get, slice_set, slice_index_or, if◌then◌else◌}
+use Rattle.std.specs.Prelude.{ℕ, ◌+◌, ◌-◌, List, [], ◌∷◌, ◌++◌, length, map, Option, None, Some, ◌==◌, nat_lt, ◌&&◌, slice_get, if◌then◌else◌}
 use Rattle.apex_types.specs.declared.calls.Call.{Call}
-use Rattle.apex_types.specs.declared.calls.Call.TheVariants.{Partition, Process as ToProcess, Time, Semaphore}
-use Rattle.apex_types.specs.declared.calls.ProcessCall.TheVariants.{StopSelf}
-use Rattle.apex_types.specs.declared.calls.SemaphoreCall.{SemaphoreCall}
+use Rattle.apex_types.specs.declared.calls.Call.TheVariants.{Partition, Process as ToProcess, Caller as ToCaller, Time, Semaphore}
+use Rattle.apex_types.specs.declared.calls.CallerCall.TheVariants.{StopSelf}
 use Rattle.apex_types.specs.declared.entries.Caller.{Caller}
 use Rattle.apex_types.specs.declared.entries.Caller.TheVariants.{Process, Init, Nobody}
 use Rattle.apex_types.specs.declared.entries.Entry.{Entry}
 use Rattle.apex_types.specs.declared.entries.Event.{Event}
 use Rattle.apex_types.specs.declared.entries.Event.TheVariants.{Turn, Tick}
-use Rattle.apex_types.specs.declared.entries.Notice.{Notice}
 use Rattle.apex_types.specs.declared.entries.Reply.{Reply}
-use Rattle.apex_types.specs.declared.entries.Reply.TheVariants.{Code, Idle, Advanced}
-use Rattle.apex_types.specs.declared.entries.ReturnCode.{ReturnCode}
+use Rattle.apex_types.specs.declared.entries.Reply.TheVariants.{Idle, Advanced}
 use Rattle.apex_types.specs.declared.entries.Who.{Who}
 use Rattle.apex_types.specs.declared.entries.Who.TheVariants.{Core, Ticker}
 use Rattle.apex_types.specs.Table.{Table, ProcessEntry, process_entry}
 use Rattle.apex_types.specs.Roster.{Roster, record_at, is_cold_start, opening_roster}
 use Rattle.apex_types.specs.Running.{chosen}
 use Rattle.apex_types.specs.Stamps.{set_step}
-use Rattle.apex_types.specs.History.{Objects, SemaphoreObject, objects_after, next_init_call}
-use Rattle.apex_types.specs.SemaphoreServices.{SemaphoreOutcome, semaphore_service, semaphore_of, no_semaphore_code}
-use Rattle.apex_types.specs.ProcessServices.{ProcessOutcome, process_service}
-use Rattle.apex_types.specs.TimeServices.{TimeOutcome, time_service}
+use Rattle.apex_types.specs.History.{next_init_call}
+use Rattle.apex_types.specs.Rows.{Outcome, told, within}
+use Rattle.apex_types.specs.Objects.{object_deed, objects_of}
+use Rattle.apex_types.specs.ProcessServices.{ProcessObject, process_kind}
+use Rattle.apex_types.specs.SemaphoreServices.{SemaphoreObject, semaphore_kind}
+use Rattle.apex_types.specs.CallerServices.{caller_service}
+use Rattle.apex_types.specs.TimeServices.{time_service}
+use Rattle.apex_types.specs.PartitionServices.{partition_service}
 use Rattle.apex_types.specs.Ticks.{tick_goal, pass_time}
-use Rattle.apex_types.specs.PartitionServices.{PartitionOutcome, partition_service}
 
 -- the state of the machine: its roster, the roster after each entry, and the entries, oldest first
 pub record Machine : Type 0 where
@@ -33,82 +33,45 @@ pub record Machine : Type 0 where
   pub past : List Roster
   pub history : List Entry
 
--- what a service leaves and answers
-pub record Outcome : Type 0 where
-  pub roster : Roster
-  pub objects : Objects
-  pub reply : Reply
-  pub notices : List Notice
+-- what the services see besides the processes' records
+pub record Objects : Type 0 where
+  pub processes : List ProcessObject
+  pub semaphores : List SemaphoreObject
 
--- a semaphore that no table has, for a place past the end
-abbrev pub no_object : SemaphoreObject
-no_object = record { maximum = 0; created = false; value = 0 }
-
--- semaphore s
-abbrev pub semaphore_at : Objects → ℕ → SemaphoreObject
-semaphore_at objects s = slice_index_or objects.semaphores s no_object
-
--- semaphore s is as its service left it, and the other objects stay
-abbrev pub after_semaphore : Objects → ℕ → SemaphoreOutcome → Outcome
-after_semaphore objects s outcome = record {
-  roster = outcome.roster;
-  objects = record objects { semaphores = slice_set objects.semaphores s outcome.semaphore };
-  reply = outcome.reply;
-  notices = outcome.notices;
+-- all objects, read off the whole history
+abbrev pub objects_after : Table → List Entry → Objects
+objects_after table history = record {
+  processes = objects_of process_kind history table.processes;
+  semaphores = objects_of semaphore_kind history table.semaphores;
 }
 
-abbrev pub after_process : Objects → ProcessOutcome → Outcome
-after_process objects outcome = record {
-  roster = outcome.roster;
-  objects = record objects { processes = outcome.created };
-  reply = outcome.reply;
-  notices = outcome.notices;
-}
+-- the objects, with these processes or with these semaphores
+abbrev pub with_processes : Objects → List ProcessObject → Objects
+with_processes objects processes = record objects { processes = processes }
 
-abbrev pub after_partition : Objects → PartitionOutcome → Outcome
-after_partition objects outcome = record {
-  roster = outcome.roster;
-  objects = objects;
-  reply = outcome.reply;
-  notices = outcome.notices;
-}
+abbrev pub with_semaphores : Objects → List SemaphoreObject → Objects
+with_semaphores objects semaphores = record objects { semaphores = semaphores }
 
-abbrev pub after_time : Objects → TimeOutcome → Outcome
-after_time objects outcome = record {
-  roster = outcome.roster;
-  objects = objects;
-  reply = outcome.reply;
-  notices = [];
-}
-
--- a call of no semaphore's name changes nothing
-abbrev pub refused : Roster → Objects → ReturnCode → Outcome
-refused roster objects code = record { roster = roster; objects = objects; reply = Code code; notices = [] }
-
--- a call of this semaphore, or of a name that is no entry's
-abbrev pub semaphore_deed : Roster → Objects → Caller → SemaphoreCall → Option ℕ → Outcome
-semaphore_deed roster objects caller call (Some s) =
-    after_semaphore objects s (semaphore_service roster (semaphore_at objects s) s caller call)
-semaphore_deed roster objects caller call None = refused roster objects (no_semaphore_code roster call)
-
--- service: what the caller's call does in a partition of this many cores
-abbrev pub service : ℕ → Roster → Objects → Caller → Call → Outcome
-service cores roster objects caller (Partition call) = after_partition objects (partition_service cores roster call)
-service cores roster objects caller (ToProcess call) =
-    after_process objects (process_service cores roster objects.processes caller call)
-service cores roster objects caller (Time call) = after_time objects (time_service roster caller call)
-service cores roster objects caller (Semaphore call) = semaphore_deed roster objects caller call (semaphore_of call)
+-- service: what the caller's call does
+abbrev pub service : Roster → Objects → Caller → Call → Outcome Objects
+service roster objects caller (Partition call) = partition_service roster objects call
+service roster objects caller (ToProcess call) =
+    within (with_processes objects) (object_deed process_kind roster objects.processes caller call)
+service roster objects caller (ToCaller call) = caller_service roster objects caller call
+service roster objects caller (Time call) = time_service roster objects caller call
+service roster objects caller (Semaphore call) =
+    within (with_semaphores objects) (object_deed semaphore_kind roster objects.semaphores caller call)
 
 -- a call that was carried out, or none at an idle turn and a tick
 pub record Deed : Type 0 where
   pub caller : Caller
   pub call : Option Call
-  pub outcome : Outcome
+  pub outcome : Outcome Objects
 
 -- the caller's call is carried out
-abbrev pub served : ℕ → Roster → Objects → Caller → Call → Deed
-served cores roster objects caller call =
-    record { caller = caller; call = Some call; outcome = service cores roster objects caller call }
+abbrev pub served : Roster → Objects → Caller → Call → Deed
+served roster objects caller call =
+    record { caller = caller; call = Some call; outcome = service roster objects caller call }
 
 -- the place after this one: a looping script is at its first step again after its last one
 abbrev pub next_place : ProcessEntry → ℕ → ℕ
@@ -116,9 +79,10 @@ next_place entry step = if entry.loops && step + 1 == length entry.script then 0
 
 -- process p carries out its step: every step moves the place first; the end of a script is STOP_SELF
 abbrev pub script_deed : Table → Roster → Objects → ℕ → Option Call → Deed
-script_deed table roster objects p None = served table.cores roster objects (Process p) (ToProcess StopSelf)
+script_deed table roster objects p None = served roster objects (Process p) (ToCaller StopSelf)
 script_deed table roster objects p (Some call) =
-    served table.cores (set_step roster p (next_place (process_entry table p) (record_at roster p).step)) objects (Process p) call
+    let next = next_place (process_entry table p) (record_at roster p).step in
+    served (set_step roster p next) objects (Process p) call
 
 -- the step of process p
 abbrev pub step_of : Table → Roster → ℕ → Option Call
@@ -126,16 +90,13 @@ step_of table roster p = slice_get (process_entry table p).script (record_at ros
 
 -- the chosen process carries out its step; where there is none the turn is idle
 abbrev pub chosen_deed : Table → Roster → Objects → Option ℕ → Deed
-chosen_deed table roster objects None = record {
-  caller = Nobody;
-  call = None;
-  outcome = record { roster = roster; objects = objects; reply = Idle; notices = [] };
-}
+chosen_deed table roster objects None =
+    record { caller = Nobody; call = None; outcome = told roster objects Idle }
 chosen_deed table roster objects (Some p) = script_deed table roster objects p (step_of table roster p)
 
 -- an init step that is due comes before all else
 abbrev pub turn_deed : Table → Roster → Objects → ℕ → Option Call → Deed
-turn_deed table roster objects core (Some call) = served table.cores roster objects Init call
+turn_deed table roster objects core (Some call) = served roster objects Init call
 turn_deed table roster objects core None = chosen_deed table roster objects (chosen roster core)
 
 -- the init step that is due in a turn of the core: in COLD_START core 0 carries out the next one
@@ -156,7 +117,7 @@ tick_deed roster objects n =
       call = None;
       outcome = record {
         roster = passed.roster;
-        objects = objects;
+        object = objects;
         reply = Advanced n (tick_goal roster n - roster.now);
         notices = passed.notices;
       };

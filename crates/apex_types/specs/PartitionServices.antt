@@ -1,6 +1,6 @@
 -- The services of partition management, row by row (ARINC 653 Part 1, partition management; the
 -- order of releases is this profile's).
-use Rattle.std.specs.Prelude.{ℕ, List, [], length, map, Option, Some, if◌then◌else◌}
+use Rattle.std.specs.Prelude.{ℕ, List, [], ◌∷◌, length, map, Option, Some, if◌then◌else◌}
 use Rattle.apex_types.specs.declared.calls.PartitionCall.{PartitionCall}
 use Rattle.apex_types.specs.declared.calls.PartitionCall.TheVariants.{SetPartitionMode, GetPartitionStatus}
 use Rattle.apex_types.specs.declared.calls.RequestedMode.{RequestedMode}
@@ -14,17 +14,12 @@ use Rattle.apex_types.specs.declared.records.Mode.TheVariants as mode
 use Rattle.apex_types.specs.declared.records.Queue.TheVariants as queues
 use Rattle.apex_types.specs.declared.records.Wait.{Wait}
 use Rattle.apex_types.specs.declared.records.Wait.TheVariants as wait
+use Rattle.apex_types.specs.Rows.{Outcome, told, accepted, guarded, ◌⟶◌}
 use Rattle.apex_types.specs.Roster.{Roster, record_at, is_normal}
 use Rattle.apex_types.specs.Stamps.{set_mode, stopped}
 use Rattle.apex_types.specs.Waiters.{first_waiter}
 use Rattle.apex_types.specs.InTurn.{Changed, in_turn}
 use Rattle.apex_types.specs.Ticks.{begun}
-
--- what a service of partition management leaves and answers
-pub record PartitionOutcome : Type 0 where
-  pub roster : Roster
-  pub reply : Reply
-  pub notices : List Notice
 
 -- who has waited for NORMAL for the longest time
 abbrev pub first_to_start : Roster → Option ℕ
@@ -42,22 +37,22 @@ begin_waiter roster p = begun roster p (delay_of (record_at roster p).wait)
 -- the entry into NORMAL: the mode is set, and the starts of all who wait for it begin in order of since
 unfoldable pub enter_normal : Roster → Changed
 enter_normal roster =
-    in_turn first_to_start begin_waiter (length roster.records) (set_mode roster mode.Normal) []
+    in_turn first_to_start begin_waiter (length roster.records) (set_mode roster mode.Normal)
 
 -- accepted, with these changes
-abbrev pub entered_normal : Changed → PartitionOutcome
-entered_normal changed = record { roster = changed.roster; reply = Code NoError; notices = changed.notices }
+abbrev pub entered_normal : {X : Type 0} → X → Changed → Outcome X
+entered_normal objects changed = accepted changed.roster objects changed.notices
 
 -- IDLE: every process is stopped for good, and nobody is told
 abbrev pub enter_idle : Roster → Roster
 enter_idle roster = record roster { mode = mode.Idle; records = map stopped roster.records }
 
 -- SET_PARTITION_MODE
-abbrev pub set_partition_mode : Roster → RequestedMode → PartitionOutcome
-set_partition_mode roster requested.Idle = record { roster = enter_idle roster; reply = Gone; notices = [] }
-set_partition_mode roster requested.Normal =
-    if is_normal roster.mode then record { roster = roster; reply = Code NoAction; notices = [] }
-    else entered_normal (enter_normal roster)
+abbrev pub set_partition_mode : {X : Type 0} → Roster → X → RequestedMode → Outcome X
+set_partition_mode roster objects requested.Idle = told (enter_idle roster) objects Gone
+set_partition_mode roster objects requested.Normal =
+    guarded roster objects (is_normal roster.mode ⟶ NoAction ∷ [])
+    (entered_normal objects (enter_normal roster))
 
 -- the number of a mode (ARINC 653 Part 1)
 abbrev pub mode_number : Mode → ℕ
@@ -65,7 +60,8 @@ mode_number mode.Idle = 0
 mode_number mode.ColdStart = 1
 mode_number mode.Normal = 3
 
--- any service of partition management, in a partition of this many cores
-abbrev pub partition_service : ℕ → Roster → PartitionCall → PartitionOutcome
-partition_service cores roster (SetPartitionMode requested) = set_partition_mode roster requested
-partition_service cores roster GetPartitionStatus = record { roster = roster; reply = Status (mode_number roster.mode) cores; notices = [] }
+-- any service of partition management
+abbrev pub partition_service : {X : Type 0} → Roster → X → PartitionCall → Outcome X
+partition_service roster objects (SetPartitionMode requested) = set_partition_mode roster objects requested
+partition_service roster objects GetPartitionStatus =
+    told roster objects (Status (mode_number roster.mode) roster.cores)

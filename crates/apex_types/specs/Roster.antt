@@ -7,9 +7,10 @@ use Rattle.apex_types.specs.declared.records.Record.{Record}
 use Rattle.apex_types.specs.Places.{map_places}
 use Rattle.apex_types.specs.Table.{Table, ProcessEntry, SemaphoreEntry}
 
--- the processes of a partition at one moment, and the disciplines of its semaphores' queues, which
--- stay
+-- the processes of a partition at one moment, and what stays: how many cores it has, and the
+-- disciplines of its semaphores' queues
 pub record Roster : Type 0 where
+  pub cores : ℕ
   pub mode : Mode
   pub now : ℕ
   pub records : List Record
@@ -68,6 +69,7 @@ opening_record p entry = record {
 -- the roster before any event
 abbrev pub opening_roster : Table → Roster
 opening_roster table = record {
+  cores = table.cores;
   mode = ColdStart;
   now = 0;
   records = map_places opening_record 0 table.processes;

@@ -1,111 +1,80 @@
 -- The services of semaphores, row by row: the first guard that holds answers and changes nothing
 -- (ARINC 653 Part 1, semaphores; the guards are this profile's).
-use Rattle.std.specs.Prelude.{ℕ, ◌+◌, ◌-◌, true, List, [], ◌∷◌, Option, None, Some, nat_lt, not, if◌then◌else◌}
-use Rattle.apex_types.specs.declared.calls.SemaphoreCall.{SemaphoreCall}
-use Rattle.apex_types.specs.declared.calls.SemaphoreCall.TheVariants.{CreateSemaphore, WaitSemaphore, SignalSemaphore, GetSemaphoreId, GetSemaphoreStatus}
+use Rattle.std.specs.Prelude.{ℕ, ◌+◌, ◌-◌, Bool, true, false, List, [], ◌∷◌, Option, None, Some, nat_lt, not, if◌then◌else◌}
+use Rattle.apex_types.specs.declared.calls.SemaphoreService.{SemaphoreService}
+use Rattle.apex_types.specs.declared.calls.SemaphoreService.TheVariants.{Wait, Signal}
 use Rattle.apex_types.specs.declared.calls.Timeout.{Timeout}
-use Rattle.apex_types.specs.declared.calls.Timeout.TheVariants.{Poll, Ticks, Infinite}
 use Rattle.apex_types.specs.declared.entries.Caller.{Caller}
-use Rattle.apex_types.specs.declared.entries.Caller.TheVariants.{Process, Init, Nobody}
-use Rattle.apex_types.specs.declared.entries.Notice.{Notice}
+use Rattle.apex_types.specs.declared.entries.Entry.{Entry}
 use Rattle.apex_types.specs.declared.entries.Notice.TheVariants.{Woken}
 use Rattle.apex_types.specs.declared.entries.Reply.{Reply}
-use Rattle.apex_types.specs.declared.entries.Reply.TheVariants.{Code, Value, Status, Blocked}
-use Rattle.apex_types.specs.declared.entries.ReturnCode.{ReturnCode}
-use Rattle.apex_types.specs.declared.entries.ReturnCode.TheVariants.{NoError, NoAction, NotAvailable, InvalidParam, InvalidConfig, InvalidMode}
+use Rattle.apex_types.specs.declared.entries.Reply.TheVariants.{Status}
+use Rattle.apex_types.specs.declared.entries.ReturnCode.TheVariants.{NoError, NoAction, InvalidParam}
 use Rattle.apex_types.specs.declared.records.Queue.TheVariants as queues
-use Rattle.apex_types.specs.declared.records.Wait.TheVariants.{Semaphore}
-pub use Rattle.apex_types.specs.Calls.{known_semaphore, semaphore_of}
-use Rattle.apex_types.specs.Roster.{Roster, is_normal}
-use Rattle.apex_types.specs.History.{SemaphoreObject}
-use Rattle.apex_types.specs.Dues.{due_after}
-use Rattle.apex_types.specs.Stamps.{block, unblock}
+use Rattle.apex_types.specs.declared.records.Wait.TheVariants as wait
+use Rattle.apex_types.specs.Calls.{created_semaphore}
+use Rattle.apex_types.specs.History.{is_created}
+use Rattle.apex_types.specs.Objects.{KindOf}
+use Rattle.apex_types.specs.Roster.{Roster}
+use Rattle.apex_types.specs.Rows.{Outcome, accepted, guarded, ◌⟶◌, by_process}
+use Rattle.apex_types.specs.Satisfied.{semaphore_value}
+use Rattle.apex_types.specs.Stamps.{unblock}
+use Rattle.apex_types.specs.Table.{SemaphoreEntry}
 use Rattle.apex_types.specs.Waiters.{first_waiter, waiter_count}
+use Rattle.apex_types.specs.Waiting.{wait_for}
 
--- what a service of a semaphore leaves and answers
-pub record SemaphoreOutcome : Type 0 where
-  pub roster : Roster
-  pub semaphore : SemaphoreObject
-  pub reply : Reply
-  pub notices : List Notice
+-- a semaphore as its services see it
+pub record SemaphoreObject : Type 0 where
+  pub maximum : ℕ
+  pub created : Bool
+  pub value : ℕ
 
--- refused with this code: nothing changes
-abbrev pub refused_semaphore : Roster → SemaphoreObject → ReturnCode → SemaphoreOutcome
-refused_semaphore roster semaphore code =
-    record { roster = roster; semaphore = semaphore; reply = Code code; notices = [] }
+-- WAIT_SEMAPHORE: takes one of the value, else waits
+abbrev pub wait_semaphore : Roster → SemaphoreObject → ℕ → Caller → Timeout → Outcome SemaphoreObject
+wait_semaphore roster semaphore s caller timeout =
+    guarded roster semaphore (not semaphore.created ⟶ InvalidParam ∷ [])
+    (by_process roster semaphore caller (λ p.
+    if nat_lt 0 semaphore.value then
+    accepted roster (record semaphore { value = semaphore.value - 1 }) []
+    else wait_for roster semaphore p (wait.Semaphore s) timeout))
 
--- CREATE_SEMAPHORE
-abbrev pub create_semaphore : Roster → SemaphoreObject → SemaphoreOutcome
-create_semaphore roster semaphore =
-    if is_normal roster.mode then refused_semaphore roster semaphore InvalidMode
-    else if semaphore.created then refused_semaphore roster semaphore NoAction
-    else record { roster = roster; semaphore = record semaphore { created = true }; reply = Code NoError; notices = [] }
-
--- process p blocks on semaphore s
-abbrev pub blocked_on : Roster → SemaphoreObject → ℕ → ℕ → Timeout → SemaphoreOutcome
-blocked_on roster semaphore s p timeout =
-    record { roster = block roster p (Semaphore s) (due_after roster timeout); semaphore = semaphore; reply = Blocked; notices = [] }
-
--- a wait on a semaphore of value 0, by process p
-abbrev pub wait_at_zero : Roster → SemaphoreObject → ℕ → ℕ → Timeout → SemaphoreOutcome
-wait_at_zero roster semaphore s p Poll = refused_semaphore roster semaphore NotAvailable
-wait_at_zero roster semaphore s p (Ticks n) = blocked_on roster semaphore s p (Ticks n)
-wait_at_zero roster semaphore s p Infinite = blocked_on roster semaphore s p Infinite
-
--- WAIT_SEMAPHORE by process p
-abbrev pub wait_semaphore : Roster → SemaphoreObject → ℕ → ℕ → Timeout → SemaphoreOutcome
-wait_semaphore roster semaphore s p timeout =
-    if not semaphore.created then refused_semaphore roster semaphore InvalidParam
-    else if nat_lt 0 semaphore.value then
-    record { roster = roster; semaphore = record semaphore { value = semaphore.value - 1 }; reply = Code NoError; notices = [] }
-    else wait_at_zero roster semaphore s p timeout
-
--- a signal with nobody waiting
-abbrev pub raise_semaphore : Roster → SemaphoreObject → SemaphoreOutcome
-raise_semaphore roster semaphore =
-    if nat_lt semaphore.value semaphore.maximum then
-    record { roster = roster; semaphore = record semaphore { value = semaphore.value + 1 }; reply = Code NoError; notices = [] }
-    else refused_semaphore roster semaphore NoAction
-
--- a signal, where this is the first waiter
-abbrev pub signal_to : Roster → SemaphoreObject → Option ℕ → SemaphoreOutcome
-signal_to roster semaphore None = raise_semaphore roster semaphore
-signal_to roster semaphore (Some p) =
-    record { roster = unblock roster p; semaphore = semaphore; reply = Code NoError; notices = Woken p NoError ∷ [] }
+-- a signal, where this is the first waiter: it is woken, else the value is raised
+abbrev pub signal_to : Roster → SemaphoreObject → Option ℕ → Outcome SemaphoreObject
+signal_to roster semaphore None =
+    guarded roster semaphore (not (nat_lt semaphore.value semaphore.maximum) ⟶ NoAction ∷ [])
+    (accepted roster (record semaphore { value = semaphore.value + 1 }) [])
+signal_to roster semaphore (Some p) = accepted (unblock roster p) semaphore (Woken p NoError ∷ [])
 
 -- SIGNAL_SEMAPHORE
-abbrev pub signal_semaphore : Roster → SemaphoreObject → ℕ → SemaphoreOutcome
+abbrev pub signal_semaphore : Roster → SemaphoreObject → ℕ → Outcome SemaphoreObject
 signal_semaphore roster semaphore s =
-    if not semaphore.created then refused_semaphore roster semaphore InvalidParam
-    else signal_to roster semaphore (first_waiter roster (queues.Semaphore s))
+    guarded roster semaphore (not semaphore.created ⟶ InvalidParam ∷ [])
+    (signal_to roster semaphore (first_waiter roster (queues.Semaphore s)))
 
--- WAIT_SEMAPHORE; it needs a process that calls, and no init step asks for it
-abbrev pub wait_by : Roster → SemaphoreObject → ℕ → Caller → Timeout → SemaphoreOutcome
-wait_by roster semaphore s (Process p) timeout = wait_semaphore roster semaphore s p timeout
-wait_by roster semaphore s Init timeout = refused_semaphore roster semaphore InvalidMode
-wait_by roster semaphore s Nobody timeout = refused_semaphore roster semaphore InvalidMode
+-- the services that semaphores alone have
+abbrev pub semaphore_own : Roster → SemaphoreObject → ℕ → Caller → SemaphoreService → Outcome SemaphoreObject
+semaphore_own roster semaphore s caller (Wait timeout) = wait_semaphore roster semaphore s caller timeout
+semaphore_own roster semaphore s caller Signal = signal_semaphore roster semaphore s
 
--- GET_SEMAPHORE_STATUS: the value, and how many wait
-abbrev pub get_semaphore_status : Roster → SemaphoreObject → ℕ → SemaphoreOutcome
-get_semaphore_status roster semaphore s =
-    if not semaphore.created then refused_semaphore roster semaphore InvalidParam
-    else record { roster = roster; semaphore = semaphore; reply = Status semaphore.value (waiter_count roster (queues.Semaphore s)); notices = [] }
+-- the status: the value, and how many wait
+abbrev pub semaphore_status : Roster → SemaphoreObject → ℕ → Reply
+semaphore_status roster semaphore s = Status semaphore.value (waiter_count roster (queues.Semaphore s))
 
--- GET_SEMAPHORE_ID: users see the place counted from 1
-abbrev pub get_semaphore_id : Roster → SemaphoreObject → ℕ → SemaphoreOutcome
-get_semaphore_id roster semaphore s =
-    if not semaphore.created then refused_semaphore roster semaphore InvalidConfig
-    else record { roster = roster; semaphore = semaphore; reply = Value (s + 1); notices = [] }
+-- semaphore s of this entry after the history
+abbrev pub semaphore_after : List Entry → ℕ → SemaphoreEntry → SemaphoreObject
+semaphore_after history s entry = record {
+  maximum = entry.maximum;
+  created = is_created created_semaphore s history;
+  value = semaphore_value entry.initial s history;
+}
 
--- any service of a semaphore, which is the s-th; of a name that is no entry's there is none
-abbrev pub semaphore_service : Roster → SemaphoreObject → ℕ → Caller → SemaphoreCall → SemaphoreOutcome
-semaphore_service roster semaphore s caller (CreateSemaphore named) = create_semaphore roster semaphore
-semaphore_service roster semaphore s caller (WaitSemaphore t timeout) = wait_by roster semaphore s caller timeout
-semaphore_service roster semaphore s caller (SignalSemaphore t) = signal_semaphore roster semaphore s
-semaphore_service roster semaphore s caller (GetSemaphoreId named) = get_semaphore_id roster semaphore s
-semaphore_service roster semaphore s caller (GetSemaphoreStatus t) = get_semaphore_status roster semaphore s
-
--- what a call of a name that is no entry's is answered: CREATE_SEMAPHORE tests the mode first
-abbrev pub no_semaphore_code : Roster → SemaphoreCall → ReturnCode
-no_semaphore_code roster (CreateSemaphore named) = if is_normal roster.mode then InvalidMode else InvalidConfig
-no_semaphore_code roster _ = InvalidConfig
+-- semaphores
+abbrev pub semaphore_kind : KindOf SemaphoreEntry SemaphoreObject SemaphoreService
+semaphore_kind = record {
+  absent = record { maximum = 0; created = false; value = 0 };
+  created = λ semaphore. semaphore.created;
+  made = λ semaphore. record semaphore { created = true };
+  status = semaphore_status;
+  own = semaphore_own;
+  after = semaphore_after;
+}

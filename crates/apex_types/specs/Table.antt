@@ -3,15 +3,12 @@ use Rattle.std.specs.Prelude.{◌≡◌, ℕ, ◌<◌, ◌≤◌, Bool, true, fa
 use Rattle.std.specs.List.{IsDistinct}
 use Rattle.std.specs.Str.{bytes_eq}
 use Rattle.apex_types.specs.declared.calls.Call.{Call}
-use Rattle.apex_types.specs.declared.calls.Call.TheVariants.{Partition, Process, Time, Semaphore}
-use Rattle.apex_types.specs.declared.calls.ProcessCall.{ProcessCall}
-use Rattle.apex_types.specs.declared.calls.ProcessCall.TheVariants.{CreateProcess, InitializeProcessCoreAffinity, SetPriority, Start, DelayedStart, Stop, StopSelf, Suspend, Resume, SuspendSelf, GetMyId, GetMyProcessorCoreId, GetProcessId, GetProcessStatus}
-use Rattle.apex_types.specs.declared.calls.SemaphoreCall.{SemaphoreCall}
-use Rattle.apex_types.specs.declared.calls.SemaphoreCall.TheVariants.{CreateSemaphore, WaitSemaphore, SignalSemaphore, GetSemaphoreId, GetSemaphoreStatus}
-use Rattle.apex_types.specs.declared.calls.NamedProcess.{NamedProcess}
-use Rattle.apex_types.specs.declared.calls.NamedProcess.TheVariants as process
-use Rattle.apex_types.specs.declared.calls.NamedSemaphore.{NamedSemaphore}
-use Rattle.apex_types.specs.declared.calls.NamedSemaphore.TheVariants as semaphore
+use Rattle.apex_types.specs.declared.calls.Call.TheVariants.{Partition, Process, Caller, Time, Semaphore}
+use Rattle.apex_types.specs.declared.calls.CallerCall.TheVariants.{StopSelf}
+use Rattle.apex_types.specs.declared.calls.Named.{Named}
+use Rattle.apex_types.specs.declared.calls.Named.TheVariants.{Known, Unknown}
+use Rattle.apex_types.specs.declared.calls.ObjectCall.{ObjectCall}
+use Rattle.apex_types.specs.declared.calls.ObjectCall.TheVariants.{Create, GetId, GetStatus, Own}
 use Rattle.apex_types.specs.declared.records.Discipline.{Discipline}
 use Rattle.apex_types.specs.declared.records.Discipline.TheVariants.{Fifo}
 use Rattle.apex_types.specs.Name.{is_name}
@@ -57,46 +54,27 @@ semaphore_entry table s = slice_index_or table.semaphores s no_semaphore
 -- the step at a place of a script or of an init list, counted from 0; past the end STOP_SELF, the
 -- end of every script
 abbrev pub call_at : List Call → ℕ → Call
-call_at steps k = slice_index_or steps k (Process StopSelf)
+call_at steps k = slice_index_or steps k (Caller StopSelf)
 
 -- a name that is an entry's is one of so many
-abbrev pub IsKnownProcess : ℕ → NamedProcess → Type 0
-IsKnownProcess many (process.Known p) = p < many
-IsKnownProcess many (process.Unknown name) = Unit {0}
+abbrev pub IsKnownName : ℕ → Named ℕ → Type 0
+IsKnownName many (Known i) = i < many
+IsKnownName many (Unknown name) = Unit {0}
 
-abbrev pub IsKnownSemaphore : ℕ → NamedSemaphore → Type 0
-IsKnownSemaphore many (semaphore.Known s) = s < many
-IsKnownSemaphore many (semaphore.Unknown name) = Unit {0}
+-- the thing that the call names is one of so many
+abbrev pub IsKnownObject : {W : Type 0} → ℕ → ObjectCall ℕ W → Type 0
+IsKnownObject many (Create named) = IsKnownName many named
+IsKnownObject many (GetId named) = IsKnownName many named
+IsKnownObject many (GetStatus i) = i < many
+IsKnownObject many (Own i service) = i < many
 
--- every id that the call names is an entry's
-abbrev pub IsKnownToProcesses : ℕ → ProcessCall → Type 0
-IsKnownToProcesses many (CreateProcess named) = IsKnownProcess many named
-IsKnownToProcesses many (InitializeProcessCoreAffinity p core) = p < many
-IsKnownToProcesses many (SetPriority p priority) = p < many
-IsKnownToProcesses many (Start p) = p < many
-IsKnownToProcesses many (DelayedStart p delay) = p < many
-IsKnownToProcesses many (Stop p) = p < many
-IsKnownToProcesses many StopSelf = Unit {0}
-IsKnownToProcesses many (Suspend p) = p < many
-IsKnownToProcesses many (Resume p) = p < many
-IsKnownToProcesses many (SuspendSelf timeout) = Unit {0}
-IsKnownToProcesses many GetMyId = Unit {0}
-IsKnownToProcesses many GetMyProcessorCoreId = Unit {0}
-IsKnownToProcesses many (GetProcessId named) = IsKnownProcess many named
-IsKnownToProcesses many (GetProcessStatus p) = p < many
-
-abbrev pub IsKnownToSemaphores : ℕ → SemaphoreCall → Type 0
-IsKnownToSemaphores many (CreateSemaphore named) = IsKnownSemaphore many named
-IsKnownToSemaphores many (WaitSemaphore s timeout) = s < many
-IsKnownToSemaphores many (SignalSemaphore s) = s < many
-IsKnownToSemaphores many (GetSemaphoreId named) = IsKnownSemaphore many named
-IsKnownToSemaphores many (GetSemaphoreStatus s) = s < many
-
+-- what the call names is an entry of the table
 abbrev pub IsKnown : Table → Call → Type 0
 IsKnown table (Partition call) = Unit {0}
-IsKnown table (Process call) = IsKnownToProcesses (length table.processes) call
+IsKnown table (Process call) = IsKnownObject (length table.processes) call
+IsKnown table (Caller call) = Unit {0}
 IsKnown table (Time call) = Unit {0}
-IsKnown table (Semaphore call) = IsKnownToSemaphores (length table.semaphores) call
+IsKnown table (Semaphore call) = IsKnownObject (length table.semaphores) call
 
 -- what holds of a process of an accepted table
 pub record IsLawfulProcess (table : Table) (entry : ProcessEntry) : Type 0 where

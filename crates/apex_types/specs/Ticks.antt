@@ -48,7 +48,7 @@ serve_due roster p = wait_over (without_due roster p) p (record_at roster p).wai
 
 -- the dues at now, by process number
 abbrev pub serve_dues : Roster → Changed
-serve_dues roster = in_turn first_due serve_due (length roster.records) roster []
+serve_dues roster = in_turn first_due serve_due (length roster.records) roster
 
 -- time goes on by a tick of n, and the waits that are due then end
 unfoldable pub pass_time : Roster → ℕ → Changed

@@ -1,5 +1,5 @@
 ghost use Rattle.std.specs.Prelude.{◌≡◌};
-ghost use Rattle.apex_types.specs.SemaphoreServices.{known_semaphore, semaphore_of};
+ghost use Rattle.apex_types.specs.Calls.{known, object_of};
 
 use crate::identifiers::{ProcessId, SemaphoreId};
 use crate::names::Name;
@@ -29,40 +29,72 @@ pub enum PartitionCall {
     GetPartitionStatus,
 }
 
-/// A process by the name that a step gives, which need not be an entry's.
+/// A thing by the name that a step gives, which need not be an entry's.
 #[derive(Clone, Copy, Debug, PartialEq, Eq)]
-pub enum NamedProcess {
-    Known(ProcessId),
+pub enum Named<I> {
+    Known(I),
     Unknown(Name),
 }
 
-/// A semaphore by the name that a step gives, which need not be an entry's.
+/// A call about one thing of a kind: the three services that each kind has, and those of its own.
 #[derive(Clone, Copy, Debug, PartialEq, Eq)]
-pub enum NamedSemaphore {
-    Known(SemaphoreId),
-    Unknown(Name),
+pub enum ObjectCall<I, W> {
+    Create(Named<I>),
+    GetId(Named<I>),
+    GetStatus(I),
+    /// A service that this kind alone has.
+    Own(I, W),
 }
 
-/// A call of a service of process management.
+impl<I: Copy> Named<I> {
+    /// The thing of this name, where an entry has it.
+    pub fn known(&self) -> Option<I>
+        ensures { result ≡ known self.now }
+    {
+        match self {
+            Named::Known(id) => Some(*id),
+            Named::Unknown(_) => None,
+        }
+    }
+}
+
+impl<I: Copy, W> ObjectCall<I, W> {
+    /// The thing that the call names, where it is an entry's.
+    pub fn object(&self) -> Option<I>
+        ensures { result ≡ object_of self.now }
+    {
+        match self {
+            ObjectCall::Create(named) | ObjectCall::GetId(named) => named.known(),
+            ObjectCall::GetStatus(id) | ObjectCall::Own(id, _) => Some(*id),
+        }
+    }
+}
+
+/// A service for a process that is named, but for the three that each kind has.
 #[derive(Clone, Copy, Debug, PartialEq, Eq)]
-pub enum ProcessCall {
-    CreateProcess(NamedProcess),
+pub enum ProcessService {
     /// The core is any number from 0 to 255: the service tests it.
-    InitializeProcessCoreAffinity(ProcessId, u8),
+    InitializeCoreAffinity(u8),
     /// The priority is any number from 0 to 65,535: the service tests it.
-    SetPriority(ProcessId, u16),
-    Start(ProcessId),
+    SetPriority(u16),
+    Start,
     /// A START after a delay.
-    DelayedStart(ProcessId, Timeout),
-    Stop(ProcessId),
+    DelayedStart(Timeout),
+    Stop,
+    Suspend,
+    Resume,
+}
+
+/// A call of a service of process management for a process that is named.
+pub type ProcessCall = ObjectCall<ProcessId, ProcessService>;
+
+/// A call of a service of process management that a process asks for itself.
+#[derive(Clone, Copy, Debug, PartialEq, Eq)]
+pub enum CallerCall {
     StopSelf,
-    Suspend(ProcessId),
-    Resume(ProcessId),
     SuspendSelf(Timeout),
     GetMyId,
     GetMyProcessorCoreId,
-    GetProcessId(NamedProcess),
-    GetProcessStatus(ProcessId),
 }
 
 /// A call of a service of time management.
@@ -72,49 +104,22 @@ pub enum TimeCall {
     GetTime,
 }
 
-/// A call of a service of semaphores.
+/// A service of semaphores, but for the three that each kind has.
 #[derive(Clone, Copy, Debug, PartialEq, Eq)]
-pub enum SemaphoreCall {
-    CreateSemaphore(NamedSemaphore),
-    WaitSemaphore(SemaphoreId, Timeout),
-    SignalSemaphore(SemaphoreId),
-    GetSemaphoreId(NamedSemaphore),
-    GetSemaphoreStatus(SemaphoreId),
+pub enum SemaphoreService {
+    Wait(Timeout),
+    Signal,
 }
 
-impl NamedSemaphore {
-    /// The semaphore of this name, where an entry has it.
-    pub fn known(&self) -> Option<SemaphoreId>
-        ensures { result ≡ known_semaphore self.now }
-    {
-        match self {
-            NamedSemaphore::Known(semaphore) => Some(*semaphore),
-            NamedSemaphore::Unknown(_) => None,
-        }
-    }
-}
-
-impl SemaphoreCall {
-    /// The semaphore that the call names, where it is an entry's.
-    pub fn semaphore(&self) -> Option<SemaphoreId>
-        ensures { result ≡ semaphore_of self.now }
-    {
-        match self {
-            SemaphoreCall::CreateSemaphore(named) | SemaphoreCall::GetSemaphoreId(named) => {
-                named.known()
-            }
-            SemaphoreCall::WaitSemaphore(semaphore, _)
-            | SemaphoreCall::SignalSemaphore(semaphore)
-            | SemaphoreCall::GetSemaphoreStatus(semaphore) => Some(*semaphore),
-        }
-    }
-}
+/// A call of a service of semaphores.
+pub type SemaphoreCall = ObjectCall<SemaphoreId, SemaphoreService>;
 
 /// A service with its literal arguments, as a step of a script or of the init list asks for it.
 #[derive(Clone, Copy, Debug, PartialEq, Eq)]
 pub enum Call {
     Partition(PartitionCall),
     Process(ProcessCall),
+    Caller(CallerCall),
     Time(TimeCall),
     Semaphore(SemaphoreCall),
 }

@@ -1,6 +1,6 @@
 ghost use Rattle.std.specs.Prelude.{◌≡◌, ◌+◌, ◌<◌};
 
-use std::marker::Model;
+use std::marker::{Model, PhantomData};
 
 /// A core of the partition, by its number from 0 to 7.
 #[derive(Clone, Copy, Debug, PartialEq, Eq)]
@@ -38,30 +38,34 @@ impl CoreId {
     }
 }
 
-/// A process of the partition, by its place in the table.
+/// A thing of one kind, by its place in the table.
 ///
-/// In contracts it is the place counted from 0; users see [`ProcessId::number`].
+/// In contracts it is the place counted from 0; users see [`Id::number`].
 #[derive(Clone, Copy, Debug, PartialEq, Eq)]
-pub struct ProcessId {
+pub struct Id<K> {
     place: u8,
+    kind: PhantomData<K>,
 }
 
-impl Model for ProcessId {
+impl<K> Model for Id<K> {
     ghost use Rattle.std.specs.Prelude.{ℕ};
 
     ghost Value = { ℕ };
 
-    ghost view = { λ p. p.place };
+    ghost view = { λ i. i.place };
 
-    ghost inverse = { λ n. record { place = n } };
+    ghost inverse = { λ n. record { place = n; kind = record { } } };
 }
 
-impl ProcessId {
-    /// The process at this place of the table, counted from 0.
-    pub fn at(place: u8) -> ProcessId
+impl<K> Id<K> {
+    /// The thing at this place of the table, counted from 0.
+    pub fn at(place: u8) -> Id<K>
         ensures { result ≡ place }
     {
-        ProcessId { place }
+        Id {
+            place,
+            kind: PhantomData,
+        }
     }
 
     /// The place in the table, counted from 0.
@@ -72,7 +76,7 @@ impl ProcessId {
         usize::from(self.place)
     }
 
-    /// The process's id as users see it: its place in the table, counted from 1.
+    /// The id as users see it: the place in the table, counted from 1.
     pub fn number(self) -> u32
         ensures { result ≡ self + 1 }
     {
@@ -80,44 +84,16 @@ impl ProcessId {
     }
 }
 
-/// A semaphore of the partition, by its place in the table.
-///
-/// In contracts it is the place counted from 0; users see [`SemaphoreId::number`].
+/// What an id of a process stands for.
 #[derive(Clone, Copy, Debug, PartialEq, Eq)]
-pub struct SemaphoreId {
-    place: u8,
-}
+pub struct ProcessKind;
 
-impl Model for SemaphoreId {
-    ghost use Rattle.std.specs.Prelude.{ℕ};
+/// What an id of a semaphore stands for.
+#[derive(Clone, Copy, Debug, PartialEq, Eq)]
+pub struct SemaphoreKind;
 
-    ghost Value = { ℕ };
+/// A process of the partition.
+pub type ProcessId = Id<ProcessKind>;
 
-    ghost view = { λ s. s.place };
-
-    ghost inverse = { λ n. record { place = n } };
-}
-
-impl SemaphoreId {
-    /// The semaphore at this place of the table, counted from 0.
-    pub fn at(place: u8) -> SemaphoreId
-        ensures { result ≡ place }
-    {
-        SemaphoreId { place }
-    }
-
-    /// The place in the table, counted from 0.
-    pub fn place(self) -> usize
-        ensures value { result ≡ self }
-        ensures range { result < 256 }
-    {
-        usize::from(self.place)
-    }
-
-    /// The semaphore's id as users see it: its place in the table, counted from 1.
-    pub fn number(self) -> u32
-        ensures { result ≡ self + 1 }
-    {
-        u32::from(self.place) + 1
-    }
-}
+/// A semaphore of the partition.
+pub type SemaphoreId = Id<SemaphoreKind>;

@@ -13,11 +13,11 @@ mod numbers;
 mod records;
 
 pub use calls::{
-    Call, NamedProcess, NamedSemaphore, PartitionCall, ProcessCall, RequestedMode, SemaphoreCall,
-    TimeCall, Timeout,
+    Call, CallerCall, Named, ObjectCall, PartitionCall, ProcessCall, ProcessService, RequestedMode,
+    SemaphoreCall, SemaphoreService, TimeCall, Timeout,
 };
 pub use entries::{Caller, Entry, Event, Full, Notice, Notices, Reply, ReturnCode, Who};
-pub use identifiers::{CoreId, ProcessId, SemaphoreId};
+pub use identifiers::{CoreId, Id, ProcessId, ProcessKind, SemaphoreId, SemaphoreKind};
 pub use names::Name;
 pub use numbers::{number, number_at_most};
 pub use records::{Attributes, Discipline, Mode, Queue, Record, State, Suspender, Wait};

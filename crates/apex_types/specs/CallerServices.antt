@@ -1,0 +1,35 @@
+-- The services of process management that a process asks for itself (ARINC 653 Part 1, process
+-- management; the guards are this profile's).
+use Rattle.std.specs.Prelude.{ℕ, ◌+◌, []}
+use Rattle.apex_types.specs.declared.calls.CallerCall.{CallerCall}
+use Rattle.apex_types.specs.declared.calls.CallerCall.TheVariants.{StopSelf, SuspendSelf, GetMyId, GetMyProcessorCoreId}
+use Rattle.apex_types.specs.declared.calls.Timeout.{Timeout}
+use Rattle.apex_types.specs.declared.calls.Timeout.TheVariants.{Poll, Ticks, Infinite}
+use Rattle.apex_types.specs.declared.entries.Caller.{Caller}
+use Rattle.apex_types.specs.declared.entries.Reply.TheVariants.{Value, Blocked, Gone}
+use Rattle.apex_types.specs.Dues.{due_after}
+use Rattle.apex_types.specs.Roster.{Roster, record_at}
+use Rattle.apex_types.specs.Rows.{Outcome, told, accepted, by_process}
+use Rattle.apex_types.specs.Stamps as stamps
+
+-- process p suspends itself for so long
+abbrev pub suspended_for : {X : Type 0} → Roster → X → ℕ → Timeout → Outcome X
+suspended_for roster objects p timeout =
+    told (stamps.suspend_self roster p (due_after roster timeout)) objects Blocked
+
+-- SUSPEND_SELF by process p: for no time at all it changes nothing
+abbrev pub suspend_self : {X : Type 0} → Roster → X → ℕ → Timeout → Outcome X
+suspend_self roster objects p Poll = accepted roster objects []
+suspend_self roster objects p (Ticks n) = suspended_for roster objects p (Ticks n)
+suspend_self roster objects p Infinite = suspended_for roster objects p Infinite
+
+-- a service that process p asks for itself
+abbrev pub service_by : {X : Type 0} → Roster → X → CallerCall → ℕ → Outcome X
+service_by roster objects StopSelf p = told (stamps.stop roster p) objects Gone
+service_by roster objects (SuspendSelf timeout) p = suspend_self roster objects p timeout
+service_by roster objects GetMyId p = told roster objects (Value (p + 1))
+service_by roster objects GetMyProcessorCoreId p = told roster objects (Value (record_at roster p).core)
+
+-- any service that a process asks for itself
+abbrev pub caller_service : {X : Type 0} → Roster → X → Caller → CallerCall → Outcome X
+caller_service roster objects caller call = by_process roster objects caller (service_by roster objects call)

@@ -1,0 +1,22 @@
+-- How a process that calls begins to wait.
+use Rattle.std.specs.Prelude.{ℕ, []}
+use Rattle.apex_types.specs.declared.calls.Timeout.{Timeout}
+use Rattle.apex_types.specs.declared.calls.Timeout.TheVariants.{Poll, Ticks, Infinite}
+use Rattle.apex_types.specs.declared.entries.Reply.TheVariants.{Blocked}
+use Rattle.apex_types.specs.declared.entries.ReturnCode.TheVariants.{NotAvailable}
+use Rattle.apex_types.specs.declared.records.Wait.{Wait}
+use Rattle.apex_types.specs.Roster.{Roster}
+use Rattle.apex_types.specs.Dues.{due_after}
+use Rattle.apex_types.specs.Rows.{Outcome, told, refused}
+use Rattle.apex_types.specs.Stamps.{block}
+
+-- process p blocks, for as long as the timeout says
+abbrev pub blocked : {X : Type 0} → Roster → X → ℕ → Wait → Timeout → Outcome X
+blocked roster object p wait timeout =
+    told (block roster p wait (due_after roster timeout)) object Blocked
+
+-- process p waits for what is not there; a timeout of 0 asks not to wait
+abbrev pub wait_for : {X : Type 0} → Roster → X → ℕ → Wait → Timeout → Outcome X
+wait_for roster object p wait Poll = refused roster object NotAvailable
+wait_for roster object p wait (Ticks n) = blocked roster object p wait (Ticks n)
+wait_for roster object p wait Infinite = blocked roster object p wait Infinite
