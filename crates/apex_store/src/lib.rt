@@ -4,6 +4,7 @@
 
 mod dues;
 mod laws;
+mod objects;
 mod opening;
 mod orders;
 mod plain_store;
@@ -11,6 +12,7 @@ mod scan;
 mod store;
 #[cfg(test)]
 mod tests;
+mod waiting;
 
 pub use dues::due_after;
 pub use laws::{
@@ -18,5 +20,7 @@ pub use laws::{
     next_instant_is_least, next_waiter_is_next, one_process_runs, opens_with_distinct_stamps,
     running_is_chosen, stamps_stay_distinct, waits_in_one_queue,
 };
+pub use objects::{Object, serve_object};
 pub use plain_store::PlainStore;
 pub use store::Store;
+pub use waiting::wait_for;

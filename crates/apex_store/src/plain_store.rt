@@ -18,6 +18,7 @@ use std::marker::Model;
 /// A store that keeps one list of records, and answers each question by a scan of it.
 #[derive(Drop)]
 pub struct PlainStore {
+    cores: u8,
     mode: Mode,
     time: u64,
     records: Vec<Record>,
@@ -33,9 +34,9 @@ impl Model for PlainStore {
 
     ghost Value = { Roster };
 
-    ghost view = { λ a. record { mode = a.mode; now = a.time; records = a.records.items; young = a.next_young; old = a.next_old; disciplines = a.disciplines.items } };
+    ghost view = { λ a. record { cores = a.cores; mode = a.mode; now = a.time; records = a.records.items; young = a.next_young; old = a.next_old; disciplines = a.disciplines.items } };
 
-    ghost invariant = { λ a. length a.records.items ≤ 64 };
+    ghost invariant = { λ a. (a.cores ≤ 8) × (length a.records.items ≤ 64) };
 }
 
 /// The process is this one.
@@ -92,6 +93,7 @@ impl PlainStore {
         let disciplines = disciplines_of(alloc, table)?;
         let next_young = records.len() as i64 + 1;
         Ok(PlainStore {
+            cores: table.cores(),
             mode: Mode::ColdStart,
             time: 0,
             records,
@@ -193,6 +195,10 @@ impl PlainStore {
 
 impl Store for PlainStore {
     ghost roster = { λ s. s };
+
+    fn cores(&self) -> u8 {
+        self.cores
+    }
 
     fn mode(&self) -> Mode {
         self.mode

@@ -16,6 +16,11 @@ use apex_types::{CoreId, Mode, ProcessId, Queue, Record, State, Wait};
 pub trait Store: Drop {
     ghost roster: { Self → Roster };
 
+    /// How many cores the partition has.
+    fn cores(&self) -> u8
+        ensures value { result ≡ (roster self.now).cores }
+        ensures range { result ≤ 8 };
+
     fn mode(&self) -> Mode
         ensures { result ≡ (roster self.now).mode };
 

@@ -1,0 +1,164 @@
+//! Objects of any kind: the three services that each kind has, and how a call finds its object.
+
+ghost use Rattle.std.specs.Prelude.{◌≡◌, ℕ, ◌<◌, [], length};
+ghost use Rattle.apex_types.specs.declared.calls.ObjectCall.{ObjectCall};
+ghost use Rattle.apex_types.specs.Callers.{IsReadyCaller};
+ghost use Rattle.apex_types.specs.Dues.{HasTime};
+ghost use Rattle.apex_types.specs.Objects as objects;
+ghost use Rattle.apex_types.specs.Objects.{KindOf};
+ghost use Rattle.apex_types.specs.Roster.{Roster};
+ghost use Rattle.apex_types.specs.Rows.{Leaves};
+ghost use Rattle.apex_types.specs.Stamps.{HasStamps};
+ghost use Rattle.apex_types.specs.Table.{IsKnownObject};
+
+use crate::store::Store;
+use apex_types::{Caller, Id, Notices, ObjectCall, Reply, ReturnCode};
+
+/// An object as its services see it.
+pub trait Object: Drop {
+    /// What its ids stand for.
+    type Kind: Copy;
+
+    /// The services that this kind alone has.
+    type Own: Copy;
+
+    /// What the table says of an object of the kind.
+    ghost Config: { Type 0 };
+
+    ghost kind: { KindOf Config Self Self.Own };
+
+    /// What the kind's services need of the store, for the object at a place.
+    ghost Stands: { Roster → ℕ → Type 0 };
+
+    fn is_created(&self) -> bool
+        ensures { result ≡ kind.created self.now };
+
+    /// The object is created from now on.
+    fn make(&mut self)
+        ensures { self.new ≡ kind.made self.old };
+
+    /// The two numbers of the object's status.
+    fn status<S: Store>(&self, store: &S, id: Id<Self::Kind>) -> Reply
+        requires stands { Stands (S.roster store.now) id }
+        ensures { result ≡ kind.status (S.roster store.now) self.now id };
+
+    /// Carries out a service that this kind alone has.
+    fn serve<S: Store>(
+        &mut self,
+        store: &mut S,
+        id: Id<Self::Kind>,
+        caller: &Caller,
+        service: &Self::Own,
+        notices: &mut Notices,
+    ) -> Reply
+        requires stands { Stands (S.roster store.old) id }
+        requires caller { IsReadyCaller (S.roster store.old) caller.now }
+        requires stamps { HasStamps (S.roster store.old) }
+        requires time { HasTime (S.roster store.old) }
+        requires room { length notices.old < 64 }
+        ensures { Leaves (kind.own (S.roster store.old) self.old id caller.now service.now)
+            (S.roster store.new) self.new result notices.old notices.new };
+}
+
+/// CREATE: INVALID_MODE in NORMAL, NO_ACTION where the object is created.
+fn create<S: Store, O: Object>(store: &S, object: &mut O) -> Reply
+    ensures { Leaves (objects.create O.kind (S.roster store.now) object.old)
+        (S.roster store.now) object.new result [] [] }
+{
+    if store.mode().is_normal() {
+        return Reply::Code(ReturnCode::InvalidMode);
+    }
+    if object.is_created() {
+        return Reply::Code(ReturnCode::NoAction);
+    }
+    object.make();
+    Reply::Code(ReturnCode::NoError)
+}
+
+/// GET_ID. INVALID_CONFIG where the object isn't created.
+fn get_id<O: Object>(object: &O, id: Id<O::Kind>) -> Reply
+    ensures { (roster : Roster) → Leaves (objects.get_id O.kind roster object.now id)
+        roster object.now result [] [] }
+{
+    if object.is_created() {
+        Reply::Value(u64::from(id.number()))
+    } else {
+        Reply::Code(ReturnCode::InvalidConfig)
+    }
+}
+
+/// GET_STATUS. INVALID_PARAM where the object isn't created.
+fn get_status<S: Store, O: Object>(store: &S, object: &O, id: Id<O::Kind>) -> Reply
+    requires stands { O.Stands (S.roster store.now) id }
+    ensures { Leaves (objects.get_status O.kind (S.roster store.now) object.now id)
+        (S.roster store.now) object.now result [] [] }
+{
+    if object.is_created() {
+        object.status(store, id)
+    } else {
+        Reply::Code(ReturnCode::InvalidParam)
+    }
+}
+
+/// Any service of a kind, on one object.
+fn serve_one<S: Store, O: Object>(
+    store: &mut S,
+    object: &mut O,
+    id: Id<O::Kind>,
+    caller: &Caller,
+    call: &ObjectCall<Id<O::Kind>, O::Own>,
+    notices: &mut Notices,
+) -> Reply
+    requires stands { O.Stands (S.roster store.old) id }
+    requires caller { IsReadyCaller (S.roster store.old) caller.now }
+    requires stamps { HasStamps (S.roster store.old) }
+    requires time { HasTime (S.roster store.old) }
+    requires room { length notices.old < 64 }
+    ensures { Leaves (objects.object_service O.kind (S.roster store.old) object.old id caller.now call.now)
+        (S.roster store.new) object.new result notices.old notices.new }
+{
+    match call {
+        ObjectCall::Create(_) => create(store, object),
+        ObjectCall::GetId(_) => get_id(object, id),
+        ObjectCall::GetStatus(_) => get_status(store, object, id),
+        ObjectCall::Own(_, service) => object.serve(store, id, caller, service, notices),
+    }
+}
+
+/// What a call is answered whose name no entry has: CREATE tests the mode first.
+fn no_entry<S: Store, O: Object>(
+    store: &S,
+    all: &[O],
+    call: &ObjectCall<Id<O::Kind>, O::Own>,
+) -> Reply
+    ensures { Leaves (objects.no_entry (S.roster store.now) all.now call.now)
+        (S.roster store.now) all.now result [] [] }
+{
+    match call {
+        ObjectCall::Create(_) if store.mode().is_normal() => Reply::Code(ReturnCode::InvalidMode),
+        _ => Reply::Code(ReturnCode::InvalidConfig),
+    }
+}
+
+/// Carries out a call on the objects of one kind. What it names is one of them, or no entry.
+pub fn serve_object<S: Store, O: Object>(
+    store: &mut S,
+    all: &mut [O],
+    caller: &Caller,
+    call: &ObjectCall<Id<O::Kind>, O::Own>,
+    notices: &mut Notices,
+) -> Reply
+    requires known { IsKnownObject (length all.old) call.now }
+    requires stands { (i : ℕ) → i < length all.old → O.Stands (S.roster store.old) i }
+    requires caller { IsReadyCaller (S.roster store.old) caller.now }
+    requires stamps { HasStamps (S.roster store.old) }
+    requires time { HasTime (S.roster store.old) }
+    requires room { length notices.old < 64 }
+    ensures { Leaves (objects.object_deed O.kind (S.roster store.old) all.old caller.now call.now)
+        (S.roster store.new) all.new result notices.old notices.new }
+{
+    match call.object() {
+        Some(id) => serve_one(store, &mut all[id.place()], id, caller, call, notices),
+        None => no_entry(store, all, call),
+    }
+}

@@ -1,0 +1,36 @@
+ghost use Rattle.std.specs.Prelude.{◌≡◌, [], length};
+ghost use Rattle.apex_types.specs.Callers.{IsReady};
+ghost use Rattle.apex_types.specs.Dues.{HasTime};
+ghost use Rattle.apex_types.specs.Rows.{Leaves};
+ghost use Rattle.apex_types.specs.Stamps.{HasStamps};
+ghost use Rattle.apex_types.specs.Waiting.{wait_for};
+
+use crate::dues::due_after;
+use crate::store::Store;
+use apex_types::{ProcessId, Reply, ReturnCode, Timeout, Wait};
+
+/// The process, which calls, waits for the object, for the time in ticks that it may.
+/// NOT_AVAILABLE where it may not wait.
+#[tactic(auto, using(apex_types::proofs::Starts::eligible_may_wait))]
+pub fn wait_for<S: Store, O>(
+    store: &mut S,
+    object: &O,
+    process: ProcessId,
+    wait: Wait,
+    timeout: Timeout,
+) -> Reply
+    requires ready { IsReady (S.roster store.old) process }
+    requires stamps { HasStamps (S.roster store.old) }
+    requires time { HasTime (S.roster store.old) }
+    ensures { Leaves (wait_for (S.roster store.old) object.now process wait timeout)
+        (S.roster store.new) object.now result [] [] }
+{
+    match timeout {
+        Timeout::Poll => Reply::Code(ReturnCode::NotAvailable),
+        Timeout::Ticks(_) | Timeout::Infinite => {
+            let due = due_after(store, timeout);
+            store.block(process, wait, due);
+            Reply::Blocked
+        }
+    }
+}
