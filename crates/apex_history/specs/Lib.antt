@@ -1,4 +1,1 @@
-pub mod Counted
-pub mod FailAt
 pub mod Log
-pub mod Page

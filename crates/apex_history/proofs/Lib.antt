@@ -1,3 +1,0 @@
-pub mod LinesOf
-pub mod Outcomes
-pub mod Passing
