@@ -3,9 +3,10 @@ use Rattle.std.specs.Prelude.{◌≡◌, ℕ, ◌+◌, ◌≤◌, ◌<◌, Bool,
 use Rattle.apex_types.specs.declared.Call.{Call}
 use Rattle.apex_types.specs.declared.Call.TheVariants as call
 use Rattle.apex_types.specs.declared.Entry.{Entry}
-use Rattle.apex_types.specs.declared.ProcessCall.TheVariants.{SuspendSelf}
+use Rattle.apex_types.specs.declared.CallerCall.TheVariants.{SuspendSelf}
+use Rattle.apex_types.specs.declared.ObjectCall.TheVariants.{Own}
 use Rattle.apex_types.specs.declared.Record.{Record}
-use Rattle.apex_types.specs.declared.SemaphoreCall.TheVariants.{WaitSemaphore}
+use Rattle.apex_types.specs.declared.SemaphoreService.TheVariants as semaphore
 use Rattle.apex_types.specs.declared.TimeCall.TheVariants.{TimedWait}
 use Rattle.apex_types.specs.declared.Wait.{Wait}
 use Rattle.apex_types.specs.declared.Wait.TheVariants.{Time, Semaphore}
@@ -37,9 +38,9 @@ AreBounded table history = (s : ℕ) → s < length table.semaphores →
 
 -- the wait that a call begins where it is not answered at once
 abbrev pub begins : Call → Option Wait
-begins (call.Semaphore (WaitSemaphore s timeout)) = Some (Semaphore s)
+begins (call.Semaphore (Own s (semaphore.Wait timeout))) = Some (Semaphore s)
 begins (call.Time (TimedWait timeout)) = Some Time
-begins (call.Process (SuspendSelf timeout)) = Some Time
+begins (call.Caller (SuspendSelf timeout)) = Some Time
 begins _ = None
 
 -- a wait that the process asked for itself, and not that for its start

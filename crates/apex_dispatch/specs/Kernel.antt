@@ -3,8 +3,8 @@ use Rattle.std.specs.Prelude.{◌≡◌, ℕ, List, All}
 use Rattle.apex_types.specs.declared.Entry.{Entry}
 use Rattle.apex_types.specs.Table.{Table, IsLawful}
 use Rattle.apex_types.specs.Roster.{Roster}
-use Rattle.apex_types.specs.History.{Objects, objects_after, init_count}
-use Rattle.apex_types.specs.Machine.{Machine, events_of, machine_with, replay}
+use Rattle.apex_types.specs.History.{init_count}
+use Rattle.apex_types.specs.Machine.{Machine, Objects, objects_after, events_of, machine_with, replay}
 use Rattle.apex_dispatch.specs.Events.{IsWithin}
 
 -- a kernel: its table, the machine's state, and the running values of its objects

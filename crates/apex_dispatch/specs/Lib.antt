@@ -1,5 +1,6 @@
 pub mod Premises
 pub mod AskedWaits
+pub mod Deeds
 pub mod Kernel
 pub mod Events
 pub mod States

@@ -1,14 +1,15 @@
 -- Worked histories: small tables and events, and the lines that the definitions give for them.
 use Rattle.std.specs.Prelude.{◌≡◌, ℕ, true, false, List, [], ◌∷◌, codes, flat_map, replicate, ◌++◌}
 use Rattle.apex_types.specs.declared.Call.{Call}
-use Rattle.apex_types.specs.declared.Call.TheVariants.{Partition, Process, Time, Semaphore}
+use Rattle.apex_types.specs.declared.Call.TheVariants.{Partition, Process, Caller, Time, Semaphore}
 use Rattle.apex_types.specs.declared.Discipline.TheVariants.{Fifo, Priority}
-use Rattle.apex_types.specs.declared.NamedProcess.TheVariants as process
-use Rattle.apex_types.specs.declared.NamedSemaphore.TheVariants as semaphore
+use Rattle.apex_types.specs.declared.CallerCall.TheVariants.{SuspendSelf, GetMyId}
+use Rattle.apex_types.specs.declared.Named.TheVariants.{Known, Unknown}
+use Rattle.apex_types.specs.declared.ObjectCall.TheVariants.{Create, GetStatus, Own}
 use Rattle.apex_types.specs.declared.PartitionCall.TheVariants.{SetPartitionMode}
 use Rattle.apex_types.specs.declared.RequestedMode.TheVariants.{Idle, Normal}
-use Rattle.apex_types.specs.declared.ProcessCall.TheVariants.{CreateProcess, InitializeProcessCoreAffinity, SetPriority, Start, DelayedStart, Suspend, Resume, SuspendSelf, GetMyId, GetProcessStatus}
-use Rattle.apex_types.specs.declared.SemaphoreCall.TheVariants.{CreateSemaphore, WaitSemaphore, SignalSemaphore, GetSemaphoreStatus}
+use Rattle.apex_types.specs.declared.ProcessService.TheVariants.{InitializeCoreAffinity, SetPriority, Start, DelayedStart, Suspend, Resume}
+use Rattle.apex_types.specs.declared.SemaphoreService.TheVariants.{Wait, Signal}
 use Rattle.apex_types.specs.declared.TimeCall.TheVariants.{TimedWait, GetTime}
 use Rattle.apex_types.specs.declared.Timeout.TheVariants.{Poll, Ticks, Infinite}
 use Rattle.apex_types.specs.declared.Event.{Event}
@@ -28,14 +29,14 @@ waiter_and_signaller = record {
   cores = 2;
   limit = 4096;
   processes =
-      starts (codes "P1") 10 0 (Semaphore (WaitSemaphore 0 Infinite) ∷ [])
-      ∷ starts (codes "P2") 10 1 (Semaphore (SignalSemaphore 0) ∷ []) ∷ [];
+      starts (codes "P1") 10 0 (Semaphore (Own 0 (Wait Infinite)) ∷ [])
+      ∷ starts (codes "P2") 10 1 (Semaphore (Own 0 Signal) ∷ []) ∷ [];
   semaphores = (record { name = codes "S"; maximum = 1; initial = 0; discipline = Fifo }) ∷ [];
   init =
-      Semaphore (CreateSemaphore (semaphore.Known 0))
-      ∷ Process (CreateProcess (process.Known 0)) ∷ Process (InitializeProcessCoreAffinity 0 0)
-      ∷ Process (CreateProcess (process.Known 1)) ∷ Process (InitializeProcessCoreAffinity 1 1)
-      ∷ Process (Start 0) ∷ Process (Start 1)
+      Semaphore (Create (Known 0))
+      ∷ Process (Create (Known 0)) ∷ Process (Own 0 (InitializeCoreAffinity 0))
+      ∷ Process (Create (Known 1)) ∷ Process (Own 1 (InitializeCoreAffinity 1))
+      ∷ Process (Own 0 Start) ∷ Process (Own 1 Start)
       ∷ Partition (SetPartitionMode Normal) ∷ [];
 }
 
@@ -47,7 +48,7 @@ empty_script = record {
   processes = starts (codes "P") 10 0 [] ∷ [];
   semaphores = [];
   init =
-      Process (CreateProcess (process.Known 0)) ∷ Process (InitializeProcessCoreAffinity 0 0) ∷ Process (Start 0)
+      Process (Create (Known 0)) ∷ Process (Own 0 (InitializeCoreAffinity 0)) ∷ Process (Own 0 Start)
       ∷ Partition (SetPartitionMode Normal) ∷ [];
 }
 
@@ -105,8 +106,8 @@ timed_waiter = record {
   cores = 2;
   limit = 4096;
   processes =
-      starts (codes "P1") 10 0 (Semaphore (WaitSemaphore 0 (Ticks 5)) ∷ [])
-      ∷ starts (codes "P2") 10 1 (Semaphore (SignalSemaphore 0) ∷ Semaphore (GetSemaphoreStatus 0) ∷ []) ∷ [];
+      starts (codes "P1") 10 0 (Semaphore (Own 0 (Wait (Ticks 5))) ∷ [])
+      ∷ starts (codes "P2") 10 1 (Semaphore (Own 0 Signal) ∷ Semaphore (GetStatus 0) ∷ []) ∷ [];
   semaphores = (record { name = codes "S"; maximum = 1; initial = 0; discipline = Fifo }) ∷ [];
   init = waiter_and_signaller.init;
 }
@@ -127,15 +128,15 @@ three_timers = record {
   cores = 1;
   limit = 4096;
   processes =
-      starts (codes "A") 10 0 (Time (TimedWait (Ticks 9)) ∷ Process GetMyId ∷ [])
+      starts (codes "A") 10 0 (Time (TimedWait (Ticks 9)) ∷ Caller GetMyId ∷ [])
       ∷ starts (codes "B") 10 0 (Time (TimedWait (Ticks 9)) ∷ [])
       ∷ starts (codes "C") 5 0 (Time (TimedWait (Ticks 4)) ∷ []) ∷ [];
   semaphores = [];
   init =
-      Process (CreateProcess (process.Known 0)) ∷ Process (InitializeProcessCoreAffinity 0 0)
-      ∷ Process (CreateProcess (process.Known 1)) ∷ Process (InitializeProcessCoreAffinity 1 0)
-      ∷ Process (CreateProcess (process.Known 2)) ∷ Process (InitializeProcessCoreAffinity 2 0)
-      ∷ Process (Start 0) ∷ Process (Start 1) ∷ Process (Start 2)
+      Process (Create (Known 0)) ∷ Process (Own 0 (InitializeCoreAffinity 0))
+      ∷ Process (Create (Known 1)) ∷ Process (Own 1 (InitializeCoreAffinity 0))
+      ∷ Process (Create (Known 2)) ∷ Process (Own 2 (InitializeCoreAffinity 0))
+      ∷ Process (Own 0 Start) ∷ Process (Own 1 Start) ∷ Process (Own 2 Start)
       ∷ Partition (SetPartitionMode Normal) ∷ [];
 }
 
@@ -167,13 +168,13 @@ delayed_starter = record {
   cores = 1;
   limit = 4096;
   processes =
-      starts (codes "A") 10 0 (Process (DelayedStart 1 (Ticks 3)) ∷ [])
+      starts (codes "A") 10 0 (Process (Own 1 (DelayedStart (Ticks 3))) ∷ [])
       ∷ (record { name = codes "B"; priority = 20; core = 0; loops = false; start = false; script = Time GetTime ∷ [] }) ∷ [];
   semaphores = [];
   init =
-      Process (CreateProcess (process.Known 0)) ∷ Process (InitializeProcessCoreAffinity 0 0)
-      ∷ Process (CreateProcess (process.Known 1)) ∷ Process (InitializeProcessCoreAffinity 1 0)
-      ∷ Process (Start 0) ∷ Partition (SetPartitionMode Normal) ∷ [];
+      Process (Create (Known 0)) ∷ Process (Own 0 (InitializeCoreAffinity 0))
+      ∷ Process (Create (Known 1)) ∷ Process (Own 1 (InitializeCoreAffinity 0))
+      ∷ Process (Own 0 Start) ∷ Partition (SetPartitionMode Normal) ∷ [];
 }
 
 -- a delayed start releases its process when the delay has passed, and no earlier
@@ -198,16 +199,16 @@ ranked_waiters = record {
   cores = 2;
   limit = 4096;
   processes =
-      starts (codes "A") 10 0 (Semaphore (WaitSemaphore 0 Infinite) ∷ [])
-      ∷ starts (codes "B") 20 1 (Semaphore (WaitSemaphore 0 Infinite) ∷ [])
-      ∷ starts (codes "D") 5 0 (Process (SetPriority 0 20) ∷ Semaphore (SignalSemaphore 0) ∷ []) ∷ [];
+      starts (codes "A") 10 0 (Semaphore (Own 0 (Wait Infinite)) ∷ [])
+      ∷ starts (codes "B") 20 1 (Semaphore (Own 0 (Wait Infinite)) ∷ [])
+      ∷ starts (codes "D") 5 0 (Process (Own 0 (SetPriority 20)) ∷ Semaphore (Own 0 Signal) ∷ []) ∷ [];
   semaphores = (record { name = codes "Q"; maximum = 1; initial = 0; discipline = Priority }) ∷ [];
   init =
-      Semaphore (CreateSemaphore (semaphore.Known 0))
-      ∷ Process (CreateProcess (process.Known 0)) ∷ Process (InitializeProcessCoreAffinity 0 0)
-      ∷ Process (CreateProcess (process.Known 1)) ∷ Process (InitializeProcessCoreAffinity 1 1)
-      ∷ Process (CreateProcess (process.Known 2)) ∷ Process (InitializeProcessCoreAffinity 2 0)
-      ∷ Process (Start 0) ∷ Process (Start 1) ∷ Process (Start 2)
+      Semaphore (Create (Known 0))
+      ∷ Process (Create (Known 0)) ∷ Process (Own 0 (InitializeCoreAffinity 0))
+      ∷ Process (Create (Known 1)) ∷ Process (Own 1 (InitializeCoreAffinity 1))
+      ∷ Process (Create (Known 2)) ∷ Process (Own 2 (InitializeCoreAffinity 0))
+      ∷ Process (Own 0 Start) ∷ Process (Own 1 Start) ∷ Process (Own 2 Start)
       ∷ Partition (SetPartitionMode Normal) ∷ [];
 }
 
@@ -238,8 +239,8 @@ suspended_waiter = record {
   cores = 2;
   limit = 4096;
   processes =
-      starts (codes "P1") 10 0 (Semaphore (WaitSemaphore 0 Infinite) ∷ [])
-      ∷ starts (codes "P2") 10 1 (Process (Suspend 0) ∷ Semaphore (SignalSemaphore 0) ∷ Process (GetProcessStatus 0) ∷ Process (Resume 0) ∷ Process (GetProcessStatus 0) ∷ []) ∷ [];
+      starts (codes "P1") 10 0 (Semaphore (Own 0 (Wait Infinite)) ∷ [])
+      ∷ starts (codes "P2") 10 1 (Process (Own 0 Suspend) ∷ Semaphore (Own 0 Signal) ∷ Process (GetStatus 0) ∷ Process (Own 0 Resume) ∷ Process (GetStatus 0) ∷ []) ∷ [];
   semaphores = (record { name = codes "S"; maximum = 1; initial = 0; discipline = Fifo }) ∷ [];
   init = waiter_and_signaller.init;
 }
@@ -262,7 +263,7 @@ self_suspender = record {
   cores = 1;
   limit = 4096;
   processes =
-      starts (codes "A") 10 0 (Process (SuspendSelf (Ticks 3)) ∷ Process (SuspendSelf Poll) ∷ []) ∷ [];
+      starts (codes "A") 10 0 (Caller (SuspendSelf (Ticks 3)) ∷ Caller (SuspendSelf Poll) ∷ []) ∷ [];
   semaphores = [];
   init = empty_script.init;
 }
@@ -286,12 +287,12 @@ own_init_list = record {
   cores = 1;
   limit = 4096;
   processes =
-      starts (codes "P") 10 0 (Process (CreateProcess (process.Known 0)) ∷ Partition (SetPartitionMode Idle) ∷ []) ∷ [];
+      starts (codes "P") 10 0 (Process (Create (Known 0)) ∷ Partition (SetPartitionMode Idle) ∷ []) ∷ [];
   semaphores = [];
   init =
-      Process (CreateProcess (process.Known 0)) ∷ Process (CreateProcess (process.Known 0))
-      ∷ Process (CreateProcess (process.Unknown (codes "Q"))) ∷ Process (InitializeProcessCoreAffinity 0 1)
-      ∷ Process (Start 0) ∷ Partition (SetPartitionMode Normal) ∷ [];
+      Process (Create (Known 0)) ∷ Process (Create (Known 0))
+      ∷ Process (Create (Unknown (codes "Q"))) ∷ Process (Own 0 (InitializeCoreAffinity 1))
+      ∷ Process (Own 0 Start) ∷ Partition (SetPartitionMode Normal) ∷ [];
 }
 
 -- refused init steps change nothing, and in IDLE nothing runs

@@ -1,24 +1,52 @@
-ghost use Rattle.std.specs.Prelude.{◌≡◌, ◌<◌, ◌≤◌, [], length, Some};
+ghost use Rattle.std.specs.Prelude.{◌≡◌, ◌<◌, ◌≤◌, length, Some};
 ghost use Rattle.std.specs.Option.{ForSome};
-ghost use Rattle.apex_types.specs.Callers.{IsReady};
+ghost use Rattle.apex_types.specs.Callers.{IsReady, IsReadyCaller};
 ghost use Rattle.apex_types.specs.Dues.{HasTime};
+ghost use Rattle.apex_types.specs.Machine.{chosen_deed, next_place, served, turn_deed};
 ghost use Rattle.apex_types.specs.Stamps.{HasOrderlyStarts};
 ghost use Rattle.apex_types.specs.Table.{IsKnown};
-ghost use Rattle.apex_types.specs.Machine.{chosen_deed, next_place, turn_deed};
-ghost use Rattle.apex_dispatch.specs.Premises.{HasManyStamps};
+ghost use Rattle.apex_dispatch.specs.Deeds.{Does};
+ghost use Rattle.apex_dispatch.specs.Premises.{AreOf, HasManyStamps, IsKnownTo};
 
 use crate::objects::Objects;
 use crate::services::serve;
 use apex_store::Store;
 use apex_table::{Process, Table};
-use apex_types::{Call, Caller, CoreId, Notices, ProcessCall, ProcessId, Reply};
+use apex_types::{Call, Caller, CallerCall, CoreId, Notices, ProcessId, Reply};
 
-/// A call that was carried out, and its reply; no call at an idle turn.
+/// A call that was carried out, and its reply; no call at an idle turn and a tick.
 #[derive(Drop)]
 pub(crate) struct Deed {
     pub(crate) caller: Caller,
     pub(crate) call: Option<Call>,
     pub(crate) reply: Reply,
+}
+
+/// Carries out the caller's call.
+fn ask<S: Store>(
+    store: &mut S,
+    objects: &mut Objects,
+    caller: Caller,
+    call: Call,
+    notices: &mut Notices,
+) -> Deed
+    requires few { length (S.roster store.old).records ≤ 32 }
+    requires many { length objects.old.processes ≡ length (S.roster store.old).records }
+    requires caller { IsReadyCaller (S.roster store.old) caller }
+    requires known { IsKnownTo objects.old call }
+    requires starts { HasOrderlyStarts (S.roster store.old) }
+    requires stamps { HasManyStamps (S.roster store.old) }
+    requires time { HasTime (S.roster store.old) }
+    requires room { length notices.old ≤ 32 }
+    ensures { Does (served (S.roster store.old) objects.old caller call)
+        result.caller result.call result.reply (S.roster store.new) objects.new notices.old notices.new }
+{
+    let reply = serve(store, objects, &caller, &call, notices);
+    Deed {
+        caller,
+        call: Some(call),
+        reply,
+    }
 }
 
 /// The place after this one: a looping script is at its first step again after its last one.
@@ -44,18 +72,13 @@ fn carry_out_step<S: Store>(
     requires process { process < length table.now.processes }
     requires ready { IsReady (S.roster store.old) process }
     requires records { length (S.roster store.old).records ≡ length table.now.processes }
-    requires processes { length objects.old.processes ≡ length table.now.processes }
-    requires semaphores { length objects.old.semaphores ≡ length table.now.semaphores }
+    requires objects { AreOf table.now objects.old }
     requires starts { HasOrderlyStarts (S.roster store.old) }
     requires stamps { HasManyStamps (S.roster store.old) }
     requires time { HasTime (S.roster store.old) }
-    requires quiet { notices.old ≡ [] }
-    ensures roster { S.roster store.new ≡ (chosen_deed table.now (S.roster store.old) objects.old (Some process)).outcome.roster }
-    ensures objects { objects.new ≡ (chosen_deed table.now (S.roster store.old) objects.old (Some process)).outcome.objects }
-    ensures notices { notices.new ≡ (chosen_deed table.now (S.roster store.old) objects.old (Some process)).outcome.notices }
-    ensures reply { result.reply ≡ (chosen_deed table.now (S.roster store.old) objects.old (Some process)).outcome.reply }
-    ensures caller { result.caller ≡ (chosen_deed table.now (S.roster store.old) objects.old (Some process)).caller }
-    ensures call { result.call ≡ (chosen_deed table.now (S.roster store.old) objects.old (Some process)).call }
+    requires room { length notices.old ≤ 32 }
+    ensures { Does (chosen_deed table.now (S.roster store.old) objects.old (Some process))
+        result.caller result.call result.reply (S.roster store.new) objects.new notices.old notices.new }
 {
     table.lawful();
     let caller = Caller::Process(process);
@@ -63,22 +86,9 @@ fn carry_out_step<S: Store>(
     match table.process(process).step(usize::from(step)) {
         Some(call) => {
             store.set_step(process, next_place(table.process(process), step));
-            let reply = serve(table.cores(), store, objects, &caller, &call, notices);
-            Deed {
-                caller,
-                call: Some(call),
-                reply,
-            }
+            ask(store, objects, caller, call, notices)
         }
-        None => {
-            let call = Call::Process(ProcessCall::StopSelf);
-            let reply = serve(table.cores(), store, objects, &caller, &call, notices);
-            Deed {
-                caller,
-                call: Some(call),
-                reply,
-            }
-        }
+        None => ask(store, objects, caller, Call::Caller(CallerCall::StopSelf), notices),
     }
 }
 
@@ -93,28 +103,17 @@ pub(crate) fn carry_out<S: Store>(
 ) -> Deed
     requires due { ForSome due (IsKnown table.now) }
     requires records { length (S.roster store.old).records ≡ length table.now.processes }
-    requires processes { length objects.old.processes ≡ length table.now.processes }
-    requires semaphores { length objects.old.semaphores ≡ length table.now.semaphores }
+    requires objects { AreOf table.now objects.old }
     requires starts { HasOrderlyStarts (S.roster store.old) }
     requires stamps { HasManyStamps (S.roster store.old) }
     requires time { HasTime (S.roster store.old) }
-    requires quiet { notices.old ≡ [] }
-    ensures roster { S.roster store.new ≡ (turn_deed table.now (S.roster store.old) objects.old core due).outcome.roster }
-    ensures objects { objects.new ≡ (turn_deed table.now (S.roster store.old) objects.old core due).outcome.objects }
-    ensures notices { notices.new ≡ (turn_deed table.now (S.roster store.old) objects.old core due).outcome.notices }
-    ensures reply { result.reply ≡ (turn_deed table.now (S.roster store.old) objects.old core due).outcome.reply }
-    ensures caller { result.caller ≡ (turn_deed table.now (S.roster store.old) objects.old core due).caller }
-    ensures call { result.call ≡ (turn_deed table.now (S.roster store.old) objects.old core due).call }
+    requires room { length notices.old ≤ 32 }
+    ensures { Does (turn_deed table.now (S.roster store.old) objects.old core due)
+        result.caller result.call result.reply (S.roster store.new) objects.new notices.old notices.new }
 {
     if let Some(call) = due {
         table.lawful();
-        let caller = Caller::Init;
-        let reply = serve(table.cores(), store, objects, &caller, &call, notices);
-        return Deed {
-            caller,
-            call: Some(call),
-            reply,
-        };
+        return ask(store, objects, Caller::Init, call, notices);
     }
     match store.chosen(core) {
         Some(process) => carry_out_step(table, store, objects, process, notices),

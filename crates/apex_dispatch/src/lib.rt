@@ -5,17 +5,8 @@ mod deeds;
 mod kernels;
 mod laws;
 mod objects;
-mod others;
-mod own;
-mod partitions;
-mod priorities;
-mod processes;
 mod services;
-mod statuses;
-#[cfg(test)]
-mod tests;
 mod ticks;
-mod times;
 
 pub use kernels::Kernel;
 pub use laws::{

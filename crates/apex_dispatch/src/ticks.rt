@@ -1,6 +1,6 @@
 ghost use Rattle.std.specs.Prelude.{◌≡◌, ◌+◌, ◌-◌, ◌<◌, ◌≤◌, ◌^◌, [], ◌++◌, length};
 ghost use Rattle.apex_types.specs.Dues.{HasNoPastDue, HasTime};
-ghost use Rattle.apex_types.specs.Roster.{record_at};
+ghost use Rattle.apex_types.specs.InTurn.{Makes};
 ghost use Rattle.apex_types.specs.Stamps.{HasOrderlyStarts, HasStamps};
 ghost use Rattle.apex_types.specs.Ticks as ticks;
 ghost use Rattle.apex_dispatch.specs.Premises.{HasManyStamps};
@@ -28,12 +28,12 @@ fn tick_goal<S: Store>(store: &S, n: u32) -> u64
 
 /// The wait of a process ends at its due, by what it waited for; where it waits for nothing, its
 /// suspension of itself ends.
-fn end_wait<S: Store>(store: &mut S, process: ProcessId, wait: Option<Wait>, notices: &mut Notices)
+fn wait_over<S: Store>(store: &mut S, process: ProcessId, wait: Option<Wait>, notices: &mut Notices)
     requires known { process < length (S.roster store.old).records }
     requires stamps { HasStamps (S.roster store.old) }
     requires room { length notices.old < 64 }
-    ensures roster { S.roster store.new ≡ (ticks.wait_over (S.roster store.old) process wait).roster }
-    ensures notices { notices.new ≡ notices.old ++ (ticks.wait_over (S.roster store.old) process wait).notices }
+    ensures { Makes (ticks.wait_over (S.roster store.old) process wait)
+        (S.roster store.new) notices.old notices.new }
 {
     match wait {
         Some(Wait::Time) => {
@@ -56,15 +56,15 @@ fn serve_dues<S: Store>(store: &mut S, notices: &mut Notices)
     requires few { length (S.roster store.old).records ≤ 32 }
     requires starts { HasOrderlyStarts (S.roster store.old) }
     requires stamps { HasManyStamps (S.roster store.old) }
-    requires quiet { notices.old ≡ [] }
-    ensures roster { S.roster store.new ≡ (ticks.serve_dues (S.roster store.old)).roster }
-    ensures notices { notices.new ≡ (ticks.serve_dues (S.roster store.old)).notices }
+    requires room { length notices.old ≤ 32 }
+    ensures { Makes (ticks.serve_dues (S.roster store.old))
+        (S.roster store.new) notices.old notices.new }
 {
     for turn in 0..store.process_count() {
         match store.take_due() {
             Some(process) => {
                 let wait = store.record(process).wait;
-                end_wait(store, process, wait, notices);
+                wait_over(store, process, wait, notices);
             }
             None => return,
         }
@@ -80,9 +80,9 @@ pub(crate) fn pass_time<S: Store>(store: &mut S, n: u32, notices: &mut Notices) 
     requires stamps { HasManyStamps (S.roster store.old) }
     requires near { (S.roster store.old).now + n ≤ 2 ^ 36 }
     requires dues { HasNoPastDue (S.roster store.old) }
-    requires quiet { notices.old ≡ [] }
-    ensures roster { S.roster store.new ≡ (ticks.pass_time (S.roster store.old) n).roster }
-    ensures notices { notices.new ≡ (ticks.pass_time (S.roster store.old) n).notices }
+    requires room { length notices.old ≤ 32 }
+    ensures changes { Makes (ticks.pass_time (S.roster store.old) n)
+        (S.roster store.new) notices.old notices.new }
     ensures went { result ≡ ticks.tick_goal (S.roster store.old) n - (S.roster store.old).now }
 {
     let before = store.now();

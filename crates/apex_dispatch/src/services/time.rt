@@ -1,20 +1,29 @@
-ghost use Rattle.std.specs.Prelude.{◌≡◌, ◌<◌, length};
+//! The services of time management.
+
+ghost use Rattle.std.specs.Prelude.{◌≡◌, []};
 ghost use Rattle.apex_types.specs.Callers.{IsReady, IsReadyCaller};
 ghost use Rattle.apex_types.specs.Dues.{HasTime};
+ghost use Rattle.apex_types.specs.Rows.{Leaves};
 ghost use Rattle.apex_types.specs.Stamps.{HasStamps};
 ghost use Rattle.apex_types.specs.TimeServices as services;
 
+use crate::objects::Objects;
 use apex_store::{Store, due_after};
 use apex_types::{Caller, ProcessId, Reply, ReturnCode, TimeCall, Timeout, Wait};
 
-/// TIMED_WAIT by a process.
+/// TIMED_WAIT by a process. INVALID_PARAM where the time is infinite.
 #[tactic(auto, using(apex_types::proofs::Starts::eligible_may_wait))]
-fn timed_wait<S: Store>(store: &mut S, process: ProcessId, timeout: Timeout) -> Reply
+fn timed_wait<S: Store>(
+    store: &mut S,
+    objects: &Objects,
+    process: ProcessId,
+    timeout: Timeout,
+) -> Reply
     requires ready { IsReady (S.roster store.old) process }
     requires stamps { HasStamps (S.roster store.old) }
     requires time { HasTime (S.roster store.old) }
-    ensures roster { S.roster store.new ≡ (services.timed_wait (S.roster store.old) process timeout).roster }
-    ensures reply { result ≡ (services.timed_wait (S.roster store.old) process timeout).reply }
+    ensures { Leaves (services.timed_wait (S.roster store.old) objects.now timeout process)
+        (S.roster store.new) objects.now result [] [] }
 {
     match timeout {
         Timeout::Poll => {
@@ -30,17 +39,23 @@ fn timed_wait<S: Store>(store: &mut S, process: ProcessId, timeout: Timeout) -> 
     }
 }
 
-/// Carries out a call of a service of time management.
-pub(crate) fn serve_time<S: Store>(store: &mut S, caller: &Caller, call: &TimeCall) -> Reply
+/// Carries out a call of a service of time management. INVALID_MODE where TIMED_WAIT has no process
+/// that calls.
+pub(crate) fn serve<S: Store>(
+    store: &mut S,
+    objects: &Objects,
+    caller: &Caller,
+    call: &TimeCall,
+) -> Reply
     requires caller { IsReadyCaller (S.roster store.old) caller.now }
     requires stamps { HasStamps (S.roster store.old) }
     requires time { HasTime (S.roster store.old) }
-    ensures roster { S.roster store.new ≡ (services.time_service (S.roster store.old) caller.now call.now).roster }
-    ensures reply { result ≡ (services.time_service (S.roster store.old) caller.now call.now).reply }
+    ensures { Leaves (services.time_service (S.roster store.old) objects.now caller.now call.now)
+        (S.roster store.new) objects.now result [] [] }
 {
     match call {
         TimeCall::TimedWait(timeout) => match caller {
-            Caller::Process(process) => timed_wait(store, *process, *timeout),
+            Caller::Process(process) => timed_wait(store, objects, *process, *timeout),
             Caller::Init | Caller::Nobody => Reply::Code(ReturnCode::InvalidMode),
         },
         TimeCall::GetTime => Reply::Value(store.now()),

@@ -1,11 +1,15 @@
+//! The services of partition management.
+
 ghost use Rattle.std.specs.Prelude.{◌≡◌, ◌<◌, ◌≤◌, true, false, [], ◌++◌, length, IfSome};
 ghost use Rattle.apex_types.specs.Dues.{HasTime};
-ghost use Rattle.apex_types.specs.Roster.{is_normal, record_at};
-ghost use Rattle.apex_types.specs.Stamps.{HasOrderlyStarts, HasStamps, may_wait};
+ghost use Rattle.apex_types.specs.InTurn.{Makes};
 ghost use Rattle.apex_types.specs.PartitionServices as services;
+ghost use Rattle.apex_types.specs.Roster.{is_normal, record_at};
+ghost use Rattle.apex_types.specs.Rows.{Leaves};
+ghost use Rattle.apex_types.specs.Stamps.{HasOrderlyStarts, HasStamps, may_wait};
 ghost use Rattle.apex_dispatch.specs.Premises.{HasManyStamps};
 
-use crate::statuses::mode_number;
+use crate::objects::Objects;
 use apex_store::Store;
 use apex_types::{
     Mode, Notice, Notices, PartitionCall, ProcessId, Queue, Reply, RequestedMode, ReturnCode, Wait,
@@ -30,8 +34,8 @@ fn begin_waiter<S: Store>(store: &mut S, process: ProcessId, notices: &mut Notic
     requires stamps { HasStamps (S.roster store.old) }
     requires time { HasTime (S.roster store.old) }
     requires room { length notices.old < 64 }
-    ensures roster { S.roster store.new ≡ (services.begin_waiter (S.roster store.old) process).roster }
-    ensures notices { notices.new ≡ notices.old ++ (services.begin_waiter (S.roster store.old) process).notices }
+    ensures { Makes (services.begin_waiter (S.roster store.old) process)
+        (S.roster store.new) notices.old notices.new }
 {
     let delay = delay_of(store.record(process).wait);
     if delay == 0 {
@@ -59,9 +63,9 @@ fn enter_normal<S: Store>(store: &mut S, notices: &mut Notices)
     requires starts { HasOrderlyStarts (S.roster store.old) }
     requires stamps { HasManyStamps (S.roster store.old) }
     requires time { HasTime (S.roster store.old) }
-    requires quiet { notices.old ≡ [] }
-    ensures roster { S.roster store.new ≡ (services.enter_normal (S.roster store.old)).roster }
-    ensures notices { notices.new ≡ (services.enter_normal (S.roster store.old)).notices }
+    requires room { length notices.old ≤ 32 }
+    ensures { Makes (services.enter_normal (S.roster store.old))
+        (S.roster store.new) notices.old notices.new }
 {
     store.set_mode(Mode::Normal);
     for turn in 0..store.process_count() {
@@ -83,9 +87,10 @@ fn enter_idle<S: Store>(store: &mut S)
     }
 }
 
-/// SET_PARTITION_MODE.
+/// SET_PARTITION_MODE. NO_ACTION where NORMAL is asked for in NORMAL.
 fn set_partition_mode<S: Store>(
     store: &mut S,
+    objects: &Objects,
     requested: RequestedMode,
     notices: &mut Notices,
 ) -> Reply
@@ -93,10 +98,9 @@ fn set_partition_mode<S: Store>(
     requires starts { HasOrderlyStarts (S.roster store.old) }
     requires stamps { HasManyStamps (S.roster store.old) }
     requires time { HasTime (S.roster store.old) }
-    requires quiet { notices.old ≡ [] }
-    ensures roster { S.roster store.new ≡ (services.set_partition_mode (S.roster store.old) requested).roster }
-    ensures reply { result ≡ (services.set_partition_mode (S.roster store.old) requested).reply }
-    ensures notices { notices.new ≡ (services.set_partition_mode (S.roster store.old) requested).notices }
+    requires room { length notices.old ≤ 32 }
+    ensures { Leaves (services.set_partition_mode (S.roster store.old) objects.now requested)
+        (S.roster store.new) objects.now result notices.old notices.new }
 {
     match requested {
         RequestedMode::Idle => {
@@ -113,10 +117,21 @@ fn set_partition_mode<S: Store>(
     }
 }
 
-/// Carries out a call of a service of partition management in a partition of `cores` cores.
-pub(crate) fn serve_partition<S: Store>(
-    cores: u8,
+/// The number of a mode (ARINC 653 Part 1).
+fn mode_number(mode: Mode) -> u64
+    ensures { result ≡ services.mode_number mode }
+{
+    match mode {
+        Mode::Idle => 0,
+        Mode::ColdStart => 1,
+        Mode::Normal => 3,
+    }
+}
+
+/// Carries out a call of a service of partition management.
+pub(crate) fn serve<S: Store>(
     store: &mut S,
+    objects: &Objects,
     call: &PartitionCall,
     notices: &mut Notices,
 ) -> Reply
@@ -124,17 +139,16 @@ pub(crate) fn serve_partition<S: Store>(
     requires starts { HasOrderlyStarts (S.roster store.old) }
     requires stamps { HasManyStamps (S.roster store.old) }
     requires time { HasTime (S.roster store.old) }
-    requires quiet { notices.old ≡ [] }
-    ensures roster { S.roster store.new ≡ (services.partition_service cores (S.roster store.old) call.now).roster }
-    ensures reply { result ≡ (services.partition_service cores (S.roster store.old) call.now).reply }
-    ensures notices { notices.new ≡ (services.partition_service cores (S.roster store.old) call.now).notices }
+    requires room { length notices.old ≤ 32 }
+    ensures { Leaves (services.partition_service (S.roster store.old) objects.now call.now)
+        (S.roster store.new) objects.now result notices.old notices.new }
 {
     match call {
         PartitionCall::SetPartitionMode(requested) => {
-            set_partition_mode(store, *requested, notices)
+            set_partition_mode(store, objects, *requested, notices)
         }
         PartitionCall::GetPartitionStatus => {
-            Reply::Status(mode_number(store.mode()), u64::from(cores))
+            Reply::Status(mode_number(store.mode()), u64::from(store.cores()))
         }
     }
 }

@@ -1,0 +1,15 @@
+-- What carrying out a deed leaves.
+use Rattle.std.specs.Prelude.{◌≡◌, List, Option}
+use Rattle.apex_types.specs.declared.Call.{Call}
+use Rattle.apex_types.specs.declared.Caller.{Caller}
+use Rattle.apex_types.specs.declared.Notice.{Notice}
+use Rattle.apex_types.specs.declared.Reply.{Reply}
+use Rattle.apex_types.specs.Machine.{Deed, Objects}
+use Rattle.apex_types.specs.Roster.{Roster}
+use Rattle.apex_types.specs.Rows.{Leaves}
+
+-- the deed was done: its caller, its call, and what its outcome leaves
+pub record Does (deed : Deed) (who : Caller) (asked : Option Call) (answer : Reply) (left : Roster) (objects : Objects) (before after : List Notice) : Type 0 where
+  pub caller : who ≡ deed.caller
+  pub call : asked ≡ deed.call
+  pub outcome : Leaves deed.outcome left objects answer before after

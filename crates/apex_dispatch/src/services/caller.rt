@@ -1,0 +1,80 @@
+//! The services of process management that a process asks for itself.
+
+ghost use Rattle.std.specs.Prelude.{◌≡◌, []};
+ghost use Rattle.apex_types.specs.CallerServices as services;
+ghost use Rattle.apex_types.specs.Callers.{IsReady, IsReadyCaller};
+ghost use Rattle.apex_types.specs.Dues.{HasTime};
+ghost use Rattle.apex_types.specs.Rows.{Leaves};
+ghost use Rattle.apex_types.specs.Stamps.{HasStamps};
+
+use crate::objects::Objects;
+use apex_store::{Store, due_after};
+use apex_types::{Caller, CallerCall, ProcessId, Reply, ReturnCode, Timeout};
+
+/// SUSPEND_SELF by a process.
+fn suspend_self<S: Store>(
+    store: &mut S,
+    objects: &Objects,
+    process: ProcessId,
+    timeout: Timeout,
+) -> Reply
+    requires ready { IsReady (S.roster store.old) process }
+    requires stamps { HasStamps (S.roster store.old) }
+    requires time { HasTime (S.roster store.old) }
+    ensures { Leaves (services.suspend_self (S.roster store.old) objects.now process timeout)
+        (S.roster store.new) objects.now result [] [] }
+{
+    match timeout {
+        Timeout::Poll => Reply::Code(ReturnCode::NoError),
+        Timeout::Ticks(_) | Timeout::Infinite => {
+            let due = due_after(store, timeout);
+            store.suspend_self(process, due);
+            Reply::Blocked
+        }
+    }
+}
+
+/// Carries out a service that the process asks for itself.
+fn serve_itself<S: Store>(
+    store: &mut S,
+    objects: &Objects,
+    process: ProcessId,
+    call: &CallerCall,
+) -> Reply
+    requires ready { IsReady (S.roster store.old) process }
+    requires stamps { HasStamps (S.roster store.old) }
+    requires time { HasTime (S.roster store.old) }
+    ensures { Leaves (services.service_by (S.roster store.old) objects.now call.now process)
+        (S.roster store.new) objects.now result [] [] }
+{
+    match call {
+        CallerCall::StopSelf => {
+            store.stop(process);
+            Reply::Gone
+        }
+        CallerCall::SuspendSelf(timeout) => suspend_self(store, objects, process, *timeout),
+        CallerCall::GetMyId => Reply::Value(u64::from(process.number())),
+        CallerCall::GetMyProcessorCoreId => {
+            Reply::Value(u64::from(store.record(process).core.number()))
+        }
+    }
+}
+
+/// Carries out a service that the caller asks for itself. INVALID_MODE where no process calls.
+pub(crate) fn serve<S: Store>(
+    store: &mut S,
+    objects: &Objects,
+    caller: &Caller,
+    call: &CallerCall,
+) -> Reply
+    requires caller { IsReadyCaller (S.roster store.old) caller.now }
+    requires stamps { HasStamps (S.roster store.old) }
+    requires time { HasTime (S.roster store.old) }
+    ensures { Leaves (services.caller_service (S.roster store.old) objects.now caller.now call.now)
+        (S.roster store.new) objects.now result [] [] }
+{
+    match caller {
+        Caller::Process(process) => serve_itself(store, objects, *process, call),
+        Caller::Init | Caller::Nobody => Reply::Code(ReturnCode::InvalidMode),
+    }
+}

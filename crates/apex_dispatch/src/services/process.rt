@@ -1,0 +1,268 @@
+//! The services of process management for a process that is named.
+
+ghost use Rattle.std.specs.Prelude.{◌≡◌, ◌<◌, [], ◌++◌, length, false};
+ghost use Rattle.apex_types.specs.Callers.{IsReadyCaller, is_by_process};
+ghost use Rattle.apex_types.specs.Dues.{HasTime};
+ghost use Rattle.apex_types.specs.ProcessServices as services;
+ghost use Rattle.apex_types.specs.Roster.{Roster};
+ghost use Rattle.apex_types.specs.Rows.{Leaves};
+ghost use Rattle.apex_types.specs.Stamps.{HasStamps};
+
+use apex_store::{Object, Store};
+use apex_types::{
+    Caller, CoreId, Notice, Notices, ProcessId, ProcessKind, ProcessService, Reply, ReturnCode,
+    State, Timeout,
+};
+use std::marker::Model;
+
+/// A process as its services see it, besides its record.
+#[derive(Clone, Copy, Debug)]
+pub(crate) struct ProcessObject {
+    created: bool,
+}
+
+impl Model for ProcessObject {
+    ghost use Rattle.apex_types.specs.ProcessServices.{ProcessObject};
+
+    ghost Value = { ProcessObject };
+
+    ghost view = { λ p. record { created = p.created } };
+
+    ghost inverse = { λ p. record { created = p.created } };
+}
+
+/// The process is the caller.
+fn is_by_process(process: ProcessId, caller: &Caller) -> bool
+    ensures { result ≡ is_by_process process caller.now }
+{
+    match caller {
+        Caller::Process(other) => process == *other,
+        Caller::Init | Caller::Nobody => false,
+    }
+}
+
+/// The number of a state (ARINC 653 Part 1).
+fn state_number(state: State) -> u64
+    ensures { result ≡ services.state_number state }
+{
+    match state {
+        State::Dormant => 0,
+        State::Ready => 1,
+        State::Running => 2,
+        State::Waiting => 3,
+    }
+}
+
+impl ProcessObject {
+    /// A process that isn't created yet.
+    pub(crate) fn new() -> ProcessObject
+        ensures { result ≡ record { created = false } }
+    {
+        ProcessObject { created: false }
+    }
+
+    /// INITIALIZE_PROCESS_CORE_AFFINITY: INVALID_MODE in NORMAL, INVALID_PARAM where the process
+    /// isn't created, INVALID_CONFIG where the partition has no such core.
+    #[tactic(auto, using(apex_types::proofs::Starts::early_ineligible))]
+    fn initialize_core_affinity<S: Store>(&self, store: &mut S, id: ProcessId, core: u8) -> Reply
+        requires known { id < length (S.roster store.old).records }
+        ensures { Leaves (services.initialize_core_affinity (S.roster store.old) self.now id core)
+            (S.roster store.new) self.now result [] [] }
+    {
+        if store.mode().is_normal() {
+            return Reply::Code(ReturnCode::InvalidMode);
+        }
+        if !self.created {
+            return Reply::Code(ReturnCode::InvalidParam);
+        }
+        if core >= store.cores() {
+            return Reply::Code(ReturnCode::InvalidConfig);
+        }
+        store.set_core(id, CoreId::new(core));
+        Reply::Code(ReturnCode::NoError)
+    }
+
+    /// SET_PRIORITY. INVALID_PARAM where the process isn't created or the priority is not from 1 to
+    /// 239, INVALID_MODE where the process is dormant.
+    fn set_priority<S: Store>(&self, store: &mut S, id: ProcessId, priority: u16) -> Reply
+        requires known { id < length (S.roster store.old).records }
+        requires stamps { HasStamps (S.roster store.old) }
+        ensures { Leaves (services.set_priority (S.roster store.old) self.now id priority)
+            (S.roster store.new) self.now result [] [] }
+    {
+        if !self.created || !(1..=239).contains(&priority) {
+            return Reply::Code(ReturnCode::InvalidParam);
+        }
+        if !store.record(id).started {
+            return Reply::Code(ReturnCode::InvalidMode);
+        }
+        store.set_priority(id, priority as u8);
+        Reply::Code(ReturnCode::NoError)
+    }
+
+    /// DELAYED_START, and START, whose delay is 0. INVALID_PARAM where the process isn't created or
+    /// the delay is infinite, NO_ACTION where the process is started.
+    fn start<S: Store>(
+        &self,
+        store: &mut S,
+        id: ProcessId,
+        delay: Timeout,
+        notices: &mut Notices,
+    ) -> Reply
+        requires known { id < length (S.roster store.old).records }
+        requires stamps { HasStamps (S.roster store.old) }
+        requires time { HasTime (S.roster store.old) }
+        requires room { length notices.old < 64 }
+        ensures { Leaves (services.start_process (S.roster store.old) self.now id delay)
+            (S.roster store.new) self.now result notices.old notices.new }
+    {
+        if !self.created {
+            return Reply::Code(ReturnCode::InvalidParam);
+        }
+        if store.record(id).started {
+            return Reply::Code(ReturnCode::NoAction);
+        }
+        let ticks = match delay {
+            Timeout::Poll => 0,
+            Timeout::Ticks(ticks) => ticks,
+            Timeout::Infinite => return Reply::Code(ReturnCode::InvalidParam),
+        };
+        if store.mode().is_normal() && ticks == 0 {
+            notices.push(Notice::Released(id));
+        }
+        store.start(id, ticks);
+        Reply::Code(ReturnCode::NoError)
+    }
+
+    /// STOP of another process. INVALID_PARAM where it is the caller or isn't created, NO_ACTION
+    /// where it is dormant.
+    fn stop<S: Store>(&self, store: &mut S, id: ProcessId, caller: &Caller) -> Reply
+        requires known { id < length (S.roster store.old).records }
+        ensures { Leaves (services.stop_process (S.roster store.old) self.now id caller.now)
+            (S.roster store.new) self.now result [] [] }
+    {
+        if is_by_process(id, caller) || !self.created {
+            return Reply::Code(ReturnCode::InvalidParam);
+        }
+        if !store.record(id).started {
+            return Reply::Code(ReturnCode::NoAction);
+        }
+        store.stop(id);
+        Reply::Code(ReturnCode::NoError)
+    }
+
+    /// SUSPEND of another process. INVALID_PARAM where it is the caller or isn't created,
+    /// INVALID_MODE where it is dormant, NO_ACTION where it is suspended.
+    fn suspend<S: Store>(&self, store: &mut S, id: ProcessId, caller: &Caller) -> Reply
+        requires known { id < length (S.roster store.old).records }
+        ensures { Leaves (services.suspend_process (S.roster store.old) self.now id caller.now)
+            (S.roster store.new) self.now result [] [] }
+    {
+        if is_by_process(id, caller) || !self.created {
+            return Reply::Code(ReturnCode::InvalidParam);
+        }
+        let row = store.record(id);
+        if !row.started {
+            return Reply::Code(ReturnCode::InvalidMode);
+        }
+        if row.suspended.is_some() {
+            return Reply::Code(ReturnCode::NoAction);
+        }
+        store.suspend(id);
+        Reply::Code(ReturnCode::NoError)
+    }
+
+    /// RESUME of another process, which is woken where it had suspended itself. INVALID_PARAM where
+    /// it is the caller or isn't created, INVALID_MODE where it is dormant, NO_ACTION where it is
+    /// not suspended.
+    fn resume<S: Store>(
+        &self,
+        store: &mut S,
+        id: ProcessId,
+        caller: &Caller,
+        notices: &mut Notices,
+    ) -> Reply
+        requires known { id < length (S.roster store.old).records }
+        requires stamps { HasStamps (S.roster store.old) }
+        requires room { length notices.old < 64 }
+        ensures { Leaves (services.resume_process (S.roster store.old) self.now id caller.now)
+            (S.roster store.new) self.now result notices.old notices.new }
+    {
+        if is_by_process(id, caller) || !self.created {
+            return Reply::Code(ReturnCode::InvalidParam);
+        }
+        let row = store.record(id);
+        if !row.started {
+            return Reply::Code(ReturnCode::InvalidMode);
+        }
+        if row.suspended.is_none() {
+            return Reply::Code(ReturnCode::NoAction);
+        }
+        if row.is_suspended_by_itself() {
+            notices.push(Notice::Woken(id, ReturnCode::NoError));
+        }
+        store.resume(id);
+        Reply::Code(ReturnCode::NoError)
+    }
+}
+
+impl Object for ProcessObject {
+    type Kind = ProcessKind;
+
+    type Own = ProcessService;
+
+    ghost use Rattle.std.specs.Prelude.{◌<◌, length};
+    ghost use Rattle.apex_types.specs.ProcessServices.{process_kind};
+    ghost use Rattle.apex_types.specs.Table.{ProcessEntry};
+
+    ghost Config = { ProcessEntry };
+
+    ghost kind = { process_kind };
+
+    ghost Stands = { λ roster p. p < length roster.records };
+
+    fn is_created(&self) -> bool {
+        self.created
+    }
+
+    fn make(&mut self) {
+        self.created = true;
+    }
+
+    fn status<S: Store>(&self, store: &S, id: ProcessId) -> Reply
+        requires stands { id < length (S.roster store.now).records }
+        ensures { result ≡ services.process_status (S.roster store.now) self.now id }
+    {
+        let state = state_number(store.state(id));
+        Reply::Status(state, u64::from(store.record(id).current_priority()))
+    }
+
+    fn serve<S: Store>(
+        &mut self,
+        store: &mut S,
+        id: ProcessId,
+        caller: &Caller,
+        service: &ProcessService,
+        notices: &mut Notices,
+    ) -> Reply
+        requires stands { id < length (S.roster store.old).records }
+        requires caller { IsReadyCaller (S.roster store.old) caller.now }
+        requires stamps { HasStamps (S.roster store.old) }
+        requires time { HasTime (S.roster store.old) }
+        requires room { length notices.old < 64 }
+        ensures { Leaves (services.process_own (S.roster store.old) self.old id caller.now service.now)
+            (S.roster store.new) self.new result notices.old notices.new }
+    {
+        match service {
+            ProcessService::InitializeCoreAffinity(core) => {
+                self.initialize_core_affinity(store, id, *core)
+            }
+            ProcessService::SetPriority(priority) => self.set_priority(store, id, *priority),
+            ProcessService::Start => self.start(store, id, Timeout::Poll, notices),
+            ProcessService::DelayedStart(delay) => self.start(store, id, *delay, notices),
+            ProcessService::Stop => self.stop(store, id, caller),
+            ProcessService::Suspend => self.suspend(store, id, caller),
+            ProcessService::Resume => self.resume(store, id, caller, notices),
+        }
+    }
+}
