@@ -1,7 +1,13 @@
 pub mod Truths
 pub mod Known
 pub mod Satisfied
-pub mod Values
 pub mod Effects
+pub mod Serving
+pub mod Things
+pub mod Values
+pub mod SemaphoresServe
+pub mod ProcessesServe
+pub mod OthersServe
+pub mod Exact
 pub mod Runs
 pub mod States
