@@ -124,6 +124,15 @@ created_named (GetId named) j e = refl
 created_named (GetStatus i) j e = refl
 created_named (Own i service) j e = refl
 
+-- the thing that a known call names is there
+known_at : {W : Type 0} (many : ℕ) (call : ObjectCall ℕ W) (i : ℕ) → object_of call ≡ Some i → IsKnownObject many call → i < many
+known_at many (Create (Known j)) i is known = rw (same_Some j i is) at known
+known_at many (Create (Unknown name)) i is known = absurd (none-some i is)
+known_at many (GetId (Known j)) i is known = rw (same_Some j i is) at known
+known_at many (GetId (Unknown name)) i is known = absurd (none-some i is)
+known_at many (GetStatus j) i is known = rw (same_Some j i is) at known
+known_at many (Own j service) i is known = rw (same_Some j i is) at known
+
 module _ {C X W : Type 0} (kind : KindOf C X W) (laws : LawsOf kind) (history : List Entry) (roster : Roster) (caller : Caller)
     (asked : AreAsked roster history) where
   abbrev Served : ObjectCall ℕ W → ℕ → C → Outcome X → Type 0
@@ -165,3 +174,97 @@ module _ {C X W : Type 0} (kind : KindOf C X W) (laws : LawsOf kind) (history : 
         (λ _. served_told (GetStatus j) (kind.status roster x i) (laws.status roster x i))
     served_object (Own j service) is scene stands =
         rw (same_Some j i is) (laws.own history roster caller i c service keeps asked scene stands)
+
+-- all objects of a kind, read off a history that keeps what it keeps of each
+module _ {C X W : Type 0} (kind : KindOf C X W) (laws : LawsOf kind) (history : List Entry) (configs : List C)
+    (keeps : (i : ℕ) → i < length configs → laws.Keeps history i (get_or configs i laws.nothing)) where
+  abbrev config : ℕ → C
+  config i = get_or configs i laws.nothing
+
+  abbrev objects : List X
+  objects = objects_of kind history configs
+
+  -- after one entry more the objects are these
+  pub record AreRead (e : Entry) (all : List X) : Type 0 where
+    pub are : objects_of kind (history ++ e ∷ []) configs ≡ all
+    pub kept : (i : ℕ) → i < length configs → laws.Keeps (history ++ e ∷ []) i (config i)
+
+  -- an entry that says nothing of any of them leaves them
+  all_stay : (e : Entry) → ((i : ℕ) → IsQuiet laws.names laws.creation i history e) → AreRead e objects
+  all_stay e quiet = record {
+    are = map_places_same (kind.after (history ++ e ∷ [])) (kind.after history) configs laws.nothing kind.absent
+        (λ i inside. (laws.stays history e i (config i) (keeps i inside) (quiet i)).is);
+    kept = λ i inside. (laws.stays history e i (config i) (keeps i inside) (quiet i)).kept;
+  }
+
+  -- the i-th changes, and the entry says nothing of the others
+  one_changes : (e : Entry) (i : ℕ) (x : X) → i < length configs → IsRead kind.after laws.Keeps history e i (config i) x
+      → ((j : ℕ) → j ≢ i → IsQuiet laws.names laws.creation j history e) → AreRead e (set objects i x)
+  one_changes e i x here read quiet =
+      let stays = λ (j : ℕ) (inside : j < length configs) (apart : j ≢ i). laws.stays history e j (config j) (keeps j inside) (quiet j apart) in
+      record {
+        are = sym (set-map_places (kind.after history) (kind.after (history ++ e ∷ [])) configs i x laws.nothing kind.absent here
+            (sym read.is) (λ j inside apart. sym (stays j inside apart).is));
+        kept = λ j inside. elim (cases_eq j i) [
+          | inl same ↦ rw same read.kept
+          | inr apart ↦ (stays j inside apart).kept
+        ];
+      }
+
+  module _ (roster : Roster) (caller : Caller) (asked : AreAsked roster history) where
+    -- a call of another kind leaves them
+    pub all_elsewhere : (call : Call) (w : Wait) (new : Roster) (reply : Reply) (notices : List Notice)
+        → Serves roster caller call w new notices
+        → ((j : ℕ) → laws.names j call ≡ false) → laws.creation call ≡ None
+        → ((c : Call) (j : ℕ) → begins c ≡ Some w → laws.names j c ≡ false)
+        → (number now : ℕ) (who : Who) → AreRead (entry_with number now who caller call reply notices) objects
+    all_elsewhere call w new reply notices serves unnamed uncreated far number now who =
+        all_stay (entry_with number now who caller call reply notices) (λ j.
+        quiet_elsewhere laws.names laws.creation j history roster w number now who caller call reply notices asked serves.woken
+        (unnamed j) (rw uncreated refl) (λ c begun. far c j begun))
+
+    -- what a service on these objects keeps: of the processes, and of the objects
+    pub record ServesAll (call : ObjectCall ℕ W) (w : Wait) (o : Outcome (List X)) : Type 0 where
+      pub serves : ServesBy roster caller (laws.to call) w o
+      pub read : (number now : ℕ) (who : Who) → AreRead (entry_with number now who caller (laws.to call) o.reply o.notices) o.object
+
+    all_refused : (call : ObjectCall ℕ W) (w : Wait) (code : ReturnCode) → is_no_error code ≡ false
+        → ServesAll call w (refused roster objects code)
+    all_refused call w code bad = record {
+      serves = serves_same roster caller (laws.to call) w;
+      read = λ number now who. all_stay _ (λ j.
+          quiet_told laws.names laws.creation j history number now who caller (laws.to call) (Code code) bad);
+    }
+
+    -- a call of a name that is no entry's
+    all_unknown : (call : ObjectCall ℕ W) (w : Wait) → ServesAll call w (no_entry roster objects call)
+    all_unknown (Create named) w =
+        by_guard roster objects (ServesAll (Create named) w) (all_refused (Create named) w) (is_normal roster.mode) _ _ refl
+        (λ _. all_refused (Create named) w InvalidConfig refl)
+    all_unknown (GetId named) w = all_refused (GetId named) w InvalidConfig refl
+    all_unknown (GetStatus i) w = all_refused (GetStatus i) w InvalidConfig refl
+    all_unknown (Own i service) w = all_refused (Own i service) w InvalidConfig refl
+
+    module _ (scene : Scene roster caller) (stands : (i : ℕ) → i < length configs → laws.Stands roster i) where
+      -- what those wait for whom a call on this object may wake
+      abbrev pub wait_at : Option ℕ → Wait
+      wait_at None = laws.wait 0
+      wait_at (Some i) = laws.wait i
+
+      pub all_served : (call : ObjectCall ℕ W) (target : Option ℕ) → object_of call ≡ target → IsKnownObject (length configs) call
+          → ServesAll call (wait_at target) (deed_at kind roster objects caller call target)
+      all_served call None is known = all_unknown call (laws.wait 0)
+      all_served call (Some i) is known =
+          let here = known_at (length configs) call i is known in
+          let z : 0 + i ≡ i = omega arith in
+          let object : get_or objects i kind.absent ≡ kind.after history i (config i) =
+          rw (get_or-map_places (kind.after history) 0 configs i laws.nothing kind.absent here, z) refl in
+          let one = served_object kind laws history roster caller asked i (config i) (keeps i here) call is scene (stands i here) in
+          rw object (record {
+            serves = one.serves;
+            read = λ number now who. one_changes _ i _ here (one.read number now who) (λ j apart.
+                let elsewhere : is_place j (object_of call) ≡ false = rw is (other j i apart) in
+                quiet_elsewhere laws.names laws.creation j history roster (laws.wait i) number now who caller (laws.to call) _ _ asked
+                one.serves.woken (laws.named call j elsewhere) (rw (laws.created call) (created_named call j elsewhere))
+                (λ c begun. laws.awaited c i j begun apart));
+          })
