@@ -3,5 +3,8 @@ pub mod Known
 pub mod Satisfied
 pub mod Values
 pub mod Effects
+pub mod Loops
+pub mod Begun
+pub mod DuesServed
 pub mod Runs
 pub mod States
