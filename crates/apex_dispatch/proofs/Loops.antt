@@ -1,5 +1,5 @@
 -- Loops that make changes of several processes in turn.
-use Rattle.std.proofs.Common.{◌≡◌, ℕ, zero, suc, ◌+◌, ◌-◌, ◌≤◌, ◌++◌, List, Option, None, Some, sym, ap, ◌∙◌, arith, add-one, append-nil}
+use Rattle.std.proofs.Common.{◌≡◌, ℕ, suc, ◌+◌, ◌-◌, ◌≤◌, List, Option, None, Some, sym, ap, ◌∙◌, arith, append-nil}
 use Rattle.apex_types.specs.declared.Notice.{Notice}
 use Rattle.apex_types.specs.InTurn.{Changed, unchanged, behind, in_turn, Makes}
 use Rattle.apex_types.specs.Roster.{Roster}

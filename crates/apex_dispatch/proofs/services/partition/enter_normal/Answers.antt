@@ -1,6 +1,6 @@
 use Rattle.std.proofs.Common.{◌≡◌, Some, arith, sym, length-append}
 use Rattle.apex_types.specs.PartitionServices.{first_to_start, begin_waiter}
-use Rattle.apex_types.proofs.Reaches.{reaches_then, reaches_set_mode}
+use Rattle.apex_types.proofs.Reaches.{reaches_then}
 use Rattle.apex_types.proofs.Starts.{first_may_wait}
 use Rattle.apex_dispatch.proofs.Begun.{reach_begin_waiter, stays_begun, few_starts}
 use Rattle.apex_dispatch.proofs.Loops.{made_by_none, made_by_all, leads_on}
