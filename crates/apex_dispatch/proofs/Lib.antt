@@ -2,6 +2,9 @@ pub mod Truths
 pub mod Known
 pub mod Satisfied
 pub mod Effects
+pub mod Loops
+pub mod Begun
+pub mod DuesServed
 pub mod Serving
 pub mod Things
 pub mod Values
@@ -9,5 +12,9 @@ pub mod SemaphoresServe
 pub mod ProcessesServe
 pub mod OthersServe
 pub mod Exact
+pub mod Turns
+pub mod TickTold
 pub mod Runs
+pub mod Sound
 pub mod States
+pub mod Replays
