@@ -15,6 +15,8 @@ use Rattle.apex_types.specs.declared.PartitionCall.{PartitionCall}
 use Rattle.apex_types.specs.declared.PartitionCall.TheVariants.{SetPartitionMode, GetPartitionStatus}
 use Rattle.apex_types.specs.declared.Record.{Record}
 use Rattle.apex_types.specs.declared.RequestedMode.TheVariants as requested
+use Rattle.apex_types.specs.declared.Reply.{Reply}
+use Rattle.apex_types.specs.declared.Reply.TheVariants.{Code}
 use Rattle.apex_types.specs.declared.ReturnCode.{ReturnCode}
 use Rattle.apex_types.specs.declared.TimeCall.{TimeCall}
 use Rattle.apex_types.specs.declared.TimeCall.TheVariants.{TimedWait, GetTime}
@@ -26,7 +28,7 @@ use Rattle.apex_types.specs.CallerServices as callers
 use Rattle.apex_types.specs.Dues.{due_after}
 use Rattle.apex_types.specs.PartitionServices as partitions
 use Rattle.apex_types.specs.Roster.{Roster, nobody, record_at, is_normal}
-use Rattle.apex_types.specs.Rows.{Outcome, refused}
+use Rattle.apex_types.specs.Rows.{Outcome, told, refused}
 use Rattle.apex_types.specs.Satisfied.{is_no_error}
 use Rattle.apex_types.specs.Stamps as stamps
 use Rattle.apex_types.specs.Ticks.{begin_notices}
@@ -67,26 +69,38 @@ stopped_free [] p = refl
 stopped_free (r ∷ rs) zero = refl
 stopped_free (r ∷ rs) (suc p) = stopped_free rs p
 
+-- what a service of no object keeps: whom it wakes with NO_ERROR had waited for time, and all objects stay
+pub record ServesNone {X : Type 0} (roster : Roster) (objects : X) (caller : Caller) (call : Call) (o : Outcome X) : Type 0 where
+  pub serves : ServesBy roster caller call Time o
+  pub stays : o.object ≡ objects
+
 module _ {X : Type 0} (roster : Roster) (objects : X) (caller : Caller) (scene : Scene roster caller) where
   abbrev Served : Call → Outcome X → Type 0
-  Served call o = ServesBy roster caller call Time o
+  Served = ServesNone roster objects caller
+
+  served : (call : Call) (new : Roster) (reply : Reply) (notices : List Notice) → Serves roster caller call Time new notices
+      → Served call (record { roster = new; object = objects; reply = reply; notices = notices })
+  served call new reply notices serves = record { serves = serves; stays = refl }
+
+  same : (call : Call) (reply : Reply) → Served call (told roster objects reply)
+  same call reply = served call roster reply [] (serves_same roster caller call Time)
 
   served_refused : (call : Call) (code : ReturnCode) → is_no_error code ≡ false → Served call (refused roster objects code)
-  served_refused call code bad = serves_same roster caller call Time
+  served_refused call code bad = same call (Code code)
 
   pub served_partition : (asked : PartitionCall) → Served (call.Partition asked) (partitions.partition_service roster objects asked)
   served_partition (SetPartitionMode requested.Idle) =
-      serves_freed roster caller (call.Partition (SetPartitionMode requested.Idle)) Time (partitions.enter_idle roster) []
+      served _ _ _ _ (serves_freed roster caller (call.Partition (SetPartitionMode requested.Idle)) Time (partitions.enter_idle roster) []
       (reaches_more 0 64 (lit≤ tt) (reaches_enter_idle roster))
-      (record { still = λ q w h. absurd (none-some w (sym (stopped_free roster.records q) ∙ h)) }) (λ q. refl)
+      (record { still = λ q w h. absurd (none-some w (sym (stopped_free roster.records q) ∙ h)) }) (λ q. refl))
   served_partition (SetPartitionMode requested.Normal) =
       let asked = call.Partition (SetPartitionMode requested.Normal) in
       let entered = partitions.enter_normal roster in
       let spares = enter_spares roster in
       by_guard roster objects (Served asked) (served_refused asked) (is_normal roster.mode) _ _ refl (λ _.
-      serves_freed roster caller asked Time entered.roster entered.notices
-      (reach_enter_normal roster scene.starts scene.few) spares.frees spares.quiet)
-  served_partition GetPartitionStatus = serves_same roster caller (call.Partition GetPartitionStatus) Time
+      served _ _ _ _ (serves_freed roster caller asked Time entered.roster entered.notices
+      (reach_enter_normal roster scene.starts scene.few) spares.frees spares.quiet))
+  served_partition GetPartitionStatus = same (call.Partition GetPartitionStatus) _
 
   -- a process that asks
   module _ (p : ℕ) (by : caller ≡ Process p) (ready : IsReady roster p) where
@@ -94,33 +108,33 @@ module _ {X : Type 0} (roster : Roster) (objects : X) (caller : Caller) (scene :
     served_suspended timeout =
         let due = due_after roster timeout in
         let r : Record = record (stamps.self_suspended (record_at roster p) due) { since = roster.young } in
-        record {
+        served _ _ _ _ (record {
           reaches = few (reaches_suspend_self roster p ready.known due (due_later roster timeout)
               (ready_started roster p ready) (ready_normal roster p ready));
           asks = rw by (asks_waiting p (call.Caller (SuspendSelf timeout)) Time r roster
               (stamps.suspend_self roster p due) refl refl refl);
           woken = λ q woken. absurd (both_ways false refl woken);
-        }
+        })
 
     served_itself : (asked : CallerCall) → Served (call.Caller asked) (callers.service_by roster objects asked p)
     served_itself StopSelf =
-        serves_freed roster caller (call.Caller StopSelf) Time (stamps.stop roster p) []
-        (few (reaches_stop roster p ready.known)) (stop_frees roster p) (λ q. refl)
-    served_itself (SuspendSelf Poll) = serves_same roster caller (call.Caller (SuspendSelf Poll)) Time
+        served _ _ _ _ (serves_freed roster caller (call.Caller StopSelf) Time (stamps.stop roster p) []
+        (few (reaches_stop roster p ready.known)) (stop_frees roster p) (λ q. refl))
+    served_itself (SuspendSelf Poll) = same (call.Caller (SuspendSelf Poll)) _
     served_itself (SuspendSelf (Ticks n)) = served_suspended (Ticks n)
     served_itself (SuspendSelf Infinite) = served_suspended Infinite
-    served_itself GetMyId = serves_same roster caller (call.Caller GetMyId) Time
-    served_itself GetMyProcessorCoreId = serves_same roster caller (call.Caller GetMyProcessorCoreId) Time
+    served_itself GetMyId = same (call.Caller GetMyId) _
+    served_itself GetMyProcessorCoreId = same (call.Caller GetMyProcessorCoreId) _
 
     served_timed_wait : (timeout : Timeout) → Served (call.Time (TimedWait timeout)) (times.timed_wait roster objects timeout p)
     served_timed_wait Poll =
         let r : Record = record (record_at roster p) { since = roster.young } in
-        serves_freed roster caller (call.Time (TimedWait Poll)) Time (stamps.place_newest roster p) []
+        served _ _ _ _ (serves_freed roster caller (call.Time (TimedWait Poll)) Time (stamps.place_newest roster p) []
         (few (reaches_place_newest roster p ready.known))
-        (frees_moved roster (stamps.place_newest roster p) p r refl (λ w h. h)) (λ q. refl)
+        (frees_moved roster (stamps.place_newest roster p) p r refl (λ w h. h)) (λ q. refl))
     served_timed_wait (Ticks n) =
-        rw by (serves_blocked roster p ready (call.Time (TimedWait (Ticks n))) Time Time (Ticks n) refl refl)
-    served_timed_wait Infinite = serves_same roster caller (call.Time (TimedWait Infinite)) Time
+        served _ _ _ _ (rw by (serves_blocked roster p ready (call.Time (TimedWait (Ticks n))) Time Time (Ticks n) refl refl))
+    served_timed_wait Infinite = same (call.Time (TimedWait Infinite)) _
 
   pub served_caller : (asked : CallerCall) → Served (call.Caller asked) (callers.caller_service roster objects caller asked)
   served_caller asked =
@@ -131,4 +145,4 @@ module _ {X : Type 0} (roster : Roster) (objects : X) (caller : Caller) (scene :
   served_time (TimedWait timeout) =
       by_caller roster objects (Served (call.Time (TimedWait timeout))) (served_refused (call.Time (TimedWait timeout))) caller _
       (λ p by. served_timed_wait p by (rw by at scene.ready) timeout)
-  served_time GetTime = serves_same roster caller (call.Time GetTime) Time
+  served_time GetTime = same (call.Time GetTime) _

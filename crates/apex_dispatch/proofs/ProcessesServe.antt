@@ -48,18 +48,18 @@ use Rattle.apex_dispatch.proofs.Truths.{or_false, or_true}
 use Rattle.apex_dispatch.proofs.Values.{created-push}
 
 -- no call names a process of which its object would keep a value
-abbrev unnamed : ℕ → Call → Bool
+abbrev pub unnamed : ℕ → Call → Bool
 unnamed p c = false
 
 -- a history keeps nothing of a process but that it is created
-abbrev KeepsProcess : List Entry → ℕ → ProcessEntry → Type 0
+abbrev pub KeepsProcess : List Entry → ℕ → ProcessEntry → Type 0
 KeepsProcess history p entry = Unit {0}
 
 all_unnamed : (p : ℕ) (calls : List Call) → All (λ c. unnamed p c ≡ false) calls
 all_unnamed p [] = All-nil (λ c. unnamed p c ≡ false)
 all_unnamed p (c ∷ calls) = All-cons (λ c. unnamed p c ≡ false) c calls refl (all_unnamed p calls)
 
-process_stays : (history : List Entry) (e : Entry) (p : ℕ) (entry : ProcessEntry) → creates created_process p e ≡ false
+pub process_stays : (history : List Entry) (e : Entry) (p : ℕ) (entry : ProcessEntry) → creates created_process p e ≡ false
     → IsRead process_after KeepsProcess history e p entry (process_after history p entry)
 process_stays history e p entry none = record {
   is = rw (created-push created_process p history e, none, or_false (is_created created_process p history)) refl;
@@ -193,7 +193,7 @@ module _ (history : List Entry) (roster : Roster) (caller : Caller) (p : ℕ) (e
       served_freed service (stamps.start roster p ticks) (services.start_notices roster p ticks)
       (few (reaches_start roster p known ticks)) (start_frees roster p ticks) (start_quiet roster p ticks))))
 
-  served_own : (service : ProcessService) → Served service (services.process_own roster process p caller service)
+  pub served_own : (service : ProcessService) → Served service (services.process_own roster process p caller service)
   served_own (InitializeCoreAffinity core) =
       let service = InitializeCoreAffinity core in
       guard service (is_normal roster.mode) _ _ refl (λ _.
@@ -233,7 +233,7 @@ module _ (history : List Entry) (roster : Roster) (caller : Caller) (p : ℕ) (e
       (serves_resume roster p caller (asks_for Resume) scene known (not-false _ active))))))
 
 -- processes are objects of a kind
-pub process_laws : LawsOf process_kind
+abbrev pub process_laws : LawsOf process_kind
 process_laws = record {
   to = call.Process;
   names = unnamed;

@@ -130,7 +130,7 @@ module _ (history : List Entry) (roster : Roster) (caller : Caller) (s : ℕ) (e
       })
   served_signal (Some p) is = served_woken p is
 
-  served_own : (service : SemaphoreService) → Served service (semaphore_own roster semaphore s caller service)
+  pub served_own : (service : SemaphoreService) → Served service (semaphore_own roster semaphore s caller service)
   served_own (Wait timeout) =
       by_guard roster semaphore (Served (Wait timeout)) (served_refused (Wait timeout)) (not semaphore.created) _ _ refl
       (λ _. by_caller roster semaphore (Served (Wait timeout)) (served_refused (Wait timeout)) caller _
@@ -140,7 +140,7 @@ module _ (history : List Entry) (roster : Roster) (caller : Caller) (s : ℕ) (e
       (λ _. served_signal (first_waiter roster (queues.Semaphore s)) refl)
 
 -- semaphores are objects of a kind
-pub semaphore_laws : LawsOf semaphore_kind
+abbrev pub semaphore_laws : LawsOf semaphore_kind
 semaphore_laws = record {
   to = call.Semaphore;
   names = names_semaphore;

@@ -16,6 +16,7 @@ use Rattle.apex_types.specs.declared.Reply.TheVariants.{Code, Value}
 use Rattle.apex_types.specs.declared.ReturnCode.{ReturnCode}
 use Rattle.apex_types.specs.declared.ReturnCode.TheVariants.{NoError, InvalidConfig}
 use Rattle.apex_types.specs.declared.Wait.{Wait}
+use Rattle.apex_types.specs.declared.Wait.TheVariants.{Time}
 use Rattle.apex_types.specs.declared.Who.{Who}
 use Rattle.apex_types.specs.Calls.{object_of, creation_of, is_place}
 use Rattle.apex_types.specs.History.{creates}
@@ -117,6 +118,23 @@ quiet_elsewhere names created i history roster w number now who caller call repl
   here true = All-cons P call [] unnamed (All-nil P)
   here false = All-nil P
 
+-- an event that asks for no call says nothing of it, where whom it wakes with NO_ERROR waited for time
+pub quiet_uncalled : (names : ℕ → Call → Bool) (created : Call → Option ℕ) (i : ℕ) (history : List Entry) (roster : Roster)
+    (e : Entry) → AreAsked roster history → e.call ≡ None
+    → ((q : ℕ) → wakes q e.notices ≡ true → awaited (record_at roster q) ≡ Some Time)
+    → ((c : Call) → begins c ≡ Some Time → names i c ≡ false) → IsQuiet names created i history e
+quiet_uncalled names created i history roster e asked uncalled woken far = record {
+  calls = All-append P (own_call e) (flat_map (answered_by history) e.notices) (rw uncalled (nothing (is_accepted e.reply)))
+      (All-weaker (λ c. begins c ≡ Some Time) P far (flat_map (answered_by history) e.notices) (handed roster history e.notices Time asked woken));
+  create = rw uncalled refl;
+} where
+  P : Call → Type 0
+  P c = names i c ≡ false
+
+  nothing : (b : Bool) → All P (if b then [] else [])
+  nothing true = All-nil P
+  nothing false = All-nil P
+
 -- what is created is what is named
 created_named : {W : Type 0} (call : ObjectCall ℕ W) (j : ℕ) → is_place j (object_of call) ≡ false → is_place j (creation_of call) ≡ false
 created_named (Create named) j e = e
@@ -175,6 +193,11 @@ module _ {C X W : Type 0} (kind : KindOf C X W) (laws : LawsOf kind) (history : 
     served_object (Own j service) is scene stands =
         rw (same_Some j i is) (laws.own history roster caller i c service keeps asked scene stands)
 
+-- what those wait for whom a call on this object may wake
+abbrev pub wait_at : {C X W : Type 0} {kind : KindOf C X W} → LawsOf kind → Option ℕ → Wait
+wait_at laws None = laws.wait 0
+wait_at laws (Some i) = laws.wait i
+
 -- all objects of a kind, read off a history that keeps what it keeps of each
 module _ {C X W : Type 0} (kind : KindOf C X W) (laws : LawsOf kind) (history : List Entry) (configs : List C)
     (keeps : (i : ℕ) → i < length configs → laws.Keeps history i (get_or configs i laws.nothing)) where
@@ -190,7 +213,7 @@ module _ {C X W : Type 0} (kind : KindOf C X W) (laws : LawsOf kind) (history : 
     pub kept : (i : ℕ) → i < length configs → laws.Keeps (history ++ e ∷ []) i (config i)
 
   -- an entry that says nothing of any of them leaves them
-  all_stay : (e : Entry) → ((i : ℕ) → IsQuiet laws.names laws.creation i history e) → AreRead e objects
+  pub all_stay : (e : Entry) → ((i : ℕ) → IsQuiet laws.names laws.creation i history e) → AreRead e objects
   all_stay e quiet = record {
     are = map_places_same (kind.after (history ++ e ∷ [])) (kind.after history) configs laws.nothing kind.absent
         (λ i inside. (laws.stays history e i (config i) (keeps i inside) (quiet i)).is);
@@ -246,13 +269,8 @@ module _ {C X W : Type 0} (kind : KindOf C X W) (laws : LawsOf kind) (history : 
     all_unknown (Own i service) w = all_refused (Own i service) w InvalidConfig refl
 
     module _ (scene : Scene roster caller) (stands : (i : ℕ) → i < length configs → laws.Stands roster i) where
-      -- what those wait for whom a call on this object may wake
-      abbrev pub wait_at : Option ℕ → Wait
-      wait_at None = laws.wait 0
-      wait_at (Some i) = laws.wait i
-
       pub all_served : (call : ObjectCall ℕ W) (target : Option ℕ) → object_of call ≡ target → IsKnownObject (length configs) call
-          → ServesAll call (wait_at target) (deed_at kind roster objects caller call target)
+          → ServesAll call (wait_at laws target) (deed_at kind roster objects caller call target)
       all_served call None is known = all_unknown call (laws.wait 0)
       all_served call (Some i) is known =
           let here = known_at (length configs) call i is known in
