@@ -3,5 +3,9 @@ pub mod Known
 pub mod Satisfied
 pub mod Values
 pub mod Effects
+pub mod Turns
+pub mod TickTold
 pub mod Runs
+pub mod Sound
 pub mod States
+pub mod Replays

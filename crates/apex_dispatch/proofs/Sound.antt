@@ -1,0 +1,238 @@
+-- What holds after every list of events: at the opening, and after each turn and each tick.
+use Rattle.std.proofs.Common.{◌≡◌, ℕ, zero, suc, ◌+◌, ◌*◌, ◌<◌, ◌≤◌, ◌&&◌, ◌==◌, nat_lt, subst, false, List, [], ◌∷◌, ◌++◌, length, get_or, None, Some, pos, ◌+ℤ◌, ◌≤ℤ◌, refl, sym, ◌∙◌, ap, arith, length-append}
+use Rattle.std.specs.Prelude.{All}
+use Rattle.std.proofs.lemmas.Bool.{both_ways, cond_both, ltb-true}
+use Rattle.std.proofs.lemmas.List.{map-append}
+use Rattle.std.proofs.lemmas.List.Elements.{All-nil, All-pop, All-push}
+use Rattle.std.proofs.lemmas.Int.{ints}
+use Rattle.std.proofs.lemmas.Option.{none-some}
+use Rattle.apex_types.specs.declared.Event.{Event}
+use Rattle.apex_types.specs.declared.Event.TheVariants.{Turn, Tick}
+use Rattle.apex_types.specs.declared.Record.{Record}
+use Rattle.apex_types.specs.declared.Who.{Who}
+use Rattle.apex_types.specs.declared.Who.TheVariants.{Core, Ticker}
+use Rattle.apex_types.specs.Distinct.{IsStamped}
+use Rattle.apex_types.specs.Dues.{HasNoDueBelow, HasNoPastDue}
+use Rattle.apex_types.specs.History.{init_count}
+use Rattle.apex_types.specs.Lines.{IsPrintable}
+use Rattle.apex_types.specs.Machine.{Machine, Deed, Objects, objects_after, tick_deed, turn_deed, due_init_call, opening, after_deed, turn, tick, happen, accept, run, replay, events_of, event_of, entry_of}
+use Rattle.apex_types.specs.Places.{map_places}
+use Rattle.apex_types.specs.Roster.{Roster, nobody, record_at, opening_record, is_cold_start}
+use Rattle.apex_types.specs.Stamps.{advance_to}
+use Rattle.apex_types.specs.Table.{Table, ProcessEntry, IsLawful}
+use Rattle.apex_types.specs.Ticks.{tick_goal}
+use Rattle.apex_types.proofs.DistinctStamps.{stamped_opening, stamped_advance_to}
+use Rattle.apex_types.proofs.Dues.{goal_forward, goal_near, goal_not_past}
+use Rattle.apex_types.proofs.Places.{length-map_places}
+use Rattle.apex_dispatch.specs.Events.{IsWithin}
+use Rattle.apex_dispatch.proofs.Known.{known_due}
+use Rattle.apex_dispatch.proofs.Runs.{length-happen, accept-room, run-append}
+use Rattle.apex_dispatch.proofs.TickTold.{tick_owes}
+use Rattle.apex_dispatch.proofs.Turns.{IsOrderly, Owes, turn_owes}
+
+-- who tells of an event, what it does, and where time goes at it
+abbrev pub who_of : Event → Who
+who_of (Turn core) = Core core
+who_of (Tick n) = Ticker
+
+abbrev pub deed_at : Table → Machine → Objects → Event → Deed
+deed_at table machine objects (Turn core) =
+    turn_deed table machine.roster objects core (due_init_call table machine core)
+deed_at table machine objects (Tick n) = tick_deed machine.roster objects n
+
+abbrev instant_of : Roster → Event → ℕ
+instant_of roster (Turn core) = roster.now
+instant_of roster (Tick n) = tick_goal roster n
+
+-- an event adds the entry that tells of its deed
+abbrev pub happened : Table → Machine → Event → Machine
+happened table machine event =
+    after_deed machine (who_of event) (deed_at table machine (objects_after table machine.history) event)
+
+pub happens : (table : Table) (machine : Machine) (event : Event) → happen table machine event ≡ happened table machine event
+unfolding turn tick
+happens table machine (Turn core) = refl
+happens table machine (Tick n) = refl
+
+-- the entry tells of the event
+tells : (table : Table) (machine : Machine) (number : ℕ) (objects : Objects) (event : Event)
+    → event_of (entry_of number (who_of event) (deed_at table machine objects event)) ≡ event
+tells table machine number objects (Turn core) = refl
+tells table machine number objects (Tick n) = refl
+
+-- the events that the history then tells of
+pub told : (table : Table) (machine : Machine) (event : Event)
+    → events_of (happen table machine event).history ≡ events_of machine.history ++ event ∷ []
+told table machine event =
+    let objects = objects_after table machine.history in
+    let e = entry_of (length machine.history + 1) (who_of event) (deed_at table machine objects event) in
+    ap (λ (m : Machine). events_of m.history) (happens table machine event)
+    ∙ map-append event_of machine.history (e ∷ [])
+    ∙ ap (λ (x : Event). events_of machine.history ++ x ∷ []) (tells table machine (length machine.history + 1) objects event)
+
+-- events in range take at most 1,048,576 ticks for each entry
+abbrev pub IsTimely : Table → Machine → Type 0
+IsTimely table machine = All (IsWithin table.cores) (events_of machine.history)
+    → machine.roster.now ≤ 1048576 * length machine.history
+
+-- what holds of the machine after every list of events on an accepted table: all is in order, stamps
+-- differ, and are left for all that the history's limit still admits, no due that stands is past, the
+-- ids of each entry are the table's, the history is within the limit and replays, and time is in range
+pub record IsSound (table : Table) (machine : Machine) : Type 0 where
+  pub orderly : IsOrderly table machine.history machine.roster
+  pub stamps : machine.roster.young ≤ℤ pos (64 + 64 * length machine.history)
+  pub older : pos 0 ≤ℤ (machine.roster.old +ℤ pos (64 * length machine.history))
+  pub stamped : IsStamped machine.roster
+  pub dues : HasNoPastDue machine.roster
+  pub known : All (IsPrintable table) machine.history
+  pub within : length machine.history ≤ table.limit
+  pub replays : replay table machine.history ≡ machine
+  pub time : IsTimely table machine
+
+-- time goes forward, past no due, and by 1,048,576 at the most in an event that is in range
+record GoesTo (cores : ℕ) (event : Event) (roster : Roster) (t : ℕ) : Type 0 where
+  forward : roster.now ≤ t
+  near : IsWithin cores event → t ≤ roster.now + 1048576
+  dues : HasNoDueBelow roster t
+
+module _ (table : Table) (lawful : IsLawful table) (machine : Machine) (sound : IsSound table machine) where
+  goes : (event : Event) → GoesTo table.cores event machine.roster (instant_of machine.roster event)
+  goes (Turn core) = record { forward = omega arith; near = λ _. omega arith; dues = sound.dues }
+  goes (Tick n) =
+      let roster = machine.roster in
+      record {
+        forward = goal_forward roster n sound.dues;
+        near = λ range. omega (arith, goal_near roster n, range.1);
+        dues = goal_not_past roster n;
+      }
+
+  -- what the event's deed owes from then on
+  owes : (event : Event)
+      → Owes table machine.history (advance_to machine.roster (instant_of machine.roster event)) (who_of event)
+      (deed_at table machine (objects_after table machine.history) event)
+  owes (Turn core) =
+      turn_owes table lawful machine.history (Core core) machine.roster sound.orderly core (due_init_call table machine core)
+      (known_due table (init_count machine.history) lawful (is_cold_start machine.roster.mode && core == 0))
+  owes (Tick n) =
+      let count = lawful.process_count in
+      tick_owes table machine.history machine.roster sound.orderly (omega (arith, sound.orderly.many, count)) n
+
+  -- the objects are then those that the deed left
+  pub objects_happen : (event : Event) → objects_after table (happen table machine event).history
+      ≡ (deed_at table machine (objects_after table machine.history) event).outcome.object
+  objects_happen event =
+      ap (λ (m : Machine). objects_after table m.history) (happens table machine event) ∙ (owes event).exact.objects
+
+  -- time goes forward, and is in range where ticks are
+  forward_happen : (event : Event) → machine.roster.now ≤ (happen table machine event).roster.now
+  forward_happen event = rw (happens table machine event, (owes event).reaches.time) (goes event).forward
+
+  time_happen : (event : Event) → IsTimely table (happen table machine event)
+  time_happen event all =
+      let parts = All-pop (IsWithin table.cores) _ (events_of machine.history) (Some event) (told table machine event) all in
+      let now = ap (λ (m : Machine). m.roster.now) (happens table machine event) ∙ (owes event).reaches.time in
+      omega (arith, length-happen table machine event, sound.time parts.0, (goes event).near parts.1, now)
+
+  replays_happen : (event : Event) → length machine.history < table.limit
+      → let after = happen table machine event in replay table after.history ≡ after
+  replays_happen event room =
+      let again = run-append table (opening table) (events_of machine.history) (event ∷ []) in
+      rw (told table machine event, again, sound.replays) (accept-room table machine event room)
+
+  pub sound_happen : (event : Event) → length machine.history < table.limit → IsSound table (happen table machine event)
+  sound_happen event room =
+      let after = happened table machine event in
+      let is = happens table machine event in
+      let longer : length after.history ≡ length machine.history + 1 = rw length-append refl in
+      let due = owes event in
+      let reaches = due.reaches in
+      let orderly = sound.orderly in
+      subst (IsSound table) (sym is) (record {
+        orderly = record {
+          many = reaches.many ∙ orderly.many;
+          one = reaches.one orderly.one;
+          starts = reaches.starts
+              (let starts = orderly.starts in record { dormant = starts.dormant; early = starts.early; undue = starts.undue });
+          kept = due.exact.kept;
+        };
+        stamps = rw longer (omega (arith, ints, reaches.stamps, sound.stamps));
+        older = rw longer (omega (arith, ints, reaches.older, sound.older));
+        stamped = reaches.stamped (stamped_advance_to machine.roster sound.stamped (instant_of machine.roster event));
+        dues = reaches.dues (goes event).dues;
+        known = All-push (IsPrintable table) machine.history _ sound.known due.known;
+        within = rw longer (omega (arith, room));
+        replays = subst (λ (m : Machine). replay table m.history ≡ m) is (replays_happen event room);
+        time = subst (IsTimely table) is (time_happen event);
+      })
+
+  -- so it is where the history may be full
+  sound_accept : (event : Event) → IsSound table (accept table machine event)
+  sound_accept event =
+      cond_both {A = Machine} (nat_lt (length machine.history) table.limit) (happen table machine event) machine (IsSound table)
+      (λ room. sound_happen event (ltb-true _ _ room)) (λ _. sound)
+
+  forward_accept : (event : Event) → machine.roster.now ≤ (accept table machine event).roster.now
+  forward_accept event =
+      cond_both {A = Machine} (nat_lt (length machine.history) table.limit) (happen table machine event) machine
+      (λ (after : Machine). machine.roster.now ≤ after.roster.now) (λ _. forward_happen event) (λ _. omega arith)
+
+-- so is it after every list of events, and time has gone forward
+sound_after : (table : Table) → IsLawful table → (machine : Machine) (events : List Event)
+    → IsSound table machine → IsSound table (run table machine events)
+sound_after table lawful machine [] sound = sound
+sound_after table lawful machine (event ∷ events) sound =
+    sound_after table lawful (accept table machine event) events (sound_accept table lawful machine sound event)
+
+pub forward_after : (table : Table) → IsLawful table → (machine : Machine) (events : List Event)
+    → IsSound table machine → machine.roster.now ≤ (run table machine events).roster.now
+forward_after table lawful machine [] sound = omega arith
+forward_after table lawful machine (event ∷ events) sound =
+    let after = sound_accept table lawful machine sound event in
+    let first = forward_accept table lawful machine sound event in
+    omega (arith, first, forward_after table lawful (accept table machine event) events after)
+
+-- at the opening nobody is started, waits, is suspended or has a due
+record IsDormant (r : Record) : Type 0 where
+  started : r.started ≡ false
+  suspended : r.suspended ≡ None
+  wait : r.wait ≡ None
+  due : r.due ≡ None
+
+opening_dormant : (entries : List ProcessEntry) (q p : ℕ) → IsDormant (get_or (map_places opening_record q entries) p nobody)
+opening_dormant [] q p = record { started = refl; suspended = refl; wait = refl; due = refl }
+opening_dormant (e ∷ entries) q zero = record { started = refl; suspended = refl; wait = refl; due = refl }
+opening_dormant (e ∷ entries) q (suc p) = opening_dormant entries (q + 1) p
+
+sound_opening : (table : Table) → IsLawful table → IsSound table (opening table)
+sound_opening table lawful =
+    let count = lawful.process_count in
+    let dormant = opening_dormant table.processes 0 in
+    record {
+      orderly = record {
+        many = length-map_places opening_record 0 table.processes;
+        one = λ p h. (dormant p).wait;
+        starts = record {
+          dormant = λ p e. (dormant p).wait;
+          early = λ e p h. absurd (both_ways _ (dormant p).started h);
+          undue = λ e p. (dormant p).due;
+        };
+        kept = record {
+          enough = λ s h. omega arith;
+          bounded = λ s h. omega (arith, (lawful.semaphores s h).initial);
+          asked = λ p w h. absurd (none-some w (rw ((dormant p).wait, (dormant p).suspended) at h));
+        };
+      };
+      stamps = omega (arith, ints, count);
+      older = omega (arith, ints);
+      stamped = stamped_opening table;
+      dues = λ p t h. omega arith;
+      known = All-nil (IsPrintable table);
+      within = omega arith;
+      replays = refl;
+      time = λ _. omega arith;
+    }
+
+-- every run on an accepted table is sound
+pub sound_run : (table : Table) → IsLawful table → (events : List Event)
+    → IsSound table (run table (opening table) events)
+sound_run table lawful events = sound_after table lawful (opening table) events (sound_opening table lawful)

@@ -1,0 +1,119 @@
+-- What a turn owes: it reaches the roster that it leaves, and the running objects are those that the
+-- history then gives.
+use Rattle.std.proofs.Common.{◌≡◌, ℕ, ◌+◌, ◌≤◌, true, false, List, length, Option, None, Some, is_none, IfSome, refl, sym, ◌∙◌, arith}
+use Rattle.std.proofs.lemmas.Option.{none-some}
+use Rattle.std.proofs.lemmas.Bool.{both_ways, and_parts, eqb-true}
+use Rattle.apex_types.specs.declared.Call.{Call}
+use Rattle.apex_types.specs.declared.Call.TheVariants.{Caller as ToCaller}
+use Rattle.apex_types.specs.declared.CallerCall.TheVariants.{StopSelf}
+use Rattle.apex_types.specs.declared.Caller.{Caller}
+use Rattle.apex_types.specs.declared.Caller.TheVariants.{Process, Init, Nobody}
+use Rattle.apex_types.specs.declared.Entry.{Entry}
+use Rattle.apex_types.specs.declared.Mode.{Mode}
+use Rattle.apex_types.specs.declared.Record.{Record}
+use Rattle.apex_types.specs.declared.Suspender.{Suspender}
+use Rattle.apex_types.specs.declared.Wait.{Wait}
+use Rattle.apex_types.specs.declared.Who.{Who}
+use Rattle.apex_types.specs.Callers.{IsReady, IsReadyCaller}
+use Rattle.apex_types.specs.Machine.{Objects, objects_after, Deed, service, served, next_place, script_deed, chosen_deed, turn_deed, step_of, entry_of}
+use Rattle.apex_types.specs.Roster.{Roster, record_at}
+use Rattle.apex_types.specs.Running.{is_eligible, chosen}
+use Rattle.apex_types.specs.Stamps.{WaitsForOne, HasOrderlyStarts, is_by_itself, set_step}
+use Rattle.apex_types.specs.Table.{Table, process_entry, IsLawful, IsKnown}
+use Rattle.apex_types.proofs.Reaches.{Reaches, reaches_none, reaches_then, reaches_set_step}
+use Rattle.apex_types.proofs.Starts.{chosen_ready, ready_step}
+use Rattle.apex_dispatch.specs.AskedWaits.{asked_of, or_suspended, awaited}
+use Rattle.apex_dispatch.proofs.Effects.{frees_moved, frees_none}
+use Rattle.apex_dispatch.proofs.Exact.{AreKept, IsExact, exact_service, exact_uncalled}
+use Rattle.apex_dispatch.proofs.Known.{known_script_step}
+use Rattle.apex_dispatch.proofs.Satisfied.{IsIdle}
+use Rattle.apex_dispatch.proofs.Serving.{Scene, reach_service}
+
+-- who is eligible waits for nothing that it asked for
+eligible_free : (mode : Mode) (r : Record) → is_eligible mode r ≡ true → awaited r ≡ None
+eligible_free mode r e =
+    let waits = and_parts _ (is_none r.wait) e in
+    let suspended = and_parts _ (is_none r.suspended) waits.0 in
+    nothing r.wait r.suspended waits.1 suspended.1 where
+      nothing : (wait : Option Wait) (suspended : Option Suspender) → is_none wait ≡ true → is_none suspended ≡ true
+          → or_suspended (asked_of wait) (is_by_itself suspended) ≡ None
+      nothing None None h i = refl
+      nothing None (Some by) h i = cc
+      nothing (Some w) suspended h i = cc
+
+-- so does a caller
+ready_idle : (roster : Roster) (caller : Caller) → IsReadyCaller roster caller → IsIdle caller roster
+ready_idle roster (Process p) ready q w by h =
+    none-some w (sym (eligible_free roster.mode (record_at roster p) ready.eligible) ∙ rw (eqb-true q p by) at h)
+ready_idle roster Init ready q w by h = cc
+ready_idle roster Nobody ready q w by h = cc
+
+-- what a deed may rely on: there is a record for each process of the table, who suspended itself waits
+-- for nothing else, starts are in order, and all is kept
+pub record IsOrderly (table : Table) (history : List Entry) (roster : Roster) : Type 0 where
+  pub many : length roster.records ≡ length table.processes
+  pub one : WaitsForOne roster
+  pub starts : HasOrderlyStarts roster
+  pub kept : AreKept table roster history
+
+-- what it owes then: it reaches the roster that it leaves, its call is the table's, and all stays kept
+pub record Owes (table : Table) (history : List Entry) (old : Roster) (who : Who) (deed : Deed) : Type 0 where
+  pub reaches : Reaches 64 old deed.outcome.roster
+  pub known : IfSome deed.call (IsKnown table)
+  pub exact : IsExact table history (entry_of (length history + 1) who deed) deed.outcome.object deed.outcome.roster
+
+module _ (table : Table) (lawful : IsLawful table) (history : List Entry) (who : Who) where
+  abbrev objects : Objects
+  objects = objects_after table history
+
+  served_owes : (roster : Roster) → IsOrderly table history roster → (caller : Caller) → IsReadyCaller roster caller
+      → (call : Call) → IsKnown table call → Owes table history roster who (served roster objects caller call)
+  served_owes roster orderly caller ready call known =
+      let count = lawful.process_count in
+      let few : length roster.records ≤ 64 = omega (arith, orderly.many, count) in
+      let scene : Scene roster caller = record { starts = orderly.starts; one = orderly.one; few = few; ready = ready } in
+      record {
+        reaches = reach_service table objects roster caller scene orderly.many call known;
+        known = known;
+        exact = exact_service table history roster orderly.kept caller scene (ready_idle roster caller ready) orderly.many
+            call known (length history + 1) (service roster objects caller call).roster.now who;
+      }
+
+  module _ (roster : Roster) (orderly : IsOrderly table history roster) where
+    script_owes : (p : ℕ) → IsReady roster p → (step : Option Call) → step_of table roster p ≡ step
+        → Owes table history roster who (script_deed table roster objects p step)
+    script_owes p ready None is = served_owes roster orderly (Process p) ready (ToCaller StopSelf) tt
+    script_owes p ready (Some call) is =
+        let r = record_at roster p in
+        let next = next_place (process_entry table p) r.step in
+        let moved = set_step roster p next in
+        let moves = reaches_set_step roster p ready.known next in
+        let frees = frees_moved roster moved p (record r { step = next }) refl (λ w h. h) in
+        let owes = served_owes moved
+        (record {
+          many = moves.many ∙ orderly.many;
+          one = moves.one orderly.one;
+          starts = moves.starts orderly.starts;
+          kept = record {
+            enough = orderly.kept.enough;
+            bounded = orderly.kept.bounded;
+            asked = λ q w h. orderly.kept.asked q w (frees.still q w h);
+          };
+        })
+        (Process p) (ready_step roster p next ready) call (known_script_step table p r.step call lawful is) in
+        record { reaches = reaches_then 0 64 moves owes.reaches; known = owes.known; exact = owes.exact }
+
+    chosen_owes : (core : ℕ) (found : Option ℕ) → chosen roster core ≡ found
+        → Owes table history roster who (chosen_deed table roster objects found)
+    chosen_owes core None is = record {
+      reaches = reaches_none 64 roster;
+      known = tt;
+      exact = exact_uncalled table history roster roster orderly.kept _ refl refl
+          (λ p woken. absurd (both_ways false refl woken)) (frees_none roster);
+    }
+    chosen_owes core (Some p) is = script_owes p (chosen_ready roster core p is) (step_of table roster p) refl
+
+    pub turn_owes : (core : ℕ) (due : Option Call) → ((call : Call) → due ≡ Some call → IsKnown table call)
+        → Owes table history roster who (turn_deed table roster objects core due)
+    turn_owes core None known = chosen_owes core (chosen roster core) refl
+    turn_owes core (Some call) known = served_owes roster orderly Init tt call (known call refl)
