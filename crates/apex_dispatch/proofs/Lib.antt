@@ -3,6 +3,9 @@ pub mod Known
 pub mod Satisfied
 pub mod Values
 pub mod Effects
+pub mod Loops
+pub mod Begun
+pub mod DuesServed
 pub mod Turns
 pub mod TickTold
 pub mod Runs

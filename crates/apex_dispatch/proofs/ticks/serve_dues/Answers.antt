@@ -1,0 +1,38 @@
+use Rattle.std.proofs.Common.{◌≡◌, ◌<◌, length, Some, ◌∙◌, arith, sym, ap, subst, length-append}
+use Rattle.apex_types.specs.Dues.{first_due}
+use Rattle.apex_types.specs.InTurn.{Changed, Makes}
+use Rattle.apex_types.specs.Stamps.{without_due, without_due_of}
+use Rattle.apex_types.specs.Ticks.{serve_due}
+use Rattle.apex_types.proofs.Dues.{first_due_within}
+use Rattle.apex_types.proofs.Reaches.{reaches_then}
+use Rattle.apex_dispatch.proofs.DuesServed.{reach_serve_due, one_due, served_is}
+use Rattle.apex_dispatch.proofs.Loops.{made_by_none, made_by_all, leads_on}
+use Rattle.apex_dispatch.proofs.ticks.serve_dues.Goals as goal
+
+pub returns-in-None : goal.returns-in-None
+returns-in-None g c =
+    let nobody = sym c.in-None.ensures.value in
+    let same = c.in-None.ensures.taken ∙ ap (without_due_of (g.S.Store.roster c.loop-turn.store)) nobody in
+    rw same (made_by_none first_due serve_due _ _ _ _ _ _ c.loop-turn.invariant.rest (omega arith) nobody)
+
+pub loop-turn-preserved : goal.loop-turn-preserved
+loop-turn-preserved g c =
+    let old = g.S.Store.roster c.loop-turn.store in
+    let process = c.in-Some.process in
+    let before = c.loop-turn.invariant in
+    let found : first_due old ≡ Some process = sym c.in-Some.ensures.value in
+    let known : process < length old.records = first_due_within old process found in
+    let freed : g.S.Store.roster c.take_due.new.self ≡ without_due old process = c.in-Some.ensures.taken ∙ ap (without_due_of old) found in
+    let is = served_is old (g.S.Store.roster c.take_due.new.self) process c.record-wait.result.wait known freed (ap (λ (r : _). r.wait) c.record-wait.ensures) in
+    let makes = subst (λ (changed : Changed). Makes changed (g.S.Store.roster c.wait_over.new.store) c.loop-turn.notices c.wait_over.new.notices) is c.wait_over.ensures in
+    let reaches = reach_serve_due old process before.starts found in
+    record {
+      rest = leads_on first_due serve_due _ _ _ old _ _ _ process before.rest found makes;
+      reaches = rw makes.roster (reaches_then c.loop-turn.turn 1 before.reaches reaches);
+      starts = rw makes.roster (reaches.starts before.starts);
+      end = before.end;
+      room = rw (makes.notices, length-append) (omega (arith, one_due old process, before.room));
+    }
+
+pub returns : goal.returns
+returns g c = made_by_all first_due serve_due _ _ _ _ _ _ c.loop-turn.invariant.rest (omega arith)
