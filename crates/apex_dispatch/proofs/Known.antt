@@ -1,5 +1,5 @@
 -- What the steps of an accepted table name is there.
-use Rattle.std.proofs.Common.{◌≡◌, ◌∙◌, ap, sym, inl, inr, refl, ℕ, ◌<◌, ◌&&◌, ◌==◌, Bool, true, false, List, length, slice_get, Option, Some, None, cond, subst, IfSome}
+use Rattle.std.proofs.Common.{◌≡◌, ◌∙◌, ap, sym, inl, inr, ℕ, ◌<◌, Bool, true, false, List, length, slice_get, Option, Some, None, cond, subst}
 use Rattle.std.proofs.lemmas.Bool.{cases_lt}
 use Rattle.std.proofs.lemmas.List.{get_or_past}
 use Rattle.std.proofs.lemmas.Option.{none-some, slice_get_within, get_or_from_slice_get}
@@ -7,10 +7,7 @@ use Rattle.apex_types.specs.declared.Call.{Call}
 use Rattle.apex_types.specs.declared.Call.TheVariants.{Partition, Process, Caller, Time, Semaphore}
 use Rattle.apex_types.specs.declared.CallerCall.TheVariants.{StopSelf}
 use Rattle.apex_types.specs.Table.{Table, ProcessEntry, IsLawful, IsKnown, call_at, no_process, process_entry}
-use Rattle.apex_types.specs.Roster.{Roster, record_at, is_cold_start}
-use Rattle.apex_types.specs.Running.{chosen}
-use Rattle.apex_types.specs.History.{init_count}
-use Rattle.apex_types.specs.Machine.{Machine, Objects, objects_after, script_deed, chosen_deed, turn_deed, deed_of, step_of, due_init_call}
+use Rattle.apex_types.specs.Machine.{Objects}
 use Rattle.apex_dispatch.specs.Premises.{AreOf, IsKnownTo}
 
 -- there is an object for each entry of the table
@@ -45,26 +42,3 @@ pub known_due : (table : Table) (k : ℕ) → IsLawful table → (due : Bool) (c
     → cond {A = Option Call} due (slice_get table.init k) None ≡ Some call → IsKnown table call
 known_due table k lawful true call e = known_step table table.init k call lawful.init e
 known_due table k lawful false call e = cc
-
--- the call of a deed
-script_known : (table : Table) (roster : Roster) (objects : Objects) (p : ℕ) (step : Option Call)
-    → ((call : Call) → step ≡ Some call → IsKnown table call) → IfSome (script_deed table roster objects p step).call (IsKnown table)
-script_known table roster objects p None known = tt
-script_known table roster objects p (Some call) known = known call refl
-
-chosen_known : (table : Table) → IsLawful table → (roster : Roster) (objects : Objects) (found : Option ℕ)
-    → IfSome (chosen_deed table roster objects found).call (IsKnown table)
-chosen_known table lawful roster objects None = tt
-chosen_known table lawful roster objects (Some p) =
-    script_known table roster objects p (step_of table roster p)
-    (λ call e. known_script_step table p (record_at roster p).step call lawful e)
-
-turn_known : (table : Table) → IsLawful table → (roster : Roster) (objects : Objects) (core : ℕ) (due : Option Call)
-    → ((call : Call) → due ≡ Some call → IsKnown table call) → IfSome (turn_deed table roster objects core due).call (IsKnown table)
-turn_known table lawful roster objects core None known = chosen_known table lawful roster objects (chosen roster core)
-turn_known table lawful roster objects core (Some call) known = known call refl
-
-pub deed_known : (table : Table) → IsLawful table → (machine : Machine) (core : ℕ) → IfSome (deed_of table machine core).call (IsKnown table)
-deed_known table lawful machine core =
-    turn_known table lawful machine.roster (objects_after table machine.history) core (due_init_call table machine core)
-    (known_due table (init_count machine.history) lawful (is_cold_start machine.roster.mode && core == 0))

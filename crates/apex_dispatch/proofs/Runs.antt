@@ -54,14 +54,3 @@ run-fills table machine (event ∷ events) many = elim (cases_lt (length machine
       subst (λ (m : Machine). table.limit ≤ length (run table m events).history) (sym (accept-room table machine event room)) rest
   | inr full ↦ subst (λ (m : Machine). table.limit ≤ length m.history) (sym (run-full table machine (event ∷ events) full)) full
 ]
-
--- no run makes more entries than there is room for
-pub run-within : (table : Table) (machine : Machine) (events : List Event) → length machine.history ≤ table.limit
-    → length (run table machine events).history ≤ table.limit
-run-within table machine [] within = within
-run-within table machine (event ∷ events) within = elim (cases_lt (length machine.history) table.limit) [
-  | inl room ↦
-      let next = run-within table (happen table machine event) events (omega (arith, room, length-happen table machine event)) in
-      subst (λ (m : Machine). length (run table m events).history ≤ table.limit) (sym (accept-room table machine event room)) next
-  | inr full ↦ subst (λ (m : Machine). length m.history ≤ table.limit) (sym (run-full table machine (event ∷ events) full)) within
-]

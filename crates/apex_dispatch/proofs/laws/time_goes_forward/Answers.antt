@@ -1,0 +1,15 @@
+use Rattle.apex_types.specs.Machine.{opening, run}
+use Rattle.apex_dispatch.proofs.Runs.{run-append}
+use Rattle.apex_dispatch.proofs.Sound.{sound_run, forward_after}
+use Rattle.apex_dispatch.proofs.laws.time_goes_forward.Goals as goal
+
+pub returns : goal.returns
+returns c =
+    let table = c.args.table.now in
+    let lawful = c.lawful.ensures in
+    record {
+      forward = λ first rest.
+          let here = run table (opening table) first in
+          rw (run-append table (opening table) first rest) (forward_after table lawful here rest (sound_run table lawful first));
+      dues = λ events. (sound_run table lawful events).dues;
+    }
