@@ -1,1 +1,4 @@
+pub mod Counted
+pub mod FailAt
 pub mod Log
+pub mod Page

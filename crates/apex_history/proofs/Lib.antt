@@ -1,0 +1,3 @@
+pub mod LinesOf
+pub mod Outcomes
+pub mod Passing

@@ -1,0 +1,37 @@
+-- Texts that reach a writer by way of a page.
+use Rattle.std.proofs.Common.{◌≡◌, ℕ, List, ◌++◌, take, drop, Option, sym, ap, subst, ◌∙◌, append_assoc}
+use Rattle.std.proofs.KnownBytes.{Appends-trans}
+use Rattle.apex_types.specs.declared.Entry.{Entry}
+use Rattle.apex_types.specs.Table.{Table}
+use Rattle.apex_types.specs.Lines.{lines_of}
+use Rattle.apex_history.specs.Counted.{AppendsBeginning}
+use Rattle.apex_history.specs.Page.{Passes}
+use Rattle.apex_history.proofs.LinesOf.{lines_split}
+
+-- a beginning of a text is one of a longer text
+pub beginning_longer : (a b : Option (List ℕ)) (text more : List ℕ) → AppendsBeginning a b text → AppendsBeginning a b (text ++ more)
+beginning_longer a b text more h =
+    let (done, rest, split, appended) = h in
+    (done, rest ++ more, ap (λ l. l ++ more) split ∙ append_assoc done rest more, appended)
+
+-- a beginning of what the page held is a beginning of the text
+pub beginning_after : (a b c : Option (List ℕ)) (text held : List ℕ) → Passes a b text held → AppendsBeginning b c held → AppendsBeginning a c text
+beginning_after a b c text held p h =
+    let (front, whole, first) = p in
+    let (done, rest, split, second) = h in
+    (front ++ done, rest, whole ∙ ap (λ l. front ++ l) split ∙ sym (append_assoc front done rest), Appends-trans a b c front done first second)
+
+-- the page hands on a part of what it held, and takes a line
+pub passes_more : (a b c : Option (List ℕ)) (text held kept line : List ℕ) → Passes a b text held → Passes b c held kept → Passes a c (text ++ line) (kept ++ line)
+passes_more a b c text held kept line p q =
+    let (front, whole, first) = p in
+    let (done, split, second) = q in
+    let same : text ≡ (front ++ done) ++ kept = whole ∙ ap (λ l. front ++ l) split ∙ sym (append_assoc front done kept) in
+    (front ++ done, ap (λ l. l ++ line) same ∙ append_assoc (front ++ done) kept line, Appends-trans a b c front done first second)
+
+-- a beginning of what the page held of the first lines is a beginning of all lines
+pub beginning_of_lines : (a b c : Option (List ℕ)) (table : Table) (entries : List Entry) (i : ℕ) (held : List ℕ)
+    → Passes a b (lines_of table (take i entries)) held → AppendsBeginning b c held → AppendsBeginning a c (lines_of table entries)
+beginning_of_lines a b c table entries i held p h =
+    subst (AppendsBeginning a c) (lines_split table entries i)
+    (beginning_longer a c (lines_of table (take i entries)) (lines_of table (drop i entries)) (beginning_after a b c _ held p h))

@@ -1,0 +1,12 @@
+-- No write failed so far; of the lines so far the writer has a beginning, and the page the rest.
+use Rattle.std.proofs.Common.{◌≡◌, take}
+use Rattle.apex_types.specs.Lines.{lines_of}
+use Rattle.apex_history.specs.Counted.{inner_of, failures_of}
+use Rattle.apex_history.specs.Page.{Passes}
+use Rattle.apex_history.proofs.printing.print_history.Given as goal
+
+abbrev pub invariant-loop-entry : goal.invariant-loop-entry
+invariant-loop-entry g l = record {
+  lines : Passes (g.W.Sink.contents (inner_of l.fn.writer)) (g.W.Sink.contents (inner_of l.writer)) (lines_of l.table (take l.entry-index l.entries)) l.page;
+  failures : failures_of l.writer ≡ failures_of l.fn.writer;
+}

@@ -1,0 +1,86 @@
+ghost use Rattle.std.specs.Prelude.{◌≡◌, ◌+◌, ◌≤◌, [], ◌++◌, length, IfOk, OnOk, OnErr};
+ghost use Rattle.std.specs.Io.KnownBytes.{Appends};
+ghost use Rattle.apex_history.specs.Counted.{inner_of, failures_of, CountsFailure, AppendsBeginning};
+ghost use Rattle.apex_history.specs.Page.{Passes};
+
+use crate::counting::Counted;
+use crate::puts::LINE_ROOM;
+use crate::sources::Sink;
+use std::alloc::{AllocError, Global};
+use std::io;
+use std::io::Write;
+use std::marker::Model;
+
+/// How many bytes a page holds at the most.
+const PAGE_ROOM: usize = 65_536;
+
+/// A buffer of text that is made beforehand, in which lines are gathered so that many of them are
+/// written at once.
+#[derive(Drop)]
+pub struct Page {
+    text: Vec<u8>,
+}
+
+impl Model for Page {
+    ghost use Rattle.std.specs.Prelude.{ℕ, List, ◌≤◌, length, vec_capacity};
+
+    ghost Value = { List ℕ };
+
+    ghost view = { λ p. p.text.items };
+
+    ghost invariant = { λ p. (length p.text.items ≤ 65536) × (65536 ≤ vec_capacity p.text) };
+}
+
+impl Page {
+    /// An empty page, which takes the memory for 65,536 bytes at once. It fails only for want of
+    /// memory.
+    pub fn new(alloc: Global) -> Result<Page, AllocError>
+        ensures { IfOk result (λ page. page ≡ []) }
+    {
+        let text = Vec::with_capacity(alloc, PAGE_ROOM)?;
+        Ok(Page { text })
+    }
+
+    /// Forgets the text.
+    pub(crate) fn clear(&mut self)
+        ensures { self.new ≡ [] }
+    {
+        self.text.clear();
+    }
+
+    /// Writes the text out where a line may not fit behind it.
+    pub(crate) fn make_room<W: Sink>(&mut self, writer: &mut Counted<W>) -> io::Result<()>
+        ensures ok { OnOk result (Passes (W.contents (inner_of writer.old)) (W.contents (inner_of writer.new)) self.old self.new) }
+        ensures room { length self.new + 4096 ≤ 65536 }
+        ensures empty { OnErr result (self.new ≡ []) }
+        ensures err { OnErr result (AppendsBeginning (W.contents (inner_of writer.old)) (W.contents (inner_of writer.new)) self.old) }
+        ensures counted { CountsFailure result (failures_of writer.old) (failures_of writer.new) }
+    {
+        if self.text.len() + LINE_ROOM <= PAGE_ROOM {
+            return Ok(());
+        }
+        self.hand_on(writer)
+    }
+
+    /// Puts a line behind the text.
+    pub(crate) fn put(&mut self, line: &[u8])
+        requires { length self.old + length line.now ≤ 65536 }
+        ensures { self.new ≡ self.old ++ line.now }
+    {
+        let taken = self.text.extend_from_slice(line);
+        let fits = taken.is_ok();
+        prove!(fits);
+    }
+
+    /// Writes the text out, and forgets it also where a write failed.
+    pub(crate) fn hand_on<W: Sink>(&mut self, writer: &mut Counted<W>) -> io::Result<()>
+        ensures ok { OnOk result (Appends (W.contents (inner_of writer.old)) (W.contents (inner_of writer.new)) self.old) }
+        ensures empty { self.new ≡ [] }
+        ensures err { OnErr result (AppendsBeginning (W.contents (inner_of writer.old)) (W.contents (inner_of writer.new)) self.old) }
+        ensures counted { CountsFailure result (failures_of writer.old) (failures_of writer.new) }
+    {
+        let written = writer.write_all(self.text.as_slice());
+        self.text.clear();
+        written
+    }
+}

@@ -1,0 +1,206 @@
+use super::{called, paper};
+use crate::{Counted, print_entry};
+use apex_table::read_table;
+use apex_types::{
+    Call, CoreId, Name, NamedProcess, NamedSemaphore, Notice, PartitionCall, ProcessCall,
+    ProcessId, Reply, RequestedMode, ReturnCode, SemaphoreCall, SemaphoreId, Timeout, Who,
+};
+use std::test::Fail;
+
+const TABLE: &str = r#"
+cores = 2
+
+[[process]]
+name = "P1"
+priority = 10
+script = []
+
+[[process]]
+name = "P2"
+priority = 10
+core = 1
+script = []
+
+[[semaphore]]
+name = "S"
+maximum = 1
+initial = 0
+discipline = "PRIORITY"
+"#;
+
+const SUSPENSIONS: &str = "\
+5 0 core0 1 SUSPEND_SELF 3 -> BLOCKED
+7 3 core0 1 SUSPEND_SELF 0 -> NO_ERROR
+8 3 core0 1 SUSPEND_SELF infinite -> BLOCKED
+10 3 core1 2 SUSPEND P1 -> NO_ACTION
+13 3 core1 2 RESUME P1 -> NO_ERROR | woken 1 NO_ERROR
+";
+
+const PRIORITIES_AND_STOPS: &str = "\
+9 0 core0 1 SET_PRIORITY P2 20 -> NO_ERROR
+10 0 core0 1 SET_PRIORITY P1 0 -> INVALID_PARAM
+11 0 core0 1 SET_PRIORITY P2 65535 -> INVALID_PARAM
+12 0 core0 2 STOP P1 -> NO_ERROR
+13 0 core0 2 STOP P2 -> INVALID_PARAM
+";
+
+const STATUSES: &str = "\
+12 0 core0 2 GET_PROCESS_STATUS P1 -> STATUS 3 10
+13 0 core0 2 GET_MY_PROCESSOR_CORE_ID -> VALUE 0
+14 0 core0 2 GET_PARTITION_STATUS -> STATUS 3 2
+15 0 core0 2 SET_PARTITION_MODE IDLE -> GONE
+";
+
+const PROCESS_NAMES: &str = "\
+9 0 core0 1 CREATE_PROCESS P2 -> INVALID_MODE
+10 0 core0 1 CREATE_PROCESS -> -> INVALID_MODE
+11 0 core0 1 GET_PROCESS_ID P2 -> VALUE 2
+12 0 core0 1 GET_PROCESS_ID -> -> INVALID_CONFIG
+";
+
+const SEMAPHORE_NAMES: &str = "\
+9 0 core0 1 CREATE_SEMAPHORE S -> INVALID_MODE
+10 0 core0 1 CREATE_SEMAPHORE P1~~~~~~~~~~~~~~~~~~~~~~~~~~!! -> INVALID_MODE
+11 0 core0 1 GET_SEMAPHORE_ID S -> VALUE 1
+12 0 core0 1 GET_SEMAPHORE_ID P1~~~~~~~~~~~~~~~~~~~~~~~~~~!! -> INVALID_CONFIG
+";
+
+// A name that no entry of the table has.
+fn unknown(text: &str) -> Result<Name, Fail> {
+    let Some(name) = Name::from_bytes(text.as_bytes()) else {
+        return Err(Fail::from("the text is a name"));
+    };
+    Ok(name)
+}
+
+#[test]
+fn suspensions(rt: HostRuntime) -> Result<(), Fail> {
+    let table = read_table(rt.alloc(), TABLE.as_bytes())?;
+    assert_eq!(rt; table.process_count(), 2);
+    let (p1, p2) = (ProcessId::at(0), ProcessId::at(1));
+    let mut paper = paper(rt, 1024, 0)?;
+    let mut writer = Counted::new(&mut paper);
+
+    let own = Call::Process(ProcessCall::SuspendSelf(Timeout::Ticks(3)));
+    print_entry(&table, &called(5, 0, p1, own, Reply::Blocked), &mut writer)?;
+    let poll = Call::Process(ProcessCall::SuspendSelf(Timeout::Poll));
+    let ok = Reply::Code(ReturnCode::NoError);
+    print_entry(&table, &called(7, 3, p1, poll, ok), &mut writer)?;
+    let own = Call::Process(ProcessCall::SuspendSelf(Timeout::Infinite));
+    print_entry(&table, &called(8, 3, p1, own, Reply::Blocked), &mut writer)?;
+    let refused = Reply::Code(ReturnCode::NoAction);
+    let suspend = Call::Process(ProcessCall::Suspend(p1));
+    let mut entry = called(10, 3, p2, suspend, refused);
+    entry.who = Who::Core(CoreId::new(1));
+    print_entry(&table, &entry, &mut writer)?;
+    let resume = Call::Process(ProcessCall::Resume(p1));
+    let mut entry = called(13, 3, p2, resume, ok);
+    entry.who = Who::Core(CoreId::new(1));
+    entry.notices.push(Notice::Woken(p1, ReturnCode::NoError));
+    print_entry(&table, &entry, &mut writer)?;
+
+    assert_eq!(rt; paper.held(), SUSPENSIONS.as_bytes());
+    Ok(())
+}
+
+#[test]
+fn priorities_and_stops(rt: HostRuntime) -> Result<(), Fail> {
+    let table = read_table(rt.alloc(), TABLE.as_bytes())?;
+    assert_eq!(rt; table.process_count(), 2);
+    let (p1, p2) = (ProcessId::at(0), ProcessId::at(1));
+    let ok = Reply::Code(ReturnCode::NoError);
+    let refused = Reply::Code(ReturnCode::InvalidParam);
+    let mut paper = paper(rt, 1024, 0)?;
+    let mut writer = Counted::new(&mut paper);
+
+    let raise = Call::Process(ProcessCall::SetPriority(p2, 20));
+    print_entry(&table, &called(9, 0, p1, raise, ok), &mut writer)?;
+    let least = Call::Process(ProcessCall::SetPriority(p1, 0));
+    print_entry(&table, &called(10, 0, p1, least, refused), &mut writer)?;
+    let greatest = Call::Process(ProcessCall::SetPriority(p2, 65_535));
+    print_entry(&table, &called(11, 0, p1, greatest, refused), &mut writer)?;
+    let stop = Call::Process(ProcessCall::Stop(p1));
+    print_entry(&table, &called(12, 0, p2, stop, ok), &mut writer)?;
+    let own = Call::Process(ProcessCall::Stop(p2));
+    print_entry(&table, &called(13, 0, p2, own, refused), &mut writer)?;
+
+    assert_eq!(rt; paper.held(), PRIORITIES_AND_STOPS.as_bytes());
+    Ok(())
+}
+
+#[test]
+fn statuses_and_the_idle_mode(rt: HostRuntime) -> Result<(), Fail> {
+    let table = read_table(rt.alloc(), TABLE.as_bytes())?;
+    assert_eq!(rt; table.process_count(), 2);
+    let (p1, p2) = (ProcessId::at(0), ProcessId::at(1));
+    let mut paper = paper(rt, 1024, 0)?;
+    let mut writer = Counted::new(&mut paper);
+
+    let status = Call::Process(ProcessCall::GetProcessStatus(p1));
+    let reply = Reply::Status(3, 10);
+    print_entry(&table, &called(12, 0, p2, status, reply), &mut writer)?;
+    let core = Call::Process(ProcessCall::GetMyProcessorCoreId);
+    print_entry(
+        &table,
+        &called(13, 0, p2, core, Reply::Value(0)),
+        &mut writer,
+    )?;
+    let status = Call::Partition(PartitionCall::GetPartitionStatus);
+    let reply = Reply::Status(3, 2);
+    print_entry(&table, &called(14, 0, p2, status, reply), &mut writer)?;
+    let idle = Call::Partition(PartitionCall::SetPartitionMode(RequestedMode::Idle));
+    print_entry(&table, &called(15, 0, p2, idle, Reply::Gone), &mut writer)?;
+
+    assert_eq!(rt; paper.held(), STATUSES.as_bytes());
+    Ok(())
+}
+
+#[test]
+fn names_of_processes(rt: HostRuntime) -> Result<(), Fail> {
+    let table = read_table(rt.alloc(), TABLE.as_bytes())?;
+    assert_eq!(rt; table.process_count(), 2);
+    let p1 = ProcessId::at(0);
+    let p2 = NamedProcess::Known(ProcessId::at(1));
+    let nobody = NamedProcess::Unknown(unknown("->")?);
+    let refused = Reply::Code(ReturnCode::InvalidMode);
+    let mut paper = paper(rt, 1024, 0)?;
+    let mut writer = Counted::new(&mut paper);
+
+    let create = Call::Process(ProcessCall::CreateProcess(p2));
+    print_entry(&table, &called(9, 0, p1, create, refused), &mut writer)?;
+    let create = Call::Process(ProcessCall::CreateProcess(nobody));
+    print_entry(&table, &called(10, 0, p1, create, refused), &mut writer)?;
+    let id = Call::Process(ProcessCall::GetProcessId(p2));
+    print_entry(&table, &called(11, 0, p1, id, Reply::Value(2)), &mut writer)?;
+    let id = Call::Process(ProcessCall::GetProcessId(nobody));
+    let absent = Reply::Code(ReturnCode::InvalidConfig);
+    print_entry(&table, &called(12, 0, p1, id, absent), &mut writer)?;
+
+    assert_eq!(rt; paper.held(), PROCESS_NAMES.as_bytes());
+    Ok(())
+}
+
+#[test]
+fn names_of_semaphores(rt: HostRuntime) -> Result<(), Fail> {
+    let table = read_table(rt.alloc(), TABLE.as_bytes())?;
+    assert_eq!(rt; table.semaphore_count(), 1);
+    let p1 = ProcessId::at(0);
+    let s = NamedSemaphore::Known(SemaphoreId::at(0));
+    let none = NamedSemaphore::Unknown(unknown("P1~~~~~~~~~~~~~~~~~~~~~~~~~~!!")?);
+    let refused = Reply::Code(ReturnCode::InvalidMode);
+    let mut paper = paper(rt, 1024, 0)?;
+    let mut writer = Counted::new(&mut paper);
+
+    let create = Call::Semaphore(SemaphoreCall::CreateSemaphore(s));
+    print_entry(&table, &called(9, 0, p1, create, refused), &mut writer)?;
+    let create = Call::Semaphore(SemaphoreCall::CreateSemaphore(none));
+    print_entry(&table, &called(10, 0, p1, create, refused), &mut writer)?;
+    let id = Call::Semaphore(SemaphoreCall::GetSemaphoreId(s));
+    print_entry(&table, &called(11, 0, p1, id, Reply::Value(1)), &mut writer)?;
+    let id = Call::Semaphore(SemaphoreCall::GetSemaphoreId(none));
+    let absent = Reply::Code(ReturnCode::InvalidConfig);
+    print_entry(&table, &called(12, 0, p1, id, absent), &mut writer)?;
+
+    assert_eq!(rt; paper.held(), SEMAPHORE_NAMES.as_bytes());
+    Ok(())
+}
