@@ -1,8 +1,23 @@
-//! STUB of the table for work in the crates above.
+//! The partition table: what is read of a table's text, or the first fault that it has.
 #![tactic(auto)]
 
+mod default_init;
 mod entries;
+mod fault;
+mod init;
+mod keys;
+mod named;
+mod processes;
+mod reading;
+mod scripts;
+mod semaphores;
+mod steps;
 mod table;
 
 pub use entries::{Process, Semaphore};
+pub use fault::{Place, Section, TableFault};
+pub use reading::read_table;
 pub use table::Table;
+
+#[cfg(test)]
+mod tests;

@@ -1,0 +1,54 @@
+-- What is read at a key is in its range.
+use Rattle.std.proofs.Common.{◌≡◌, ℕ, ◌≤◌, ℤ, pos, negsuc, true, false, ◌&&◌, nat_le, List, length, Option, Some, None, Result, IfOk, IsTrue, arith}
+use Rattle.std.proofs.lemmas.Bool.Decides.{nat_tests}
+use Rattle.std.specs.Prelude.{codes}
+use Rattle.std.specs.List.{list_any}
+use Rattle.std.specs.Str.{bytes_eq}
+use Rattle.std.proofs.lemmas.Result.{IfOk-at_ok}
+use Rattle.toml.specs.Data.{Data, Members, get_member, as_integer}
+use Rattle.apex_types.specs.Name.{is_name}
+use Rattle.apex_table.specs.declared.fault.Place.{Place}
+use Rattle.apex_table.specs.declared.fault.TableFault.{TableFault}
+use Rattle.apex_table.specs.declared.fault.TableFault.TheVariants.{WrongType, OutOfRange, BadName, DoubleName, TooMany}
+use Rattle.apex_table.specs.Outcome.{some_or}
+use Rattle.apex_table.specs.Keys.{required, optional, text_at, in_range, number, number_at, number_or, at_most, well_formed, name_at}
+use Rattle.apex_table.proofs.Results.{ok_then, ok_if, ok_unless}
+
+within : (low n high : ℕ) → (nat_le low n && nat_le n high) ≡ true → (low ≤ n) × (n ≤ high)
+within low n high e = (grind (arith, nat_tests), grind (arith, nat_tests))
+
+in_range_law : (at : Place) (low high : ℕ) (z : ℤ) → IfOk (in_range at low high z) (λ n. (low ≤ n) × (n ≤ high))
+in_range_law at low high (pos n) = ok_if (nat_le low n && nat_le n high) (OutOfRange at) n _ (within low n high)
+in_range_law at low high (negsuc n) = tt
+
+number_law : (at : Place) (low high : ℕ) (d : Data) → IfOk (number at low high d) (λ n. (low ≤ n) × (n ≤ high))
+number_law at low high d =
+    ok_then (some_or (WrongType at) (as_integer d)) _ (λ n. (low ≤ n) × (n ≤ high)) (λ z e. in_range_law at low high z)
+
+pub number_at_law : (at : Place) (low high : ℕ) (key : List ℕ) (ms : Members) → IfOk (number_at at low high key ms) (λ n. (low ≤ n) × (n ≤ high))
+number_at_law at low high key ms =
+    ok_then (required at key ms) _ (λ n. (low ≤ n) × (n ≤ high)) (λ d e. number_law at low high d)
+
+optional_law : {A : Type 0} (default : A) (read : Data → Result A TableFault) (P : A → Type 0) → P default → ((d : Data) → IfOk (read d) P) → (o : Option Data) → IfOk (optional default read o) P
+optional_law default read P here there None = here
+optional_law default read P here there (Some d) = there d
+
+pub number_or_law : (at : Place) (default low high : ℕ) (key : List ℕ) (ms : Members) → (low ≤ default) × (default ≤ high) → IfOk (number_or at default low high key ms) (λ n. (low ≤ n) × (n ≤ high))
+number_or_law at default low high key ms here =
+    optional_law default (number at low high) (λ n. (low ≤ n) × (n ≤ high)) here (number_law at low high) (get_member key ms)
+
+pub at_most_law : (at : Place) (most : ℕ) (ds : List Data) → IfOk (at_most at most ds) (λ xs. length xs ≤ most)
+at_most_law at most ds = ok_if (nat_le (length ds) most) (TooMany at) ds (λ xs. length xs ≤ most) (λ e. grind (arith, nat_tests))
+
+-- a name is well formed, and none of those taken
+pub record IsNew (taken : List (List ℕ)) (name : List ℕ) : Type 0 where
+  pub good : IsTrue (is_name name)
+  pub new : list_any (bytes_eq name) taken ≡ false
+
+pub name_law : (at : Place) (taken : List (List ℕ)) (ms : Members) → IfOk (name_at at taken ms) (IsNew taken)
+unfolding name_at
+name_law at taken ms =
+    ok_then (text_at at (codes "name") ms) _ (IsNew taken) (λ t _.
+    ok_then (well_formed at t) _ (IsNew taken) (λ n e.
+    ok_unless (list_any (bytes_eq n) taken) (DoubleName at) n (IsNew taken) (λ new.
+    record { good = IfOk-at_ok (λ n. IsTrue (is_name n)) e (ok_if (is_name t) (BadName at) t (λ n. IsTrue (is_name n)) (λ good. good)); new = new })))

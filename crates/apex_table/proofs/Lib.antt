@@ -1,0 +1,16 @@
+pub mod Lists
+pub mod Names
+pub mod Document
+pub mod Results
+pub mod Distinct
+pub mod KeyLaws
+pub mod WordLaws
+pub mod ProcessStepLaws
+pub mod SemaphoreStepLaws
+pub mod StepLaws
+pub mod DefaultInitLaws
+pub mod InitLaws
+pub mod ProcessLaws
+pub mod SemaphoreLaws
+pub mod ScriptLaws
+pub mod Law

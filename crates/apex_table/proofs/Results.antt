@@ -1,0 +1,118 @@
+-- What holds of the value of a reading that gives one.
+use Rattle.std.proofs.Common.{◌≡◌, ◌+◌, Bool, true, false, List, [], ◌∷◌, ◌++◌, length, map, Option, Some, None, IfSome, Result, Ok, Err, IfOk, refl, ap, ◌∙◌, if◌then◌else◌, arith, length-append}
+use Rattle.std.specs.List.{AllByRecursion}
+use Rattle.std.proofs.lemmas.Result.{IfOk-at_ok, IfOk-weaker}
+use Rattle.apex_table.specs.declared.fault.TableFault.{TableFault}
+use Rattle.apex_table.specs.Outcome.{◌>>=◌, some_or, called, called_with, as_call, or_else, each}
+
+-- after a reading that gave x
+pub ok_then : {A B : Type 0} (r : Result A TableFault) (f : A → Result B TableFault) (P : B → Type 0) → ((x : A) → r ≡ Ok x → IfOk (f x) P) → IfOk (r >>= f) P
+ok_then (Ok x) f P h = h x refl
+ok_then (Err e) f P h = tt
+
+pub ok_if : {A : Type 0} (b : Bool) (fault : TableFault) (x : A) (P : A → Type 0) → (b ≡ true → P x) → IfOk (if b then Ok x else Err fault) P
+ok_if true fault x P h = h refl
+ok_if false fault x P h = tt
+
+pub ok_unless : {A : Type 0} (b : Bool) (fault : TableFault) (x : A) (P : A → Type 0) → (b ≡ false → P x) → IfOk (if b then Err fault else Ok x) P
+ok_unless true fault x P h = tt
+ok_unless false fault x P h = h refl
+
+pub ok_branch : {A : Type 0} (b : Bool) (r other : Result A TableFault) (P : A → Type 0) → IfOk r P → IfOk other P → IfOk (if b then r else other) P
+ok_branch true r other P here there = here
+ok_branch false r other P here there = there
+
+pub both_ok : {A : Type 0} (r : Result A TableFault) (P Q : A → Type 0) {R : A → Type 0} → ((x : A) → P x → Q x → R x) → IfOk r P → IfOk r Q → IfOk r R
+both_ok (Ok x) P Q gives left right = gives x left right
+both_ok (Err e) P Q gives left right = tt
+
+pub any_ok : {A : Type 0} (r : Result A TableFault) → IfOk r (λ x. Unit {0})
+any_ok (Ok x) = tt
+any_ok (Err e) = tt
+
+pub some_branch : {A : Type 0} (b : Bool) (x : A) (other : Option A) (P : A → Type 0) → P x → IfSome other P → IfSome (if b then Some x else other) P
+some_branch true x other P here there = here
+some_branch false x other P here there = there
+
+-- a fact of the call that is read, if there is one
+abbrev pub Reads : {A : Type 0} → (A → Type 0) → Result (Option A) TableFault → Type 0
+Reads P r = IfOk r (λ o. IfSome o P)
+
+pub reads_called : {A C : Type 0} (call : A → C) (r : Result A TableFault) (P : A → Type 0) (Q : C → Type 0) → ((x : A) → P x → Q (call x)) → IfOk r P → Reads Q (called call r)
+reads_called call (Ok x) P Q gives h = gives x h
+reads_called call (Err e) P Q gives h = tt
+
+-- of the arguments of a call, the first alone has a fact
+pub reads_called_with : {A B C : Type 0} (call : A → B → C) (first : Result A TableFault) (second : Result B TableFault) (P : A → Type 0) (Q : C → Type 0) → ((x : A) (y : B) → P x → Q (call x y)) → IfOk first P → Reads Q (called_with call first second)
+reads_called_with call (Ok x) (Ok y) P Q gives h = gives x y h
+reads_called_with call (Ok x) (Err e) P Q gives h = tt
+reads_called_with call (Err e) second P Q gives h = tt
+
+pub reads_as_call : {A C : Type 0} (kind : A → C) (r : Result (Option A) TableFault) (P : A → Type 0) (Q : C → Type 0) → ((x : A) → P x → Q (kind x)) → Reads P r → Reads Q (as_call kind r)
+reads_as_call kind (Ok None) P Q gives h = tt
+reads_as_call kind (Ok (Some x)) P Q gives h = gives x h
+reads_as_call kind (Err e) P Q gives h = tt
+
+pub reads_or_else : {A : Type 0} (r other : Result (Option A) TableFault) (P : A → Type 0) → Reads P r → Reads P other → Reads P (or_else r other)
+reads_or_else (Ok None) other P here there = there
+reads_or_else (Ok (Some x)) other P here there = here
+reads_or_else (Err e) other P here there = tt
+
+pub reads_any : {A : Type 0} (r : Result (Option A) TableFault) → Reads (λ x. Unit {0}) r
+reads_any (Ok None) = tt
+reads_any (Ok (Some x)) = tt
+reads_any (Err e) = tt
+
+pub reads_some : {A : Type 0} (fault : TableFault) (r : Result (Option A) TableFault) (P : A → Type 0) → Reads P r → IfOk (r >>= some_or fault) P
+reads_some fault (Ok None) P h = tt
+reads_some fault (Ok (Some x)) P h = h
+reads_some fault (Err e) P h = tt
+
+-- what each reading keeps holds of all that was read
+pub each_keeps : {A B : Type 0} (read : List A → B → Result A TableFault) (P : List A → Type 0) → ((done : List A) (y : B) → P done → IfOk (read done y) (λ x. P (done ++ x ∷ []))) → (done : List A) (ys : List B) → P done → IfOk (each read done ys) P
+each_keeps read P keeps done [] h = h
+each_keeps read P keeps done (y ∷ ys) h =
+    ok_then (read done y) _ P (λ x e. each_keeps read P keeps (done ++ x ∷ []) ys (IfOk-at_ok (λ x. P (done ++ x ∷ [])) e (keeps done y h)))
+
+pub each_length : {A B : Type 0} (read : List A → B → Result A TableFault) (done : List A) (ys : List B) → IfOk (each read done ys) (λ xs. length xs ≡ length done + length ys)
+each_length read done [] = omega arith
+each_length read done (y ∷ ys) =
+    ok_then (read done y) _ (λ xs. length xs ≡ length done + length (y ∷ ys)) (λ x e.
+    IfOk-weaker (each read (done ++ x ∷ []) ys) _ _ (λ xs h. omega (arith, length-append done (x ∷ []))) (each_length read (done ++ x ∷ []) ys))
+
+pub all_push : {A : Type 0} (P : A → Type 0) (xs : List A) (x : A) → AllByRecursion P xs → P x → AllByRecursion P (xs ++ x ∷ [])
+all_push P [] x all here = (here, tt)
+all_push P (y ∷ ys) x all here = (all.0, all_push P ys x all.1 here)
+
+pub all_append : {A : Type 0} (P : A → Type 0) (xs ys : List A) → AllByRecursion P xs → AllByRecursion P ys → AllByRecursion P (xs ++ ys)
+all_append P [] ys left right = right
+all_append P (x ∷ xs) ys left right = (left.0, all_append P xs ys left.1 right)
+
+-- a fact of each element that is read of an element of which Q holds
+pub each_all : {A B : Type 0} (read : List A → B → Result A TableFault) (P : A → Type 0) (Q : B → Type 0) → ((done : List A) (y : B) → Q y → IfOk (read done y) P) → (done : List A) (ys : List B) → AllByRecursion P done → AllByRecursion Q ys → IfOk (each read done ys) (AllByRecursion P)
+each_all read P Q gives done [] all sound = all
+each_all read P Q gives done (y ∷ ys) all sound =
+    ok_then (read done y) _ (AllByRecursion P) (λ x e.
+    each_all read P Q gives (done ++ x ∷ []) ys (all_push P done x all (IfOk-at_ok P e (gives done y sound.0))) sound.1)
+
+map_push : {A B : Type 0} (f : A → B) (xs : List A) (x : A) → map f (xs ++ x ∷ []) ≡ map f xs ++ f x ∷ []
+map_push f [] x = refl
+map_push f (y ∷ ys) x = ap (λ zs. f y ∷ zs) (map_push f ys x)
+
+push_append : {A : Type 0} (xs : List A) (x : A) (ys : List A) → (xs ++ x ∷ []) ++ ys ≡ xs ++ x ∷ ys
+push_append [] x ys = refl
+push_append (z ∷ zs) x ys = ap (λ l. z ∷ l) (push_append zs x ys)
+
+append_none : {A : Type 0} (xs : List A) → xs ≡ xs ++ []
+append_none [] = refl
+append_none (x ∷ xs) = ap (λ l. x ∷ l) (append_none xs)
+
+-- a part of each element that its reading leaves as it was
+pub each_map : {A B C : Type 0} (read : List A → B → Result A TableFault) (f : A → C) (g : B → C) → ((done : List A) (y : B) → IfOk (read done y) (λ x. f x ≡ g y)) → (done : List A) (ys : List B) → IfOk (each read done ys) (λ xs. map f xs ≡ map f done ++ map g ys)
+each_map read f g same done [] = append_none (map f done)
+each_map read f g same done (y ∷ ys) =
+    ok_then (read done y) _ (λ xs. map f xs ≡ map f done ++ map g (y ∷ ys)) (λ x e.
+    IfOk-weaker (each read (done ++ x ∷ []) ys) _ _ (λ xs h.
+    h ∙ ap (λ l. l ++ map g ys) (map_push f done x) ∙ push_append (map f done) (f x) (map g ys)
+    ∙ ap (λ z. map f done ++ z ∷ map g ys) (IfOk-at_ok (λ x. f x ≡ g y) e (same done y)))
+    (each_map read f g same (done ++ x ∷ []) ys))

@@ -1,0 +1,61 @@
+-- Each process keeps what was read of it, and the steps of its script name entries of the table.
+use Rattle.std.proofs.Common.{◌≡◌, ℕ, ◌+◌, ◌<◌, ◌≤◌, List, [], length, Result, Ok, Err, IfOk, IsTrue, refl}
+use Rattle.std.specs.List.{AllByRecursion}
+use Rattle.std.proofs.lemmas.Result.{IfOk-at_ok}
+use Rattle.apex_types.specs.Name.{is_name}
+use Rattle.apex_types.specs.Table.{ProcessEntry, SemaphoreEntry}
+use Rattle.apex_table.specs.declared.fault.Section.TheVariants.{Process}
+use Rattle.apex_table.specs.declared.fault.TableFault.{TableFault}
+use Rattle.apex_table.specs.Outcome.{place}
+use Rattle.apex_table.specs.Processes.{ProcessDraft, process_names}
+use Rattle.apex_table.specs.Semaphores.{semaphore_names}
+use Rattle.apex_table.specs.Scripts.{script, next_entry, with_scripts}
+use Rattle.apex_table.specs.Init.{entry_names}
+use Rattle.apex_table.proofs.Results.{ok_then, each_all, each_map}
+use Rattle.apex_table.proofs.ProcessLaws.{IsScript, same_script, IsSoundDraft}
+use Rattle.apex_table.proofs.StepLaws.{IsWithin, script_law, script_length}
+
+-- what holds of a process with its calls, where there are so many processes and semaphores
+pub record IsSoundProcess (cores ps ss : ℕ) (entry : ProcessEntry) : Type 0 where
+  pub name : IsTrue (is_name entry.name)
+  pub priority : (1 ≤ entry.priority) × (entry.priority ≤ 239)
+  pub core : entry.core < cores
+  pub script : IsScript entry.loops entry.script
+  pub known : AllByRecursion (IsWithin ps ss) entry.script
+
+next_entry_law : (cores : ℕ) (ps ss : List (List ℕ)) (before : List ProcessEntry) (draft : ProcessDraft) → IsSoundDraft cores draft → IfOk (next_entry ps ss before draft) (IsSoundProcess cores (length ps) (length ss))
+unfolding next_entry
+next_entry_law cores ps ss before draft sound =
+    let at = place Process (length before + 1) in
+    ok_then (script at ps ss draft.script) _ (IsSoundProcess cores (length ps) (length ss)) (λ calls e.
+    let same : length calls ≡ length draft.script = IfOk-at_ok (λ calls. length calls ≡ length draft.script) e (script_length at ps ss draft.script) in
+    record {
+      name = sound.name;
+      priority = sound.priority;
+      core = sound.core;
+      script = same_script draft.loops draft.script calls same sound.script;
+      known = IfOk-at_ok (AllByRecursion (IsWithin (length ps) (length ss))) e (script_law at ps ss draft.script);
+    })
+
+next_entry_name : (ps ss : List (List ℕ)) (before : List ProcessEntry) (draft : ProcessDraft) → IfOk (next_entry ps ss before draft) (λ entry. entry.name ≡ draft.name)
+unfolding next_entry
+next_entry_name ps ss before draft =
+    ok_then (script (place Process (length before + 1)) ps ss draft.script) _ (λ entry. entry.name ≡ draft.name) (λ calls e. refl)
+
+-- the processes with their calls have the names of the drafts
+pub record AreSoundProcesses (cores : ℕ) (drafts : List ProcessDraft) (sems : List SemaphoreEntry) (procs : List ProcessEntry) : Type 0 where
+  pub each : AllByRecursion (IsSoundProcess cores (length (process_names drafts)) (length (semaphore_names sems))) procs
+  pub names : entry_names procs ≡ process_names drafts
+
+both : (cores : ℕ) (drafts : List ProcessDraft) (sems : List SemaphoreEntry) (r : Result (List ProcessEntry) TableFault) → IfOk r (AllByRecursion (IsSoundProcess cores (length (process_names drafts)) (length (semaphore_names sems)))) → IfOk r (λ procs. entry_names procs ≡ process_names drafts) → IfOk r (AreSoundProcesses cores drafts sems)
+both cores drafts sems (Ok procs) all names = record { each = all; names = names }
+both cores drafts sems (Err e) _ _ = tt
+
+pub with_scripts_law : (cores : ℕ) (drafts : List ProcessDraft) (sems : List SemaphoreEntry) → AllByRecursion (IsSoundDraft cores) drafts → IfOk (with_scripts drafts sems) (AreSoundProcesses cores drafts sems)
+unfolding with_scripts
+with_scripts_law cores drafts sems sound =
+    let ps = process_names drafts in
+    let ss = semaphore_names sems in
+    both cores drafts sems (with_scripts drafts sems)
+    (each_all (next_entry ps ss) (IsSoundProcess cores (length ps) (length ss)) (IsSoundDraft cores) (next_entry_law cores ps ss) [] drafts tt sound)
+    (each_map (next_entry ps ss) (λ (e : ProcessEntry). e.name) (λ (p : ProcessDraft). p.name) (next_entry_name ps ss) [] drafts)

@@ -1,0 +1,63 @@
+-- Each step that is read names entries of the table.
+use Rattle.std.proofs.Common.{◌≡◌, ℕ, List, [], length, Option, None, Result, Ok, IfOk, arith}
+use Rattle.std.specs.List.{AllByRecursion, list_any}
+use Rattle.std.proofs.lemmas.Result.{IfOk-weaker}
+use Rattle.apex_types.specs.Table.{IsKnownToProcesses, IsKnownToSemaphores}
+use Rattle.apex_types.specs.declared.calls.Call.{Call}
+use Rattle.apex_types.specs.declared.calls.Call.TheVariants.{Partition, Process, Time, Semaphore}
+use Rattle.apex_table.specs.declared.fault.Place.{Place}
+use Rattle.apex_table.specs.declared.fault.TableFault.{TableFault}
+use Rattle.apex_table.specs.declared.fault.TableFault.TheVariants.{BadStep}
+use Rattle.apex_table.specs.Outcome.{as_call, or_else}
+use Rattle.apex_table.specs.Words.{words, is_empty}
+use Rattle.apex_table.specs.PartitionSteps.{partition_call}
+use Rattle.apex_table.specs.ProcessSteps.{process_call}
+use Rattle.apex_table.specs.TimeSteps.{time_call}
+use Rattle.apex_table.specs.SemaphoreSteps.{semaphore_call}
+use Rattle.apex_table.specs.Steps.{call_of, spaced_call_of, step}
+use Rattle.apex_table.specs.Scripts.{script}
+use Rattle.apex_table.proofs.Results.{ok_branch, Reads, reads_any, reads_as_call, reads_or_else, reads_some, each_keeps, each_length, all_push}
+use Rattle.apex_table.proofs.ProcessStepLaws.{process_call_law}
+use Rattle.apex_table.proofs.SemaphoreStepLaws.{semaphore_call_law}
+
+-- every id that the call names is below the number of its kind
+abbrev pub IsWithin : ℕ → ℕ → Call → Type 0
+IsWithin ps ss (Partition call) = Unit {0}
+IsWithin ps ss (Process call) = IsKnownToProcesses ps call
+IsWithin ps ss (Time call) = Unit {0}
+IsWithin ps ss (Semaphore call) = IsKnownToSemaphores ss call
+
+module _ (at : Place) (ps ss : List (List ℕ)) where
+  abbrev Within : Call → Type 0
+  Within = IsWithin (length ps) (length ss)
+
+  call_of_law : (ws : List (List ℕ)) → Reads Within (call_of at ps ss ws)
+  call_of_law ws =
+      let partition : Result (Option Call) TableFault = as_call Partition (Ok (partition_call ws)) in
+      let process : Result (Option Call) TableFault = as_call Process (process_call at ps ws) in
+      let time : Result (Option Call) TableFault = as_call Time (time_call at ws) in
+      let semaphore : Result (Option Call) TableFault = as_call Semaphore (semaphore_call at ss ws) in
+      reads_or_else partition (or_else process (or_else time semaphore)) Within
+      (reads_as_call Partition (Ok (partition_call ws)) (λ c. Unit {0}) Within (λ c h. h) (reads_any (Ok (partition_call ws))))
+      (reads_or_else process (or_else time semaphore) Within
+      (reads_as_call Process (process_call at ps ws) (IsKnownToProcesses (length ps)) Within (λ c h. h) (process_call_law at ps ws))
+      (reads_or_else time semaphore Within
+      (reads_as_call Time (time_call at ws) (λ c. Unit {0}) Within (λ c h. h) (reads_any (time_call at ws)))
+      (reads_as_call Semaphore (semaphore_call at ss ws) (IsKnownToSemaphores (length ss)) Within (λ c h. h) (semaphore_call_law at ss ws))))
+
+  spaced_call_of_law : (ws : List (List ℕ)) → Reads Within (spaced_call_of at ps ss ws)
+  spaced_call_of_law ws = ok_branch (list_any is_empty ws) (Ok None) _ _ tt (call_of_law ws)
+
+  pub step_law : (text : List ℕ) → IfOk (step at ps ss text) Within
+  unfolding step
+  step_law text = reads_some (BadStep at) (spaced_call_of at ps ss (words text)) Within (spaced_call_of_law (words text))
+
+  pub script_law : (steps : List (List ℕ)) → IfOk (script at ps ss steps) (AllByRecursion Within)
+  script_law steps =
+      each_keeps (λ _ t. step at ps ss t) (AllByRecursion Within)
+      (λ done t all. IfOk-weaker (step at ps ss t) _ _ (λ call here. all_push Within done call all here) (step_law t))
+      [] steps tt
+
+  pub script_length : (steps : List (List ℕ)) → IfOk (script at ps ss steps) (λ calls. length calls ≡ length steps)
+  script_length steps =
+      IfOk-weaker (script at ps ss steps) _ _ (λ calls h. omega arith) (each_length (λ _ t. step at ps ss t) [] steps)

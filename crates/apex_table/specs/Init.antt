@@ -1,0 +1,104 @@
+-- The init list that a table gives: its texts, and their calls.
+use Rattle.std.specs.Prelude.{ℕ, ◌+◌, Bool, true, false, if◌then◌else◌, List, [], length, map, Option, Some, None, Result, Ok, Err}
+use Rattle.toml.specs.Data.{Data}
+use Rattle.apex_types.specs.Table.{ProcessEntry, SemaphoreEntry}
+use Rattle.apex_types.specs.declared.calls.Call.{Call}
+use Rattle.apex_types.specs.declared.calls.Call.TheVariants.{Partition, Process, Time, Semaphore}
+use Rattle.apex_types.specs.declared.calls.ProcessCall.{ProcessCall}
+use Rattle.apex_types.specs.declared.calls.ProcessCall.TheVariants.{CreateProcess, InitializeProcessCoreAffinity, SetPriority, Start, DelayedStart, Stop, StopSelf, Suspend, Resume, SuspendSelf, GetMyId, GetMyProcessorCoreId, GetProcessId, GetProcessStatus}
+use Rattle.apex_types.specs.declared.calls.TimeCall.{TimeCall}
+use Rattle.apex_types.specs.declared.calls.TimeCall.TheVariants.{TimedWait, GetTime}
+use Rattle.apex_types.specs.declared.calls.SemaphoreCall.{SemaphoreCall}
+use Rattle.apex_types.specs.declared.calls.SemaphoreCall.TheVariants.{CreateSemaphore, WaitSemaphore, SignalSemaphore, GetSemaphoreId, GetSemaphoreStatus}
+use Rattle.apex_table.specs.declared.fault.Section.TheVariants.{Init}
+use Rattle.apex_table.specs.declared.fault.Place.{Place}
+use Rattle.apex_table.specs.declared.fault.TableFault.{TableFault}
+use Rattle.apex_table.specs.declared.fault.TableFault.TheVariants.{BadInitStep}
+use Rattle.apex_table.specs.Outcome.{◌>>=◌, each, place}
+use Rattle.apex_table.specs.Keys.{text, array, at_most}
+use Rattle.apex_table.specs.Steps.{step}
+use Rattle.apex_table.specs.Semaphores.{semaphore_names}
+use Rattle.apex_table.specs.DefaultInit.{default_init}
+
+-- the text of the step after those before
+abbrev pub next_text : List (List ℕ) → Data → Result (List ℕ) TableFault
+next_text before d = text (place Init (length before + 1)) d
+
+-- the texts of the steps
+abbrev pub texts : List Data → Result (List (List ℕ)) TableFault
+texts ds = each next_text [] ds
+
+-- the texts of an init list
+unfoldable pub given_texts : Data → Result (List (List ℕ)) TableFault
+given_texts d = do
+  ds ← array (place Init 0) d
+  few ← at_most (place Init 0) 512 ds
+  texts few
+
+-- the texts of the init list, if the table gives one
+abbrev pub init_texts : Option Data → Result (Option (List (List ℕ))) TableFault
+init_texts None = Ok None
+init_texts (Some d) = given_texts d >>= λ ts. Ok (Some ts)
+
+-- the calls of process management that an init list may have
+abbrev pub is_init_process_call : ProcessCall → Bool
+is_init_process_call (CreateProcess named) = true
+is_init_process_call (InitializeProcessCoreAffinity p core) = true
+is_init_process_call (SetPriority p priority) = true
+is_init_process_call (Start p) = true
+is_init_process_call (DelayedStart p delay) = true
+is_init_process_call (Stop p) = true
+is_init_process_call StopSelf = false
+is_init_process_call (Suspend p) = false
+is_init_process_call (Resume p) = false
+is_init_process_call (SuspendSelf timeout) = false
+is_init_process_call GetMyId = false
+is_init_process_call GetMyProcessorCoreId = false
+is_init_process_call (GetProcessId named) = true
+is_init_process_call (GetProcessStatus p) = true
+
+-- the calls of time management that an init list may have
+abbrev pub is_init_time_call : TimeCall → Bool
+is_init_time_call (TimedWait timeout) = false
+is_init_time_call GetTime = true
+
+-- the calls of semaphores that an init list may have
+abbrev pub is_init_semaphore_call : SemaphoreCall → Bool
+is_init_semaphore_call (CreateSemaphore named) = true
+is_init_semaphore_call (WaitSemaphore s timeout) = false
+is_init_semaphore_call (SignalSemaphore s) = true
+is_init_semaphore_call (GetSemaphoreId named) = true
+is_init_semaphore_call (GetSemaphoreStatus s) = true
+
+-- the calls that an init list may have
+abbrev pub is_init_call : Call → Bool
+is_init_call (Partition call) = true
+is_init_call (Process call) = is_init_process_call call
+is_init_call (Time call) = is_init_time_call call
+is_init_call (Semaphore call) = is_init_semaphore_call call
+
+-- a call that an init list may have
+abbrev pub init_call : Place → Call → Result Call TableFault
+init_call at call = if is_init_call call then Ok call else Err (BadInitStep at)
+
+-- the call of a step's text, by the names of the processes and of the semaphores; last, whether it may
+-- stand in an init list
+unfoldable pub init_step : Place → List (List ℕ) → List (List ℕ) → List ℕ → Result Call TableFault
+init_step at ps ss text = step at ps ss text >>= init_call at
+
+-- the call of the step after those before
+abbrev pub next_init_step : List (List ℕ) → List (List ℕ) → List Call → List ℕ → Result Call TableFault
+next_init_step ps ss before text = init_step (place Init (length before + 1)) ps ss text
+
+-- the calls of an init list
+abbrev pub init_steps : List (List ℕ) → List (List ℕ) → List (List ℕ) → Result (List Call) TableFault
+init_steps ps ss ts = each (next_init_step ps ss) [] ts
+
+-- the names of the processes
+abbrev pub entry_names : List ProcessEntry → List (List ℕ)
+entry_names processes = map (λ (p : ProcessEntry). p.name) processes
+
+-- the init list that the table gives, or else the default one
+abbrev pub init_list : List ProcessEntry → List SemaphoreEntry → Option (List (List ℕ)) → Result (List Call) TableFault
+init_list processes semaphores (Some ts) = init_steps (entry_names processes) (semaphore_names semaphores) ts
+init_list processes semaphores None = Ok (default_init processes semaphores)

@@ -1,0 +1,16 @@
+pub mod Fault
+pub mod Outcome
+pub mod Keys
+pub mod Words
+pub mod PartitionSteps
+pub mod ProcessSteps
+pub mod TimeSteps
+pub mod SemaphoreSteps
+pub mod Steps
+pub mod Processes
+pub mod Semaphores
+pub mod Scripts
+pub mod DefaultInit
+pub mod Init
+pub mod Reading
+pub mod Drafts

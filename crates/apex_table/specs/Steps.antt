@@ -1,0 +1,30 @@
+-- What a step's text means: first the form of the whole step, then its words from left to right.
+use Rattle.std.specs.Prelude.{ℕ, if◌then◌else◌, List, Option, None, Result, Ok}
+use Rattle.std.specs.List.{list_any}
+use Rattle.apex_types.specs.declared.calls.Call.{Call}
+use Rattle.apex_types.specs.declared.calls.Call.TheVariants.{Partition, Process, Time, Semaphore}
+use Rattle.apex_table.specs.declared.fault.Place.{Place}
+use Rattle.apex_table.specs.declared.fault.TableFault.{TableFault}
+use Rattle.apex_table.specs.declared.fault.TableFault.TheVariants.{BadStep}
+use Rattle.apex_table.specs.Outcome.{◌>>=◌, some_or, as_call, or_else}
+use Rattle.apex_table.specs.Words.{words, is_empty}
+use Rattle.apex_table.specs.PartitionSteps.{partition_call}
+use Rattle.apex_table.specs.ProcessSteps.{process_call}
+use Rattle.apex_table.specs.TimeSteps.{time_call}
+use Rattle.apex_table.specs.SemaphoreSteps.{semaphore_call}
+
+-- the call of a step's words, by the names of the processes and of the semaphores; none where they are
+-- no service's
+abbrev pub call_of : Place → List (List ℕ) → List (List ℕ) → List (List ℕ) → Result (Option Call) TableFault
+call_of at ps ss ws =
+    or_else (as_call Partition (Ok (partition_call ws)))
+    (or_else (as_call Process (process_call at ps ws))
+    (or_else (as_call Time (time_call at ws)) (as_call Semaphore (semaphore_call at ss ws))))
+
+-- another spacing than one space between words has an empty word
+abbrev pub spaced_call_of : Place → List (List ℕ) → List (List ℕ) → List (List ℕ) → Result (Option Call) TableFault
+spaced_call_of at ps ss ws = if list_any is_empty ws then Ok None else call_of at ps ss ws
+
+-- the call of a text
+unfoldable pub step : Place → List (List ℕ) → List (List ℕ) → List ℕ → Result Call TableFault
+step at ps ss text = spaced_call_of at ps ss (words text) >>= some_or (BadStep at)

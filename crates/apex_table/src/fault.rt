@@ -1,0 +1,160 @@
+ghost use Rattle.std.specs.Prelude.{◌≡◌, ◌+◌, ◌<◌, ◌≤◌, ◌++◌, length, Some};
+ghost use Rattle.apex_table.specs.Fault.{section_word, place_text, place_after, fault_text};
+ghost use Rattle.apex_table.specs.Outcome.{place};
+ghost use Rattle.apex_table.specs.declared.fault.TableFault.TheVariants.{Memory};
+
+use std::alloc::{AllocError, AllocFailed};
+use std::error::Error;
+use std::fmt;
+
+/// A section of the table's text.
+#[derive(Clone, Copy, Debug, PartialEq, Eq)]
+pub enum Section {
+    Top,
+    Process,
+    Semaphore,
+    Init,
+}
+
+impl Section {
+    /// The section's word in the text of a fault.
+    pub fn word(self) -> &'static str
+        ensures word { result.now ≡ section_word self }
+        ensures short { length result.now ≤ 9 }
+    {
+        match self {
+            Section::Top => "top",
+            Section::Process => "process",
+            Section::Semaphore => "semaphore",
+            Section::Init => "init",
+        }
+    }
+}
+
+impl fmt::Display for Section {
+    ghost output = { λ section. Some (section_word section) };
+
+    fn fmt<W: fmt::Write>(&self, f: &mut fmt::Formatter<W>) -> fmt::Result {
+        f.write_str(self.word())
+    }
+}
+
+/// Where a fault is: an entry of a section, counted from 1, or 0 for the section as a whole.
+#[derive(Clone, Copy, Debug, PartialEq, Eq)]
+pub struct Place {
+    pub section: Section,
+    pub number: u32,
+}
+
+impl fmt::Display for Place {
+    ghost output = { λ place. Some (place_text place) };
+
+    fn fmt<W: fmt::Write>(&self, f: &mut fmt::Formatter<W>) -> fmt::Result {
+        let section = self.section;
+        let number = self.number;
+        write!(f, "{section} {number}")
+    }
+}
+
+impl Place {
+    /// The section as a whole.
+    pub(crate) fn of(section: Section) -> Place
+        ensures { result ≡ place section 0 }
+    {
+        Place { section, number: 0 }
+    }
+
+    /// The entry after so many of the section.
+    pub(crate) fn next(section: Section, count: usize) -> Place
+        requires { count < 512 }
+        ensures { result ≡ place section (count + 1) }
+    {
+        Place {
+            section,
+            number: count as u32 + 1,
+        }
+    }
+}
+
+/// Why a text is no table: the first of its faults in the order of the checks, or want of memory.
+#[derive(Clone, Copy, Debug, PartialEq, Eq)]
+pub enum TableFault {
+    /// A growth was refused.
+    Memory,
+    /// The text is no TOML, or no UTF-8.
+    NotToml,
+    /// A key without a default is absent, or there is no process.
+    MissingKey(Place),
+    /// A value has another type than its key's.
+    WrongType(Place),
+    /// A number is out of its range, a text is none of its key's words, or a script that begins anew
+    /// has no step.
+    OutOfRange(Place),
+    /// A name has no byte, more than 30, or one that is not visible.
+    BadName(Place),
+    /// An earlier entry of the section has the name.
+    DoubleName(Place),
+    /// A step names no entry of its kind.
+    UnknownName(Place),
+    /// A key that the section does not have.
+    UnknownKey(Place),
+    /// A step has no service's form.
+    BadStep(Place),
+    /// A step of the init list that only a script may have.
+    BadInitStep(Place),
+    /// A section, a script or the init list is too long.
+    TooMany(Place),
+}
+
+impl TableFault {
+    /// The fault's word, and where it is: its text is the one, or both with ` in ` between them.
+    pub fn parts(self) -> (&'static str, Option<Place>)
+        ensures text { fault_text self ≡ result.0.now ++ place_after result.1 }
+        ensures short { length result.0.now ≤ 11 }
+    {
+        match self {
+            TableFault::Memory => ("Memory", None),
+            TableFault::NotToml => ("NotToml", None),
+            TableFault::MissingKey(place) => ("MissingKey", Some(place)),
+            TableFault::WrongType(place) => ("WrongType", Some(place)),
+            TableFault::OutOfRange(place) => ("OutOfRange", Some(place)),
+            TableFault::BadName(place) => ("BadName", Some(place)),
+            TableFault::DoubleName(place) => ("DoubleName", Some(place)),
+            TableFault::UnknownName(place) => ("UnknownName", Some(place)),
+            TableFault::UnknownKey(place) => ("UnknownKey", Some(place)),
+            TableFault::BadStep(place) => ("BadStep", Some(place)),
+            TableFault::BadInitStep(place) => ("BadInitStep", Some(place)),
+            TableFault::TooMany(place) => ("TooMany", Some(place)),
+        }
+    }
+}
+
+impl fmt::Display for TableFault {
+    ghost output = { λ fault. Some (fault_text fault) };
+
+    fn fmt<W: fmt::Write>(&self, f: &mut fmt::Formatter<W>) -> fmt::Result {
+        let (word, place) = self.parts();
+        match place {
+            None => f.write_str(word),
+            Some(place) => write!(f, "{word} in {place}"),
+        }
+    }
+}
+
+impl Error for TableFault {}
+
+impl From<AllocError> for TableFault {
+    ghost from_gives = { λ _ e. e ≡ Memory };
+
+    fn from(_e: AllocError) -> TableFault {
+        TableFault::Memory
+    }
+}
+
+impl<T: Drop> From<AllocFailed<T>> for TableFault {
+    ghost from_gives = { λ _ e. e ≡ Memory };
+
+    fn from(_e: AllocFailed<T>) -> TableFault {
+        TableFault::Memory
+    }
+}

@@ -1,0 +1,195 @@
+ghost use Rattle.std.specs.Prelude.{◌≡◌, ◌<◌, ◌≤◌, map, length, option_map, IfOk, IfSome};
+ghost use Rattle.toml.specs.View.{view};
+ghost use Rattle.apex_table.specs.Outcome.{Gives};
+ghost use Rattle.apex_table.specs.Semaphores.{semaphore_names};
+ghost use Rattle.apex_table.specs.Init.{next_text, texts, given_texts, init_texts, is_init_process_call, is_init_time_call, is_init_semaphore_call, is_init_call, init_step, next_init_step, init_steps, entry_names, init_list};
+
+use crate::default_init::default_init;
+use crate::entries::{Process, Semaphore};
+use crate::fault::{Place, Section, TableFault};
+use crate::keys;
+use crate::named::Named;
+use crate::steps::step;
+use apex_types::{Call, Name, ProcessCall, SemaphoreCall, TimeCall};
+use std::alloc::Global;
+use toml::Value;
+
+impl Named for Process {
+    ghost name_of = { λ p. p.name };
+
+    fn name(&self) -> &Name {
+        Process::name(self)
+    }
+}
+
+fn next_text<'a>(before: &[&'a str], value: &'a Value) -> Result<&'a str, TableFault>
+    requires { length before.now < 512 }
+    ensures { Gives (λ t. t.now) result (next_text (map (λ t. t.now) before.now) (view value.now)) }
+{
+    let at = Place::next(Section::Init, before.len());
+    keys::text(at, value)
+}
+
+fn texts<'a>(alloc: Global, items: &'a [Value]) -> Result<Vec<&'a str>, TableFault>
+    requires { length items.now ≤ 512 }
+    ensures gives { Gives (λ v. map (λ t. t.now) v.items) result (texts (map view items.now)) }
+    ensures count { IfOk result (λ v. length v.items ≡ length items.now) }
+{
+    let mut texts = Vec::new(alloc);
+    for item in items {
+        texts.push(next_text(&texts, item)?)?;
+    }
+    Ok(texts)
+}
+
+#[tactic(auto, unfolding(crate::specs::Init::given_texts))]
+fn given_texts<'a>(alloc: Global, value: &'a Value) -> Result<Vec<&'a str>, TableFault>
+    ensures gives { Gives (λ v. map (λ t. t.now) v.items) result (given_texts (view value.now)) }
+    ensures count { IfOk result (λ v. length v.items ≤ 512) }
+{
+    let at = Place::of(Section::Init);
+    let items = keys::array(at, value)?;
+    keys::at_most(at, 512, items)?;
+    texts(alloc, items)
+}
+
+/// The texts of the init list, if the table gives one.
+pub fn init_texts<'a>(
+    alloc: Global,
+    value: Option<&'a Value>,
+) -> Result<Option<Vec<&'a str>>, TableFault>
+    ensures gives { Gives (option_map (λ v. map (λ t. t.now) v.items)) result (init_texts (option_map (λ v. view v.now) value.entry)) }
+    ensures few { IfOk result (λ o. IfSome o (λ v. length v.items ≤ 512)) }
+{
+    match value {
+        Some(value) => Ok(Some(given_texts(alloc, value)?)),
+        None => Ok(None),
+    }
+}
+
+fn is_init_process_call(call: &ProcessCall) -> bool
+    ensures { result ≡ is_init_process_call call.now }
+{
+    match call {
+        ProcessCall::CreateProcess(_)
+        | ProcessCall::InitializeProcessCoreAffinity(_, _)
+        | ProcessCall::SetPriority(_, _)
+        | ProcessCall::Start(_)
+        | ProcessCall::DelayedStart(_, _)
+        | ProcessCall::Stop(_)
+        | ProcessCall::GetProcessId(_)
+        | ProcessCall::GetProcessStatus(_) => true,
+        ProcessCall::StopSelf
+        | ProcessCall::Suspend(_)
+        | ProcessCall::Resume(_)
+        | ProcessCall::SuspendSelf(_)
+        | ProcessCall::GetMyId
+        | ProcessCall::GetMyProcessorCoreId => false,
+    }
+}
+
+fn is_init_time_call(call: &TimeCall) -> bool
+    ensures { result ≡ is_init_time_call call.now }
+{
+    match call {
+        TimeCall::TimedWait(_) => false,
+        TimeCall::GetTime => true,
+    }
+}
+
+fn is_init_semaphore_call(call: &SemaphoreCall) -> bool
+    ensures { result ≡ is_init_semaphore_call call.now }
+{
+    match call {
+        SemaphoreCall::CreateSemaphore(_)
+        | SemaphoreCall::SignalSemaphore(_)
+        | SemaphoreCall::GetSemaphoreId(_)
+        | SemaphoreCall::GetSemaphoreStatus(_) => true,
+        SemaphoreCall::WaitSemaphore(_, _) => false,
+    }
+}
+
+/// Whether an init list may have the call: a function for each kind of service.
+fn is_init_call(call: &Call) -> bool
+    ensures { result ≡ is_init_call call.now }
+{
+    match call {
+        Call::Partition(_) => true,
+        Call::Process(call) => is_init_process_call(call),
+        Call::Time(call) => is_init_time_call(call),
+        Call::Semaphore(call) => is_init_semaphore_call(call),
+    }
+}
+
+/// The call of a step's text; last it is tested whether an init list may have it.
+#[tactic(auto, unfolding(crate::specs::Init::init_step))]
+fn init_step(
+    alloc: Global,
+    at: Place,
+    processes: &[Process],
+    semaphores: &[Semaphore],
+    text: &str,
+) -> Result<Call, TableFault>
+    requires processes { length processes.now ≤ 32 }
+    requires semaphores { length semaphores.now ≤ 32 }
+    ensures { Gives (λ c. c) result (init_step at (entry_names processes.now) (semaphore_names semaphores.now) text.now) }
+{
+    let call = step(alloc, at, processes, semaphores, text)?;
+    if is_init_call(&call) {
+        Ok(call)
+    } else {
+        Err(TableFault::BadInitStep(at))
+    }
+}
+
+fn next_init_step(
+    alloc: Global,
+    processes: &[Process],
+    semaphores: &[Semaphore],
+    before: &[Call],
+    text: &str,
+) -> Result<Call, TableFault>
+    requires processes { length processes.now ≤ 32 }
+    requires semaphores { length semaphores.now ≤ 32 }
+    requires few { length before.now < 512 }
+    ensures { Gives (λ c. c) result (next_init_step (entry_names processes.now) (semaphore_names semaphores.now) before.now text.now) }
+{
+    let at = Place::next(Section::Init, before.len());
+    init_step(alloc, at, processes, semaphores, text)
+}
+
+fn init_steps(
+    alloc: Global,
+    processes: &[Process],
+    semaphores: &[Semaphore],
+    texts: &[&str],
+) -> Result<Vec<Call>, TableFault>
+    requires processes { length processes.now ≤ 32 }
+    requires semaphores { length semaphores.now ≤ 32 }
+    requires texts { length texts.now ≤ 512 }
+    ensures { Gives (λ v. v.items) result (init_steps (entry_names processes.now) (semaphore_names semaphores.now) (map (λ t. t.now) texts.now)) }
+{
+    let mut calls = Vec::new(alloc);
+    for text in texts {
+        calls.push(next_init_step(alloc, processes, semaphores, &calls, text)?)?;
+    }
+    Ok(calls)
+}
+
+/// The init list that the table gives by these texts, or else the default one.
+pub fn init_list(
+    alloc: Global,
+    processes: &[Process],
+    semaphores: &[Semaphore],
+    texts: Option<Vec<&str>>,
+) -> Result<Vec<Call>, TableFault>
+    requires processes { length processes.now ≤ 32 }
+    requires semaphores { length semaphores.now ≤ 16 }
+    requires texts { IfSome texts (λ v. length v.items ≤ 512) }
+    ensures { Gives (λ v. v.items) result (init_list processes.now semaphores.now (option_map (λ v. map (λ t. t.now) v.items) texts.entry)) }
+{
+    match texts {
+        Some(texts) => init_steps(alloc, processes, semaphores, &texts),
+        None => Ok(default_init(alloc, processes, semaphores)?),
+    }
+}

@@ -1,0 +1,90 @@
+ghost use Rattle.std.specs.Prelude.{◌≡◌, ◌<◌, ◌≤◌, map, length, IfOk};
+ghost use Rattle.apex_table.specs.Outcome.{Gives};
+ghost use Rattle.apex_table.specs.Processes.{process_names};
+ghost use Rattle.apex_table.specs.Semaphores.{semaphore_names};
+ghost use Rattle.apex_table.specs.Scripts.{script, next_entry, with_scripts};
+ghost use Rattle.apex_table.specs.Drafts.{draft_seen};
+
+use crate::entries::{Process, Semaphore};
+use crate::fault::{Place, Section, TableFault};
+use crate::named::Named;
+use crate::processes::Draft;
+use crate::steps::step;
+use apex_types::Call;
+use std::alloc::Global;
+
+fn script<P: Named, S: Named>(
+    alloc: Global,
+    at: Place,
+    processes: &[P],
+    semaphores: &[S],
+    steps: &[&str],
+) -> Result<Vec<Call>, TableFault>
+    requires processes { length processes.now ≤ 32 }
+    requires semaphores { length semaphores.now ≤ 32 }
+    ensures { Gives (λ v. v.items) result (script at (map P.name_of processes.now) (map S.name_of semaphores.now) (map (λ t. t.now) steps.now)) }
+{
+    let mut calls = Vec::new(alloc);
+    for text in steps {
+        calls.push(step(alloc, at, processes, semaphores, text)?)?;
+    }
+    Ok(calls)
+}
+
+fn script_of(
+    alloc: Global,
+    at: Place,
+    drafts: &[Draft],
+    semaphores: &[Semaphore],
+    draft: &Draft,
+) -> Result<Vec<Call>, TableFault>
+    requires drafts { length drafts.now ≤ 32 }
+    requires semaphores { length semaphores.now ≤ 32 }
+    ensures { Gives (λ v. v.items) result (script at (process_names (map draft_seen drafts.now)) (semaphore_names semaphores.now) (map (λ t. t.now) draft.now.script.items)) }
+{
+    script(alloc, at, drafts, semaphores, &draft.script)
+}
+
+#[tactic(auto, unfolding(crate::specs::Scripts::next_entry))]
+fn next_entry(
+    alloc: Global,
+    drafts: &[Draft],
+    semaphores: &[Semaphore],
+    before: &[Process],
+    draft: &Draft,
+) -> Result<Process, TableFault>
+    requires drafts { length drafts.now ≤ 32 }
+    requires semaphores { length semaphores.now ≤ 32 }
+    requires few { length before.now < 32 }
+    ensures { Gives (λ p. p) result (next_entry (process_names (map draft_seen drafts.now)) (semaphore_names semaphores.now) before.now (draft_seen draft.now)) }
+{
+    let at = Place::next(Section::Process, before.len());
+    let script = script_of(alloc, at, drafts, semaphores, draft)?;
+    Ok(Process::new(
+        draft.name,
+        draft.priority,
+        draft.core,
+        draft.loops,
+        draft.start,
+        script,
+    ))
+}
+
+/// The processes, now with the calls of their scripts.
+#[tactic(auto, unfolding(crate::specs::Scripts::with_scripts))]
+pub fn with_scripts(
+    alloc: Global,
+    drafts: &[Draft],
+    semaphores: &[Semaphore],
+) -> Result<Vec<Process>, TableFault>
+    requires drafts { length drafts.now ≤ 32 }
+    requires semaphores { length semaphores.now ≤ 32 }
+    ensures gives { Gives (λ v. v.items) result (with_scripts (map draft_seen drafts.now) semaphores.now) }
+    ensures count { IfOk result (λ v. length v.items ≡ length drafts.now) }
+{
+    let mut processes = Vec::new(alloc);
+    for draft in drafts {
+        processes.push(next_entry(alloc, drafts, semaphores, &processes, draft)?)?;
+    }
+    Ok(processes)
+}

@@ -1,0 +1,81 @@
+ghost use Rattle.std.specs.Prelude.{◌≤◌, map, length};
+ghost use Rattle.apex_table.specs.Outcome.{Gives};
+ghost use Rattle.apex_table.specs.Steps.{call_of, spaced_call_of, step};
+
+mod partition;
+mod process;
+mod semaphore;
+mod time;
+mod words;
+
+use crate::fault::{Place, TableFault};
+use crate::named::Named;
+use apex_types::Call;
+use partition::partition_call;
+use process::process_call;
+use semaphore::semaphore_call;
+use std::alloc::Global;
+use time::time_call;
+use words::{has_empty, words};
+
+/// The call of a step's words: a function for each kind of service.
+fn call_of<P: Named, S: Named>(
+    at: Place,
+    processes: &[P],
+    semaphores: &[S],
+    words: &[&str],
+) -> Result<Option<Call>, TableFault>
+    requires processes { length processes.now ≤ 32 }
+    requires semaphores { length semaphores.now ≤ 32 }
+    ensures { Gives (λ c. c) result (call_of at (map P.name_of processes.now) (map S.name_of semaphores.now) (map (λ w. w.now) words.now)) }
+{
+    if let Some(call) = partition_call(words) {
+        return Ok(Some(Call::Partition(call)));
+    }
+    if let Some(call) = process_call(at, processes, words)? {
+        return Ok(Some(Call::Process(call)));
+    }
+    if let Some(call) = time_call(at, words)? {
+        return Ok(Some(Call::Time(call)));
+    }
+    if let Some(call) = semaphore_call(at, semaphores, words)? {
+        return Ok(Some(Call::Semaphore(call)));
+    }
+    Ok(None)
+}
+
+fn spaced_call_of<P: Named, S: Named>(
+    at: Place,
+    processes: &[P],
+    semaphores: &[S],
+    words: &[&str],
+) -> Result<Option<Call>, TableFault>
+    requires processes { length processes.now ≤ 32 }
+    requires semaphores { length semaphores.now ≤ 32 }
+    ensures { Gives (λ c. c) result (spaced_call_of at (map P.name_of processes.now) (map S.name_of semaphores.now) (map (λ w. w.now) words.now)) }
+{
+    if has_empty(words) {
+        return Ok(None);
+    }
+    call_of(at, processes, semaphores, words)
+}
+
+/// The call of a step's text: first its form is tested, then its words from left to right.
+#[tactic(auto, unfolding(crate::specs::Steps::step))]
+pub fn step<P: Named, S: Named>(
+    alloc: Global,
+    at: Place,
+    processes: &[P],
+    semaphores: &[S],
+    text: &str,
+) -> Result<Call, TableFault>
+    requires processes { length processes.now ≤ 32 }
+    requires semaphores { length semaphores.now ≤ 32 }
+    ensures { Gives (λ c. c) result (step at (map P.name_of processes.now) (map S.name_of semaphores.now) text.now) }
+{
+    let words = words(alloc, text)?;
+    match spaced_call_of(at, processes, semaphores, &words)? {
+        Some(call) => Ok(call),
+        None => Err(TableFault::BadStep(at)),
+    }
+}
