@@ -35,10 +35,14 @@ abbrev pub own_call : {W : Type 0} → Place → List (List ℕ) → List ℕ �
 own_call at names name (Ok None) = Ok None
 own_call at names name own = entry_of at names name >>= λ i. as_call (Own i) own
 
--- the call of a step's words, none where they are no step of the kind; own is the service of these
--- words that the kind alone has
-unfoldable pub object_call : {W : Type 0} → Place → List ℕ → List (List ℕ) → Result (Option W) TableFault → List (List ℕ) → Result (Option (ObjectCall ℕ W)) TableFault
-object_call at word names own (service ∷ name ∷ []) =
+-- a service, a name, and the words behind it; own is the service that the kind alone has, if there is one
+unfoldable pub named_call : {W : Type 0} → Place → List ℕ → List (List ℕ) → List ℕ → List ℕ → List (List ℕ) → Result (Option W) TableFault → Result (Option (ObjectCall ℕ W)) TableFault
+named_call at word names service name [] own =
     or_else (common_call at word names service name) (own_call at names name own)
-object_call at word names own (service ∷ name ∷ words) = own_call at names name own
+named_call at word names service name (w ∷ ws) own = own_call at names name own
+
+-- the call of a step's words, none where they are no step of the kind; own reads the services that the
+-- kind alone has
+abbrev pub object_call : {W : Type 0} → Place → List ℕ → List (List ℕ) → (List ℕ → List (List ℕ) → Result (Option W) TableFault) → List (List ℕ) → Result (Option (ObjectCall ℕ W)) TableFault
+object_call at word names own (service ∷ name ∷ ws) = named_call at word names service name ws (own service ws)
 object_call at word names own _ = Ok None

@@ -21,10 +21,10 @@ abbrev pub call_of : Place → List (List ℕ) → List (List ℕ) → List (Lis
 call_of at ps ss ws =
     first_of
     (as_call Partition (Ok (partition_call ws))
-    ∷ as_call Process (object_call at (codes "PROCESS") ps (process_service at ws) ws)
+    ∷ as_call Process (object_call at (codes "PROCESS") ps (process_service at) ws)
     ∷ as_call Caller (caller_call at ws)
     ∷ as_call Time (time_call at ws)
-    ∷ as_call Semaphore (object_call at (codes "SEMAPHORE") ss (semaphore_service at ws) ws)
+    ∷ as_call Semaphore (object_call at (codes "SEMAPHORE") ss (semaphore_service at) ws)
     ∷ [])
 
 -- another spacing than one space between words has an empty word

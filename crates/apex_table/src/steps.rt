@@ -16,8 +16,6 @@ use apex_types::Call;
 use caller::caller_call;
 use object::object_call;
 use partition::partition_call;
-use process::process_service;
-use semaphore::semaphore_service;
 use std::alloc::Global;
 use time::time_call;
 use words::{has_empty, words};
@@ -36,8 +34,7 @@ fn call_of<P: Named, S: Named>(
     if let Some(call) = partition_call(words) {
         return Ok(Some(Call::Partition(call)));
     }
-    let own = process_service(at, words);
-    if let Some(call) = object_call(at, "PROCESS", processes, own, words)? {
+    if let Some(call) = object_call(at, processes, words)? {
         return Ok(Some(Call::Process(call)));
     }
     if let Some(call) = caller_call(at, words)? {
@@ -46,8 +43,7 @@ fn call_of<P: Named, S: Named>(
     if let Some(call) = time_call(at, words)? {
         return Ok(Some(Call::Time(call)));
     }
-    let own = semaphore_service(at, words);
-    if let Some(call) = object_call(at, "SEMAPHORE", semaphores, own, words)? {
+    if let Some(call) = object_call(at, semaphores, words)? {
         return Ok(Some(Call::Semaphore(call)));
     }
     Ok(None)

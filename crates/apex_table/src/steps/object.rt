@@ -1,7 +1,9 @@
-ghost use Rattle.std.specs.Prelude.{◌≡◌, ◌++◌, ◌≤◌, map, length};
+ghost use Rattle.std.specs.Prelude.{ℕ, List, Option, Result, ◌≡◌, ◌++◌, ◌≤◌, map, length};
 ghost use Rattle.std.specs.Str.{bytes_eq};
+ghost use Rattle.apex_table.specs.declared.fault.Place.{Place};
+ghost use Rattle.apex_table.specs.declared.fault.TableFault.{TableFault};
 ghost use Rattle.apex_table.specs.Outcome.{Gives};
-ghost use Rattle.apex_table.specs.ObjectSteps.{named, common_call, own_call, object_call};
+ghost use Rattle.apex_table.specs.ObjectSteps.{named, common_call, own_call, named_call, object_call};
 ghost use Rattle.apex_table.specs.Words.{entry_of};
 
 use crate::fault::{Place, TableFault};
@@ -10,15 +12,36 @@ use crate::named::{Named, place_of};
 use crate::steps::words::entry_of;
 use apex_types::{Id, ObjectCall};
 
+/// A kind of things, as steps ask for its services.
+pub trait Kind {
+    /// A service that the kind alone has.
+    type Service: Copy;
+
+    ghost word: { List ℕ };
+    ghost own: { Place → List ℕ → List (List ℕ) → Result (Option Self.Service) TableFault };
+
+    /// What stands for the kind in the names of the services that each kind has.
+    fn word() -> &'static str
+        ensures { result.now ≡ word };
+
+    /// The service that the kind alone has, if the words ask for one; they stand behind the name.
+    fn own_service(
+        at: Place,
+        service: &str,
+        words: &[&str],
+    ) -> Result<Option<Self::Service>, TableFault>
+        ensures { result ≡ own at service.now (map (λ w. w.now) words.now) };
+}
+
 /// Whether a service has this name: the kind's word between a beginning and an end.
 fn is_service(service: &str, before: &str, word: &str, after: &str) -> bool
     ensures { result ≡ bytes_eq service.now (before.now ++ word.now ++ after.now) }
 {
-    let Some(front) = service.as_bytes().strip_suffix(after.as_bytes()) else {
-        return false;
-    };
-    match front.strip_prefix(before.as_bytes()) {
-        Some(middle) => middle == word.as_bytes(),
+    match service.as_bytes().strip_suffix(after.as_bytes()) {
+        Some(front) => match front.strip_prefix(before.as_bytes()) {
+            Some(middle) => middle == word.as_bytes(),
+            None => false,
+        },
         None => false,
     }
 }
@@ -49,23 +72,22 @@ fn thing<T: Named, K>(at: Place, entries: &[T], name: &str) -> Result<Id<K>, Tab
 
 /// The call of a service that each kind has.
 #[tactic(auto, unfolding(crate::specs::ObjectSteps::common_call))]
-fn common_call<T: Named, K, W>(
+fn common_call<T: Named, K: Kind>(
     at: Place,
-    word: &str,
     entries: &[T],
     service: &str,
     name: &str,
-) -> Result<Option<ObjectCall<Id<K>, W>>, TableFault>
+) -> Result<Option<ObjectCall<Id<K>, K::Service>>, TableFault>
     requires { length entries.now ≤ 32 }
-    ensures { Gives (λ c. c) result (common_call at word.now (map T.name_of entries.now) service.now name.now) }
+    ensures { Gives (λ c. c) result (common_call at K.word (map T.name_of entries.now) service.now name.now) }
 {
-    if is_service(service, "CREATE_", word, "") {
+    if is_service(service, "CREATE_", K::word(), "") {
         return Ok(Some(ObjectCall::Create(named(at, entries, name)?)));
     }
-    if is_service(service, "GET_", word, "_ID") {
+    if is_service(service, "GET_", K::word(), "_ID") {
         return Ok(Some(ObjectCall::GetId(named(at, entries, name)?)));
     }
-    if is_service(service, "GET_", word, "_STATUS") {
+    if is_service(service, "GET_", K::word(), "_STATUS") {
         return Ok(Some(ObjectCall::GetStatus(thing(at, entries, name)?)));
     }
     Ok(None)
@@ -91,26 +113,39 @@ fn own_call<T: Named, K, W: Copy>(
     }
 }
 
-/// The call of a step's words, none where they are no step of the kind.
-#[tactic(auto, unfolding(crate::specs::ObjectSteps::object_call))]
-pub fn object_call<T: Named, K, W: Copy>(
+/// The call of a service for the thing of this name, by the words behind it.
+#[tactic(auto, unfolding(crate::specs::ObjectSteps::named_call))]
+fn named_call<T: Named, K: Kind>(
     at: Place,
-    word: &str,
     entries: &[T],
-    own: Result<Option<W>, TableFault>,
+    service: &str,
+    name: &str,
     words: &[&str],
-) -> Result<Option<ObjectCall<Id<K>, W>>, TableFault>
+) -> Result<Option<ObjectCall<Id<K>, K::Service>>, TableFault>
     requires { length entries.now ≤ 32 }
-    ensures { Gives (λ c. c) result (object_call at word.now (map T.name_of entries.now) own (map (λ w. w.now) words.now)) }
+    ensures { Gives (λ c. c) result (named_call at K.word (map T.name_of entries.now) service.now name.now (map (λ w. w.now) words.now) (K.own at service.now (map (λ w. w.now) words.now))) }
 {
-    let (service, name) = match words {
-        [service, name, ..] => (service, name),
-        _ => return Ok(None),
-    };
-    if words.len() == 2
-        && let Some(call) = common_call(at, word, entries, service, name)?
-    {
-        return Ok(Some(call));
+    let own = K::own_service(at, service, words);
+    if !words.is_empty() {
+        return own_call(at, entries, name, own);
     }
-    own_call(at, entries, name, own)
+    match common_call(at, entries, service, name)? {
+        Some(call) => Ok(Some(call)),
+        None => own_call(at, entries, name, own),
+    }
+}
+
+/// The call of a step's words, none where they are no step of the kind.
+pub fn object_call<T: Named, K: Kind>(
+    at: Place,
+    entries: &[T],
+    words: &[&str],
+) -> Result<Option<ObjectCall<Id<K>, K::Service>>, TableFault>
+    requires { length entries.now ≤ 32 }
+    ensures { Gives (λ c. c) result (object_call at K.word (map T.name_of entries.now) (K.own at) (map (λ w. w.now) words.now)) }
+{
+    match words {
+        [service, name, rest @ ..] => named_call(at, entries, service, name, rest),
+        _ => Ok(None),
+    }
 }

@@ -1,12 +1,13 @@
-ghost use Rattle.std.specs.Prelude.{◌≡◌, map};
-ghost use Rattle.apex_table.specs.ProcessSteps.{process_with_name, process_with_word, process_service};
+ghost use Rattle.std.specs.Prelude.{codes, ◌≡◌};
+ghost use Rattle.apex_table.specs.ProcessSteps.{process_alone, process_with_word, process_service};
 
 use crate::fault::{Place, TableFault};
+use crate::steps::object::Kind;
 use crate::steps::words::{is_number, is_timeout, number, timeout};
-use apex_types::ProcessService;
+use apex_types::{ProcessKind, ProcessService};
 
-fn with_name(service: &str) -> Option<ProcessService>
-    ensures { result ≡ process_with_name service.now }
+fn alone(service: &str) -> Option<ProcessService>
+    ensures { result ≡ process_alone service.now }
 {
     match service {
         "START" => Some(ProcessService::Start),
@@ -34,14 +35,25 @@ fn with_word(at: Place, service: &str, word: &str) -> Result<Option<ProcessServi
     Ok(Some(service))
 }
 
-/// The service of a step's words, if they ask for one that processes alone have.
-#[tactic(auto, unfolding(crate::specs::ProcessSteps::process_service))]
-pub fn process_service(at: Place, words: &[&str]) -> Result<Option<ProcessService>, TableFault>
-    ensures { result ≡ process_service at (map (λ w. w.now) words.now) }
-{
-    match words {
-        [service, _] => Ok(with_name(service)),
-        [service, _, word] => with_word(at, service, word),
-        _ => Ok(None),
+impl Kind for ProcessKind {
+    type Service = ProcessService;
+
+    ghost word = { codes "PROCESS" };
+    ghost own = { process_service };
+
+    fn word() -> &'static str {
+        "PROCESS"
+    }
+
+    fn own_service(
+        at: Place,
+        service: &str,
+        words: &[&str],
+    ) -> Result<Option<ProcessService>, TableFault> {
+        match words {
+            [] => Ok(alone(service)),
+            [word] => with_word(at, service, word),
+            _ => Ok(None),
+        }
     }
 }

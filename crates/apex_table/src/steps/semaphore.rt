@@ -1,12 +1,13 @@
-ghost use Rattle.std.specs.Prelude.{◌≡◌, map};
-ghost use Rattle.apex_table.specs.SemaphoreSteps.{semaphore_with_name, semaphore_with_word, semaphore_service};
+ghost use Rattle.std.specs.Prelude.{codes, ◌≡◌};
+ghost use Rattle.apex_table.specs.SemaphoreSteps.{semaphore_alone, semaphore_with_word, semaphore_service};
 
 use crate::fault::{Place, TableFault};
+use crate::steps::object::Kind;
 use crate::steps::words::{is_timeout, timeout};
-use apex_types::SemaphoreService;
+use apex_types::{SemaphoreKind, SemaphoreService};
 
-fn with_name(service: &str) -> Option<SemaphoreService>
-    ensures { result ≡ semaphore_with_name service.now }
+fn alone(service: &str) -> Option<SemaphoreService>
+    ensures { result ≡ semaphore_alone service.now }
 {
     match service {
         "SIGNAL_SEMAPHORE" => Some(SemaphoreService::Signal),
@@ -25,14 +26,25 @@ fn with_word(at: Place, service: &str, word: &str) -> Result<Option<SemaphoreSer
     }
 }
 
-/// The service of a step's words, if they ask for one that semaphores alone have.
-#[tactic(auto, unfolding(crate::specs::SemaphoreSteps::semaphore_service))]
-pub fn semaphore_service(at: Place, words: &[&str]) -> Result<Option<SemaphoreService>, TableFault>
-    ensures { result ≡ semaphore_service at (map (λ w. w.now) words.now) }
-{
-    match words {
-        [service, _] => Ok(with_name(service)),
-        [service, _, word] => with_word(at, service, word),
-        _ => Ok(None),
+impl Kind for SemaphoreKind {
+    type Service = SemaphoreService;
+
+    ghost word = { codes "SEMAPHORE" };
+    ghost own = { semaphore_service };
+
+    fn word() -> &'static str {
+        "SEMAPHORE"
+    }
+
+    fn own_service(
+        at: Place,
+        service: &str,
+        words: &[&str],
+    ) -> Result<Option<SemaphoreService>, TableFault> {
+        match words {
+            [] => Ok(alone(service)),
+            [word] => with_word(at, service, word),
+            _ => Ok(None),
+        }
     }
 }
