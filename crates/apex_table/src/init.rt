@@ -67,8 +67,8 @@ pub fn init_texts<'a>(
     }
 }
 
-fn is_init_process_service(service: ProcessService) -> bool
-    ensures { result ≡ is_init_process_service service }
+fn is_init_process_service(service: &ProcessService) -> bool
+    ensures { result ≡ is_init_process_service service.now }
 {
     match service {
         ProcessService::InitializeCoreAffinity(_)
@@ -80,8 +80,8 @@ fn is_init_process_service(service: ProcessService) -> bool
     }
 }
 
-fn is_init_semaphore_service(service: SemaphoreService) -> bool
-    ensures { result ≡ is_init_semaphore_service service }
+fn is_init_semaphore_service(service: &SemaphoreService) -> bool
+    ensures { result ≡ is_init_semaphore_service service.now }
 {
     match service {
         SemaphoreService::Wait(_) => false,
@@ -89,8 +89,8 @@ fn is_init_semaphore_service(service: SemaphoreService) -> bool
     }
 }
 
-fn is_init_time_call(call: TimeCall) -> bool
-    ensures { result ≡ is_init_time_call call }
+fn is_init_time_call(call: &TimeCall) -> bool
+    ensures { result ≡ is_init_time_call call.now }
 {
     match call {
         TimeCall::TimedWait(_) => false,
@@ -99,8 +99,8 @@ fn is_init_time_call(call: TimeCall) -> bool
 }
 
 /// Whether an init list may have the call.
-fn is_init_call(call: Call) -> bool
-    ensures { result ≡ is_init_call call }
+fn is_init_call(call: &Call) -> bool
+    ensures { result ≡ is_init_call call.now }
 {
     match call {
         Call::Process(ObjectCall::Own(_, service)) => is_init_process_service(service),
@@ -125,7 +125,7 @@ fn init_step(
     ensures { Gives (λ c. c) result (init_step at (entry_names processes.now) (semaphore_names semaphores.now) text.now) }
 {
     let call = step(alloc, at, processes, semaphores, text)?;
-    if is_init_call(call) {
+    if is_init_call(&call) {
         Ok(call)
     } else {
         Err(TableFault::BadInitStep(at))
