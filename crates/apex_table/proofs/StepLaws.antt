@@ -17,7 +17,7 @@ use Rattle.apex_table.specs.ProcessSteps.{process_service}
 use Rattle.apex_table.specs.CallerSteps.{caller_call}
 use Rattle.apex_table.specs.TimeSteps.{time_call}
 use Rattle.apex_table.specs.SemaphoreSteps.{semaphore_service}
-use Rattle.apex_table.specs.Steps.{call_of, spaced_call_of, step}
+use Rattle.apex_table.specs.Steps.{readings, call_of, spaced_call_of, step}
 use Rattle.apex_table.specs.Scripts.{script}
 use Rattle.apex_table.proofs.Results.{ok_branch, Reads, reads_any, reads_as_call, reads_first_of, reads_some, each_keeps, each_length, all_push}
 use Rattle.apex_table.proofs.ObjectStepLaws.{object_call_law}
@@ -37,15 +37,17 @@ module _ (at : Place) (ps ss : List (List ℕ)) where
   any_law : {A : Type 0} (kind : A → Call) (r : Result (Option A) TableFault) → ((c : A) → Within (kind c)) → Reads Within (as_call kind r)
   any_law kind r gives = reads_as_call kind r (λ c. Unit {0}) Within (λ c h. gives c) (reads_any r)
 
-  call_of_law : (ws : List (List ℕ)) → Reads Within (call_of at ps ss ws)
-  call_of_law ws =
-      reads_first_of Within _
+  readings_law : (ws : List (List ℕ)) → AllByRecursion (Reads Within) (readings at ps ss ws)
+  readings_law ws =
       (any_law Partition (Ok (partition_call ws)) (λ c. tt),
-      (reads_as_call Process _ (IsKnownObject (length ps)) Within (λ c h. h) (object_call_law at (codes "PROCESS") ps (process_service at) ws),
+      (reads_as_call Process _ (IsKnownObject (length ps)) Within (λ c h. h) (object_call_law _ at (codes "PROCESS") ps (process_service at) ws),
       (any_law Caller (caller_call at ws) (λ c. tt),
       (any_law Time (time_call at ws) (λ c. tt),
-      (reads_as_call Semaphore _ (IsKnownObject (length ss)) Within (λ c h. h) (object_call_law at (codes "SEMAPHORE") ss (semaphore_service at) ws),
+      (reads_as_call Semaphore _ (IsKnownObject (length ss)) Within (λ c h. h) (object_call_law _ at (codes "SEMAPHORE") ss (semaphore_service at) ws),
       tt)))))
+
+  call_of_law : (ws : List (List ℕ)) → Reads Within (call_of at ps ss ws)
+  call_of_law ws = reads_first_of Within (readings at ps ss ws) (readings_law ws)
 
   spaced_call_of_law : (ws : List (List ℕ)) → Reads Within (spaced_call_of at ps ss ws)
   spaced_call_of_law ws = ok_branch (list_any is_empty ws) (Ok None) _ _ tt (call_of_law ws)

@@ -22,27 +22,23 @@ named_at name None = Unknown name
 abbrev pub named : Place → List (List ℕ) → List ℕ → Result (Named ℕ) TableFault
 named at names name = well_formed at name >>= λ n. Ok (named_at n (position_from (bytes_eq n) 0 names))
 
--- a service that each kind has, by the kind's word, and a name
-unfoldable pub common_call : {W : Type 0} → Place → List ℕ → List (List ℕ) → List ℕ → List ℕ → Result (Option (ObjectCall ℕ W)) TableFault
-common_call at word names service name =
+-- a service that each kind has, by the kind's word, a name, and no word behind it
+unfoldable pub common_call : {W : Type 0} → Place → List ℕ → List (List ℕ) → List ℕ → List ℕ → List (List ℕ) → Result (Option (ObjectCall ℕ W)) TableFault
+common_call at word names service name [] =
     if bytes_eq service (codes "CREATE_" ++ word) then called Create (named at names name) else
     if bytes_eq service (codes "GET_" ++ word ++ codes "_ID") then called GetId (named at names name) else
     if bytes_eq service (codes "GET_" ++ word ++ codes "_STATUS") then called GetStatus (entry_of at names name) else
     Ok None
+common_call at word names service name (w ∷ ws) = Ok None
 
 -- a service that the kind alone has, if there is one, and a name, whose fault is told first
 abbrev pub own_call : {W : Type 0} → Place → List (List ℕ) → List ℕ → Result (Option W) TableFault → Result (Option (ObjectCall ℕ W)) TableFault
 own_call at names name (Ok None) = Ok None
 own_call at names name own = entry_of at names name >>= λ i. as_call (Own i) own
 
--- a service, a name, and the words behind it; own is the service that the kind alone has, if there is one
-unfoldable pub named_call : {W : Type 0} → Place → List ℕ → List (List ℕ) → List ℕ → List ℕ → List (List ℕ) → Result (Option W) TableFault → Result (Option (ObjectCall ℕ W)) TableFault
-named_call at word names service name [] own =
-    or_else (common_call at word names service name) (own_call at names name own)
-named_call at word names service name (w ∷ ws) own = own_call at names name own
-
 -- the call of a step's words, none where they are no step of the kind; own reads the services that the
 -- kind alone has
 abbrev pub object_call : {W : Type 0} → Place → List ℕ → List (List ℕ) → (List ℕ → List (List ℕ) → Result (Option W) TableFault) → List (List ℕ) → Result (Option (ObjectCall ℕ W)) TableFault
-object_call at word names own (service ∷ name ∷ ws) = named_call at word names service name ws (own service ws)
+object_call at word names own (service ∷ name ∷ ws) =
+    or_else (common_call at word names service name ws) (own_call at names name (own service ws))
 object_call at word names own _ = Ok None

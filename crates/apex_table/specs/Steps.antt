@@ -15,17 +15,19 @@ use Rattle.apex_table.specs.CallerSteps.{caller_call}
 use Rattle.apex_table.specs.TimeSteps.{time_call}
 use Rattle.apex_table.specs.SemaphoreSteps.{semaphore_service}
 
--- the call of a step's words, by the names of the processes and of the semaphores; none where they are
--- no service's
-abbrev pub call_of : Place → List (List ℕ) → List (List ℕ) → List (List ℕ) → Result (Option Call) TableFault
-call_of at ps ss ws =
-    first_of
-    (as_call Partition (Ok (partition_call ws))
+-- what each kind of service reads of a step's words, by the names of the processes and of the semaphores
+abbrev pub readings : Place → List (List ℕ) → List (List ℕ) → List (List ℕ) → List (Result (Option Call) TableFault)
+readings at ps ss ws =
+    as_call Partition (Ok (partition_call ws))
     ∷ as_call Process (object_call at (codes "PROCESS") ps (process_service at) ws)
     ∷ as_call Caller (caller_call at ws)
     ∷ as_call Time (time_call at ws)
     ∷ as_call Semaphore (object_call at (codes "SEMAPHORE") ss (semaphore_service at) ws)
-    ∷ [])
+    ∷ []
+
+-- the call of a step's words, none where they are no service's
+abbrev pub call_of : Place → List (List ℕ) → List (List ℕ) → List (List ℕ) → Result (Option Call) TableFault
+call_of at ps ss ws = first_of (readings at ps ss ws)
 
 -- another spacing than one space between words has an empty word
 abbrev pub spaced_call_of : Place → List (List ℕ) → List (List ℕ) → List (List ℕ) → Result (Option Call) TableFault

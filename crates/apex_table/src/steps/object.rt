@@ -3,7 +3,7 @@ ghost use Rattle.std.specs.Str.{bytes_eq};
 ghost use Rattle.apex_table.specs.declared.fault.Place.{Place};
 ghost use Rattle.apex_table.specs.declared.fault.TableFault.{TableFault};
 ghost use Rattle.apex_table.specs.Outcome.{Gives};
-ghost use Rattle.apex_table.specs.ObjectSteps.{named, common_call, own_call, named_call, object_call};
+ghost use Rattle.apex_table.specs.ObjectSteps.{named, common_call, own_call, object_call};
 ghost use Rattle.apex_table.specs.Words.{entry_of};
 
 use crate::fault::{Place, TableFault};
@@ -77,10 +77,14 @@ fn common_call<T: Named, K: Kind>(
     entries: &[T],
     service: &str,
     name: &str,
+    words: &[&str],
 ) -> Result<Option<ObjectCall<Id<K>, K::Service>>, TableFault>
     requires { length entries.now ≤ 32 }
-    ensures { Gives (λ c. c) result (common_call at K.word (map T.name_of entries.now) service.now name.now) }
+    ensures { Gives (λ c. c) result (common_call at K.word (map T.name_of entries.now) service.now name.now (map (λ w. w.now) words.now)) }
 {
+    if !words.is_empty() {
+        return Ok(None);
+    }
     if is_service(service, "CREATE_", K::word(), "") {
         return Ok(Some(ObjectCall::Create(named(at, entries, name)?)));
     }
@@ -113,28 +117,6 @@ fn own_call<T: Named, K, W: Copy>(
     }
 }
 
-/// The call of a service for the thing of this name, by the words behind it.
-#[tactic(auto, unfolding(crate::specs::ObjectSteps::named_call))]
-fn named_call<T: Named, K: Kind>(
-    at: Place,
-    entries: &[T],
-    service: &str,
-    name: &str,
-    words: &[&str],
-) -> Result<Option<ObjectCall<Id<K>, K::Service>>, TableFault>
-    requires { length entries.now ≤ 32 }
-    ensures { Gives (λ c. c) result (named_call at K.word (map T.name_of entries.now) service.now name.now (map (λ w. w.now) words.now) (K.own at service.now (map (λ w. w.now) words.now))) }
-{
-    let own = K::own_service(at, service, words);
-    if !words.is_empty() {
-        return own_call(at, entries, name, own);
-    }
-    match common_call(at, entries, service, name)? {
-        Some(call) => Ok(Some(call)),
-        None => own_call(at, entries, name, own),
-    }
-}
-
 /// The call of a step's words, none where they are no step of the kind.
 pub fn object_call<T: Named, K: Kind>(
     at: Place,
@@ -144,8 +126,11 @@ pub fn object_call<T: Named, K: Kind>(
     requires { length entries.now ≤ 32 }
     ensures { Gives (λ c. c) result (object_call at K.word (map T.name_of entries.now) (K.own at) (map (λ w. w.now) words.now)) }
 {
-    match words {
-        [service, name, rest @ ..] => named_call(at, entries, service, name, rest),
-        _ => Ok(None),
+    let [service, name, words @ ..] = words else {
+        return Ok(None);
+    };
+    match common_call(at, entries, service, name, words)? {
+        Some(call) => Ok(Some(call)),
+        None => own_call(at, entries, name, K::own_service(at, service, words)),
     }
 }
