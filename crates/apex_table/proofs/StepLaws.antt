@@ -38,13 +38,22 @@ module _ (at : Place) (ps ss : List (List ℕ)) where
   any_law kind r gives = reads_as_call kind r (λ c. Unit {0}) Within (λ c h. gives c) (reads_any r)
 
   readings_law : (ws : List (List ℕ)) → AllByRecursion (Reads Within) (readings at ps ss ws)
-  readings_law ws =
-      (any_law Partition (Ok (partition_call ws)) (λ c. tt),
-      (reads_as_call Process _ (IsKnownObject (length ps)) Within (λ c h. h) (object_call_law _ at (codes "PROCESS") ps (process_service at) ws),
-      (any_law Caller (caller_call at ws) (λ c. tt),
-      (any_law Time (time_call at ws) (λ c. tt),
-      (reads_as_call Semaphore _ (IsKnownObject (length ss)) Within (λ c h. h) (object_call_law _ at (codes "SEMAPHORE") ss (semaphore_service at) ws),
-      tt)))))
+  readings_law ws = (
+    any_law Partition (Ok (partition_call ws)) (λ c. tt),
+    (
+      reads_as_call Process _ (IsKnownObject (length ps)) Within (λ c h. h) (object_call_law _ at (codes "PROCESS") ps (process_service at) ws),
+      (
+        any_law Caller (caller_call at ws) (λ c. tt),
+        (
+          any_law Time (time_call at ws) (λ c. tt),
+          (
+            reads_as_call Semaphore _ (IsKnownObject (length ss)) Within (λ c h. h) (object_call_law _ at (codes "SEMAPHORE") ss (semaphore_service at) ws),
+            tt,
+          ),
+        ),
+      ),
+    ),
+  )
 
   call_of_law : (ws : List (List ℕ)) → Reads Within (call_of at ps ss ws)
   call_of_law ws = reads_first_of Within (readings at ps ss ws) (readings_law ws)

@@ -18,6 +18,7 @@ pub trait Kind {
     type Service: Copy;
 
     ghost word: { List ℕ };
+
     ghost own: { Place → List ℕ → List (List ℕ) → Result (Option Self.Service) TableFault };
 
     /// What stands for the kind in the names of the services that each kind has.

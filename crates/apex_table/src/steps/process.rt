@@ -39,6 +39,7 @@ impl Kind for ProcessKind {
     type Service = ProcessService;
 
     ghost word = { codes "PROCESS" };
+
     ghost own = { process_service };
 
     fn word() -> &'static str {

@@ -30,6 +30,7 @@ impl Kind for SemaphoreKind {
     type Service = SemaphoreService;
 
     ghost word = { codes "SEMAPHORE" };
+
     ghost own = { semaphore_service };
 
     fn word() -> &'static str {

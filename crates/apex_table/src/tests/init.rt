@@ -169,10 +169,7 @@ fn is_read(rt: &impl Abort, alloc: Global, step: &str, call: Call) -> Result<(),
 fn an_init_step_of_a_process_is_read_as_its_call(rt: HostRuntime) -> Result<(), Fail> {
     let p2 = ProcessId::at(1);
     for (step, call) in [
-        (
-            "CREATE_PROCESS P2",
-            ProcessCall::Create(Named::Known(p2)),
-        ),
+        ("CREATE_PROCESS P2", ProcessCall::Create(Named::Known(p2))),
         (
             "CREATE_PROCESS Q",
             ProcessCall::Create(Named::Unknown(name(b"Q"))),
@@ -181,17 +178,17 @@ fn an_init_step_of_a_process_is_read_as_its_call(rt: HostRuntime) -> Result<(), 
             "INITIALIZE_PROCESS_CORE_AFFINITY P2 255",
             ProcessCall::Own(p2, ProcessService::InitializeCoreAffinity(255)),
         ),
-        ("SET_PRIORITY P2 0", ProcessCall::Own(p2, ProcessService::SetPriority(0))),
+        (
+            "SET_PRIORITY P2 0",
+            ProcessCall::Own(p2, ProcessService::SetPriority(0)),
+        ),
         ("START P2", ProcessCall::Own(p2, ProcessService::Start)),
         (
             "DELAYED_START P2 5",
             ProcessCall::Own(p2, ProcessService::DelayedStart(Timeout::Ticks(5))),
         ),
         ("STOP P2", ProcessCall::Own(p2, ProcessService::Stop)),
-        (
-            "GET_PROCESS_ID P2",
-            ProcessCall::GetId(Named::Known(p2)),
-        ),
+        ("GET_PROCESS_ID P2", ProcessCall::GetId(Named::Known(p2))),
         ("GET_PROCESS_STATUS P2", ProcessCall::GetStatus(p2)),
     ] {
         is_read(&rt, rt.alloc(), step, Call::Process(call))?;
@@ -203,19 +200,13 @@ fn an_init_step_of_a_process_is_read_as_its_call(rt: HostRuntime) -> Result<(), 
 fn an_init_step_of_a_semaphore_is_read_as_its_call(rt: HostRuntime) -> Result<(), Fail> {
     let s = SemaphoreId::at(0);
     for (step, call) in [
+        ("CREATE_SEMAPHORE S", SemaphoreCall::Create(Named::Known(s))),
         (
-            "CREATE_SEMAPHORE S",
-            SemaphoreCall::Create(Named::Known(s)),
+            "SIGNAL_SEMAPHORE S",
+            SemaphoreCall::Own(s, SemaphoreService::Signal),
         ),
-        ("SIGNAL_SEMAPHORE S", SemaphoreCall::Own(s, SemaphoreService::Signal)),
-        (
-            "GET_SEMAPHORE_ID S",
-            SemaphoreCall::GetId(Named::Known(s)),
-        ),
-        (
-            "GET_SEMAPHORE_STATUS S",
-            SemaphoreCall::GetStatus(s),
-        ),
+        ("GET_SEMAPHORE_ID S", SemaphoreCall::GetId(Named::Known(s))),
+        ("GET_SEMAPHORE_STATUS S", SemaphoreCall::GetStatus(s)),
     ] {
         is_read(&rt, rt.alloc(), step, Call::Semaphore(call))?;
     }

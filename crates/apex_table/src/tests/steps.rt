@@ -60,6 +60,10 @@ const FAULTS: &[(&str, &[&str])] = &[
             "CREATE_PROCESS",
             "CREATE_PROCESS P1 P2",
             "CREATE_SEMAPHORE S 1",
+            "CREATE_ S",
+            "CREATE_SEMAPHORE_ID S",
+            "GET_SEMAPHORE S",
+            "GET__ID S",
             "INITIALIZE_PROCESS_CORE_AFFINITY P2",
             "INITIALIZE_PROCESS_CORE_AFFINITY P2 infinite",
             "INITIALIZE_PROCESS_CORE_AFFINITY X 00",
@@ -163,10 +167,7 @@ fn is_read(rt: &impl Abort, alloc: Global, step: &str, call: Call) -> Result<(),
 fn a_step_with_a_process_is_read_as_its_call(rt: HostRuntime) -> Result<(), Fail> {
     let p2 = ProcessId::at(1);
     for (step, call) in [
-        (
-            "CREATE_PROCESS P2",
-            ProcessCall::Create(Named::Known(p2)),
-        ),
+        ("CREATE_PROCESS P2", ProcessCall::Create(Named::Known(p2))),
         (
             "CREATE_PROCESS S",
             ProcessCall::Create(Named::Unknown(name(b"S"))),
@@ -175,10 +176,7 @@ fn a_step_with_a_process_is_read_as_its_call(rt: HostRuntime) -> Result<(), Fail
         ("STOP P2", ProcessCall::Own(p2, ProcessService::Stop)),
         ("SUSPEND P2", ProcessCall::Own(p2, ProcessService::Suspend)),
         ("RESUME P2", ProcessCall::Own(p2, ProcessService::Resume)),
-        (
-            "GET_PROCESS_ID P2",
-            ProcessCall::GetId(Named::Known(p2)),
-        ),
+        ("GET_PROCESS_ID P2", ProcessCall::GetId(Named::Known(p2))),
         (
             "GET_PROCESS_ID ->",
             ProcessCall::GetId(Named::Unknown(name(b"->"))),
@@ -202,8 +200,14 @@ fn a_step_with_a_process_and_a_word_is_read_as_its_call(rt: HostRuntime) -> Resu
             "INITIALIZE_PROCESS_CORE_AFFINITY P2 255",
             ProcessCall::Own(p2, ProcessService::InitializeCoreAffinity(255)),
         ),
-        ("SET_PRIORITY P2 0", ProcessCall::Own(p2, ProcessService::SetPriority(0))),
-        ("SET_PRIORITY P2 65535", ProcessCall::Own(p2, ProcessService::SetPriority(65535))),
+        (
+            "SET_PRIORITY P2 0",
+            ProcessCall::Own(p2, ProcessService::SetPriority(0)),
+        ),
+        (
+            "SET_PRIORITY P2 65535",
+            ProcessCall::Own(p2, ProcessService::SetPriority(65535)),
+        ),
         (
             "DELAYED_START P2 0",
             ProcessCall::Own(p2, ProcessService::DelayedStart(Timeout::Poll)),
@@ -232,10 +236,7 @@ fn a_step_of_the_process_itself_is_read_as_its_call(rt: HostRuntime) -> Result<(
             CallerCall::SuspendSelf(Timeout::Infinite),
         ),
         ("GET_MY_ID", CallerCall::GetMyId),
-        (
-            "GET_MY_PROCESSOR_CORE_ID",
-            CallerCall::GetMyProcessorCoreId,
-        ),
+        ("GET_MY_PROCESSOR_CORE_ID", CallerCall::GetMyProcessorCoreId),
     ] {
         is_read(&rt, rt.alloc(), step, Call::Caller(call))?;
     }
@@ -280,10 +281,7 @@ fn a_step_of_the_partition_or_of_time_is_read_as_its_call(rt: HostRuntime) -> Re
 fn a_step_of_a_semaphore_is_read_as_its_call(rt: HostRuntime) -> Result<(), Fail> {
     let s = SemaphoreId::at(0);
     for (step, call) in [
-        (
-            "CREATE_SEMAPHORE S",
-            SemaphoreCall::Create(Named::Known(s)),
-        ),
+        ("CREATE_SEMAPHORE S", SemaphoreCall::Create(Named::Known(s))),
         (
             "WAIT_SEMAPHORE S 0",
             SemaphoreCall::Own(s, SemaphoreService::Wait(Timeout::Poll)),
@@ -292,19 +290,16 @@ fn a_step_of_a_semaphore_is_read_as_its_call(rt: HostRuntime) -> Result<(), Fail
             "WAIT_SEMAPHORE S 4294967295",
             SemaphoreCall::Own(s, SemaphoreService::Wait(Timeout::Ticks(4294967295))),
         ),
-        ("SIGNAL_SEMAPHORE S", SemaphoreCall::Own(s, SemaphoreService::Signal)),
         (
-            "GET_SEMAPHORE_ID S",
-            SemaphoreCall::GetId(Named::Known(s)),
+            "SIGNAL_SEMAPHORE S",
+            SemaphoreCall::Own(s, SemaphoreService::Signal),
         ),
+        ("GET_SEMAPHORE_ID S", SemaphoreCall::GetId(Named::Known(s))),
         (
             "GET_SEMAPHORE_ID P1",
             SemaphoreCall::GetId(Named::Unknown(name(b"P1"))),
         ),
-        (
-            "GET_SEMAPHORE_STATUS S",
-            SemaphoreCall::GetStatus(s),
-        ),
+        ("GET_SEMAPHORE_STATUS S", SemaphoreCall::GetStatus(s)),
     ] {
         is_read(&rt, rt.alloc(), step, Call::Semaphore(call))?;
     }
