@@ -4,8 +4,9 @@ use Rattle.std.specs.List.{AllByRecursion}
 use Rattle.apex_types.specs.Places.{map_places}
 use Rattle.apex_types.specs.Table.{ProcessEntry, SemaphoreEntry}
 use Rattle.apex_types.specs.declared.calls.Call.{Call}
+use Rattle.apex_types.specs.declared.calls.Call.TheVariants.{Semaphore}
 use Rattle.apex_types.proofs.Places.{length-map_places}
-use Rattle.apex_table.specs.DefaultInit.{creates_semaphore, creates_process, starts_process, joined, default_init}
+use Rattle.apex_table.specs.DefaultInit.{creates, creates_process, starts_process, joined, default_init}
 use Rattle.apex_table.proofs.Results.{all_append}
 use Rattle.apex_table.proofs.StepLaws.{IsWithin}
 
@@ -25,8 +26,8 @@ start_law P false call here = tt
 pub default_init_law : (ps : List ProcessEntry) (ss : List SemaphoreEntry) → AllByRecursion (IsWithin (length ps) (length ss)) (default_init ps ss)
 default_init_law ps ss =
     let P : Call → Type 0 = IsWithin (length ps) (length ss) in
-    let semaphores : AllByRecursion P (map_places creates_semaphore 0 ss) =
-    all_places creates_semaphore P (length ss) (λ s entry below. below) 0 ss (omega arith) in
+    let semaphores : AllByRecursion P (map_places (creates Semaphore) 0 ss) =
+    all_places (creates Semaphore) P (length ss) (λ s entry below. below) 0 ss (omega arith) in
     let processes : AllByRecursion P (joined (map_places creates_process 0 ps)) =
     all_joined P _ (all_places creates_process (AllByRecursion P) (length ps) (λ p entry below. (below, (below, tt))) 0 ps (omega arith)) in
     let started : AllByRecursion P (joined (map_places starts_process 0 ps)) =
@@ -47,4 +48,4 @@ started_length p (entry ∷ rest) = start_length entry.start _ _ (length rest) (
 
 pub default_init_length : (ps : List ProcessEntry) (ss : List SemaphoreEntry) → length (default_init ps ss) ≤ length ss + 3 * length ps + 1
 default_init_length ps ss =
-    simp length-append (omega (arith, length-map_places creates_semaphore 0 ss, created_length 0 ps, started_length 0 ps))
+    simp length-append (omega (arith, length-map_places (creates Semaphore) 0 ss, created_length 0 ps, started_length 0 ps))

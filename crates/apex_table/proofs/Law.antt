@@ -10,7 +10,7 @@ use Rattle.toml.specs.Data.{Data, Members, get_member}
 use Rattle.apex_types.specs.Table.{Table, ProcessEntry, SemaphoreEntry, no_process, no_semaphore, call_at, IsKnown, IsLawfulProcess, IsLawfulSemaphore, IsLawful}
 use Rattle.apex_types.specs.declared.calls.Call.{Call}
 use Rattle.apex_types.specs.declared.calls.Call.TheVariants as call
-use Rattle.apex_types.specs.declared.calls.ProcessCall.TheVariants.{StopSelf}
+use Rattle.apex_types.specs.declared.calls.CallerCall.TheVariants.{StopSelf}
 use Rattle.apex_table.specs.declared.fault.Section.{Section}
 use Rattle.apex_table.specs.declared.fault.Section.TheVariants.{Top, Process, Semaphore}
 use Rattle.apex_table.specs.Outcome.{place}
@@ -35,12 +35,13 @@ entries_law section most (Some d) = ok_then (array (place section 0) d) _ (λ ds
 is_known : (table : Table) (c : Call) → IsWithin (length table.processes) (length table.semaphores) c → IsKnown table c
 is_known table (call.Partition c) h = h
 is_known table (call.Process c) h = h
+is_known table (call.Caller c) h = h
 is_known table (call.Time c) h = h
 is_known table (call.Semaphore c) h = h
 
 all_known : (table : Table) (calls : List Call) → AllByRecursion (IsWithin (length table.processes) (length table.semaphores)) calls → (k : ℕ) → k < length calls → IsKnown table (call_at calls k)
 all_known table calls all k below =
-    is_known table (call_at calls k) (All-from_recursion (IsWithin (length table.processes) (length table.semaphores)) calls all k (call.Process StopSelf) below)
+    is_known table (call_at calls k) (All-from_recursion (IsWithin (length table.processes) (length table.semaphores)) calls all k (call.Caller StopSelf) below)
 
 process_lawful : (table : Table) (entry : ProcessEntry) → IsSoundProcess table.cores (length table.processes) (length table.semaphores) entry → IsLawfulProcess table entry
 process_lawful table entry h = record { name = h.name; priority = h.priority; core = h.core; steps = h.script.few; looping = h.script.some; known = all_known table entry.script h.known }

@@ -4,9 +4,9 @@ pub mod Document
 pub mod Results
 pub mod Distinct
 pub mod KeyLaws
+pub mod ServiceNames
 pub mod WordLaws
-pub mod ProcessStepLaws
-pub mod SemaphoreStepLaws
+pub mod ObjectStepLaws
 pub mod StepLaws
 pub mod DefaultInitLaws
 pub mod InitLaws

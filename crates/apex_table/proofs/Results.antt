@@ -3,7 +3,7 @@ use Rattle.std.proofs.Common.{◌≡◌, ◌+◌, Bool, true, false, List, [], �
 use Rattle.std.specs.List.{AllByRecursion}
 use Rattle.std.proofs.lemmas.Result.{IfOk-at_ok, IfOk-weaker}
 use Rattle.apex_table.specs.declared.fault.TableFault.{TableFault}
-use Rattle.apex_table.specs.Outcome.{◌>>=◌, some_or, called, called_with, as_call, or_else, each}
+use Rattle.apex_table.specs.Outcome.{◌>>=◌, some_or, called, as_call, or_else, first_of, each}
 
 -- after a reading that gave x
 pub ok_then : {A B : Type 0} (r : Result A TableFault) (f : A → Result B TableFault) (P : B → Type 0) → ((x : A) → r ≡ Ok x → IfOk (f x) P) → IfOk (r >>= f) P
@@ -26,14 +26,6 @@ pub both_ok : {A : Type 0} (r : Result A TableFault) (P Q : A → Type 0) {R : A
 both_ok (Ok x) P Q gives left right = gives x left right
 both_ok (Err e) P Q gives left right = tt
 
-pub any_ok : {A : Type 0} (r : Result A TableFault) → IfOk r (λ x. Unit {0})
-any_ok (Ok x) = tt
-any_ok (Err e) = tt
-
-pub some_branch : {A : Type 0} (b : Bool) (x : A) (other : Option A) (P : A → Type 0) → P x → IfSome other P → IfSome (if b then Some x else other) P
-some_branch true x other P here there = here
-some_branch false x other P here there = there
-
 -- a fact of the call that is read, if there is one
 abbrev pub Reads : {A : Type 0} → (A → Type 0) → Result (Option A) TableFault → Type 0
 Reads P r = IfOk r (λ o. IfSome o P)
@@ -41,12 +33,6 @@ Reads P r = IfOk r (λ o. IfSome o P)
 pub reads_called : {A C : Type 0} (call : A → C) (r : Result A TableFault) (P : A → Type 0) (Q : C → Type 0) → ((x : A) → P x → Q (call x)) → IfOk r P → Reads Q (called call r)
 reads_called call (Ok x) P Q gives h = gives x h
 reads_called call (Err e) P Q gives h = tt
-
--- of the arguments of a call, the first alone has a fact
-pub reads_called_with : {A B C : Type 0} (call : A → B → C) (first : Result A TableFault) (second : Result B TableFault) (P : A → Type 0) (Q : C → Type 0) → ((x : A) (y : B) → P x → Q (call x y)) → IfOk first P → Reads Q (called_with call first second)
-reads_called_with call (Ok x) (Ok y) P Q gives h = gives x y h
-reads_called_with call (Ok x) (Err e) P Q gives h = tt
-reads_called_with call (Err e) second P Q gives h = tt
 
 pub reads_as_call : {A C : Type 0} (kind : A → C) (r : Result (Option A) TableFault) (P : A → Type 0) (Q : C → Type 0) → ((x : A) → P x → Q (kind x)) → Reads P r → Reads Q (as_call kind r)
 reads_as_call kind (Ok None) P Q gives h = tt
@@ -57,6 +43,10 @@ pub reads_or_else : {A : Type 0} (r other : Result (Option A) TableFault) (P : A
 reads_or_else (Ok None) other P here there = there
 reads_or_else (Ok (Some x)) other P here there = here
 reads_or_else (Err e) other P here there = tt
+
+pub reads_first_of : {A : Type 0} (P : A → Type 0) (rs : List (Result (Option A) TableFault)) → AllByRecursion (Reads P) rs → Reads P (first_of rs)
+reads_first_of P [] all = tt
+reads_first_of P (r ∷ rs) all = reads_or_else r (first_of rs) P all.0 (reads_first_of P rs all.1)
 
 pub reads_any : {A : Type 0} (r : Result (Option A) TableFault) → Reads (λ x. Unit {0}) r
 reads_any (Ok None) = tt

@@ -3,13 +3,15 @@ use Rattle.std.specs.Prelude.{ℕ, ◌+◌, Bool, true, false, if◌then◌else�
 use Rattle.toml.specs.Data.{Data}
 use Rattle.apex_types.specs.Table.{ProcessEntry, SemaphoreEntry}
 use Rattle.apex_types.specs.declared.calls.Call.{Call}
-use Rattle.apex_types.specs.declared.calls.Call.TheVariants.{Partition, Process, Time, Semaphore}
-use Rattle.apex_types.specs.declared.calls.ProcessCall.{ProcessCall}
-use Rattle.apex_types.specs.declared.calls.ProcessCall.TheVariants.{CreateProcess, InitializeProcessCoreAffinity, SetPriority, Start, DelayedStart, Stop, StopSelf, Suspend, Resume, SuspendSelf, GetMyId, GetMyProcessorCoreId, GetProcessId, GetProcessStatus}
+use Rattle.apex_types.specs.declared.calls.Call.TheVariants.{Partition, Process, Caller, Time, Semaphore}
+use Rattle.apex_types.specs.declared.calls.ObjectCall.{ObjectCall}
+use Rattle.apex_types.specs.declared.calls.ObjectCall.TheVariants.{Create, GetId, GetStatus, Own}
+use Rattle.apex_types.specs.declared.calls.ProcessService.{ProcessService}
+use Rattle.apex_types.specs.declared.calls.ProcessService.TheVariants.{InitializeCoreAffinity, SetPriority, Start, DelayedStart, Stop, Suspend, Resume}
+use Rattle.apex_types.specs.declared.calls.SemaphoreService.{SemaphoreService}
+use Rattle.apex_types.specs.declared.calls.SemaphoreService.TheVariants.{Wait, Signal}
 use Rattle.apex_types.specs.declared.calls.TimeCall.{TimeCall}
 use Rattle.apex_types.specs.declared.calls.TimeCall.TheVariants.{TimedWait, GetTime}
-use Rattle.apex_types.specs.declared.calls.SemaphoreCall.{SemaphoreCall}
-use Rattle.apex_types.specs.declared.calls.SemaphoreCall.TheVariants.{CreateSemaphore, WaitSemaphore, SignalSemaphore, GetSemaphoreId, GetSemaphoreStatus}
 use Rattle.apex_table.specs.declared.fault.Section.TheVariants.{Init}
 use Rattle.apex_table.specs.declared.fault.Place.{Place}
 use Rattle.apex_table.specs.declared.fault.TableFault.{TableFault}
@@ -40,42 +42,40 @@ abbrev pub init_texts : Option Data → Result (Option (List (List ℕ))) TableF
 init_texts None = Ok None
 init_texts (Some d) = given_texts d >>= λ ts. Ok (Some ts)
 
--- the calls of process management that an init list may have
-abbrev pub is_init_process_call : ProcessCall → Bool
-is_init_process_call (CreateProcess named) = true
-is_init_process_call (InitializeProcessCoreAffinity p core) = true
-is_init_process_call (SetPriority p priority) = true
-is_init_process_call (Start p) = true
-is_init_process_call (DelayedStart p delay) = true
-is_init_process_call (Stop p) = true
-is_init_process_call StopSelf = false
-is_init_process_call (Suspend p) = false
-is_init_process_call (Resume p) = false
-is_init_process_call (SuspendSelf timeout) = false
-is_init_process_call GetMyId = false
-is_init_process_call GetMyProcessorCoreId = false
-is_init_process_call (GetProcessId named) = true
-is_init_process_call (GetProcessStatus p) = true
+-- the services of processes alone that an init list may have
+abbrev pub is_init_process_service : ProcessService → Bool
+is_init_process_service (InitializeCoreAffinity core) = true
+is_init_process_service (SetPriority priority) = true
+is_init_process_service Start = true
+is_init_process_service (DelayedStart delay) = true
+is_init_process_service Stop = true
+is_init_process_service Suspend = false
+is_init_process_service Resume = false
+
+-- the services of semaphores alone that an init list may have
+abbrev pub is_init_semaphore_service : SemaphoreService → Bool
+is_init_semaphore_service (Wait timeout) = false
+is_init_semaphore_service Signal = true
+
+-- an init list may have the services that each kind has, and of the kind's own these
+abbrev pub is_init_object_call : {W : Type 0} → (W → Bool) → ObjectCall ℕ W → Bool
+is_init_object_call own (Create named) = true
+is_init_object_call own (GetId named) = true
+is_init_object_call own (GetStatus i) = true
+is_init_object_call own (Own i service) = own service
 
 -- the calls of time management that an init list may have
 abbrev pub is_init_time_call : TimeCall → Bool
 is_init_time_call (TimedWait timeout) = false
 is_init_time_call GetTime = true
 
--- the calls of semaphores that an init list may have
-abbrev pub is_init_semaphore_call : SemaphoreCall → Bool
-is_init_semaphore_call (CreateSemaphore named) = true
-is_init_semaphore_call (WaitSemaphore s timeout) = false
-is_init_semaphore_call (SignalSemaphore s) = true
-is_init_semaphore_call (GetSemaphoreId named) = true
-is_init_semaphore_call (GetSemaphoreStatus s) = true
-
 -- the calls that an init list may have
 abbrev pub is_init_call : Call → Bool
 is_init_call (Partition call) = true
-is_init_call (Process call) = is_init_process_call call
+is_init_call (Process call) = is_init_object_call is_init_process_service call
+is_init_call (Caller call) = false
 is_init_call (Time call) = is_init_time_call call
-is_init_call (Semaphore call) = is_init_semaphore_call call
+is_init_call (Semaphore call) = is_init_object_call is_init_semaphore_service call
 
 -- a call that an init list may have
 abbrev pub init_call : Place → Call → Result Call TableFault

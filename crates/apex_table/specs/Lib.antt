@@ -2,8 +2,10 @@ pub mod Fault
 pub mod Outcome
 pub mod Keys
 pub mod Words
+pub mod ObjectSteps
 pub mod PartitionSteps
 pub mod ProcessSteps
+pub mod CallerSteps
 pub mod TimeSteps
 pub mod SemaphoreSteps
 pub mod Steps

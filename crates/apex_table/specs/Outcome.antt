@@ -21,10 +21,6 @@ abbrev pub called : {A C : Type 0} → (A → C) → Result A TableFault → Res
 called call (Ok x) = Ok (Some (call x))
 called call (Err e) = Err e
 
--- what is read of two words, as the arguments of a call
-abbrev pub called_with : {A B C : Type 0} → (A → B → C) → Result A TableFault → Result B TableFault → Result (Option C) TableFault
-called_with call first second = first >>= λ x. called (call x) second
-
 -- the call that is read, if there is one, as a call of any kind
 abbrev pub as_call : {A C : Type 0} → (A → C) → Result (Option A) TableFault → Result (Option C) TableFault
 as_call kind (Ok o) = Ok (option_map kind o)
@@ -35,6 +31,11 @@ abbrev pub or_else : {A : Type 0} → Result (Option A) TableFault → Result (O
 or_else (Ok (Some x)) other = Ok (Some x)
 or_else (Ok None) other = other
 or_else (Err e) other = Err e
+
+-- the first of several that is something; a fault ends the reading
+abbrev pub first_of : {A : Type 0} → List (Result (Option A) TableFault) → Result (Option A) TableFault
+first_of [] = Ok None
+first_of (r ∷ rest) = or_else r (first_of rest)
 
 -- reads each element, given what was read of those before it
 abbrev pub each : {A B : Type 0} → (List A → B → Result A TableFault) → List A → List B → Result (List A) TableFault

@@ -1,12 +1,21 @@
-ghost use Rattle.std.specs.Prelude.{◌≡◌, ◌≤◌, length, IfOk};
+ghost use Rattle.std.specs.Prelude.{◌≡◌, ◌<◌, ◌≤◌, length, IfOk};
+ghost use Rattle.apex_types.specs.declared.calls.Named.TheVariants.{Known};
+ghost use Rattle.apex_types.specs.declared.calls.ObjectCall.TheVariants.{Create};
 ghost use Rattle.apex_table.specs.DefaultInit.{default_init};
 
 use crate::entries::{Process, Semaphore};
 use apex_types::{
-    Call, NamedProcess, NamedSemaphore, PartitionCall, ProcessCall, ProcessId, RequestedMode,
-    SemaphoreCall, SemaphoreId,
+    Call, Id, Named, ObjectCall, PartitionCall, ProcessId, ProcessService, RequestedMode,
 };
 use std::alloc::{AllocError, Global};
+
+/// The CREATE of the thing of a kind at this place.
+fn create<K, W>(place: usize) -> ObjectCall<Id<K>, W>
+    requires { place < 256 }
+    ensures { result ≡ Create (Known place) }
+{
+    ObjectCall::Create(Named::Known(Id::at(place as u8)))
+}
 
 /// The init list of a table that gives none: creates everything, starts what starts, and enters NORMAL.
 pub fn default_init(
@@ -20,19 +29,18 @@ pub fn default_init(
 {
     let mut init = Vec::new(alloc);
     for (place, _) in semaphores.iter().enumerate() {
-        let named = NamedSemaphore::Known(SemaphoreId::at(place as u8));
-        init.push(Call::Semaphore(SemaphoreCall::CreateSemaphore(named)))?;
+        init.push(Call::Semaphore(create(place)))?;
     }
     for (place, process) in processes.iter().enumerate() {
         let id = ProcessId::at(place as u8);
-        let core = process.core().number();
-        init.push(Call::Process(ProcessCall::CreateProcess(NamedProcess::Known(id))))?;
-        init.push(Call::Process(ProcessCall::InitializeProcessCoreAffinity(id, core)))?;
+        let affinity = ProcessService::InitializeCoreAffinity(process.core().number());
+        init.push(Call::Process(create(place)))?;
+        init.push(Call::Process(ObjectCall::Own(id, affinity)))?;
     }
     for (place, process) in processes.iter().enumerate() {
         if process.starts() {
             let id = ProcessId::at(place as u8);
-            init.push(Call::Process(ProcessCall::Start(id)))?;
+            init.push(Call::Process(ObjectCall::Own(id, ProcessService::Start)))?;
         }
     }
     init.push(Call::Partition(PartitionCall::SetPartitionMode(RequestedMode::Normal)))?;

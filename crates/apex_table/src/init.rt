@@ -2,7 +2,7 @@ ghost use Rattle.std.specs.Prelude.{◌≡◌, ◌<◌, ◌≤◌, map, length, 
 ghost use Rattle.toml.specs.View.{view};
 ghost use Rattle.apex_table.specs.Outcome.{Gives};
 ghost use Rattle.apex_table.specs.Semaphores.{semaphore_names};
-ghost use Rattle.apex_table.specs.Init.{next_text, texts, given_texts, init_texts, is_init_process_call, is_init_time_call, is_init_semaphore_call, is_init_call, init_step, next_init_step, init_steps, entry_names, init_list};
+ghost use Rattle.apex_table.specs.Init.{next_text, texts, given_texts, init_texts, is_init_process_service, is_init_semaphore_service, is_init_time_call, is_init_call, init_step, next_init_step, init_steps, entry_names, init_list};
 
 use crate::default_init::default_init;
 use crate::entries::{Process, Semaphore};
@@ -10,7 +10,7 @@ use crate::fault::{Place, Section, TableFault};
 use crate::keys;
 use crate::named::Named;
 use crate::steps::step;
-use apex_types::{Call, Name, ProcessCall, SemaphoreCall, TimeCall};
+use apex_types::{Call, Name, ObjectCall, ProcessService, SemaphoreService, TimeCall};
 use std::alloc::Global;
 use toml::Value;
 
@@ -67,24 +67,25 @@ pub fn init_texts<'a>(
     }
 }
 
-fn is_init_process_call(call: &ProcessCall) -> bool
-    ensures { result ≡ is_init_process_call call.now }
+fn is_init_process_service(service: &ProcessService) -> bool
+    ensures { result ≡ is_init_process_service service.now }
 {
-    match call {
-        ProcessCall::CreateProcess(_)
-        | ProcessCall::InitializeProcessCoreAffinity(_, _)
-        | ProcessCall::SetPriority(_, _)
-        | ProcessCall::Start(_)
-        | ProcessCall::DelayedStart(_, _)
-        | ProcessCall::Stop(_)
-        | ProcessCall::GetProcessId(_)
-        | ProcessCall::GetProcessStatus(_) => true,
-        ProcessCall::StopSelf
-        | ProcessCall::Suspend(_)
-        | ProcessCall::Resume(_)
-        | ProcessCall::SuspendSelf(_)
-        | ProcessCall::GetMyId
-        | ProcessCall::GetMyProcessorCoreId => false,
+    match service {
+        ProcessService::InitializeCoreAffinity(_)
+        | ProcessService::SetPriority(_)
+        | ProcessService::Start
+        | ProcessService::DelayedStart(_)
+        | ProcessService::Stop => true,
+        ProcessService::Suspend | ProcessService::Resume => false,
+    }
+}
+
+fn is_init_semaphore_service(service: &SemaphoreService) -> bool
+    ensures { result ≡ is_init_semaphore_service service.now }
+{
+    match service {
+        SemaphoreService::Wait(_) => false,
+        SemaphoreService::Signal => true,
     }
 }
 
@@ -97,27 +98,16 @@ fn is_init_time_call(call: &TimeCall) -> bool
     }
 }
 
-fn is_init_semaphore_call(call: &SemaphoreCall) -> bool
-    ensures { result ≡ is_init_semaphore_call call.now }
-{
-    match call {
-        SemaphoreCall::CreateSemaphore(_)
-        | SemaphoreCall::SignalSemaphore(_)
-        | SemaphoreCall::GetSemaphoreId(_)
-        | SemaphoreCall::GetSemaphoreStatus(_) => true,
-        SemaphoreCall::WaitSemaphore(_, _) => false,
-    }
-}
-
-/// Whether an init list may have the call: a function for each kind of service.
+/// Whether an init list may have the call.
 fn is_init_call(call: &Call) -> bool
     ensures { result ≡ is_init_call call.now }
 {
     match call {
-        Call::Partition(_) => true,
-        Call::Process(call) => is_init_process_call(call),
+        Call::Process(ObjectCall::Own(_, service)) => is_init_process_service(service),
+        Call::Semaphore(ObjectCall::Own(_, service)) => is_init_semaphore_service(service),
+        Call::Partition(_) | Call::Process(_) | Call::Semaphore(_) => true,
+        Call::Caller(_) => false,
         Call::Time(call) => is_init_time_call(call),
-        Call::Semaphore(call) => is_init_semaphore_call(call),
     }
 }
 

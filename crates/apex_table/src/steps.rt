@@ -2,6 +2,8 @@ ghost use Rattle.std.specs.Prelude.{◌≤◌, map, length};
 ghost use Rattle.apex_table.specs.Outcome.{Gives};
 ghost use Rattle.apex_table.specs.Steps.{call_of, spaced_call_of, step};
 
+mod caller;
+mod object;
 mod partition;
 mod process;
 mod semaphore;
@@ -11,14 +13,14 @@ mod words;
 use crate::fault::{Place, TableFault};
 use crate::named::Named;
 use apex_types::Call;
+use caller::caller_call;
+use object::object_call;
 use partition::partition_call;
-use process::process_call;
-use semaphore::semaphore_call;
 use std::alloc::Global;
 use time::time_call;
 use words::{has_empty, words};
 
-/// The call of a step's words: a function for each kind of service.
+/// The call of a step's words, if they are a step.
 fn call_of<P: Named, S: Named>(
     at: Place,
     processes: &[P],
@@ -32,13 +34,16 @@ fn call_of<P: Named, S: Named>(
     if let Some(call) = partition_call(words) {
         return Ok(Some(Call::Partition(call)));
     }
-    if let Some(call) = process_call(at, processes, words)? {
+    if let Some(call) = object_call(at, processes, words)? {
         return Ok(Some(Call::Process(call)));
+    }
+    if let Some(call) = caller_call(at, words)? {
+        return Ok(Some(Call::Caller(call)));
     }
     if let Some(call) = time_call(at, words)? {
         return Ok(Some(Call::Time(call)));
     }
-    if let Some(call) = semaphore_call(at, semaphores, words)? {
+    if let Some(call) = object_call(at, semaphores, words)? {
         return Ok(Some(Call::Semaphore(call)));
     }
     Ok(None)

@@ -4,8 +4,8 @@ mod steps;
 use crate::fault::TableFault;
 use crate::reading::read_table;
 use apex_types::{
-    Call, Discipline, NamedProcess, NamedSemaphore, PartitionCall, ProcessCall, ProcessId,
-    RequestedMode, SemaphoreCall, SemaphoreId, Timeout,
+    Call, Discipline, Named, PartitionCall, ProcessCall, ProcessId, ProcessService, RequestedMode,
+    SemaphoreCall, SemaphoreId, SemaphoreService, Timeout,
 };
 use std::alloc::{AllocError, Global};
 use std::test::Fail;
@@ -318,9 +318,9 @@ fn an_accepted_table_is_read_field_by_field(rt: HostRuntime) -> Result<(), Fail>
             0,
             "P1",
             10,
-            SemaphoreCall::WaitSemaphore(s, Timeout::Infinite),
+            SemaphoreCall::Own(s, SemaphoreService::Wait(Timeout::Infinite)),
         ),
-        (1, "P2", 20, SemaphoreCall::SignalSemaphore(s)),
+        (1, "P2", 20, SemaphoreCall::Own(s, SemaphoreService::Signal)),
     ] {
         let process = table.process(ProcessId::at(place));
         assert_eq!(rt; process.name().as_bytes(), name.as_bytes());
@@ -346,13 +346,13 @@ fn a_default_init_list_is_read_call_by_call(rt: HostRuntime) -> Result<(), Fail>
     let p = ProcessId::at(0);
     let q = ProcessId::at(1);
     for (place, call) in [
-        Call::Semaphore(SemaphoreCall::CreateSemaphore(NamedSemaphore::Known(s))),
-        Call::Process(ProcessCall::CreateProcess(NamedProcess::Known(p))),
-        Call::Process(ProcessCall::InitializeProcessCoreAffinity(p, 0)),
-        Call::Process(ProcessCall::CreateProcess(NamedProcess::Known(q))),
-        Call::Process(ProcessCall::InitializeProcessCoreAffinity(q, 1)),
-        Call::Process(ProcessCall::Start(p)),
-        Call::Process(ProcessCall::Start(q)),
+        Call::Semaphore(SemaphoreCall::Create(Named::Known(s))),
+        Call::Process(ProcessCall::Create(Named::Known(p))),
+        Call::Process(ProcessCall::Own(p, ProcessService::InitializeCoreAffinity(0))),
+        Call::Process(ProcessCall::Create(Named::Known(q))),
+        Call::Process(ProcessCall::Own(q, ProcessService::InitializeCoreAffinity(1))),
+        Call::Process(ProcessCall::Own(p, ProcessService::Start)),
+        Call::Process(ProcessCall::Own(q, ProcessService::Start)),
         Call::Partition(PartitionCall::SetPartitionMode(RequestedMode::Normal)),
     ]
     .iter()
@@ -377,7 +377,7 @@ fn defaults_are_given_where_a_key_is_absent(rt: HostRuntime) -> Result<(), Fail>
     assert!(rt; !process.starts());
     assert_eq!(rt;
         process.step(0),
-        Some(Call::Process(ProcessCall::Start(ProcessId::at(0))))
+        Some(Call::Process(ProcessCall::Own(ProcessId::at(0), ProcessService::Start)))
     );
     assert!(rt; table.init_call(2).is_some() && table.init_call(3).is_none());
     Ok(())

@@ -1,5 +1,4 @@
 ghost use Rattle.std.specs.Prelude.{◌≡◌, map};
-ghost use Rattle.apex_table.specs.Outcome.{Gives};
 ghost use Rattle.apex_table.specs.TimeSteps.{time_alone, time_with_word, time_call};
 
 use crate::fault::{Place, TableFault};
@@ -16,7 +15,7 @@ fn alone(service: &str) -> Option<TimeCall>
 }
 
 fn with_word(at: Place, service: &str, word: &str) -> Result<Option<TimeCall>, TableFault>
-    ensures { Gives (λ c. c) result (time_with_word at service.now word.now) }
+    ensures { result ≡ time_with_word at service.now word.now }
 {
     match service {
         "TIMED_WAIT" if is_timeout(word) => Ok(Some(TimeCall::TimedWait(timeout(at, word)?))),
@@ -27,7 +26,7 @@ fn with_word(at: Place, service: &str, word: &str) -> Result<Option<TimeCall>, T
 /// The call of a step's words, none where they are no step of time management.
 #[tactic(auto, unfolding(crate::specs::TimeSteps::time_call))]
 pub fn time_call(at: Place, words: &[&str]) -> Result<Option<TimeCall>, TableFault>
-    ensures { Gives (λ c. c) result (time_call at (map (λ w. w.now) words.now)) }
+    ensures { result ≡ time_call at (map (λ w. w.now) words.now) }
 {
     match words {
         [service] => Ok(alone(service)),

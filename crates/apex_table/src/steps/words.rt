@@ -1,6 +1,5 @@
 ghost use Rattle.std.specs.Prelude.{ℕ, ◌≡◌, ◌<◌, ◌≤◌, map, length, IfOk};
 ghost use Rattle.std.specs.List.{list_any};
-ghost use Rattle.apex_table.specs.Outcome.{Gives};
 ghost use Rattle.apex_table.specs.Words.{words, is_empty, is_number, is_timeout, number, timeout, entry_of};
 
 use crate::fault::{Place, TableFault};
@@ -43,7 +42,7 @@ pub fn is_timeout(word: &str) -> bool
 
 /// The number that a word writes, which is `most` at the most.
 pub fn number(at: Place, most: u32, word: &str) -> Result<u32, TableFault>
-    ensures gives { Gives (λ n. n) result (number at most word.now) }
+    ensures value { result ≡ number at most word.now }
     ensures range { IfOk result (λ n. n ≤ most) }
 {
     match number_at_most(word.as_bytes(), most) {
@@ -54,7 +53,7 @@ pub fn number(at: Place, most: u32, word: &str) -> Result<u32, TableFault>
 
 /// The timeout that a word writes.
 pub fn timeout(at: Place, word: &str) -> Result<Timeout, TableFault>
-    ensures { Gives (λ t. t) result (timeout at word.now) }
+    ensures { result ≡ timeout at word.now }
 {
     match word {
         "0" => Ok(Timeout::Poll),
@@ -66,7 +65,7 @@ pub fn timeout(at: Place, word: &str) -> Result<Timeout, TableFault>
 /// The place, counted from 0, of the entry of this name.
 pub fn entry_of<T: Named>(at: Place, entries: &[T], name: &str) -> Result<u8, TableFault>
     requires { length entries.now ≤ 32 }
-    ensures { Gives (λ i. i) result (entry_of at (map T.name_of entries.now) name.now) }
+    ensures { result ≡ entry_of at (map T.name_of entries.now) name.now }
 {
     match place_of(entries, name.as_bytes()) {
         Some(place) => Ok(place as u8),

@@ -2,8 +2,8 @@ use crate::reading::read_table;
 use crate::tests::steps::name;
 use crate::tests::{SIGNAL_WAKES_WAITER, fault_of, repeated};
 use apex_types::{
-    Call, NamedProcess, NamedSemaphore, PartitionCall, ProcessCall, ProcessId, RequestedMode,
-    SemaphoreCall, SemaphoreId, TimeCall, Timeout,
+    Call, Named, PartitionCall, ProcessCall, ProcessId, ProcessService, RequestedMode,
+    SemaphoreCall, SemaphoreId, SemaphoreService, TimeCall, Timeout,
 };
 use std::alloc::{AllocError, Global};
 use std::process::Abort;
@@ -169,30 +169,27 @@ fn is_read(rt: &impl Abort, alloc: Global, step: &str, call: Call) -> Result<(),
 fn an_init_step_of_a_process_is_read_as_its_call(rt: HostRuntime) -> Result<(), Fail> {
     let p2 = ProcessId::at(1);
     for (step, call) in [
-        (
-            "CREATE_PROCESS P2",
-            ProcessCall::CreateProcess(NamedProcess::Known(p2)),
-        ),
+        ("CREATE_PROCESS P2", ProcessCall::Create(Named::Known(p2))),
         (
             "CREATE_PROCESS Q",
-            ProcessCall::CreateProcess(NamedProcess::Unknown(name(b"Q"))),
+            ProcessCall::Create(Named::Unknown(name(b"Q"))),
         ),
         (
             "INITIALIZE_PROCESS_CORE_AFFINITY P2 255",
-            ProcessCall::InitializeProcessCoreAffinity(p2, 255),
+            ProcessCall::Own(p2, ProcessService::InitializeCoreAffinity(255)),
         ),
-        ("SET_PRIORITY P2 0", ProcessCall::SetPriority(p2, 0)),
-        ("START P2", ProcessCall::Start(p2)),
+        (
+            "SET_PRIORITY P2 0",
+            ProcessCall::Own(p2, ProcessService::SetPriority(0)),
+        ),
+        ("START P2", ProcessCall::Own(p2, ProcessService::Start)),
         (
             "DELAYED_START P2 5",
-            ProcessCall::DelayedStart(p2, Timeout::Ticks(5)),
+            ProcessCall::Own(p2, ProcessService::DelayedStart(Timeout::Ticks(5))),
         ),
-        ("STOP P2", ProcessCall::Stop(p2)),
-        (
-            "GET_PROCESS_ID P2",
-            ProcessCall::GetProcessId(NamedProcess::Known(p2)),
-        ),
-        ("GET_PROCESS_STATUS P2", ProcessCall::GetProcessStatus(p2)),
+        ("STOP P2", ProcessCall::Own(p2, ProcessService::Stop)),
+        ("GET_PROCESS_ID P2", ProcessCall::GetId(Named::Known(p2))),
+        ("GET_PROCESS_STATUS P2", ProcessCall::GetStatus(p2)),
     ] {
         is_read(&rt, rt.alloc(), step, Call::Process(call))?;
     }
@@ -203,19 +200,13 @@ fn an_init_step_of_a_process_is_read_as_its_call(rt: HostRuntime) -> Result<(), 
 fn an_init_step_of_a_semaphore_is_read_as_its_call(rt: HostRuntime) -> Result<(), Fail> {
     let s = SemaphoreId::at(0);
     for (step, call) in [
+        ("CREATE_SEMAPHORE S", SemaphoreCall::Create(Named::Known(s))),
         (
-            "CREATE_SEMAPHORE S",
-            SemaphoreCall::CreateSemaphore(NamedSemaphore::Known(s)),
+            "SIGNAL_SEMAPHORE S",
+            SemaphoreCall::Own(s, SemaphoreService::Signal),
         ),
-        ("SIGNAL_SEMAPHORE S", SemaphoreCall::SignalSemaphore(s)),
-        (
-            "GET_SEMAPHORE_ID S",
-            SemaphoreCall::GetSemaphoreId(NamedSemaphore::Known(s)),
-        ),
-        (
-            "GET_SEMAPHORE_STATUS S",
-            SemaphoreCall::GetSemaphoreStatus(s),
-        ),
+        ("GET_SEMAPHORE_ID S", SemaphoreCall::GetId(Named::Known(s))),
+        ("GET_SEMAPHORE_STATUS S", SemaphoreCall::GetStatus(s)),
     ] {
         is_read(&rt, rt.alloc(), step, Call::Semaphore(call))?;
     }

@@ -4,8 +4,8 @@ ghost use Rattle.apex_types.specs.Name.{is_name};
 use crate::reading::read_table;
 use crate::tests::{SIGNAL_WAKES_WAITER, fault_of};
 use apex_types::{
-    Call, Name, NamedProcess, NamedSemaphore, PartitionCall, ProcessCall, ProcessId, RequestedMode,
-    SemaphoreCall, SemaphoreId, TimeCall, Timeout,
+    Call, CallerCall, Name, Named, PartitionCall, ProcessCall, ProcessId, ProcessService,
+    RequestedMode, SemaphoreCall, SemaphoreId, SemaphoreService, TimeCall, Timeout,
 };
 use std::alloc::{AllocError, Global};
 use std::process::Abort;
@@ -60,6 +60,10 @@ const FAULTS: &[(&str, &[&str])] = &[
             "CREATE_PROCESS",
             "CREATE_PROCESS P1 P2",
             "CREATE_SEMAPHORE S 1",
+            "CREATE_ S",
+            "CREATE_SEMAPHORE_ID S",
+            "GET_SEMAPHORE S",
+            "GET__ID S",
             "INITIALIZE_PROCESS_CORE_AFFINITY P2",
             "INITIALIZE_PROCESS_CORE_AFFINITY P2 infinite",
             "INITIALIZE_PROCESS_CORE_AFFINITY X 00",
@@ -163,27 +167,21 @@ fn is_read(rt: &impl Abort, alloc: Global, step: &str, call: Call) -> Result<(),
 fn a_step_with_a_process_is_read_as_its_call(rt: HostRuntime) -> Result<(), Fail> {
     let p2 = ProcessId::at(1);
     for (step, call) in [
-        (
-            "CREATE_PROCESS P2",
-            ProcessCall::CreateProcess(NamedProcess::Known(p2)),
-        ),
+        ("CREATE_PROCESS P2", ProcessCall::Create(Named::Known(p2))),
         (
             "CREATE_PROCESS S",
-            ProcessCall::CreateProcess(NamedProcess::Unknown(name(b"S"))),
+            ProcessCall::Create(Named::Unknown(name(b"S"))),
         ),
-        ("START P2", ProcessCall::Start(p2)),
-        ("STOP P2", ProcessCall::Stop(p2)),
-        ("SUSPEND P2", ProcessCall::Suspend(p2)),
-        ("RESUME P2", ProcessCall::Resume(p2)),
-        (
-            "GET_PROCESS_ID P2",
-            ProcessCall::GetProcessId(NamedProcess::Known(p2)),
-        ),
+        ("START P2", ProcessCall::Own(p2, ProcessService::Start)),
+        ("STOP P2", ProcessCall::Own(p2, ProcessService::Stop)),
+        ("SUSPEND P2", ProcessCall::Own(p2, ProcessService::Suspend)),
+        ("RESUME P2", ProcessCall::Own(p2, ProcessService::Resume)),
+        ("GET_PROCESS_ID P2", ProcessCall::GetId(Named::Known(p2))),
         (
             "GET_PROCESS_ID ->",
-            ProcessCall::GetProcessId(NamedProcess::Unknown(name(b"->"))),
+            ProcessCall::GetId(Named::Unknown(name(b"->"))),
         ),
-        ("GET_PROCESS_STATUS P2", ProcessCall::GetProcessStatus(p2)),
+        ("GET_PROCESS_STATUS P2", ProcessCall::GetStatus(p2)),
     ] {
         is_read(&rt, rt.alloc(), step, Call::Process(call))?;
     }
@@ -196,25 +194,31 @@ fn a_step_with_a_process_and_a_word_is_read_as_its_call(rt: HostRuntime) -> Resu
     for (step, call) in [
         (
             "INITIALIZE_PROCESS_CORE_AFFINITY P2 0",
-            ProcessCall::InitializeProcessCoreAffinity(p2, 0),
+            ProcessCall::Own(p2, ProcessService::InitializeCoreAffinity(0)),
         ),
         (
             "INITIALIZE_PROCESS_CORE_AFFINITY P2 255",
-            ProcessCall::InitializeProcessCoreAffinity(p2, 255),
+            ProcessCall::Own(p2, ProcessService::InitializeCoreAffinity(255)),
         ),
-        ("SET_PRIORITY P2 0", ProcessCall::SetPriority(p2, 0)),
-        ("SET_PRIORITY P2 65535", ProcessCall::SetPriority(p2, 65535)),
+        (
+            "SET_PRIORITY P2 0",
+            ProcessCall::Own(p2, ProcessService::SetPriority(0)),
+        ),
+        (
+            "SET_PRIORITY P2 65535",
+            ProcessCall::Own(p2, ProcessService::SetPriority(65535)),
+        ),
         (
             "DELAYED_START P2 0",
-            ProcessCall::DelayedStart(p2, Timeout::Poll),
+            ProcessCall::Own(p2, ProcessService::DelayedStart(Timeout::Poll)),
         ),
         (
             "DELAYED_START P2 infinite",
-            ProcessCall::DelayedStart(p2, Timeout::Infinite),
+            ProcessCall::Own(p2, ProcessService::DelayedStart(Timeout::Infinite)),
         ),
         (
             "DELAYED_START P2 1",
-            ProcessCall::DelayedStart(p2, Timeout::Ticks(1)),
+            ProcessCall::Own(p2, ProcessService::DelayedStart(Timeout::Ticks(1))),
         ),
     ] {
         is_read(&rt, rt.alloc(), step, Call::Process(call))?;
@@ -225,19 +229,16 @@ fn a_step_with_a_process_and_a_word_is_read_as_its_call(rt: HostRuntime) -> Resu
 #[test]
 fn a_step_of_the_process_itself_is_read_as_its_call(rt: HostRuntime) -> Result<(), Fail> {
     for (step, call) in [
-        ("STOP_SELF", ProcessCall::StopSelf),
-        ("SUSPEND_SELF 0", ProcessCall::SuspendSelf(Timeout::Poll)),
+        ("STOP_SELF", CallerCall::StopSelf),
+        ("SUSPEND_SELF 0", CallerCall::SuspendSelf(Timeout::Poll)),
         (
             "SUSPEND_SELF infinite",
-            ProcessCall::SuspendSelf(Timeout::Infinite),
+            CallerCall::SuspendSelf(Timeout::Infinite),
         ),
-        ("GET_MY_ID", ProcessCall::GetMyId),
-        (
-            "GET_MY_PROCESSOR_CORE_ID",
-            ProcessCall::GetMyProcessorCoreId,
-        ),
+        ("GET_MY_ID", CallerCall::GetMyId),
+        ("GET_MY_PROCESSOR_CORE_ID", CallerCall::GetMyProcessorCoreId),
     ] {
-        is_read(&rt, rt.alloc(), step, Call::Process(call))?;
+        is_read(&rt, rt.alloc(), step, Call::Caller(call))?;
     }
     Ok(())
 }
@@ -280,31 +281,25 @@ fn a_step_of_the_partition_or_of_time_is_read_as_its_call(rt: HostRuntime) -> Re
 fn a_step_of_a_semaphore_is_read_as_its_call(rt: HostRuntime) -> Result<(), Fail> {
     let s = SemaphoreId::at(0);
     for (step, call) in [
-        (
-            "CREATE_SEMAPHORE S",
-            SemaphoreCall::CreateSemaphore(NamedSemaphore::Known(s)),
-        ),
+        ("CREATE_SEMAPHORE S", SemaphoreCall::Create(Named::Known(s))),
         (
             "WAIT_SEMAPHORE S 0",
-            SemaphoreCall::WaitSemaphore(s, Timeout::Poll),
+            SemaphoreCall::Own(s, SemaphoreService::Wait(Timeout::Poll)),
         ),
         (
             "WAIT_SEMAPHORE S 4294967295",
-            SemaphoreCall::WaitSemaphore(s, Timeout::Ticks(4294967295)),
+            SemaphoreCall::Own(s, SemaphoreService::Wait(Timeout::Ticks(4294967295))),
         ),
-        ("SIGNAL_SEMAPHORE S", SemaphoreCall::SignalSemaphore(s)),
         (
-            "GET_SEMAPHORE_ID S",
-            SemaphoreCall::GetSemaphoreId(NamedSemaphore::Known(s)),
+            "SIGNAL_SEMAPHORE S",
+            SemaphoreCall::Own(s, SemaphoreService::Signal),
         ),
+        ("GET_SEMAPHORE_ID S", SemaphoreCall::GetId(Named::Known(s))),
         (
             "GET_SEMAPHORE_ID P1",
-            SemaphoreCall::GetSemaphoreId(NamedSemaphore::Unknown(name(b"P1"))),
+            SemaphoreCall::GetId(Named::Unknown(name(b"P1"))),
         ),
-        (
-            "GET_SEMAPHORE_STATUS S",
-            SemaphoreCall::GetSemaphoreStatus(s),
-        ),
+        ("GET_SEMAPHORE_STATUS S", SemaphoreCall::GetStatus(s)),
     ] {
         is_read(&rt, rt.alloc(), step, Call::Semaphore(call))?;
     }

@@ -1,0 +1,137 @@
+ghost use Rattle.std.specs.Prelude.{ℕ, List, Option, Result, ◌≡◌, ◌++◌, ◌≤◌, map, length};
+ghost use Rattle.std.specs.Str.{bytes_eq};
+ghost use Rattle.apex_table.specs.declared.fault.Place.{Place};
+ghost use Rattle.apex_table.specs.declared.fault.TableFault.{TableFault};
+ghost use Rattle.apex_table.specs.Outcome.{Gives};
+ghost use Rattle.apex_table.specs.ObjectSteps.{named, common_call, own_call, object_call};
+ghost use Rattle.apex_table.specs.Words.{entry_of};
+
+use crate::fault::{Place, TableFault};
+use crate::keys::well_formed;
+use crate::named::{Named, place_of};
+use crate::steps::words::entry_of;
+use apex_types::{Id, ObjectCall};
+
+/// A kind of things, as steps ask for its services.
+pub trait Kind {
+    /// A service that the kind alone has.
+    type Service: Copy;
+
+    ghost word: { List ℕ };
+
+    ghost own: { Place → List ℕ → List (List ℕ) → Result (Option Self.Service) TableFault };
+
+    /// What stands for the kind in the names of the services that each kind has.
+    fn word() -> &'static str
+        ensures { result.now ≡ word };
+
+    /// The service that the kind alone has, if the words ask for one; they stand behind the name.
+    fn own_service(
+        at: Place,
+        service: &str,
+        words: &[&str],
+    ) -> Result<Option<Self::Service>, TableFault>
+        ensures { result ≡ own at service.now (map (λ w. w.now) words.now) };
+}
+
+/// Whether a service has this name: the kind's word between a beginning and an end.
+fn is_service(service: &str, before: &str, word: &str, after: &str) -> bool
+    ensures { result ≡ bytes_eq service.now (before.now ++ word.now ++ after.now) }
+{
+    match service.as_bytes().strip_suffix(after.as_bytes()) {
+        Some(front) => match front.strip_prefix(before.as_bytes()) {
+            Some(middle) => middle == word.as_bytes(),
+            None => false,
+        },
+        None => false,
+    }
+}
+
+/// A thing by any name.
+fn named<T: Named, K>(
+    at: Place,
+    entries: &[T],
+    name: &str,
+) -> Result<apex_types::Named<Id<K>>, TableFault>
+    requires { length entries.now ≤ 32 }
+    ensures { Gives (λ n. n) result (named at (map T.name_of entries.now) name.now) }
+{
+    let name = well_formed(at, name)?;
+    match place_of(entries, name.as_bytes()) {
+        Some(place) => Ok(apex_types::Named::Known(Id::at(place as u8))),
+        None => Ok(apex_types::Named::Unknown(name)),
+    }
+}
+
+/// A thing by the name of an entry.
+fn thing<T: Named, K>(at: Place, entries: &[T], name: &str) -> Result<Id<K>, TableFault>
+    requires { length entries.now ≤ 32 }
+    ensures { result ≡ entry_of at (map T.name_of entries.now) name.now }
+{
+    Ok(Id::at(entry_of(at, entries, name)?))
+}
+
+/// The call of a service that each kind has.
+#[tactic(auto, unfolding(crate::specs::ObjectSteps::common_call))]
+fn common_call<T: Named, K: Kind>(
+    at: Place,
+    entries: &[T],
+    service: &str,
+    name: &str,
+    words: &[&str],
+) -> Result<Option<ObjectCall<Id<K>, K::Service>>, TableFault>
+    requires { length entries.now ≤ 32 }
+    ensures { Gives (λ c. c) result (common_call at K.word (map T.name_of entries.now) service.now name.now (map (λ w. w.now) words.now)) }
+{
+    if !words.is_empty() {
+        return Ok(None);
+    }
+    if is_service(service, "CREATE_", K::word(), "") {
+        return Ok(Some(ObjectCall::Create(named(at, entries, name)?)));
+    }
+    if is_service(service, "GET_", K::word(), "_ID") {
+        return Ok(Some(ObjectCall::GetId(named(at, entries, name)?)));
+    }
+    if is_service(service, "GET_", K::word(), "_STATUS") {
+        return Ok(Some(ObjectCall::GetStatus(thing(at, entries, name)?)));
+    }
+    Ok(None)
+}
+
+/// The call of a service that the kind alone has.
+fn own_call<T: Named, K, W: Copy>(
+    at: Place,
+    entries: &[T],
+    name: &str,
+    own: Result<Option<W>, TableFault>,
+) -> Result<Option<ObjectCall<Id<K>, W>>, TableFault>
+    requires { length entries.now ≤ 32 }
+    ensures { result ≡ own_call at (map T.name_of entries.now) name.now own }
+{
+    if let Ok(None) = own {
+        return Ok(None);
+    }
+    let id = thing(at, entries, name)?;
+    match own? {
+        Some(service) => Ok(Some(ObjectCall::Own(id, service))),
+        None => Ok(None),
+    }
+}
+
+/// The call of a step's words, none where they are no step of the kind.
+pub fn object_call<T: Named, K: Kind>(
+    at: Place,
+    entries: &[T],
+    words: &[&str],
+) -> Result<Option<ObjectCall<Id<K>, K::Service>>, TableFault>
+    requires { length entries.now ≤ 32 }
+    ensures { Gives (λ c. c) result (object_call at K.word (map T.name_of entries.now) (K.own at) (map (λ w. w.now) words.now)) }
+{
+    let [service, name, words @ ..] = words else {
+        return Ok(None);
+    };
+    match common_call(at, entries, service, name, words)? {
+        Some(call) => Ok(Some(call)),
+        None => own_call(at, entries, name, K::own_service(at, service, words)),
+    }
+}
