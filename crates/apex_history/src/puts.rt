@@ -11,13 +11,10 @@ mod semaphore;
 mod time;
 
 use apex_table::Table;
-use apex_types::{
-    Call, Caller, Entry, Name, Notice, ProcessId, Reply, ReturnCode, Timeout, Who,
-};
+use apex_types::{Call, Caller, Entry, Name, Notice, ProcessId, Reply, ReturnCode, Timeout, Who};
 use arrayvec::ArrayVec;
-use itoa::Buffer;
-
 use caller::put_caller_call;
+use itoa::Buffer;
 use object::put_object_call;
 use partition::put_partition_call;
 use time::put_time_call;
@@ -107,33 +104,48 @@ fn put_name(line: &mut Line, name: &Name)
     put_bytes(line, name.as_bytes());
 }
 
-// A service's word, with the space behind it, and a name.
+// A service's word, with the space behind it, and a timeout.
 #[tactic(auto, using(std::proofs::Common::append_assoc))]
-fn put_with_name(line: &mut Line, service: &str, name: &Name)
-    requires { array_vec_len line.old + length service.now + 30 ≤ 4096 }
-    ensures text { line.new.items ≡ line.old.items ++ (service.now ++ name.now) }
-    ensures short { array_vec_len line.new ≤ array_vec_len line.old + length service.now + 30 }
+fn put_with_timeout(line: &mut Line, word: &str, timeout: &Timeout)
+    requires { array_vec_len line.old + length word.now + 10 ≤ 4096 }
+    ensures text { line.new.items ≡ line.old.items ++ (word.now ++ timeout_text timeout.now) }
+    ensures short { array_vec_len line.new ≤ array_vec_len line.old + length word.now + 10 }
 {
-    put(line, service);
+    put(line, word);
+    put_timeout(line, timeout);
+}
+
+// Such a word and a name.
+#[tactic(auto, using(std::proofs::Common::append_assoc))]
+fn put_with_name(line: &mut Line, word: &str, name: &Name)
+    requires { array_vec_len line.old + length word.now + 30 ≤ 4096 }
+    ensures text { line.new.items ≡ line.old.items ++ (word.now ++ name.now) }
+    ensures short { array_vec_len line.new ≤ array_vec_len line.old + length word.now + 30 }
+{
+    put(line, word);
     put_name(line, name);
 }
 
+// Such a word, a name and a number.
 #[tactic(auto, using(std::proofs::Common::append_assoc))]
-fn put_spaced_number(line: &mut Line, number: u32)
-    requires { array_vec_len line.old + 11 ≤ 4096 }
-    ensures text { line.new.items ≡ line.old.items ++ (codes " " ++ decimal number) }
-    ensures short { array_vec_len line.new ≤ array_vec_len line.old + 11 }
+fn put_with_name_and_number(line: &mut Line, word: &str, name: &Name, number: u32)
+    requires { array_vec_len line.old + length word.now + 41 ≤ 4096 }
+    ensures text { line.new.items ≡ line.old.items ++ (word.now ++ name.now ++ codes " " ++ decimal number) }
+    ensures short { array_vec_len line.new ≤ array_vec_len line.old + length word.now + 41 }
 {
+    put_with_name(line, word, name);
     put(line, " ");
     put_number(line, number);
 }
 
+// Such a word, a name and a timeout.
 #[tactic(auto, using(std::proofs::Common::append_assoc))]
-fn put_spaced_timeout(line: &mut Line, timeout: &Timeout)
-    requires { array_vec_len line.old + 11 ≤ 4096 }
-    ensures text { line.new.items ≡ line.old.items ++ (codes " " ++ timeout_text timeout.now) }
-    ensures short { array_vec_len line.new ≤ array_vec_len line.old + 11 }
+fn put_with_name_and_timeout(line: &mut Line, word: &str, name: &Name, timeout: &Timeout)
+    requires { array_vec_len line.old + length word.now + 41 ≤ 4096 }
+    ensures text { line.new.items ≡ line.old.items ++ (word.now ++ name.now ++ codes " " ++ timeout_text timeout.now) }
+    ensures short { array_vec_len line.new ≤ array_vec_len line.old + length word.now + 41 }
 {
+    put_with_name(line, word, name);
     put(line, " ");
     put_timeout(line, timeout);
 }

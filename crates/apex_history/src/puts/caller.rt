@@ -2,10 +2,9 @@ ghost use Rattle.std.specs.Prelude.{◌≡◌, ◌+◌, ◌≤◌, ◌++◌};
 ghost use Rattle.arrayvec.specs.ArrayVec.{array_vec_len};
 ghost use Rattle.apex_types.specs.Lines.{caller_call_text};
 
-use super::{Line, put, put_timeout};
+use super::{Line, put, put_with_timeout};
 use apex_types::CallerCall;
 
-#[tactic(auto, using(std::proofs::Common::append_assoc))]
 pub(super) fn put_caller_call(line: &mut Line, call: &CallerCall)
     requires { array_vec_len line.old + 80 ≤ 4096 }
     ensures text { line.new.items ≡ line.old.items ++ caller_call_text call.now }
@@ -13,10 +12,7 @@ pub(super) fn put_caller_call(line: &mut Line, call: &CallerCall)
 {
     match call {
         CallerCall::StopSelf => put(line, "STOP_SELF"),
-        CallerCall::SuspendSelf(timeout) => {
-            put(line, "SUSPEND_SELF ");
-            put_timeout(line, timeout);
-        }
+        CallerCall::SuspendSelf(timeout) => put_with_timeout(line, "SUSPEND_SELF ", timeout),
         CallerCall::GetMyId => put(line, "GET_MY_ID"),
         CallerCall::GetMyProcessorCoreId => put(line, "GET_MY_PROCESSOR_CORE_ID"),
     }

@@ -19,10 +19,10 @@ pub(super) trait Kind: Copy {
     // How many objects of the kind the table has.
     ghost count: { TableOf → ℕ };
 
-    ghost name_of: { TableOf → ℕ → List ℕ };
+    ghost names: { TableOf → ℕ → List ℕ };
 
     // The text of a service of the object of this name.
-    ghost service_text: { List ℕ → Service → List ℕ };
+    ghost own: { List ℕ → Self.Service → List ℕ };
 
     /// The kind's word in the names of the services that each kind has.
     fn word() -> &'static str
@@ -31,11 +31,11 @@ pub(super) trait Kind: Copy {
 
     fn name(table: &Table, id: Id<Self>) -> &Name
         requires { id < count table.now }
-        ensures { result.now ≡ name_of table.now id };
+        ensures { result.now ≡ names table.now id };
 
     fn put_service(line: &mut Line, name: &Name, service: &Self::Service)
         requires { array_vec_len line.old + 80 ≤ 4096 }
-        ensures text { line.new.items ≡ line.old.items ++ service_text name.now service.now }
+        ensures text { line.new.items ≡ line.old.items ++ own name.now service.now }
         ensures short { array_vec_len line.new ≤ array_vec_len line.old + 80 };
 }
 
@@ -43,7 +43,7 @@ pub(super) trait Kind: Copy {
 fn put_named<K: Kind>(line: &mut Line, table: &Table, named: &Named<Id<K>>)
     requires known { IsKnownName (K.count table.now) named.now }
     requires room { array_vec_len line.old + 30 ≤ 4096 }
-    ensures text { line.new.items ≡ line.old.items ++ named_text (K.name_of table.now) named.now }
+    ensures text { line.new.items ≡ line.old.items ++ named_text (K.names table.now) named.now }
     ensures short { array_vec_len line.new ≤ array_vec_len line.old + 30 }
 {
     match named {
@@ -61,7 +61,7 @@ pub(super) fn put_object_call<K: Kind>(
 )
     requires known { IsKnownObject (K.count table.now) call.now }
     requires room { array_vec_len line.old + 80 ≤ 4096 }
-    ensures text { line.new.items ≡ line.old.items ++ object_call_text K.word (K.name_of table.now) K.service_text call.now }
+    ensures text { line.new.items ≡ line.old.items ++ object_call_text K.word (K.names table.now) K.own call.now }
     ensures short { array_vec_len line.new ≤ array_vec_len line.old + 80 }
 {
     match call {

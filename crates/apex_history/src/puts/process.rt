@@ -3,7 +3,7 @@ ghost use Rattle.arrayvec.specs.ArrayVec.{array_vec_len};
 ghost use Rattle.apex_types.specs.Lines.{process_name, process_service_text};
 
 use super::object::Kind;
-use super::{Line, put_spaced_number, put_spaced_timeout, put_with_name};
+use super::{Line, put_with_name, put_with_name_and_number, put_with_name_and_timeout};
 use apex_table::Table;
 use apex_types::{Name, ProcessId, ProcessKind, ProcessService};
 
@@ -14,15 +14,18 @@ impl Kind for ProcessKind {
 
     ghost count = { λ table. length table.processes };
 
-    ghost name_of = { process_name };
+    ghost names = { process_name };
 
-    ghost service_text = { process_service_text };
+    ghost own = { process_service_text };
 
     fn word() -> &'static str {
         "PROCESS"
     }
 
-    fn name(table: &Table, id: ProcessId) -> &Name {
+    fn name(table: &Table, id: ProcessId) -> &Name
+        requires { id < length table.now.processes }
+        ensures { result.now ≡ process_name table.now id }
+    {
         table.process(id).name()
     }
 
@@ -30,18 +33,14 @@ impl Kind for ProcessKind {
         use ProcessService::*;
         match service {
             InitializeCoreAffinity(core) => {
-                put_with_name(line, "INITIALIZE_PROCESS_CORE_AFFINITY ", name);
-                put_spaced_number(line, u32::from(*core));
+                let word = "INITIALIZE_PROCESS_CORE_AFFINITY ";
+                put_with_name_and_number(line, word, name, u32::from(*core));
             }
             SetPriority(priority) => {
-                put_with_name(line, "SET_PRIORITY ", name);
-                put_spaced_number(line, u32::from(*priority));
+                put_with_name_and_number(line, "SET_PRIORITY ", name, u32::from(*priority));
             }
             Start => put_with_name(line, "START ", name),
-            DelayedStart(delay) => {
-                put_with_name(line, "DELAYED_START ", name);
-                put_spaced_timeout(line, delay);
-            }
+            DelayedStart(delay) => put_with_name_and_timeout(line, "DELAYED_START ", name, delay),
             Stop => put_with_name(line, "STOP ", name),
             Suspend => put_with_name(line, "SUSPEND ", name),
             Resume => put_with_name(line, "RESUME ", name),

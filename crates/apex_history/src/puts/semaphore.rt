@@ -3,7 +3,7 @@ ghost use Rattle.arrayvec.specs.ArrayVec.{array_vec_len};
 ghost use Rattle.apex_types.specs.Lines.{semaphore_name, semaphore_service_text};
 
 use super::object::Kind;
-use super::{Line, put_spaced_timeout, put_with_name};
+use super::{Line, put_with_name, put_with_name_and_timeout};
 use apex_table::Table;
 use apex_types::{Name, SemaphoreId, SemaphoreKind, SemaphoreService};
 
@@ -14,23 +14,25 @@ impl Kind for SemaphoreKind {
 
     ghost count = { λ table. length table.semaphores };
 
-    ghost name_of = { semaphore_name };
+    ghost names = { semaphore_name };
 
-    ghost service_text = { semaphore_service_text };
+    ghost own = { semaphore_service_text };
 
     fn word() -> &'static str {
         "SEMAPHORE"
     }
 
-    fn name(table: &Table, id: SemaphoreId) -> &Name {
+    fn name(table: &Table, id: SemaphoreId) -> &Name
+        requires { id < length table.now.semaphores }
+        ensures { result.now ≡ semaphore_name table.now id }
+    {
         table.semaphore(id).name()
     }
 
     fn put_service(line: &mut Line, name: &Name, service: &SemaphoreService) {
         match service {
             SemaphoreService::Wait(timeout) => {
-                put_with_name(line, "WAIT_SEMAPHORE ", name);
-                put_spaced_timeout(line, timeout);
+                put_with_name_and_timeout(line, "WAIT_SEMAPHORE ", name, timeout);
             }
             SemaphoreService::Signal => put_with_name(line, "SIGNAL_SEMAPHORE ", name),
         }
