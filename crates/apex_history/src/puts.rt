@@ -1,16 +1,23 @@
 ghost use Rattle.std.specs.Prelude.{◌≡◌, ◌+◌, ◌<◌, ◌≤◌, ◌++◌, length, flat_map, codes, decimal, IfSome};
 ghost use Rattle.arrayvec.specs.ArrayVec.{array_vec_len};
-ghost use Rattle.apex_types.specs.Table.{IsKnown, IsKnownProcess, IsKnownSemaphore, IsKnownToProcesses, IsKnownToSemaphores};
-ghost use Rattle.apex_types.specs.Lines.{id_text, code_text, timeout_text, mode_text, process_name, semaphore_name, named_process_text, named_semaphore_text, partition_call_text, process_call_text, time_call_text, semaphore_call_text, call_text, no_call_text, asked_text, who_text, caller_text, reply_text, notice_text, noticed_text, line_of, IsPrintable};
+ghost use Rattle.apex_types.specs.Table.{IsKnown};
+ghost use Rattle.apex_types.specs.Lines.{id_text, code_text, timeout_text, call_text, no_call_text, asked_text, who_text, caller_text, reply_text, notice_text, noticed_text, line_of, IsPrintable};
+
+mod caller;
+mod object;
+mod partition;
+mod process;
+mod semaphore;
+mod time;
 
 use apex_table::Table;
-use apex_types::{
-    Call, Caller, Entry, Name, NamedProcess, NamedSemaphore, Notice, PartitionCall, ProcessCall,
-    ProcessId, Reply, RequestedMode, ReturnCode, SemaphoreCall, SemaphoreId, TimeCall, Timeout,
-    Who,
-};
+use apex_types::{Call, Caller, Entry, Name, Notice, ProcessId, Reply, ReturnCode, Timeout, Who};
 use arrayvec::ArrayVec;
+use caller::put_caller_call;
 use itoa::Buffer;
+use object::put_object_call;
+use partition::put_partition_call;
+use time::put_time_call;
 
 /// How many bytes a line of a history has at the most.
 pub(crate) const LINE_ROOM: usize = 4096;
@@ -89,16 +96,6 @@ fn put_timeout(line: &mut Line, timeout: &Timeout)
     }
 }
 
-fn mode_word(mode: &RequestedMode) -> &'static str
-    ensures value { result.now ≡ mode_text mode.now }
-    ensures short { length result.now ≤ 6 }
-{
-    match mode {
-        RequestedMode::Idle => "IDLE",
-        RequestedMode::Normal => "NORMAL",
-    }
-}
-
 fn put_name(line: &mut Line, name: &Name)
     requires { array_vec_len line.old + 30 ≤ 4096 }
     ensures text { line.new.items ≡ line.old.items ++ name.now }
@@ -107,176 +104,50 @@ fn put_name(line: &mut Line, name: &Name)
     put_bytes(line, name.as_bytes());
 }
 
-// A service's word, with the space behind it, and the name of an entry.
+// A service's word, with the space behind it, and a timeout.
 #[tactic(auto, using(std::proofs::Common::append_assoc))]
-fn put_with_process(line: &mut Line, table: &Table, service: &str, process: ProcessId)
-    requires known { process < length table.now.processes }
-    requires room { array_vec_len line.old + length service.now + 30 ≤ 4096 }
-    ensures text { line.new.items ≡ line.old.items ++ (service.now ++ process_name table.now process) }
-    ensures short { array_vec_len line.new ≤ array_vec_len line.old + length service.now + 30 }
+fn put_with_timeout(line: &mut Line, word: &str, timeout: &Timeout)
+    requires { array_vec_len line.old + length word.now + 10 ≤ 4096 }
+    ensures text { line.new.items ≡ line.old.items ++ (word.now ++ timeout_text timeout.now) }
+    ensures short { array_vec_len line.new ≤ array_vec_len line.old + length word.now + 10 }
 {
-    put(line, service);
-    put_name(line, table.process(process).name());
+    put(line, word);
+    put_timeout(line, timeout);
 }
 
-// The same of a name that need not be an entry's.
+// Such a word and a name.
 #[tactic(auto, using(std::proofs::Common::append_assoc))]
-fn put_with_named_process(line: &mut Line, table: &Table, service: &str, named: &NamedProcess)
-    requires known { IsKnownProcess (length table.now.processes) named.now }
-    requires room { array_vec_len line.old + length service.now + 30 ≤ 4096 }
-    ensures text { line.new.items ≡ line.old.items ++ (service.now ++ named_process_text table.now named.now) }
-    ensures short { array_vec_len line.new ≤ array_vec_len line.old + length service.now + 30 }
+fn put_with_name(line: &mut Line, word: &str, name: &Name)
+    requires { array_vec_len line.old + length word.now + 30 ≤ 4096 }
+    ensures text { line.new.items ≡ line.old.items ++ (word.now ++ name.now) }
+    ensures short { array_vec_len line.new ≤ array_vec_len line.old + length word.now + 30 }
 {
-    match named {
-        NamedProcess::Known(process) => put_with_process(line, table, service, *process),
-        NamedProcess::Unknown(name) => {
-            put(line, service);
-            put_name(line, name);
-        }
-    }
+    put(line, word);
+    put_name(line, name);
 }
 
+// Such a word, a name and a number.
 #[tactic(auto, using(std::proofs::Common::append_assoc))]
-fn put_with_semaphore(line: &mut Line, table: &Table, service: &str, semaphore: SemaphoreId)
-    requires known { semaphore < length table.now.semaphores }
-    requires room { array_vec_len line.old + length service.now + 30 ≤ 4096 }
-    ensures text { line.new.items ≡ line.old.items ++ (service.now ++ semaphore_name table.now semaphore) }
-    ensures short { array_vec_len line.new ≤ array_vec_len line.old + length service.now + 30 }
+fn put_with_name_and_number(line: &mut Line, word: &str, name: &Name, number: u32)
+    requires { array_vec_len line.old + length word.now + 41 ≤ 4096 }
+    ensures text { line.new.items ≡ line.old.items ++ (word.now ++ name.now ++ codes " " ++ decimal number) }
+    ensures short { array_vec_len line.new ≤ array_vec_len line.old + length word.now + 41 }
 {
-    put(line, service);
-    put_name(line, table.semaphore(semaphore).name());
-}
-
-#[tactic(auto, using(std::proofs::Common::append_assoc))]
-fn put_with_named_semaphore(line: &mut Line, table: &Table, service: &str, named: &NamedSemaphore)
-    requires known { IsKnownSemaphore (length table.now.semaphores) named.now }
-    requires room { array_vec_len line.old + length service.now + 30 ≤ 4096 }
-    ensures text { line.new.items ≡ line.old.items ++ (service.now ++ named_semaphore_text table.now named.now) }
-    ensures short { array_vec_len line.new ≤ array_vec_len line.old + length service.now + 30 }
-{
-    match named {
-        NamedSemaphore::Known(semaphore) => put_with_semaphore(line, table, service, *semaphore),
-        NamedSemaphore::Unknown(name) => {
-            put(line, service);
-            put_name(line, name);
-        }
-    }
-}
-
-#[tactic(auto, using(std::proofs::Common::append_assoc))]
-fn put_spaced_number(line: &mut Line, number: u32)
-    requires { array_vec_len line.old + 11 ≤ 4096 }
-    ensures text { line.new.items ≡ line.old.items ++ (codes " " ++ decimal number) }
-    ensures short { array_vec_len line.new ≤ array_vec_len line.old + 11 }
-{
+    put_with_name(line, word, name);
     put(line, " ");
     put_number(line, number);
 }
 
+// Such a word, a name and a timeout.
 #[tactic(auto, using(std::proofs::Common::append_assoc))]
-fn put_spaced_timeout(line: &mut Line, timeout: &Timeout)
-    requires { array_vec_len line.old + 11 ≤ 4096 }
-    ensures text { line.new.items ≡ line.old.items ++ (codes " " ++ timeout_text timeout.now) }
-    ensures short { array_vec_len line.new ≤ array_vec_len line.old + 11 }
+fn put_with_name_and_timeout(line: &mut Line, word: &str, name: &Name, timeout: &Timeout)
+    requires { array_vec_len line.old + length word.now + 41 ≤ 4096 }
+    ensures text { line.new.items ≡ line.old.items ++ (word.now ++ name.now ++ codes " " ++ timeout_text timeout.now) }
+    ensures short { array_vec_len line.new ≤ array_vec_len line.old + length word.now + 41 }
 {
+    put_with_name(line, word, name);
     put(line, " ");
     put_timeout(line, timeout);
-}
-
-#[tactic(auto, using(std::proofs::Common::append_assoc))]
-fn put_partition_call(line: &mut Line, call: &PartitionCall)
-    requires { array_vec_len line.old + 80 ≤ 4096 }
-    ensures text { line.new.items ≡ line.old.items ++ partition_call_text call.now }
-    ensures short { array_vec_len line.new ≤ array_vec_len line.old + 80 }
-{
-    match call {
-        PartitionCall::SetPartitionMode(mode) => {
-            put(line, "SET_PARTITION_MODE ");
-            put(line, mode_word(mode));
-        }
-        PartitionCall::GetPartitionStatus => put(line, "GET_PARTITION_STATUS"),
-    }
-}
-
-fn put_process_call(line: &mut Line, table: &Table, call: &ProcessCall)
-    requires known { IsKnownToProcesses (length table.now.processes) call.now }
-    requires room { array_vec_len line.old + 80 ≤ 4096 }
-    ensures text { line.new.items ≡ line.old.items ++ process_call_text table.now call.now }
-    ensures short { array_vec_len line.new ≤ array_vec_len line.old + 80 }
-{
-    use ProcessCall::*;
-    match call {
-        CreateProcess(named) => put_with_named_process(line, table, "CREATE_PROCESS ", named),
-        InitializeProcessCoreAffinity(process, core) => {
-            put_with_process(line, table, "INITIALIZE_PROCESS_CORE_AFFINITY ", *process);
-            put_spaced_number(line, u32::from(*core));
-        }
-        SetPriority(process, priority) => {
-            put_with_process(line, table, "SET_PRIORITY ", *process);
-            put_spaced_number(line, u32::from(*priority));
-        }
-        Start(process) => put_with_process(line, table, "START ", *process),
-        DelayedStart(process, delay) => {
-            put_with_process(line, table, "DELAYED_START ", *process);
-            put_spaced_timeout(line, delay);
-        }
-        Stop(process) => put_with_process(line, table, "STOP ", *process),
-        StopSelf => put(line, "STOP_SELF"),
-        Suspend(process) => put_with_process(line, table, "SUSPEND ", *process),
-        Resume(process) => put_with_process(line, table, "RESUME ", *process),
-        SuspendSelf(timeout) => {
-            put(line, "SUSPEND_SELF ");
-            put_timeout(line, timeout);
-        }
-        GetMyId => put(line, "GET_MY_ID"),
-        GetMyProcessorCoreId => put(line, "GET_MY_PROCESSOR_CORE_ID"),
-        GetProcessId(named) => put_with_named_process(line, table, "GET_PROCESS_ID ", named),
-        GetProcessStatus(process) => put_with_process(line, table, "GET_PROCESS_STATUS ", *process),
-    }
-}
-
-#[tactic(auto, using(std::proofs::Common::append_assoc))]
-fn put_time_call(line: &mut Line, call: &TimeCall)
-    requires { array_vec_len line.old + 80 ≤ 4096 }
-    ensures text { line.new.items ≡ line.old.items ++ time_call_text call.now }
-    ensures short { array_vec_len line.new ≤ array_vec_len line.old + 80 }
-{
-    match call {
-        TimeCall::TimedWait(timeout) => {
-            put(line, "TIMED_WAIT ");
-            put_timeout(line, timeout);
-        }
-        TimeCall::GetTime => put(line, "GET_TIME"),
-    }
-}
-
-fn put_semaphore_call(line: &mut Line, table: &Table, call: &SemaphoreCall)
-    requires known { IsKnownToSemaphores (length table.now.semaphores) call.now }
-    requires room { array_vec_len line.old + 80 ≤ 4096 }
-    ensures text { line.new.items ≡ line.old.items ++ semaphore_call_text table.now call.now }
-    ensures short { array_vec_len line.new ≤ array_vec_len line.old + 80 }
-{
-    use SemaphoreCall::*;
-    match call {
-        CreateSemaphore(named) => put_with_named_semaphore(line, table, "CREATE_SEMAPHORE ", named),
-        WaitSemaphore(semaphore, timeout) => {
-            put_with_semaphore(line, table, "WAIT_SEMAPHORE ", *semaphore);
-            put_spaced_timeout(line, timeout);
-        }
-        SignalSemaphore(semaphore) => put_with_semaphore(
-            line,
-            table,
-            "SIGNAL_SEMAPHORE ",
-            *semaphore,
-        ),
-        GetSemaphoreId(named) => put_with_named_semaphore(line, table, "GET_SEMAPHORE_ID ", named),
-        GetSemaphoreStatus(semaphore) => put_with_semaphore(
-            line,
-            table,
-            "GET_SEMAPHORE_STATUS ",
-            *semaphore,
-        ),
-    }
 }
 
 fn put_call(line: &mut Line, table: &Table, call: &Call)
@@ -287,9 +158,10 @@ fn put_call(line: &mut Line, table: &Table, call: &Call)
 {
     match call {
         Call::Partition(call) => put_partition_call(line, call),
-        Call::Process(call) => put_process_call(line, table, call),
+        Call::Process(call) => put_object_call(line, table, call),
+        Call::Caller(call) => put_caller_call(line, call),
         Call::Time(call) => put_time_call(line, call),
-        Call::Semaphore(call) => put_semaphore_call(line, table, call),
+        Call::Semaphore(call) => put_object_call(line, table, call),
     }
 }
 

@@ -3,10 +3,15 @@ mod steps;
 mod ticks;
 
 ghost use Rattle.std.specs.Prelude.{◌≡◌, ◌<◌, ◌↔◌, [], None, Some, IsErr};
+ghost use Rattle.apex_types.specs.declared.Call.TheVariants.{Process, Semaphore};
+ghost use Rattle.apex_types.specs.declared.ObjectCall.TheVariants.{Own};
 ghost use Rattle.apex_history.specs.Counted.{inner_of, reads_left_of};
 
 use crate::{Counted, FailAt, Log, Page, ReadFault, Sink, Source, read_all};
-use apex_types::{Call, Caller, CoreId, Entry, Notices, ProcessId, Reply, Who};
+use apex_types::{
+    Call, Caller, CoreId, Entry, Notices, ProcessCall, ProcessId, ProcessService, Reply,
+    SemaphoreCall, SemaphoreId, SemaphoreService, Who,
+};
 use std::io;
 use std::io::{ErrorKind, Read, Write};
 use std::test::Fail;
@@ -52,6 +57,18 @@ fn called(number: u32, now: u64, process: ProcessId, call: Call, reply: Reply) -
         reply,
         notices: Notices::new(),
     }
+}
+
+fn of_process(process: ProcessId, service: ProcessService) -> Call
+    ensures { result ≡ Process (Own process service) }
+{
+    Call::Process(ProcessCall::Own(process, service))
+}
+
+fn of_semaphore(semaphore: SemaphoreId, service: SemaphoreService) -> Call
+    ensures { result ≡ Semaphore (Own semaphore service) }
+{
+    Call::Semaphore(SemaphoreCall::Own(semaphore, service))
 }
 
 #[test]

@@ -1,14 +1,16 @@
 ghost use Rattle.std.specs.Prelude.{◌≡◌, ◌+◌, ◌<◌, ◌≤◌, ◌∷◌, ◌++◌, length, All, IfOk};
 ghost use Rattle.apex_types.specs.declared.Call.TheVariants.{Process};
+ghost use Rattle.apex_types.specs.declared.Named.TheVariants.{Known};
+ghost use Rattle.apex_types.specs.declared.ObjectCall.TheVariants.{Create};
 ghost use Rattle.apex_types.specs.Lines.{IsPrintable};
 
-use super::{idle, paper};
+use super::{idle, of_process, of_semaphore, paper};
 use crate::{Counted, Log, Page, print_entry, print_history};
 use apex_table::{Table, read_table};
 use apex_types::{
-    Call, Caller, CoreId, Entry, NamedProcess, NamedSemaphore, Notice, Notices, PartitionCall,
-    ProcessCall, ProcessId, Reply, RequestedMode, ReturnCode, SemaphoreCall, SemaphoreId, Timeout,
-    Who,
+    Call, Caller, CallerCall, CoreId, Entry, Named, Notice, Notices, PartitionCall, ProcessCall,
+    ProcessId, ProcessService, Reply, RequestedMode, ReturnCode, SemaphoreCall, SemaphoreId,
+    SemaphoreService, Timeout, Who,
 };
 use std::test::Fail;
 
@@ -65,10 +67,10 @@ fn of_init(number: u32, call: Call) -> Entry
     }
 }
 
-fn of_process(call: ProcessCall) -> Call
-    ensures { result ≡ Process call }
+fn created(process: ProcessId) -> Call
+    ensures { result ≡ Process (Create (Known process)) }
 {
-    Call::Process(call)
+    Call::Process(ProcessCall::Create(Named::Known(process)))
 }
 
 // Puts an entry last.
@@ -94,51 +96,24 @@ fn add_init(log: &mut Log, table: &Table)
     ensures after { All (IsPrintable table.now) log.new.entries }
 {
     let (first, second) = (ProcessId::at(0), ProcessId::at(1));
-    let create = Call::Semaphore(SemaphoreCall::CreateSemaphore(NamedSemaphore::Known(
-        SemaphoreId::at(0),
-    )));
+    let semaphore = Named::Known(SemaphoreId::at(0));
+    let create = Call::Semaphore(SemaphoreCall::Create(semaphore));
     add(log, table, of_init(1, create));
+    add(log, table, of_init(2, created(first)));
+    let core = of_process(first, ProcessService::InitializeCoreAffinity(0));
+    add(log, table, of_init(3, core));
+    add(log, table, of_init(4, created(second)));
+    let core = of_process(second, ProcessService::InitializeCoreAffinity(1));
+    add(log, table, of_init(5, core));
     add(
         log,
         table,
-        of_init(
-            2,
-            of_process(ProcessCall::CreateProcess(NamedProcess::Known(first))),
-        ),
+        of_init(6, of_process(first, ProcessService::Start)),
     );
     add(
         log,
         table,
-        of_init(
-            3,
-            of_process(ProcessCall::InitializeProcessCoreAffinity(first, 0)),
-        ),
-    );
-    add(
-        log,
-        table,
-        of_init(
-            4,
-            of_process(ProcessCall::CreateProcess(NamedProcess::Known(second))),
-        ),
-    );
-    add(
-        log,
-        table,
-        of_init(
-            5,
-            of_process(ProcessCall::InitializeProcessCoreAffinity(second, 1)),
-        ),
-    );
-    add(
-        log,
-        table,
-        of_init(6, of_process(ProcessCall::Start(first))),
-    );
-    add(
-        log,
-        table,
-        of_init(7, of_process(ProcessCall::Start(second))),
+        of_init(7, of_process(second, ProcessService::Start)),
     );
     let normal = Call::Partition(PartitionCall::SetPartitionMode(RequestedMode::Normal));
     let mut entry = of_init(8, normal);
@@ -155,12 +130,12 @@ fn add_wakening(log: &mut Log, table: &Table)
     ensures after { All (IsPrintable table.now) log.new.entries }
 {
     let semaphore = SemaphoreId::at(0);
-    let wait = Call::Semaphore(SemaphoreCall::WaitSemaphore(semaphore, Timeout::Infinite));
+    let wait = of_semaphore(semaphore, SemaphoreService::Wait(Timeout::Infinite));
     let mut entry = of_init(9, wait);
     entry.process = Caller::Process(ProcessId::at(0));
     entry.reply = Reply::Blocked;
     add(log, table, entry);
-    let signal = Call::Semaphore(SemaphoreCall::SignalSemaphore(semaphore));
+    let signal = of_semaphore(semaphore, SemaphoreService::Signal);
     let mut entry = of_init(10, signal);
     entry.who = Who::Core(CoreId::new(1));
     entry.process = Caller::Process(ProcessId::at(1));
@@ -229,12 +204,12 @@ fn a_poll_and_the_end_of_a_script(rt: HostRuntime) -> Result<(), Fail> {
     assert_eq!(rt; table.semaphore_count(), 1);
     let mut paper = paper(rt, 80, 0)?;
     let mut writer = Counted::new(&mut paper);
-    let poll = SemaphoreCall::WaitSemaphore(SemaphoreId::at(0), Timeout::Poll);
-    let mut entry = of_init(5, Call::Semaphore(poll));
+    let poll = of_semaphore(SemaphoreId::at(0), SemaphoreService::Wait(Timeout::Poll));
+    let mut entry = of_init(5, poll);
     entry.process = Caller::Process(ProcessId::at(1));
     entry.reply = Reply::Code(ReturnCode::NotAvailable);
     print_entry(&table, &entry, &mut writer)?;
-    let mut entry = of_init(6, of_process(ProcessCall::StopSelf));
+    let mut entry = of_init(6, Call::Caller(CallerCall::StopSelf));
     entry.process = Caller::Process(ProcessId::at(0));
     entry.reply = Reply::Gone;
     print_entry(&table, &entry, &mut writer)?;

@@ -1,9 +1,9 @@
-use super::{called, paper};
+use super::{called, of_process, paper};
 use crate::{Counted, print_entry};
 use apex_table::read_table;
 use apex_types::{
-    Call, CoreId, Name, NamedProcess, NamedSemaphore, Notice, PartitionCall, ProcessCall,
-    ProcessId, Reply, RequestedMode, ReturnCode, SemaphoreCall, SemaphoreId, Timeout, Who,
+    Call, CallerCall, CoreId, Name, Named, Notice, PartitionCall, ProcessCall, ProcessId,
+    ProcessService, Reply, RequestedMode, ReturnCode, SemaphoreCall, SemaphoreId, Timeout, Who,
 };
 use std::test::Fail;
 
@@ -81,19 +81,19 @@ fn suspensions(rt: HostRuntime) -> Result<(), Fail> {
     let mut paper = paper(rt, 1024, 0)?;
     let mut writer = Counted::new(&mut paper);
 
-    let own = Call::Process(ProcessCall::SuspendSelf(Timeout::Ticks(3)));
+    let own = Call::Caller(CallerCall::SuspendSelf(Timeout::Ticks(3)));
     print_entry(&table, &called(5, 0, p1, own, Reply::Blocked), &mut writer)?;
-    let poll = Call::Process(ProcessCall::SuspendSelf(Timeout::Poll));
+    let poll = Call::Caller(CallerCall::SuspendSelf(Timeout::Poll));
     let ok = Reply::Code(ReturnCode::NoError);
     print_entry(&table, &called(7, 3, p1, poll, ok), &mut writer)?;
-    let own = Call::Process(ProcessCall::SuspendSelf(Timeout::Infinite));
+    let own = Call::Caller(CallerCall::SuspendSelf(Timeout::Infinite));
     print_entry(&table, &called(8, 3, p1, own, Reply::Blocked), &mut writer)?;
     let refused = Reply::Code(ReturnCode::NoAction);
-    let suspend = Call::Process(ProcessCall::Suspend(p1));
+    let suspend = of_process(p1, ProcessService::Suspend);
     let mut entry = called(10, 3, p2, suspend, refused);
     entry.who = Who::Core(CoreId::new(1));
     print_entry(&table, &entry, &mut writer)?;
-    let resume = Call::Process(ProcessCall::Resume(p1));
+    let resume = of_process(p1, ProcessService::Resume);
     let mut entry = called(13, 3, p2, resume, ok);
     entry.who = Who::Core(CoreId::new(1));
     entry.notices.push(Notice::Woken(p1, ReturnCode::NoError));
@@ -113,15 +113,15 @@ fn priorities_and_stops(rt: HostRuntime) -> Result<(), Fail> {
     let mut paper = paper(rt, 1024, 0)?;
     let mut writer = Counted::new(&mut paper);
 
-    let raise = Call::Process(ProcessCall::SetPriority(p2, 20));
+    let raise = of_process(p2, ProcessService::SetPriority(20));
     print_entry(&table, &called(9, 0, p1, raise, ok), &mut writer)?;
-    let least = Call::Process(ProcessCall::SetPriority(p1, 0));
+    let least = of_process(p1, ProcessService::SetPriority(0));
     print_entry(&table, &called(10, 0, p1, least, refused), &mut writer)?;
-    let greatest = Call::Process(ProcessCall::SetPriority(p2, 65_535));
+    let greatest = of_process(p2, ProcessService::SetPriority(65_535));
     print_entry(&table, &called(11, 0, p1, greatest, refused), &mut writer)?;
-    let stop = Call::Process(ProcessCall::Stop(p1));
+    let stop = of_process(p1, ProcessService::Stop);
     print_entry(&table, &called(12, 0, p2, stop, ok), &mut writer)?;
-    let own = Call::Process(ProcessCall::Stop(p2));
+    let own = of_process(p2, ProcessService::Stop);
     print_entry(&table, &called(13, 0, p2, own, refused), &mut writer)?;
 
     assert_eq!(rt; paper.held(), PRIORITIES_AND_STOPS.as_bytes());
@@ -136,10 +136,10 @@ fn statuses_and_the_idle_mode(rt: HostRuntime) -> Result<(), Fail> {
     let mut paper = paper(rt, 1024, 0)?;
     let mut writer = Counted::new(&mut paper);
 
-    let status = Call::Process(ProcessCall::GetProcessStatus(p1));
+    let status = Call::Process(ProcessCall::GetStatus(p1));
     let reply = Reply::Status(3, 10);
     print_entry(&table, &called(12, 0, p2, status, reply), &mut writer)?;
-    let core = Call::Process(ProcessCall::GetMyProcessorCoreId);
+    let core = Call::Caller(CallerCall::GetMyProcessorCoreId);
     print_entry(
         &table,
         &called(13, 0, p2, core, Reply::Value(0)),
@@ -160,19 +160,19 @@ fn names_of_processes(rt: HostRuntime) -> Result<(), Fail> {
     let table = read_table(rt.alloc(), TABLE.as_bytes())?;
     assert_eq!(rt; table.process_count(), 2);
     let p1 = ProcessId::at(0);
-    let p2 = NamedProcess::Known(ProcessId::at(1));
-    let nobody = NamedProcess::Unknown(unknown("->")?);
+    let p2 = Named::Known(ProcessId::at(1));
+    let nobody = Named::Unknown(unknown("->")?);
     let refused = Reply::Code(ReturnCode::InvalidMode);
     let mut paper = paper(rt, 1024, 0)?;
     let mut writer = Counted::new(&mut paper);
 
-    let create = Call::Process(ProcessCall::CreateProcess(p2));
+    let create = Call::Process(ProcessCall::Create(p2));
     print_entry(&table, &called(9, 0, p1, create, refused), &mut writer)?;
-    let create = Call::Process(ProcessCall::CreateProcess(nobody));
+    let create = Call::Process(ProcessCall::Create(nobody));
     print_entry(&table, &called(10, 0, p1, create, refused), &mut writer)?;
-    let id = Call::Process(ProcessCall::GetProcessId(p2));
+    let id = Call::Process(ProcessCall::GetId(p2));
     print_entry(&table, &called(11, 0, p1, id, Reply::Value(2)), &mut writer)?;
-    let id = Call::Process(ProcessCall::GetProcessId(nobody));
+    let id = Call::Process(ProcessCall::GetId(nobody));
     let absent = Reply::Code(ReturnCode::InvalidConfig);
     print_entry(&table, &called(12, 0, p1, id, absent), &mut writer)?;
 
@@ -185,19 +185,19 @@ fn names_of_semaphores(rt: HostRuntime) -> Result<(), Fail> {
     let table = read_table(rt.alloc(), TABLE.as_bytes())?;
     assert_eq!(rt; table.semaphore_count(), 1);
     let p1 = ProcessId::at(0);
-    let s = NamedSemaphore::Known(SemaphoreId::at(0));
-    let none = NamedSemaphore::Unknown(unknown("P1~~~~~~~~~~~~~~~~~~~~~~~~~~!!")?);
+    let s = Named::Known(SemaphoreId::at(0));
+    let none = Named::Unknown(unknown("P1~~~~~~~~~~~~~~~~~~~~~~~~~~!!")?);
     let refused = Reply::Code(ReturnCode::InvalidMode);
     let mut paper = paper(rt, 1024, 0)?;
     let mut writer = Counted::new(&mut paper);
 
-    let create = Call::Semaphore(SemaphoreCall::CreateSemaphore(s));
+    let create = Call::Semaphore(SemaphoreCall::Create(s));
     print_entry(&table, &called(9, 0, p1, create, refused), &mut writer)?;
-    let create = Call::Semaphore(SemaphoreCall::CreateSemaphore(none));
+    let create = Call::Semaphore(SemaphoreCall::Create(none));
     print_entry(&table, &called(10, 0, p1, create, refused), &mut writer)?;
-    let id = Call::Semaphore(SemaphoreCall::GetSemaphoreId(s));
+    let id = Call::Semaphore(SemaphoreCall::GetId(s));
     print_entry(&table, &called(11, 0, p1, id, Reply::Value(1)), &mut writer)?;
-    let id = Call::Semaphore(SemaphoreCall::GetSemaphoreId(none));
+    let id = Call::Semaphore(SemaphoreCall::GetId(none));
     let absent = Reply::Code(ReturnCode::InvalidConfig);
     print_entry(&table, &called(12, 0, p1, id, absent), &mut writer)?;
 

@@ -1,11 +1,11 @@
 ghost use Rattle.std.specs.Prelude.{◌≡◌, [], None};
 
-use super::{called, paper};
+use super::{called, of_process, of_semaphore, paper};
 use crate::{Counted, print_entry};
 use apex_table::read_table;
 use apex_types::{
-    Call, Caller, Entry, Notice, Notices, ProcessCall, ProcessId, Reply, ReturnCode, SemaphoreCall,
-    SemaphoreId, TimeCall, Timeout, Who,
+    Call, Caller, CallerCall, Entry, Notice, Notices, ProcessId, ProcessService, Reply, ReturnCode,
+    SemaphoreCall, SemaphoreId, SemaphoreService, TimeCall, Timeout, Who,
 };
 use std::test::Fail;
 
@@ -73,7 +73,7 @@ fn a_delayed_start_and_its_release(rt: HostRuntime) -> Result<(), Fail> {
     let mut paper = paper(rt, 1024, 0)?;
     let mut writer = Counted::new(&mut paper);
 
-    let start = Call::Process(ProcessCall::DelayedStart(b, Timeout::Ticks(3)));
+    let start = of_process(b, ProcessService::DelayedStart(Timeout::Ticks(3)));
     let ok = Reply::Code(ReturnCode::NoError);
     print_entry(&table, &called(7, 0, a, start, ok), &mut writer)?;
     let mut tick = ticked(8, 3, 5, 3);
@@ -94,10 +94,10 @@ fn a_wait_that_times_out(rt: HostRuntime) -> Result<(), Fail> {
     let mut paper = paper(rt, 1024, 0)?;
     let mut writer = Counted::new(&mut paper);
 
-    let look = Call::Semaphore(SemaphoreCall::GetSemaphoreStatus(semaphore));
+    let look = Call::Semaphore(SemaphoreCall::GetStatus(semaphore));
     let status = Reply::Status(32_767, 0);
     print_entry(&table, &called(7, 0, a, look, status), &mut writer)?;
-    let wait = Call::Semaphore(SemaphoreCall::WaitSemaphore(semaphore, Timeout::Ticks(5)));
+    let wait = of_semaphore(semaphore, SemaphoreService::Wait(Timeout::Ticks(5)));
     print_entry(&table, &called(9, 0, a, wait, Reply::Blocked), &mut writer)?;
     let mut tick = ticked(10, 5, 5, 5);
     tick.notices.push(Notice::Woken(a, ReturnCode::TimedOut));
@@ -118,7 +118,7 @@ fn the_least_and_the_widest_numbers(rt: HostRuntime) -> Result<(), Fail> {
     let poll = Call::Time(TimeCall::TimedWait(Timeout::Poll));
     let ok = Reply::Code(ReturnCode::NoError);
     print_entry(&table, &called(11, 0, a, poll, ok), &mut writer)?;
-    let id = Call::Process(ProcessCall::GetMyId);
+    let id = Call::Caller(CallerCall::GetMyId);
     print_entry(&table, &called(12, 0, b, id, Reply::Value(2)), &mut writer)?;
     let wait = Call::Time(TimeCall::TimedWait(Timeout::Ticks(4_294_967_295)));
     print_entry(
