@@ -4,6 +4,7 @@ pub mod Document
 pub mod Results
 pub mod Distinct
 pub mod KeyLaws
+pub mod SectionLaws
 pub mod WordLaws
 pub mod ProcessStepLaws
 pub mod SemaphoreStepLaws

@@ -1,6 +1,7 @@
 pub mod Fault
 pub mod Outcome
 pub mod Keys
+pub mod Sections
 pub mod Words
 pub mod PartitionSteps
 pub mod ProcessSteps

@@ -5,11 +5,12 @@ use Rattle.toml.specs.Data.{Data, Members, get_member}
 use Rattle.toml.specs.Parse.{parse_document}
 use Rattle.apex_types.specs.Table.{Table}
 use Rattle.apex_table.specs.declared.fault.Section.{Section}
-use Rattle.apex_table.specs.declared.fault.Section.TheVariants.{Top, Process, Semaphore}
+use Rattle.apex_table.specs.declared.fault.Section.TheVariants.{Top, Process}
 use Rattle.apex_table.specs.declared.fault.TableFault.{TableFault}
 use Rattle.apex_table.specs.declared.fault.TableFault.TheVariants.{NotToml}
 use Rattle.apex_table.specs.Outcome.{◌>>=◌, some_or, place}
 use Rattle.apex_table.specs.Keys.{known, array, at_most, number_at, number_or}
+use Rattle.apex_table.specs.Sections.{section}
 use Rattle.apex_table.specs.Processes.{some_process, processes}
 use Rattle.apex_table.specs.Semaphores.{semaphores}
 use Rattle.apex_table.specs.Scripts.{with_scripts}
@@ -21,8 +22,8 @@ top_keys = codes "cores" ∷ codes "history" ∷ codes "process" ∷ codes "sema
 
 -- the tables of a section, none where it is absent
 abbrev pub entries : Section → ℕ → Option Data → Result (List Data) TableFault
-entries section most None = Ok []
-entries section most (Some d) = array (place section 0) d >>= at_most (place section 0) most
+entries s most None = Ok []
+entries s most (Some d) = array (place s 0) d >>= at_most (place s 0) most
 
 -- the table of TOML's tree
 unfoldable pub reading : Members → Result Table TableFault
@@ -33,8 +34,7 @@ reading tree = do
   ps ← entries Process 32 (get_member (codes "process") ms)
   some ← some_process ps
   drafts ← processes cores some
-  ss ← entries Semaphore 16 (get_member (codes "semaphore") ms)
-  sems ← semaphores ss
+  sems ← section semaphores ms
   texts ← init_texts (get_member (codes "init") ms)
   procs ← with_scripts drafts sems
   calls ← init_list procs sems texts
