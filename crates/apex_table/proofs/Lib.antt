@@ -1,5 +1,4 @@
 pub mod Lists
-pub mod Names
 pub mod Document
 pub mod Results
 pub mod Distinct

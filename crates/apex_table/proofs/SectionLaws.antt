@@ -19,12 +19,12 @@ tables_law : (s : Section) (most : ℕ) (o : Option Data) → IfOk (tables s mos
 tables_law s most None = omega arith
 tables_law s most (Some d) = ok_then (array (place s 0) d) _ (λ ds. length ds ≤ most) (λ ds e. at_most_law (place s 0) most ds)
 
-pub section_few : {A : Type 0} (kind : KindOf A) (top : Members) → IfOk (section kind top) (λ xs. length xs ≤ kind.most)
+pub section_few : {A : Type 0} (kind : KindOf A) (top : Members) → IfOk (section kind top) (λ xs. length xs ≤ kind.head.most)
 unfolding section
 section_few kind top =
-    let given : Option Data = get_member (section_word kind.section) top in
-    ok_then (tables kind.section kind.most given) _ (λ xs. length xs ≤ kind.most) (λ ds e.
-    let few : length ds ≤ kind.most = IfOk-at_ok (λ ds. length ds ≤ kind.most) e (tables_law kind.section kind.most given) in
+    let given : Option Data = get_member (section_word kind.head.section) top in
+    ok_then (tables kind.head.section kind.head.most given) _ (λ xs. length xs ≤ kind.head.most) (λ ds e.
+    let few : length ds ≤ kind.head.most = IfOk-at_ok (λ ds. length ds ≤ kind.head.most) e (tables_law kind.head.section kind.head.most given) in
     IfOk-weaker (entries kind ds) _ _ (λ xs h. omega arith) (each_length (next_entry kind) [] ds))
 
 -- an entry is sound and has the name that was read
@@ -54,7 +54,7 @@ module _ {A : Type 0} (kind : KindOf A) (IsSound : A → Type 0) (reads : ReadsS
   unfolding entry
   entry_law at taken d =
       ok_then (table at d) _ (IsSoundAfter kind IsSound taken) (λ t _.
-      ok_then (known at kind.keys t) _ (IsSoundAfter kind IsSound taken) (λ ms _.
+      ok_then (known at kind.head.keys t) _ (IsSoundAfter kind IsSound taken) (λ ms _.
       ok_then (name_at at taken ms) _ (IsSoundAfter kind IsSound taken) (λ name e.
       let name_is : IsNew taken name = IfOk-at_ok (IsNew taken) e (name_law at taken ms) in
       IfOk-weaker (kind.read at name ms) (IsRead kind IsSound name) _ (λ x h. record { sound = h.sound; new = rw h.named name_is.new }) (reads at name ms name_is.good))))
@@ -62,7 +62,7 @@ module _ {A : Type 0} (kind : KindOf A) (IsSound : A → Type 0) (reads : ReadsS
   next_entry_law : (before : List A) (d : Data) → AreSound kind IsSound before → IfOk (next_entry kind before d) (λ x. AreSound kind IsSound (before ++ x ∷ []))
   unfolding next_entry
   next_entry_law before d all =
-      let at : Place = place kind.section (length before + 1) in
+      let at : Place = place kind.head.section (length before + 1) in
       IfOk-weaker (entry kind at (map kind.name_of before) d) _ _ (λ x h. record {
         each = all_push IsSound before x all.each h.sound;
         distinct = distinct_push kind.name_of before x all.distinct h.new;
@@ -71,5 +71,5 @@ module _ {A : Type 0} (kind : KindOf A) (IsSound : A → Type 0) (reads : ReadsS
   pub section_law : (top : Members) → IfOk (section kind top) (AreSound kind IsSound)
   unfolding section
   section_law top =
-      ok_then (tables kind.section kind.most (get_member (section_word kind.section) top)) _ (AreSound kind IsSound) (λ ds e.
+      ok_then (tables kind.head.section kind.head.most (get_member (section_word kind.head.section) top)) _ (AreSound kind IsSound) (λ ds e.
       each_keeps (next_entry kind) (AreSound kind IsSound) next_entry_law [] ds (no_entry kind IsSound))

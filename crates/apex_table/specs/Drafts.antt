@@ -1,13 +1,6 @@
--- What the reader's own drafts stand for in the definition of reading.
-use Rattle.std.specs.Prelude.{map}
-use Rattle.apex_table.specs.declared.processes.Draft.{Draft}
+-- What the reader's parts stand for in the definition of reading.
 use Rattle.apex_table.specs.declared.reading.Parts.{Parts}
 use Rattle.apex_types.specs.Table.{Table}
-use Rattle.apex_table.specs.Processes.{ProcessDraft}
-
--- a process whose script is still text
-abbrev pub draft_seen : Draft → ProcessDraft
-draft_seen d = record { name = d.name; priority = d.priority; core = d.core; loops = d.loops; start = d.start; script = map (λ t. t.now) d.script.items }
 
 -- a table by its parts
 abbrev pub parts_seen : Parts → Table

@@ -35,9 +35,7 @@ semaphore at name ms = do
 -- the kind of semaphores
 abbrev pub semaphores : KindOf SemaphoreEntry
 semaphores = record {
-  section = Semaphore;
-  most = 16;
-  keys = codes "name" ∷ codes "maximum" ∷ codes "initial" ∷ codes "discipline" ∷ [];
+  head = record { section = Semaphore; most = 16; keys = codes "name" ∷ codes "maximum" ∷ codes "initial" ∷ codes "discipline" ∷ [] };
   name_of = λ s. s.name;
   read = semaphore;
 }

@@ -1,21 +1,19 @@
-ghost use Rattle.std.specs.Prelude.{◌≤◌, map, length, option_map, IfOk};
-ghost use Rattle.toml.specs.View.{view, table_view};
+ghost use Rattle.toml.specs.View.{table_view};
 ghost use Rattle.apex_table.specs.Outcome.{Gives};
-ghost use Rattle.apex_table.specs.Reading.{entries, reading, document, table_of};
+ghost use Rattle.apex_table.specs.Reading.{reading, document, table_of};
 ghost use Rattle.apex_table.specs.Drafts.{parts_seen};
 
 use crate::entries::{Process, Semaphore};
 use crate::fault::{Place, Section, TableFault};
 use crate::init::{init_list, init_texts};
 use crate::keys;
-use crate::processes::{processes, some_process};
+use crate::processes::{Processes, some_process};
 use crate::scripts::with_scripts;
 use crate::sections::read_section;
 use crate::semaphores::Semaphores;
 use crate::table::Table;
 use apex_types::Call;
 use std::alloc::Global;
-use toml::Value;
 
 const TOP_KEYS: &[&str] = &["cores", "history", "process", "semaphore", "init"];
 
@@ -29,26 +27,6 @@ struct Parts {
     init: Vec<Call>,
 }
 
-/// The tables of a section, none where it is absent.
-fn entries<'a>(
-    section: Section,
-    most: usize,
-    value: Option<&'a Value>,
-) -> Result<&'a [Value], TableFault>
-    ensures gives { Gives (λ s. map view s.now) result (entries section most (option_map (λ v. view v.now) value.entry)) }
-    ensures bound { IfOk result (λ s. length s.now ≤ most) }
-{
-    let at = Place::of(section);
-    match value {
-        Some(value) => {
-            let items = keys::array(at, value)?;
-            keys::at_most(at, most, items)?;
-            Ok(items)
-        }
-        None => Ok(&[]),
-    }
-}
-
 #[tactic(auto, unfolding(crate::specs::Reading::reading))]
 fn read_parts(alloc: Global, tree: &toml::Table) -> Result<Parts, TableFault>
     ensures { Gives parts_seen result (reading (table_view tree.now)) }
@@ -57,9 +35,8 @@ fn read_parts(alloc: Global, tree: &toml::Table) -> Result<Parts, TableFault>
     keys::only(at, TOP_KEYS, tree)?;
     let cores = keys::number_at(at, 1, 8, tree, "cores")?;
     let limit = keys::number_or(at, 4096, 1, 65536, tree, "history")?;
-    let items = entries(Section::Process, 32, keys::key(tree, "process"))?;
-    some_process(items)?;
-    let drafts = processes(alloc, cores, items)?;
+    let drafts = read_section(alloc, &Processes { cores }, tree)?;
+    some_process(&drafts)?;
     let semaphores = read_section(alloc, &Semaphores, tree)?;
     let texts = init_texts(alloc, keys::key(tree, "init"))?;
     let processes = with_scripts(alloc, &drafts, &semaphores)?;

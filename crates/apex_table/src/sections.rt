@@ -1,7 +1,8 @@
-ghost use Rattle.std.specs.Prelude.{◌≡◌, ◌<◌, ◌≤◌, map, length, option_map, IfOk};
+ghost use Rattle.std.specs.Prelude.{◌≡◌, ◌<◌, ◌≤◌, ℕ, List, map, length, option_map, Result, IfOk};
+ghost use Rattle.toml.specs.Data.{Members};
 ghost use Rattle.toml.specs.View.{view, table_view};
 ghost use Rattle.apex_table.specs.Outcome.{Gives};
-ghost use Rattle.apex_table.specs.Sections.{KindOf, tables, entry, next_entry, entries, section};
+ghost use Rattle.apex_table.specs.Sections.{SectionHead, kind_of, tables, entry, next_entry, entries, section};
 
 use crate::fault::{Place, Section, TableFault};
 use crate::keys;
@@ -20,16 +21,20 @@ pub struct Head {
 
 /// A kind of entries, which has a section of its own.
 pub trait Kind<'a> {
+    ghost use Rattle.apex_table.specs.declared.fault.Place.{Place};
+    ghost use Rattle.apex_table.specs.declared.fault.TableFault.{TableFault};
+
     type Entry: Named + Drop;
 
-    ghost kind: { Self → KindOf Self.Entry };
+    ghost head: { Self → SectionHead };
+
+    ghost read: { Self → Place → List ℕ → Members → Result Self.Entry TableFault };
 
     fn head(&self) -> Head
-        ensures section { result.section ≡ (kind self.now).section }
-        ensures most { result.most ≡ (kind self.now).most }
+        ensures section { result.section ≡ (head self.now).section }
+        ensures most { result.most ≡ (head self.now).most }
         ensures few { result.most ≤ 512 }
-        ensures keys { map (λ k. k.now) result.keys.now ≡ (kind self.now).keys }
-        ensures named { Self.Entry.name_of ≡ (kind self.now).name_of };
+        ensures keys { map (λ k. k.now) result.keys.now ≡ (head self.now).keys };
 
     /// Reads the entry of this name.
     fn entry(
@@ -39,7 +44,7 @@ pub trait Kind<'a> {
         name: Name,
         table: &'a Table,
     ) -> Result<Self::Entry, TableFault>
-        ensures { Gives (λ e. e) result ((kind self.now).read at name (table_view table.now)) };
+        ensures { Gives (λ e. e) result (read self.now at name (table_view table.now)) };
 }
 
 /// The tables of a section, none where it is absent.
@@ -66,7 +71,7 @@ fn entry<'a, K: Kind<'a>>(
     before: &[K::Entry],
     value: &'a Value,
 ) -> Result<K::Entry, TableFault>
-    ensures { Gives (λ e. e) result (entry (K.kind kind.now) at (map K.Entry.name_of before.now) (view value.now)) }
+    ensures { Gives (λ e. e) result (entry (kind_of (K.head kind.now) K.Entry.name_of (K.read kind.now)) at (map K.Entry.name_of before.now) (view value.now)) }
 {
     let table = keys::table(at, value)?;
     keys::only(at, kind.head().keys, table)?;
@@ -81,7 +86,7 @@ fn next_entry<'a, K: Kind<'a>>(
     value: &'a Value,
 ) -> Result<K::Entry, TableFault>
     requires { length before.now < 512 }
-    ensures { Gives (λ e. e) result (next_entry (K.kind kind.now) before.now (view value.now)) }
+    ensures { Gives (λ e. e) result (next_entry (kind_of (K.head kind.now) K.Entry.name_of (K.read kind.now)) before.now (view value.now)) }
 {
     let at = Place::next(kind.head().section, before.len());
     entry(alloc, kind, at, before, value)
@@ -93,7 +98,7 @@ fn entries<'a, K: Kind<'a>>(
     items: &'a [Value],
 ) -> Result<Vec<K::Entry>, TableFault>
     requires { length items.now ≤ 512 }
-    ensures gives { Gives (λ v. v.items) result (entries (K.kind kind.now) (map view items.now)) }
+    ensures gives { Gives (λ v. v.items) result (entries (kind_of (K.head kind.now) K.Entry.name_of (K.read kind.now)) (map view items.now)) }
     ensures count { IfOk result (λ v. length v.items ≡ length items.now) }
 {
     let mut entries = Vec::new(alloc);
@@ -110,8 +115,8 @@ pub fn read_section<'a, K: Kind<'a>>(
     kind: &K,
     top: &'a Table,
 ) -> Result<Vec<K::Entry>, TableFault>
-    ensures gives { Gives (λ v. v.items) result (section (K.kind kind.now) (table_view top.now)) }
-    ensures few { IfOk result (λ v. length v.items ≤ (K.kind kind.now).most) }
+    ensures gives { Gives (λ v. v.items) result (section (kind_of (K.head kind.now) K.Entry.name_of (K.read kind.now)) (table_view top.now)) }
+    ensures few { IfOk result (λ v. length v.items ≤ (K.head kind.now).most) }
 {
     let head = kind.head();
     let items = tables(head, keys::key(top, head.section.word()))?;

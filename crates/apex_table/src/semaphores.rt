@@ -30,12 +30,15 @@ fn discipline(at: Place, word: &str) -> Result<Discipline, TableFault>
 }
 
 /// The kind of semaphores.
+#[derive(Drop)]
 pub struct Semaphores;
 
 impl<'a> Kind<'a> for Semaphores {
     type Entry = Semaphore;
 
-    ghost kind = { λ _. semaphores };
+    ghost head = { λ _. semaphores.head };
+
+    ghost read = { λ _. semaphores.read };
 
     fn head(&self) -> Head {
         Head {

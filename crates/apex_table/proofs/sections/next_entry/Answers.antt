@@ -3,5 +3,4 @@ use Rattle.apex_table.proofs.sections.next_entry.Goals as goal
 
 pub returns : goal.returns
 unfolding next_entry
-returns g c =
-    rw (← c.head.ensures.named, ← c.head.ensures.section, ← c.next-at.ensures) c.entry.ensures
+returns g c = rw (← c.head.ensures.section, ← c.next-at.ensures) c.entry.ensures
