@@ -1,5 +1,5 @@
 -- What is read is lawful.
-use Rattle.std.proofs.Common.{◌≡◌, ℕ, ◌+◌, ◌<◌, ◌≤◌, List, [], length, IfOk, sym, ap, subst, ◌∙◌, arith}
+use Rattle.std.proofs.Common.{◌≡◌, ℕ, ◌+◌, ◌<◌, ◌≤◌, List, [], length, Ok, IfOk, sym, ap, subst, ◌∙◌, arith}
 use Rattle.std.specs.Prelude.{codes}
 use Rattle.std.specs.List.{AllByRecursion, IsDistinct}
 use Rattle.std.specs.Str.{bytes_eq}
@@ -91,3 +91,7 @@ reading_law tree =
     let init : IsInitList (length procs) (length sems) calls = IfOk-at_ok (IsInitList (length procs) (length sems)) ei (init_list_law procs sems texts (omega arith) (omega arith) few) in
     lawful cores limit drafts procs sems calls in_cores in_limit (some.1, at_most_32) at_most_16 sound.distinct all
     (IfOk-at_ok (AreSound semaphores IsLawfulSemaphore) em (section_law semaphores IsLawfulSemaphore semaphore_law ms)) init)))))))))
+
+-- the table that was read is lawful
+pub lawful_of : (tree : Members) (t : Table) → reading tree ≡ Ok t → IsLawful t
+lawful_of tree t e = IfOk-at_ok IsLawful e (reading_law tree)

@@ -14,4 +14,3 @@ pub mod Scripts
 pub mod DefaultInit
 pub mod Init
 pub mod Reading
-pub mod Drafts

@@ -1,14 +1,14 @@
 ghost use Rattle.std.specs.Prelude.{◌≡◌, ◌≤◌, map};
 ghost use Rattle.toml.specs.View.{view, table_view};
 ghost use Rattle.apex_table.specs.Outcome.{Gives};
+ghost use Rattle.apex_table.specs.Sections.{head_of};
 ghost use Rattle.apex_table.specs.Processes.{some_process, texts, some_step, script_at, processes};
 
-use crate::entries::Process;
 use crate::fault::{Place, Section, TableFault};
 use crate::keys;
 use crate::named::Named;
 use crate::sections::{Head, Kind};
-use apex_types::{Call, CoreId, Name};
+use apex_types::{CoreId, Name};
 use std::alloc::Global;
 use std::marker::Model;
 use toml::{Table, Value};
@@ -16,43 +16,22 @@ use toml::{Table, Value};
 /// A process whose script is still text.
 #[derive(Drop)]
 pub struct Draft<'a> {
-    name: Name,
-    priority: u8,
-    core: CoreId,
-    loops: bool,
-    starts: bool,
-    script: Vec<&'a str>,
+    pub name: Name,
+    pub priority: u8,
+    pub core: CoreId,
+    pub loops: bool,
+    pub starts: bool,
+    pub script: Vec<&'a str>,
 }
 
 impl<'a> Model for Draft<'a> {
     ghost use Rattle.std.specs.Prelude.{map};
-    ghost use Rattle.apex_table.specs.Processes.{ProcessDraft};
+    ghost use Rattle.apex_table.specs.Sections.{head_of};
+ghost use Rattle.apex_table.specs.Processes.{ProcessDraft};
 
     ghost Value = { ProcessDraft };
 
     ghost view = { λ d. record { name = d.name; priority = d.priority; core = d.core; loops = d.loops; start = d.starts; script = map (λ t. t.now) d.script.items } };
-}
-
-impl<'a> Draft<'a> {
-    pub fn script(&self) -> &[&'a str]
-        ensures { map (λ t. t.now) result.now ≡ self.now.script }
-    {
-        &self.script
-    }
-
-    /// The process, with these calls as its script.
-    pub fn with_calls(&self, calls: Vec<Call>) -> Process
-        ensures { result ≡ record { name = self.now.name; priority = self.now.priority; core = self.now.core; loops = self.now.loops; start = self.now.start; script = calls.items } }
-    {
-        Process::new(
-            self.name,
-            self.priority,
-            self.core,
-            self.loops,
-            self.starts,
-            calls,
-        )
-    }
 }
 
 impl<'a> Named for Draft<'a> {
@@ -112,11 +91,9 @@ impl<'a> Kind<'a> for Processes {
 
     ghost read = { λ k. (processes k.cores).read };
 
-    fn head(&self) -> Head
-        ensures section { result.section ≡ (processes self.now.cores).head.section }
-        ensures most { result.most ≡ (processes self.now.cores).head.most }
+    fn head(&self) -> Head<'static>
+        ensures head { head_of result ≡ (processes self.now.cores).head }
         ensures few { result.most ≤ 512 }
-        ensures keys { map (λ k. k.now) result.keys.now ≡ (processes self.now.cores).head.keys }
     {
         Head {
             section: Section::Process,

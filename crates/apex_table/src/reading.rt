@@ -1,9 +1,7 @@
 ghost use Rattle.toml.specs.View.{table_view};
 ghost use Rattle.apex_table.specs.Outcome.{Gives};
 ghost use Rattle.apex_table.specs.Reading.{reading, document, table_of};
-ghost use Rattle.apex_table.specs.Drafts.{parts_seen};
 
-use crate::entries::{Process, Semaphore};
 use crate::fault::{Place, Section, TableFault};
 use crate::init::{init_list, init_texts};
 use crate::keys;
@@ -12,24 +10,13 @@ use crate::scripts::with_scripts;
 use crate::sections::read_section;
 use crate::semaphores::Semaphores;
 use crate::table::Table;
-use apex_types::Call;
 use std::alloc::Global;
 
 const TOP_KEYS: &[&str] = &["cores", "history", "process", "semaphore", "init"];
 
-/// What a table is made of.
-#[derive(Drop)]
-struct Parts {
-    cores: u8,
-    limit: u32,
-    processes: Vec<Process>,
-    semaphores: Vec<Semaphore>,
-    init: Vec<Call>,
-}
-
 #[tactic(auto, unfolding(crate::specs::Reading::reading))]
-fn read_parts(alloc: Global, tree: &toml::Table) -> Result<Parts, TableFault>
-    ensures { Gives parts_seen result (reading (table_view tree.now)) }
+fn read_tree(alloc: Global, tree: &toml::Table) -> Result<Table, TableFault>
+    ensures { Gives (λ t. t) result (reading (table_view tree.now)) }
 {
     let at = Place::of(Section::Top);
     keys::only(at, TOP_KEYS, tree)?;
@@ -41,13 +28,7 @@ fn read_parts(alloc: Global, tree: &toml::Table) -> Result<Parts, TableFault>
     let texts = init_texts(alloc, keys::key(tree, "init"))?;
     let processes = with_scripts(alloc, &drafts, &semaphores)?;
     let init = init_list(alloc, &processes, &semaphores, texts)?;
-    Ok(Parts {
-        cores: cores as u8,
-        limit,
-        processes,
-        semaphores,
-        init,
-    })
+    Ok(Table::new(cores as u8, limit, processes, semaphores, init))
 }
 
 fn document(alloc: Global, text: &[u8]) -> Result<toml::Table, TableFault>
@@ -71,12 +52,5 @@ pub fn read_table(alloc: Global, text: &[u8]) -> Result<Table, TableFault>
     ensures { Gives (λ t. t) result (table_of text.now) }
 {
     let tree = document(alloc, text)?;
-    let parts = read_parts(alloc, &tree)?;
-    Ok(Table::new(
-        parts.cores,
-        parts.limit,
-        parts.processes,
-        parts.semaphores,
-        parts.init,
-    ))
+    read_tree(alloc, &tree)
 }

@@ -44,8 +44,15 @@ fn next_entry(
     ensures { Gives (λ p. p) result (next_entry (process_names drafts.now) (semaphore_names semaphores.now) before.now draft.now) }
 {
     let at = Place::next(Section::Process, before.len());
-    let calls = script(alloc, at, drafts, semaphores, draft.script())?;
-    Ok(draft.with_calls(calls))
+    let script = script(alloc, at, drafts, semaphores, &draft.script)?;
+    Ok(Process::new(
+        draft.name,
+        draft.priority,
+        draft.core,
+        draft.loops,
+        draft.starts,
+        script,
+    ))
 }
 
 /// The processes, now with the calls of their scripts.

@@ -40,7 +40,7 @@ impl<'a> Kind<'a> for Semaphores {
 
     ghost read = { λ _. semaphores.read };
 
-    fn head(&self) -> Head {
+    fn head(&self) -> Head<'static> {
         Head {
             section: Section::Semaphore,
             most: 16,
