@@ -1,5 +1,5 @@
 -- Each semaphore that is read is in its ranges.
-use Rattle.std.proofs.Common.{ℕ, ◌≤◌, List, IfOk, refl}
+use Rattle.std.proofs.Common.{◌≤◌, refl}
 use Rattle.std.specs.Prelude.{codes}
 use Rattle.std.proofs.lemmas.Result.{IfOk-at_ok}
 use Rattle.apex_types.specs.Table.{IsLawfulSemaphore}

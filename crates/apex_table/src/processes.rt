@@ -27,7 +27,7 @@ pub struct Draft<'a> {
 impl<'a> Model for Draft<'a> {
     ghost use Rattle.std.specs.Prelude.{map};
     ghost use Rattle.apex_table.specs.Sections.{head_of};
-ghost use Rattle.apex_table.specs.Processes.{ProcessDraft};
+    ghost use Rattle.apex_table.specs.Processes.{ProcessDraft};
 
     ghost Value = { ProcessDraft };
 

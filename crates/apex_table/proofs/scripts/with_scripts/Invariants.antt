@@ -1,4 +1,4 @@
-use Rattle.std.proofs.Common.{◌≡◌, map, drop, length}
+use Rattle.std.proofs.Common.{◌≡◌, drop, length}
 use Rattle.apex_table.specs.Outcome.{each}
 use Rattle.apex_table.specs.Processes.{process_names}
 use Rattle.apex_table.specs.Semaphores.{semaphore_names}
