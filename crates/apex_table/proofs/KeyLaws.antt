@@ -29,7 +29,7 @@ pub number_at_law : (at : Place) (low high : ℕ) (key : List ℕ) (ms : Members
 number_at_law at low high key ms =
     ok_then (required at key ms) _ (λ n. (low ≤ n) × (n ≤ high)) (λ d e. number_law at low high d)
 
-optional_law : {A : Type 0} (default : A) (read : Data → Result A TableFault) (P : A → Type 0) → P default → ((d : Data) → IfOk (read d) P) → (o : Option Data) → IfOk (optional default read o) P
+pub optional_law : {A : Type 0} (default : A) (read : Data → Result A TableFault) (P : A → Type 0) → P default → ((d : Data) → IfOk (read d) P) → (o : Option Data) → IfOk (optional default read o) P
 optional_law default read P here there None = here
 optional_law default read P here there (Some d) = there d
 

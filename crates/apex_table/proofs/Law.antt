@@ -1,36 +1,33 @@
 -- What is read is lawful.
-use Rattle.std.proofs.Common.{◌≡◌, ℕ, ◌+◌, ◌<◌, ◌≤◌, List, [], length, Option, Some, None, IfOk, sym, ap, subst, ◌∙◌, arith}
+use Rattle.std.proofs.Common.{◌≡◌, ℕ, ◌<◌, ◌≤◌, List, length, Ok, IfOk, sym, ap, subst, ◌∙◌, arith}
 use Rattle.std.specs.Prelude.{codes}
 use Rattle.std.specs.List.{AllByRecursion, IsDistinct}
 use Rattle.std.specs.Str.{bytes_eq}
 use Rattle.std.proofs.lemmas.List.{length-map}
 use Rattle.std.proofs.lemmas.List.Elements.{All-from_recursion}
 use Rattle.std.proofs.lemmas.Result.{IfOk-at_ok}
-use Rattle.toml.specs.Data.{Data, Members, get_member}
+use Rattle.toml.specs.Data.{Members, get_member}
 use Rattle.apex_types.specs.Table.{Table, ProcessEntry, SemaphoreEntry, no_process, no_semaphore, call_at, IsKnown, IsLawfulProcess, IsLawfulSemaphore, IsLawful}
 use Rattle.apex_types.specs.declared.calls.Call.{Call}
 use Rattle.apex_types.specs.declared.calls.Call.TheVariants as call
 use Rattle.apex_types.specs.declared.calls.CallerCall.TheVariants.{StopSelf}
-use Rattle.apex_table.specs.declared.fault.Section.{Section}
-use Rattle.apex_table.specs.declared.fault.Section.TheVariants.{Top, Process, Semaphore}
+use Rattle.apex_table.specs.declared.fault.Section.TheVariants.{Top}
 use Rattle.apex_table.specs.Outcome.{place}
-use Rattle.apex_table.specs.Keys.{known, table, array, number_at, number_or}
-use Rattle.apex_table.specs.Processes.{ProcessDraft, process_names, some_process, next_process, processes}
-use Rattle.apex_table.specs.Semaphores.{semaphore_names, next_semaphore, semaphores}
+use Rattle.apex_table.specs.Keys.{known, number_at, number_or}
+use Rattle.apex_table.specs.Processes.{ProcessDraft, process_names, some_process, processes}
+use Rattle.apex_table.specs.Sections.{section}
+use Rattle.apex_table.specs.Semaphores.{semaphore_names, semaphores}
 use Rattle.apex_table.specs.Scripts.{with_scripts}
 use Rattle.apex_table.specs.Init.{entry_names, init_texts, init_list}
-use Rattle.apex_table.specs.Reading.{top_keys, entries, reading}
-use Rattle.apex_table.proofs.Results.{ok_then, each_length}
-use Rattle.apex_table.proofs.KeyLaws.{number_at_law, number_or_law, at_most_law}
-use Rattle.apex_table.proofs.ProcessLaws.{some_process_law, AreSoundDrafts, processes_law}
-use Rattle.apex_table.proofs.SemaphoreLaws.{AreSoundSemaphores, semaphores_law}
+use Rattle.apex_table.specs.Reading.{top_keys, reading}
+use Rattle.apex_table.proofs.Results.{ok_then}
+use Rattle.apex_table.proofs.KeyLaws.{number_at_law, number_or_law}
+use Rattle.apex_table.proofs.ProcessLaws.{some_process_law, IsSoundDraft, process_law}
+use Rattle.apex_table.proofs.SectionLaws.{AreSound, section_few, section_law}
+use Rattle.apex_table.proofs.SemaphoreLaws.{semaphore_law}
 use Rattle.apex_table.proofs.ScriptLaws.{IsSoundProcess, AreSoundProcesses, with_scripts_law}
 use Rattle.apex_table.proofs.StepLaws.{IsWithin}
 use Rattle.apex_table.proofs.InitLaws.{AreFew, init_texts_law, IsInitList, init_list_law}
-
-entries_law : (section : Section) (most : ℕ) (o : Option Data) → IfOk (entries section most o) (λ ds. length ds ≤ most)
-entries_law section most None = omega arith
-entries_law section most (Some d) = ok_then (array (place section 0) d) _ (λ ds. length ds ≤ most) (λ ds e. at_most_law (place section 0) most ds)
 
 is_known : (table : Table) (c : Call) → IsWithin (length table.processes) (length table.semaphores) c → IsKnown table c
 is_known table (call.Partition c) h = h
@@ -46,7 +43,7 @@ all_known table calls all k below =
 process_lawful : (table : Table) (entry : ProcessEntry) → IsSoundProcess table.cores (length table.processes) (length table.semaphores) entry → IsLawfulProcess table entry
 process_lawful table entry h = record { name = h.name; priority = h.priority; core = h.core; steps = h.script.few; looping = h.script.some; known = all_known table entry.script h.known }
 
-lawful : (cores limit : ℕ) (drafts : List ProcessDraft) (procs : List ProcessEntry) (sems : List SemaphoreEntry) (calls : List Call) → (1 ≤ cores) × (cores ≤ 8) → (1 ≤ limit) × (limit ≤ 65536) → (1 ≤ length drafts) × (length drafts ≤ 32) → length sems ≤ 16 → IsDistinct bytes_eq (process_names drafts) → AreSoundProcesses cores drafts sems procs → AreSoundSemaphores sems → IsInitList (length procs) (length sems) calls → IsLawful (record { cores = cores; limit = limit; processes = procs; semaphores = sems; init = calls })
+lawful : (cores limit : ℕ) (drafts : List ProcessDraft) (procs : List ProcessEntry) (sems : List SemaphoreEntry) (calls : List Call) → (1 ≤ cores) × (cores ≤ 8) → (1 ≤ limit) × (limit ≤ 65536) → (1 ≤ length drafts) × (length drafts ≤ 32) → length sems ≤ 16 → IsDistinct bytes_eq (process_names drafts) → AreSoundProcesses cores drafts sems procs → AreSound semaphores IsLawfulSemaphore sems → IsInitList (length procs) (length sems) calls → IsLawful (record { cores = cores; limit = limit; processes = procs; semaphores = sems; init = calls })
 lawful cores limit drafts procs sems calls in_cores in_limit count few distinct all sound init =
     let table : Table = record { cores = cores; limit = limit; processes = procs; semaphores = sems; init = calls } in
     let ps : length (process_names drafts) ≡ length procs = sym (ap length all.names) ∙ length-map procs (λ (e : ProcessEntry). e.name) in
@@ -74,28 +71,28 @@ reading_law tree =
     ok_then (known (place Top 0) top_keys tree) _ IsLawful (λ ms _.
     ok_then (number_at (place Top 0) 1 8 (codes "cores") ms) _ IsLawful (λ cores ec.
     ok_then (number_or (place Top 0) 4096 1 65536 (codes "history") ms) _ IsLawful (λ limit el.
-    ok_then (entries Process 32 (get_member (codes "process") ms)) _ IsLawful (λ ps ep.
-    ok_then (some_process ps) _ IsLawful (λ some es.
-    ok_then (processes cores some) _ IsLawful (λ drafts ed.
-    ok_then (entries Semaphore 16 (get_member (codes "semaphore") ms)) _ IsLawful (λ ss ess.
-    ok_then (semaphores ss) _ IsLawful (λ sems em.
+    ok_then (section (processes cores) ms) _ IsLawful (λ read ep.
+    ok_then (some_process read) _ IsLawful (λ drafts es.
+    ok_then (section semaphores ms) _ IsLawful (λ sems em.
     ok_then (init_texts (get_member (codes "init") ms)) _ IsLawful (λ texts et.
     ok_then (with_scripts drafts sems) _ IsLawful (λ procs ew.
     ok_then (init_list procs sems texts) _ IsLawful (λ calls ei.
     let in_cores : (1 ≤ cores) × (cores ≤ 8) = IfOk-at_ok (λ n. (1 ≤ n) × (n ≤ 8)) ec (number_at_law (place Top 0) 1 8 (codes "cores") ms) in
     let in_limit : (1 ≤ limit) × (limit ≤ 65536) = IfOk-at_ok (λ n. (1 ≤ n) × (n ≤ 65536)) el (number_or_law (place Top 0) 4096 1 65536 (codes "history") ms (omega arith, omega arith)) in
-    let at_most_32 : length ps ≤ 32 = IfOk-at_ok (λ ds. length ds ≤ 32) ep (entries_law Process 32 (get_member (codes "process") ms)) in
-    let at_least_1 : (some ≡ ps) × (1 ≤ length some) = IfOk-at_ok (λ xs. (xs ≡ ps) × (1 ≤ length xs)) es (some_process_law ps) in
-    let same_length : length some ≡ length ps = ap length at_least_1.0 in
-    let drafted : length drafts ≡ length {A = ProcessDraft} [] + length some = IfOk-at_ok (λ xs. length xs ≡ length {A = ProcessDraft} [] + length some) ed (each_length (next_process cores) [] some) in
-    let at_most_16 : length ss ≤ 16 = IfOk-at_ok (λ ds. length ds ≤ 16) ess (entries_law Semaphore 16 (get_member (codes "semaphore") ms)) in
-    let read : length sems ≡ length {A = SemaphoreEntry} [] + length ss = IfOk-at_ok (λ xs. length xs ≡ length {A = SemaphoreEntry} [] + length ss) em (each_length next_semaphore [] ss) in
-    let sound : AreSoundDrafts cores drafts = IfOk-at_ok (AreSoundDrafts cores) ed (processes_law cores some (omega arith)) in
+    let some : (read ≡ drafts) × (1 ≤ length drafts) = IfOk-at_ok (λ (xs : List ProcessDraft). (read ≡ xs) × (1 ≤ length xs)) es (some_process_law read) in
+    let at_most_32 : length drafts ≤ 32 = subst (λ (xs : List ProcessDraft). length xs ≤ 32) some.0 (IfOk-at_ok (λ (xs : List ProcessDraft). length xs ≤ 32) ep (section_few (processes cores) ms)) in
+    let at_most_16 : length sems ≤ 16 = IfOk-at_ok (λ (xs : List SemaphoreEntry). length xs ≤ 16) em (section_few semaphores ms) in
+    let sound : AreSound (processes cores) (IsSoundDraft cores) drafts =
+    subst (AreSound (processes cores) (IsSoundDraft cores)) some.0 (IfOk-at_ok (AreSound (processes cores) (IsSoundDraft cores)) ep (section_law (processes cores) (IsSoundDraft cores) (process_law cores in_cores.0) ms)) in
     let all : AreSoundProcesses cores drafts sems procs = IfOk-at_ok (AreSoundProcesses cores drafts sems) ew (with_scripts_law cores drafts sems sound.each) in
     let names : length (entry_names procs) ≡ length (process_names drafts) = ap length all.names in
     let procs_count : length (entry_names procs) ≡ length procs = length-map procs (λ (e : ProcessEntry). e.name) in
     let drafts_count : length (process_names drafts) ≡ length drafts = length-map drafts (λ (p : ProcessDraft). p.name) in
     let few : AreFew texts = IfOk-at_ok AreFew et (init_texts_law (get_member (codes "init") ms)) in
     let init : IsInitList (length procs) (length sems) calls = IfOk-at_ok (IsInitList (length procs) (length sems)) ei (init_list_law procs sems texts (omega arith) (omega arith) few) in
-    lawful cores limit drafts procs sems calls in_cores in_limit (omega arith, omega arith) (omega arith) sound.distinct all
-    (IfOk-at_ok AreSoundSemaphores em (semaphores_law ss)) init)))))))))))
+    lawful cores limit drafts procs sems calls in_cores in_limit (some.1, at_most_32) at_most_16 sound.distinct all
+    (IfOk-at_ok (AreSound semaphores IsLawfulSemaphore) em (section_law semaphores IsLawfulSemaphore semaphore_law ms)) init)))))))))
+
+-- the table that was read is lawful
+pub lawful_of : (tree : Members) (t : Table) → reading tree ≡ Ok t → IsLawful t
+lawful_of tree t e = IfOk-at_ok IsLawful e (reading_law tree)

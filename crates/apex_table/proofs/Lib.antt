@@ -1,10 +1,10 @@
 pub mod Lists
-pub mod Names
 pub mod Document
 pub mod Results
 pub mod Distinct
 pub mod KeyLaws
 pub mod ServiceNames
+pub mod SectionLaws
 pub mod WordLaws
 pub mod ObjectStepLaws
 pub mod StepLaws

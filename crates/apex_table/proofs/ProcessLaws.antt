@@ -1,23 +1,19 @@
--- Each process that is read, with its script still as texts, is in its ranges, and their names differ.
-use Rattle.std.proofs.Common.{◌≡◌, ℕ, ◌+◌, ◌-◌, ◌<◌, ◌≤◌, Bool, true, false, List, [], ◌∷◌, ◌++◌, length, IfOk, IsTrue, refl, arith}
+-- Each process that is read, with its script still as texts, is in its ranges.
+use Rattle.std.proofs.Common.{◌≡◌, ℕ, ◌-◌, ◌<◌, ◌≤◌, Bool, true, false, List, [], ◌∷◌, length, IfOk, IsTrue, refl, arith}
 use Rattle.std.specs.Prelude.{codes}
-use Rattle.std.specs.List.{AllByRecursion, IsDistinct}
-use Rattle.std.specs.Str.{bytes_eq}
 use Rattle.std.proofs.lemmas.Result.{IfOk-at_ok, IfOk-weaker}
 use Rattle.toml.specs.Data.{Data, Members}
 use Rattle.apex_types.specs.Name.{is_name}
-use Rattle.apex_table.specs.declared.fault.Section.TheVariants.{Process}
 use Rattle.apex_table.specs.declared.fault.Place.{Place}
-use Rattle.apex_table.specs.Outcome.{place}
-use Rattle.apex_table.specs.Keys.{known, text, table, array_at, at_most, number_at, number_or, truth_or, name_at}
-use Rattle.apex_table.specs.Processes.{process_keys, ProcessDraft, process_names, some_process, texts, some_step, script_at, process, next_process, processes}
-use Rattle.apex_table.proofs.Results.{ok_then, each_keeps, each_length, all_push}
-use Rattle.apex_table.proofs.Distinct.{distinct_push}
-use Rattle.apex_table.proofs.KeyLaws.{number_at_law, number_or_law, at_most_law, IsNew, name_law}
+use Rattle.apex_table.specs.Keys.{text, array_at, at_most, number_at, number_or, truth_or}
+use Rattle.apex_table.specs.Processes.{ProcessDraft, some_process, texts, some_step, script_at, process, processes}
+use Rattle.apex_table.proofs.Results.{ok_then, each_length}
+use Rattle.apex_table.proofs.KeyLaws.{number_at_law, number_or_law, at_most_law}
+use Rattle.apex_table.proofs.SectionLaws.{IsRead, ReadsSound}
 
-pub some_process_law : (ds : List Data) → IfOk (some_process ds) (λ xs. (xs ≡ ds) × (1 ≤ length xs))
+pub some_process_law : (ps : List ProcessDraft) → IfOk (some_process ps) (λ xs. (ps ≡ xs) × (1 ≤ length xs))
 some_process_law [] = tt
-some_process_law (d ∷ ds) = (refl, omega arith)
+some_process_law (p ∷ ps) = (refl, omega arith)
 
 -- a script of at most 64 steps, and of at least one where it begins anew
 pub record IsScript {A : Type 0} (loops : Bool) (steps : List A) : Type 0 where
@@ -51,50 +47,22 @@ pub record IsSoundDraft (cores : ℕ) (draft : ProcessDraft) : Type 0 where
   pub core : draft.core < cores
   pub script : IsScript draft.loops draft.script
 
-record IsNewDraft (cores : ℕ) (taken : List (List ℕ)) (draft : ProcessDraft) : Type 0 where
-  pub sound : IsSoundDraft cores draft
-  pub new : IsNew taken draft.name
-
-process_law : (cores : ℕ) (at : Place) (taken : List (List ℕ)) (d : Data) → 1 ≤ cores → IfOk (process cores at taken d) (IsNewDraft cores taken)
+pub process_law : (cores : ℕ) → 1 ≤ cores → ReadsSound (processes cores) (IsSoundDraft cores)
 unfolding process
-process_law cores at taken d some =
-    ok_then (table at d) _ (IsNewDraft cores taken) (λ entry _.
-    ok_then (known at process_keys entry) _ (IsNewDraft cores taken) (λ ms _.
-    ok_then (name_at at taken ms) _ (IsNewDraft cores taken) (λ name en.
-    ok_then (number_at at 1 239 (codes "priority") ms) _ (IsNewDraft cores taken) (λ priority ep.
-    ok_then (number_or at 0 0 (cores - 1) (codes "core") ms) _ (IsNewDraft cores taken) (λ core ec.
-    ok_then (truth_or at false (codes "loop") ms) _ (IsNewDraft cores taken) (λ loops _.
-    ok_then (truth_or at false (codes "start") ms) _ (IsNewDraft cores taken) (λ start _.
-    ok_then (script_at at loops ms) _ (IsNewDraft cores taken) (λ script es.
-    let new : IsNew taken name = IfOk-at_ok (IsNew taken) en (name_law at taken ms) in
+process_law cores some at name ms good =
+    let Read : ProcessDraft → Type 0 = IsRead (processes cores) (IsSoundDraft cores) name in
+    ok_then (number_at at 1 239 (codes "priority") ms) _ Read (λ priority ep.
+    ok_then (number_or at 0 0 (cores - 1) (codes "core") ms) _ Read (λ core ec.
+    ok_then (truth_or at false (codes "loop") ms) _ Read (λ loops _.
+    ok_then (truth_or at false (codes "start") ms) _ Read (λ start _.
+    ok_then (script_at at loops ms) _ Read (λ script es.
     let in_cores : (0 ≤ core) × (core ≤ cores - 1) = IfOk-at_ok (λ n. (0 ≤ n) × (n ≤ cores - 1)) ec (number_or_law at 0 0 (cores - 1) (codes "core") ms (omega arith, omega arith)) in
     record {
       sound = record {
-        name = new.good;
+        name = good;
         priority = IfOk-at_ok (λ n. (1 ≤ n) × (n ≤ 239)) ep (number_at_law at 1 239 (codes "priority") ms);
         core = omega arith;
         script = IfOk-at_ok (IsScript loops) es (script_at_law at loops ms);
       };
-      new = new;
-    }))))))))
-
--- what holds of the drafts of all processes
-pub record AreSoundDrafts (cores : ℕ) (drafts : List ProcessDraft) : Type 0 where
-  pub each : AllByRecursion (IsSoundDraft cores) drafts
-  pub distinct : IsDistinct bytes_eq (process_names drafts)
-
-next_process_law : (cores : ℕ) (before : List ProcessDraft) (d : Data) → 1 ≤ cores → AreSoundDrafts cores before → IfOk (next_process cores before d) (λ draft. AreSoundDrafts cores (before ++ draft ∷ []))
-unfolding next_process
-next_process_law cores before d some all =
-    IfOk-weaker (process cores (place Process (length before + 1)) (process_names before) d) _ _ (λ draft h. record {
-      each = all_push (IsSoundDraft cores) before draft all.each h.sound;
-      distinct = distinct_push (λ (p : ProcessDraft). p.name) before draft all.distinct h.new.new;
-    }) (process_law cores (place Process (length before + 1)) (process_names before) d some)
-
-no_drafts : (cores : ℕ) → AreSoundDrafts cores []
-unfolding IsDistinct
-no_drafts cores = record { each = tt; distinct = tt }
-
-pub processes_law : (cores : ℕ) (ds : List Data) → 1 ≤ cores → IfOk (processes cores ds) (AreSoundDrafts cores)
-processes_law cores ds some =
-    each_keeps (next_process cores) (AreSoundDrafts cores) (λ before d all. next_process_law cores before d some all) [] ds (no_drafts cores)
+      named = refl;
+    })))))

@@ -1,6 +1,7 @@
 pub mod Fault
 pub mod Outcome
 pub mod Keys
+pub mod Sections
 pub mod Words
 pub mod ObjectSteps
 pub mod PartitionSteps
@@ -15,4 +16,3 @@ pub mod Scripts
 pub mod DefaultInit
 pub mod Init
 pub mod Reading
-pub mod Drafts

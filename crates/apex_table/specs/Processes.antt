@@ -1,16 +1,13 @@
--- The section of processes, whose scripts are still texts.
-use Rattle.std.specs.Prelude.{codes, ℕ, ◌+◌, ◌-◌, Bool, true, false, List, [], ◌∷◌, length, map, Result, Ok, Err}
+-- The kind of processes, whose scripts are still texts.
+use Rattle.std.specs.Prelude.{codes, ℕ, ◌-◌, Bool, true, false, List, [], ◌∷◌, map, Result, Ok, Err}
 use Rattle.toml.specs.Data.{Data, Members}
 use Rattle.apex_table.specs.declared.fault.Section.TheVariants.{Process}
 use Rattle.apex_table.specs.declared.fault.Place.{Place}
 use Rattle.apex_table.specs.declared.fault.TableFault.{TableFault}
 use Rattle.apex_table.specs.declared.fault.TableFault.TheVariants.{MissingKey, OutOfRange}
 use Rattle.apex_table.specs.Outcome.{◌>>=◌, each, place}
-use Rattle.apex_table.specs.Keys.{known, text, table, array_at, at_most, number_at, number_or, truth_or, name_at}
-
--- the keys of a process
-abbrev pub process_keys : List (List ℕ)
-process_keys = codes "name" ∷ codes "priority" ∷ codes "core" ∷ codes "loop" ∷ codes "start" ∷ codes "script" ∷ []
+use Rattle.apex_table.specs.Keys.{text, array_at, at_most, number_at, number_or, truth_or}
+use Rattle.apex_table.specs.Sections.{KindOf}
 
 -- a process whose script is still text
 pub record ProcessDraft : Type 0 where
@@ -24,11 +21,6 @@ pub record ProcessDraft : Type 0 where
 -- the names of processes
 abbrev pub process_names : List ProcessDraft → List (List ℕ)
 process_names processes = map (λ (p : ProcessDraft). p.name) processes
-
--- a table has at least one process
-abbrev pub some_process : List Data → Result (List Data) TableFault
-some_process [] = Err (MissingKey (place Process 0))
-some_process (d ∷ ds) = Ok (d ∷ ds)
 
 -- the texts of a script
 abbrev pub texts : Place → List Data → Result (List (List ℕ)) TableFault
@@ -48,12 +40,9 @@ script_at at loops ms = do
   some ← some_step at loops few
   texts at some
 
--- a process; the names of those before it are taken
-unfoldable pub process : ℕ → Place → List (List ℕ) → Data → Result ProcessDraft TableFault
-process cores at taken d = do
-  entry ← table at d
-  ms ← known at process_keys entry
-  name ← name_at at taken ms
+-- a process of a name, on so many cores
+unfoldable pub process : ℕ → Place → List ℕ → Members → Result ProcessDraft TableFault
+process cores at name ms = do
   priority ← number_at at 1 239 (codes "priority") ms
   core ← number_or at 0 0 (cores - 1) (codes "core") ms
   loops ← truth_or at false (codes "loop") ms
@@ -61,10 +50,15 @@ process cores at taken d = do
   script ← script_at at loops ms
   Ok (record { name = name; priority = priority; core = core; loops = loops; start = start; script = script })
 
--- the process after those before
-unfoldable pub next_process : ℕ → List ProcessDraft → Data → Result ProcessDraft TableFault
-next_process cores before d = process cores (place Process (length before + 1)) (process_names before) d
+-- the kind of processes
+abbrev pub processes : ℕ → KindOf ProcessDraft
+processes cores = record {
+  head = record { section = Process; most = 32; keys = codes "name" ∷ codes "priority" ∷ codes "core" ∷ codes "loop" ∷ codes "start" ∷ codes "script" ∷ [] };
+  name_of = λ p. p.name;
+  read = process cores;
+}
 
--- the section of processes
-abbrev pub processes : ℕ → List Data → Result (List ProcessDraft) TableFault
-processes cores ds = each (next_process cores) [] ds
+-- a table has at least one process
+abbrev pub some_process : List ProcessDraft → Result (List ProcessDraft) TableFault
+some_process [] = Err (MissingKey (place Process 0))
+some_process (p ∷ ps) = Ok (p ∷ ps)

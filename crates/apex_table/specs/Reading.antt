@@ -1,15 +1,15 @@
 -- *Reading*: the table of a text, or the first fault in the order of checks.
-use Rattle.std.specs.Prelude.{codes, ℕ, if◌then◌else◌, List, [], ◌∷◌, Option, Some, None, Result, Ok}
+use Rattle.std.specs.Prelude.{codes, ℕ, if◌then◌else◌, List, [], ◌∷◌, Option, None, Result, Ok}
 use Rattle.std.specs.Str.{is_utf8}
-use Rattle.toml.specs.Data.{Data, Members, get_member}
+use Rattle.toml.specs.Data.{Members, get_member}
 use Rattle.toml.specs.Parse.{parse_document}
 use Rattle.apex_types.specs.Table.{Table}
-use Rattle.apex_table.specs.declared.fault.Section.{Section}
-use Rattle.apex_table.specs.declared.fault.Section.TheVariants.{Top, Process, Semaphore}
+use Rattle.apex_table.specs.declared.fault.Section.TheVariants.{Top}
 use Rattle.apex_table.specs.declared.fault.TableFault.{TableFault}
 use Rattle.apex_table.specs.declared.fault.TableFault.TheVariants.{NotToml}
 use Rattle.apex_table.specs.Outcome.{◌>>=◌, some_or, place}
-use Rattle.apex_table.specs.Keys.{known, array, at_most, number_at, number_or}
+use Rattle.apex_table.specs.Keys.{known, number_at, number_or}
+use Rattle.apex_table.specs.Sections.{section}
 use Rattle.apex_table.specs.Processes.{some_process, processes}
 use Rattle.apex_table.specs.Semaphores.{semaphores}
 use Rattle.apex_table.specs.Scripts.{with_scripts}
@@ -19,24 +19,17 @@ use Rattle.apex_table.specs.Init.{init_texts, init_list}
 abbrev pub top_keys : List (List ℕ)
 top_keys = codes "cores" ∷ codes "history" ∷ codes "process" ∷ codes "semaphore" ∷ codes "init" ∷ []
 
--- the tables of a section, none where it is absent
-abbrev pub entries : Section → ℕ → Option Data → Result (List Data) TableFault
-entries section most None = Ok []
-entries section most (Some d) = array (place section 0) d >>= at_most (place section 0) most
-
 -- the table of TOML's tree
 unfoldable pub reading : Members → Result Table TableFault
 reading tree = do
   ms ← known (place Top 0) top_keys tree
   cores ← number_at (place Top 0) 1 8 (codes "cores") ms
   limit ← number_or (place Top 0) 4096 1 65536 (codes "history") ms
-  ps ← entries Process 32 (get_member (codes "process") ms)
-  some ← some_process ps
-  drafts ← processes cores some
-  ss ← entries Semaphore 16 (get_member (codes "semaphore") ms)
-  sems ← semaphores ss
+  drafts ← section (processes cores) ms
+  some ← some_process drafts
+  sems ← section semaphores ms
   texts ← init_texts (get_member (codes "init") ms)
-  procs ← with_scripts drafts sems
+  procs ← with_scripts some sems
   calls ← init_list procs sems texts
   Ok (record { cores = cores; limit = limit; processes = procs; semaphores = sems; init = calls })
 

@@ -10,6 +10,7 @@ mod named;
 mod processes;
 mod reading;
 mod scripts;
+mod sections;
 mod semaphores;
 mod steps;
 mod table;

@@ -1,76 +1,34 @@
-ghost use Rattle.std.specs.Prelude.{◌≤◌, map, length, option_map, IfOk};
-ghost use Rattle.toml.specs.View.{view, table_view};
+ghost use Rattle.toml.specs.View.{table_view};
 ghost use Rattle.apex_table.specs.Outcome.{Gives};
-ghost use Rattle.apex_table.specs.Reading.{entries, reading, document, table_of};
-ghost use Rattle.apex_table.specs.Drafts.{parts_seen};
+ghost use Rattle.apex_table.specs.Reading.{reading, document, table_of};
 
-use crate::entries::{Process, Semaphore};
 use crate::fault::{Place, Section, TableFault};
 use crate::init::{init_list, init_texts};
 use crate::keys;
-use crate::processes::{processes, some_process};
+use crate::processes::{Processes, some_process};
 use crate::scripts::with_scripts;
-use crate::semaphores::semaphores;
+use crate::sections::read_section;
+use crate::semaphores::Semaphores;
 use crate::table::Table;
-use apex_types::Call;
 use std::alloc::Global;
-use toml::Value;
 
 const TOP_KEYS: &[&str] = &["cores", "history", "process", "semaphore", "init"];
 
-/// What a table is made of.
-#[derive(Drop)]
-struct Parts {
-    cores: u8,
-    limit: u32,
-    processes: Vec<Process>,
-    semaphores: Vec<Semaphore>,
-    init: Vec<Call>,
-}
-
-/// The tables of a section, none where it is absent.
-fn entries<'a>(
-    section: Section,
-    most: usize,
-    value: Option<&'a Value>,
-) -> Result<&'a [Value], TableFault>
-    ensures gives { Gives (λ s. map view s.now) result (entries section most (option_map (λ v. view v.now) value.entry)) }
-    ensures bound { IfOk result (λ s. length s.now ≤ most) }
-{
-    let at = Place::of(section);
-    match value {
-        Some(value) => {
-            let items = keys::array(at, value)?;
-            keys::at_most(at, most, items)?;
-            Ok(items)
-        }
-        None => Ok(&[]),
-    }
-}
-
 #[tactic(auto, unfolding(crate::specs::Reading::reading))]
-fn read_parts(alloc: Global, tree: &toml::Table) -> Result<Parts, TableFault>
-    ensures { Gives parts_seen result (reading (table_view tree.now)) }
+fn read_tree(alloc: Global, tree: &toml::Table) -> Result<Table, TableFault>
+    ensures { Gives (λ t. t) result (reading (table_view tree.now)) }
 {
     let at = Place::of(Section::Top);
     keys::only(at, TOP_KEYS, tree)?;
     let cores = keys::number_at(at, 1, 8, tree, "cores")?;
     let limit = keys::number_or(at, 4096, 1, 65536, tree, "history")?;
-    let items = entries(Section::Process, 32, keys::key(tree, "process"))?;
-    some_process(items)?;
-    let drafts = processes(alloc, cores, items)?;
-    let items = entries(Section::Semaphore, 16, keys::key(tree, "semaphore"))?;
-    let semaphores = semaphores(alloc, items)?;
+    let drafts = read_section(alloc, &Processes { cores }, tree)?;
+    some_process(&drafts)?;
+    let semaphores = read_section(alloc, &Semaphores, tree)?;
     let texts = init_texts(alloc, keys::key(tree, "init"))?;
     let processes = with_scripts(alloc, &drafts, &semaphores)?;
     let init = init_list(alloc, &processes, &semaphores, texts)?;
-    Ok(Parts {
-        cores: cores as u8,
-        limit,
-        processes,
-        semaphores,
-        init,
-    })
+    Ok(Table::new(cores as u8, limit, processes, semaphores, init))
 }
 
 fn document(alloc: Global, text: &[u8]) -> Result<toml::Table, TableFault>
@@ -94,12 +52,5 @@ pub fn read_table(alloc: Global, text: &[u8]) -> Result<Table, TableFault>
     ensures { Gives (λ t. t) result (table_of text.now) }
 {
     let tree = document(alloc, text)?;
-    let parts = read_parts(alloc, &tree)?;
-    Ok(Table::new(
-        parts.cores,
-        parts.limit,
-        parts.processes,
-        parts.semaphores,
-        parts.init,
-    ))
+    read_tree(alloc, &tree)
 }

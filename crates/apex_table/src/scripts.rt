@@ -3,7 +3,6 @@ ghost use Rattle.apex_table.specs.Outcome.{Gives};
 ghost use Rattle.apex_table.specs.Processes.{process_names};
 ghost use Rattle.apex_table.specs.Semaphores.{semaphore_names};
 ghost use Rattle.apex_table.specs.Scripts.{script, next_entry, with_scripts};
-ghost use Rattle.apex_table.specs.Drafts.{draft_seen};
 
 use crate::entries::{Process, Semaphore};
 use crate::fault::{Place, Section, TableFault};
@@ -31,20 +30,6 @@ fn script<P: Named, S: Named>(
     Ok(calls)
 }
 
-fn script_of(
-    alloc: Global,
-    at: Place,
-    drafts: &[Draft],
-    semaphores: &[Semaphore],
-    draft: &Draft,
-) -> Result<Vec<Call>, TableFault>
-    requires drafts { length drafts.now ≤ 32 }
-    requires semaphores { length semaphores.now ≤ 32 }
-    ensures { Gives (λ v. v.items) result (script at (process_names (map draft_seen drafts.now)) (semaphore_names semaphores.now) (map (λ t. t.now) draft.now.script.items)) }
-{
-    script(alloc, at, drafts, semaphores, &draft.script)
-}
-
 #[tactic(auto, unfolding(crate::specs::Scripts::next_entry))]
 fn next_entry(
     alloc: Global,
@@ -56,16 +41,16 @@ fn next_entry(
     requires drafts { length drafts.now ≤ 32 }
     requires semaphores { length semaphores.now ≤ 32 }
     requires few { length before.now < 32 }
-    ensures { Gives (λ p. p) result (next_entry (process_names (map draft_seen drafts.now)) (semaphore_names semaphores.now) before.now (draft_seen draft.now)) }
+    ensures { Gives (λ p. p) result (next_entry (process_names drafts.now) (semaphore_names semaphores.now) before.now draft.now) }
 {
     let at = Place::next(Section::Process, before.len());
-    let script = script_of(alloc, at, drafts, semaphores, draft)?;
+    let script = script(alloc, at, drafts, semaphores, &draft.script)?;
     Ok(Process::new(
         draft.name,
         draft.priority,
         draft.core,
         draft.loops,
-        draft.start,
+        draft.starts,
         script,
     ))
 }
@@ -79,7 +64,7 @@ pub fn with_scripts(
 ) -> Result<Vec<Process>, TableFault>
     requires drafts { length drafts.now ≤ 32 }
     requires semaphores { length semaphores.now ≤ 32 }
-    ensures gives { Gives (λ v. v.items) result (with_scripts (map draft_seen drafts.now) semaphores.now) }
+    ensures gives { Gives (λ v. v.items) result (with_scripts drafts.now semaphores.now) }
     ensures count { IfOk result (λ v. length v.items ≡ length drafts.now) }
 {
     let mut processes = Vec::new(alloc);
