@@ -14,7 +14,8 @@ use Rattle.apex_types.proofs.Choice.{IsTotalOn, place_is, place_least, place_non
 use Rattle.apex_types.proofs.Orders.{older_total, before_total}
 use Rattle.apex_store.specs.Laws.{IsTheLeast}
 
-pub the_least : (passes : Record → Bool) (before : Record → Record → Bool) → IsStrictWeakOrder before → (rs : List Record) → IsTotalOn before rs → IsTheLeast passes before rs (place_of_least passes before rs)
+pub the_least : (passes : Record → Bool) (before : Record → Record → Bool) → IsStrictWeakOrder before
+    → (rs : List Record) → IsTotalOn before rs → IsTheLeast passes before rs (place_of_least passes before rs)
 the_least passes before strict rs all = record {
   least = place_least passes before rs strict all;
   only = place_is passes before rs strict;

@@ -1,4 +1,5 @@
--- The two orders of records are strict and rank them, and are total where no two stamps are the same.
+-- The orders of records are strict weak ones: they rank records. Where no two stamps are the same, the two
+-- by stamps are total.
 use Rattle.std.proofs.Common.{◌≡◌, ◌≢◌, true, false, refl, arith}
 use Rattle.std.specs.Cmp.{IsStrictWeakOrder}
 use Rattle.std.proofs.lemmas.Bool.Decides.{nat_tests}
