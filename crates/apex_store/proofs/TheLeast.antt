@@ -1,5 +1,6 @@
 -- What the laws of a store's choices share: the place of the least, under distinct stamps.
 use Rattle.std.proofs.Common.{◌≡◌, ℕ, Bool, List, Some, slice_get}
+use Rattle.std.specs.Cmp.{IsStrictWeakOrder}
 use Rattle.std.proofs.lemmas.Option.{get_or_from_slice_get, slice_get_within}
 use Rattle.apex_types.specs.declared.records.Record.{Record}
 use Rattle.apex_types.specs.Roster.{Roster, nobody}
@@ -9,15 +10,18 @@ use Rattle.apex_types.specs.declared.records.Discipline.{Discipline}
 use Rattle.apex_types.specs.declared.records.Discipline.TheVariants.{Fifo, Priority}
 use Rattle.apex_types.specs.Waiters.{waits_before}
 use Rattle.apex_types.specs.Running.{is_before, is_older}
-use Rattle.apex_types.proofs.Choice.{IsStrict, IsTotalOn, place_is, place_least, place_none}
+use Rattle.apex_types.proofs.Choice.{IsTotalOn, place_is, place_least, place_none}
 use Rattle.apex_types.proofs.Orders.{older_total, before_total}
 use Rattle.apex_store.specs.Laws.{IsTheLeast}
 
-pub the_least : (passes : Record → Bool) (before : Record → Record → Bool) → IsStrict before → (rs : List Record) → IsTotalOn before rs → IsTheLeast passes before rs (place_of_least passes before rs)
+pub the_least : (passes : Record → Bool) (before : Record → Record → Bool) → IsStrictWeakOrder before
+    → (rs : List Record) → IsTotalOn before rs → IsTheLeast passes before rs (place_of_least passes before rs)
 the_least passes before strict rs all = record {
-  least = place_least passes before strict rs all;
-  only = place_is passes before strict rs;
-  none = λ e. (place_none passes before rs e).none;
+  least = place_least passes before rs strict all;
+  only = place_is passes before rs strict;
+  none = λ e p r here.
+      let same = get_or_from_slice_get rs p r nobody here in
+      rw same at ((place_none passes before rs strict e).none p (slice_get_within rs p r here));
 }
 
 distinct_at : (roster : Roster) → HasDistinctStamps roster → (p q : ℕ) (r s : Record) → slice_get roster.records p ≡ Some r → slice_get roster.records q ≡ Some s → r.since ≡ s.since → p ≡ q

@@ -1,9 +1,11 @@
 ghost use Rattle.std.specs.Prelude.{◌≡◌, ◌<◌, ◌≤◌, Bool, length, IfSome};
+ghost use Rattle.std.specs.Cmp.{IsStrictWeakOrder};
 ghost use Rattle.apex_types.specs.declared.records.Record.{Record};
-ghost use Rattle.apex_types.specs.Choice.{place_of_least, stands_before};
+ghost use Rattle.apex_types.specs.Choice.{place_of_least};
 ghost use Rattle.apex_types.specs.Running.{is_before, runs_on};
 ghost use Rattle.apex_types.specs.Dues.{by_number, is_due_at};
 ghost use Rattle.apex_types.specs.Waiters.{waits_before, waits_behind, waits_in};
+ghost use Rattle.apex_types.proofs.Orders.{before_strict, number_strict, waits_strict};
 
 use crate::orders;
 use apex_types::{CoreId, Discipline, Mode, ProcessId, Queue, Record};
@@ -19,6 +21,8 @@ pub trait Order {
 
     fn precedes(&self, first: &Record, second: &Record) -> bool
         ensures { result ≡ precedes self.now first.now second.now };
+
+    ghost ranks: { (s : Self) → IsStrictWeakOrder (precedes s) };
 }
 
 /// Those that a core may run, the most urgent first.
@@ -32,6 +36,8 @@ impl Order for Runnable {
     ghost passes = { λ s. runs_on s.mode s.core };
 
     ghost precedes = { λ s. is_before };
+
+    ghost ranks = { λ s. before_strict };
 
     fn passes(&self, row: &Record) -> bool {
         orders::runs_on(self.mode, self.core, row)
@@ -53,6 +59,8 @@ impl Order for Waiting {
     ghost passes = { λ s. waits_in s.queue };
 
     ghost precedes = { λ s. waits_before s.discipline };
+
+    ghost ranks = { λ s. waits_strict s.discipline };
 
     fn passes(&self, row: &Record) -> bool {
         orders::waits_in(self.queue, row)
@@ -76,6 +84,8 @@ impl Order for Behind {
 
     ghost precedes = { λ s. waits_before s.discipline };
 
+    ghost ranks = { λ s. waits_strict s.discipline };
+
     fn passes(&self, row: &Record) -> bool {
         orders::waits_behind(self.discipline, self.queue, &self.ahead, row)
     }
@@ -96,6 +106,8 @@ impl Order for Due {
 
     ghost precedes = { λ s. by_number };
 
+    ghost ranks = { λ s. number_strict };
+
     fn passes(&self, row: &Record) -> bool {
         orders::is_due_at(self.instant, row)
     }
@@ -105,32 +117,25 @@ impl Order for Due {
     }
 }
 
-/// What was found so far comes before the record.
-fn stands_before<O: Order>(order: &O, found: &Option<(ProcessId, Record)>, row: &Record) -> bool
-    ensures { result ≡ stands_before (O.precedes order.now) found.now row.now }
-{
-    match found {
-        Some((_, first)) => order.precedes(first, row),
-        None => false,
-    }
-}
-
-/// The first of those that the order looks at, by a scan of all records from the last one down.
-#[tactic(auto, using(apex_types::proofs::Choice::least_more))]
+/// The first of those that the order looks at, by a scan of all records from the first one on.
 pub fn first_of<O: Order>(order: &O, records: &[Record]) -> Option<ProcessId>
     requires { length records.now ≤ 64 }
     ensures value { result ≡ place_of_least (O.passes order.now) (O.precedes order.now) records.now }
     ensures known { IfSome result (λ p. p < length records.now) }
 {
-    let mut found: Option<(ProcessId, Record)> = None;
-    for place in (0..records.len()).rev() {
+    let mut found: Option<ProcessId> = None;
+    for place in 0..records.len() {
         let row = &records[place];
-        if order.passes(row) && !stands_before(order, &found, row) {
-            found = Some((ProcessId::at(place as u8), *row));
+        if !order.passes(row) {
+            continue;
+        }
+        let comes_first = match found {
+            Some(first) => order.precedes(row, &records[first.place()]),
+            None => true,
+        };
+        if comes_first {
+            found = Some(ProcessId::at(place as u8));
         }
     }
-    match found {
-        Some((process, _)) => Some(process),
-        None => None,
-    }
+    found
 }

@@ -1,17 +1,16 @@
 -- Laws of the dues: the next instant is the least of them, who is due first has the lowest number, and
 -- no due is passed over by time that goes no further than the next instant.
-use Rattle.std.proofs.Common.{◌≡◌, ◌≢◌, ℕ, zero, suc, ◌+◌, ◌≤◌, ◌<◌, ◌⊎◌, inl, inr, Bool, true, false, min, List, [], ◌∷◌, length, get_or, Option, None, Some, refl, sym, ◌∙◌, ap, arith}
-use Rattle.std.specs.Option.{option_map}
-use Rattle.std.proofs.lemmas.Bool.{eqb-true, eq-eqb, cases_lt, cases_Bool, both_ways}
-use Rattle.std.proofs.lemmas.Option.{none-some, same_Some, slice_get-get_or}
+use Rattle.std.proofs.Common.{◌≡◌, ◌≢◌, ℕ, zero, suc, ◌+◌, ◌≤◌, ◌<◌, ◌⊎◌, inl, inr, true, false, min, List, [], ◌∷◌, length, get_or, Option, None, Some, refl, sym, ◌∙◌, ap, arith}
+use Rattle.std.proofs.lemmas.Bool.{eqb-true, eq-eqb, cases_lt, both_ways}
+use Rattle.std.proofs.lemmas.Option.{none-some, same_Some}
 use Rattle.apex_types.specs.declared.records.Record.{Record}
 use Rattle.apex_types.specs.Roster.{Roster, nobody, record_at}
-use Rattle.apex_types.specs.Choice.{better, least}
 use Rattle.apex_types.specs.declared.calls.Timeout.{Timeout}
 use Rattle.apex_types.specs.declared.calls.Timeout.TheVariants.{Poll, Ticks, Infinite}
 use Rattle.apex_types.specs.Dues.{sooner, earliest_due, next_instant, is_instant, is_due_at, by_number, first_due, due_after, IsFrom, HasNoDueBelow, HasNoPastDue}
 use Rattle.apex_types.specs.Ticks.{not_beyond, tick_goal}
-use Rattle.apex_types.proofs.Choice.{place_none, place_passes, place_within}
+use Rattle.apex_types.proofs.Choice.{place_first, place_none, place_passes, place_within}
+use Rattle.apex_types.proofs.Orders.{number_strict}
 
 -- the sooner of two is no later than the one
 sooner_than_one : (one other : Option ℕ) (u : ℕ) → one ≡ Some u → (t : ℕ) × (sooner one other ≡ Some t) × (t ≤ u)
@@ -125,36 +124,6 @@ due_of_test t (Some u) e = ap Some (sym (eqb-true t u e))
 test_of_due : (t : ℕ) (due : Option ℕ) → due ≡ Some t → is_instant t due ≡ true
 test_of_due t due e = rw e (eq-eqb t t refl)
 
--- the record at the front is taken where it passes, whatever was found behind it
-front_taken : (passes : Record → Bool) (q : ℕ) (x : Record) (found : Option (ℕ × Record)) → passes x ≡ true → better passes by_number q x found ≡ Some (q, x)
-front_taken passes q x None passing = rw passing refl
-front_taken passes q x (Some f) passing = rw passing refl
-
-front_left : (passes : Record → Bool) (q : ℕ) (x : Record) (found : Option (ℕ × Record)) → passes x ≡ false → better passes by_number q x found ≡ found
-front_left passes q x None fails = rw fails refl
-front_left passes q x (Some f) fails = rw fails refl
-
--- none that passes is in front of the one that is found by number
-lowest_found : (passes : Record → Bool) (q : ℕ) (rs : List Record) (f : ℕ × Record) → least passes by_number q rs ≡ Some f → (k : ℕ) → k < length rs → passes (get_or rs k nobody) ≡ true → f.0 ≤ q + k
-lowest_found passes q [] f e k within passing = absurd (none-some f e)
-lowest_found passes q (x ∷ rs) f e zero within passing =
-    let front = front_taken passes q x (least passes by_number (q + 1) rs) passing in
-    omega (arith, ap (λ (found : ℕ × Record). found.0) (same_Some (q, x) f (sym front ∙ e)))
-lowest_found passes q (x ∷ rs) f e (suc k) within passing =
-    elim (cases_Bool (passes x)) [
-      | inl taken ↦
-          let front = front_taken passes q x (least passes by_number (q + 1) rs) taken in
-          omega (arith, ap (λ (found : ℕ × Record). found.0) (same_Some (q, x) f (sym front ∙ e)))
-      | inr left ↦
-          let rest = sym (front_left passes q x (least passes by_number (q + 1) rs) left) ∙ e in
-          omega (arith, lowest_found passes (q + 1) rs f rest k (omega (arith, within)) passing)
-    ]
-
-lowest_place : (passes : Record → Bool) (rs : List Record) (found : Option (ℕ × Record)) → least passes by_number 0 rs ≡ found → (p : ℕ) → option_map (λ (f : ℕ × Record). f.0) found ≡ Some p → (k : ℕ) → k < length rs → passes (get_or rs k nobody) ≡ true → p ≤ k
-lowest_place passes rs None is p e k within passing = absurd (none-some p e)
-lowest_place passes rs (Some f) is p e k within passing =
-    omega (arith, same_Some f.0 p e, lowest_found passes 0 rs f is k within passing)
-
 -- who has a due is one of the records
 due_within : (rs : List Record) (p u : ℕ) → (get_or rs p nobody).due ≡ Some u → p < length rs
 due_within [] p u e = absurd (none-some u e)
@@ -175,13 +144,16 @@ first_due_within roster p e = place_within (is_due_at roster.now) by_number rost
 pub first_due_lowest : (roster : Roster) (p q : ℕ) → first_due roster ≡ Some p → (record_at roster q).due ≡ Some roster.now → p ≤ q
 unfolding is_due_at
 first_due_lowest roster p q e due =
-    lowest_place (is_due_at roster.now) roster.records _ refl p e q (due_within roster.records q roster.now due)
-    (test_of_due roster.now (record_at roster q).due due)
+    let is = place_first (is_due_at roster.now) by_number roster.records number_strict p e in
+    elim (cases_lt q p) [
+      | inl below ↦ absurd (both_ways false refl (is.first q below (test_of_due roster.now (record_at roster q).due due)))
+      | inr above ↦ above
+    ]
 
 -- where nobody is due first, nobody is due now
 pub first_due_none : (roster : Roster) → first_due roster ≡ None → (q : ℕ) → (record_at roster q).due ≢ Some roster.now
 unfolding is_due_at
 first_due_none roster e q due =
-    let here = slice_get-get_or roster.records q nobody (due_within roster.records q roster.now due) in
-    both_ways _ ((place_none (is_due_at roster.now) by_number roster.records e).none q (record_at roster q) here)
+    let nobody_is = place_none (is_due_at roster.now) by_number roster.records number_strict e in
+    both_ways _ (nobody_is.none q (due_within roster.records q roster.now due))
     (test_of_due roster.now (record_at roster q).due due)

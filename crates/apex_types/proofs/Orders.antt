@@ -1,5 +1,7 @@
--- The two orders of records are strict, and total where no two stamps are the same.
-use Rattle.std.proofs.Common.{◌≡◌, ◌≢◌, true, false, arith}
+-- The orders of records are strict weak ones: they rank records. Where no two stamps are the same, the two
+-- by stamps are total.
+use Rattle.std.proofs.Common.{◌≡◌, ◌≢◌, true, false, refl, arith}
+use Rattle.std.specs.Cmp.{IsStrictWeakOrder}
 use Rattle.std.proofs.lemmas.Bool.Decides.{nat_tests}
 use Rattle.std.proofs.lemmas.Int.{ints}
 use Rattle.apex_types.specs.declared.records.Record.{Record}
@@ -7,18 +9,18 @@ use Rattle.apex_types.specs.declared.records.Discipline.{Discipline}
 use Rattle.apex_types.specs.declared.records.Discipline.TheVariants.{Fifo, Priority}
 use Rattle.apex_types.specs.Waiters.{waits_before}
 use Rattle.apex_types.specs.Running.{is_before, is_older}
-use Rattle.apex_types.proofs.Choice.{IsStrict}
+use Rattle.apex_types.specs.Dues.{by_number}
 
-pub older_strict : IsStrict is_older
+pub older_strict : IsStrictWeakOrder is_older
 older_strict = record {
-  asymmetric = λ r s e. grind (arith, ints);
-  transitive = λ r s t e f. grind (arith, ints);
+  one_way = λ r s e. grind (arith, ints);
+  chain = λ r s t e f. grind (arith, ints);
 }
 
-pub before_strict : IsStrict is_before
+pub before_strict : IsStrictWeakOrder is_before
 before_strict = record {
-  asymmetric = λ r s e. grind (arith, ints, nat_tests);
-  transitive = λ r s t e f. grind (arith, ints, nat_tests);
+  one_way = λ r s e. grind (arith, ints, nat_tests);
+  chain = λ r s t e f. grind (arith, ints, nat_tests);
 }
 
 pub older_total : (r s : Record) → r.since ≢ s.since → is_older r s ≡ false → is_older s r ≡ true
@@ -28,6 +30,13 @@ pub before_total : (r s : Record) → r.since ≢ s.since → is_before r s ≡ 
 before_total r s apart e = grind (arith, ints, nat_tests)
 
 -- so is the order of a queue of any discipline
-pub waits_strict : (discipline : Discipline) → IsStrict (waits_before discipline)
+pub waits_strict : (discipline : Discipline) → IsStrictWeakOrder (waits_before discipline)
 waits_strict Fifo = older_strict
 waits_strict Priority = before_strict
+
+-- so is the order in which none comes before another
+pub number_strict : IsStrictWeakOrder by_number
+number_strict = record {
+  one_way = λ r s e. refl;
+  chain = λ r s t e f. refl;
+}
