@@ -61,7 +61,10 @@ pub run-within : (table : Table) (machine : Machine) (events : List Event) → l
 run-within table machine [] within = within
 run-within table machine (event ∷ events) within = elim (cases_lt (length machine.history) table.limit) [
   | inl room ↦
-      let next = run-within table (happen table machine event) events (omega (arith, room, length-happen table machine event)) in
-      subst (λ (m : Machine). length (run table m events).history ≤ table.limit) (sym (accept-room table machine event room)) next
-  | inr full ↦ subst (λ (m : Machine). length m.history ≤ table.limit) (sym (run-full table machine (event ∷ events) full)) within
+      let next = happen table machine event in
+      let rest = run-within table next events (omega (arith, room, length-happen table machine event)) in
+      subst (λ (m : Machine). length (run table m events).history ≤ table.limit)
+      (sym (accept-room table machine event room)) rest
+  | inr full ↦
+      subst (λ (m : Machine). length m.history ≤ table.limit) (sym (run-full table machine (event ∷ events) full)) within
 ]
