@@ -16,13 +16,15 @@ pub record IsBegun (roster : Roster) : Type 0 where
   pub normal : is_normal roster.mode ≡ true
   pub starts : HasOrderlyStarts roster
 
-pub reach_begin_waiter : (roster : Roster) (p : ℕ) → IsBegun roster → first_to_start roster ≡ Some p → Reaches 1 roster (begin_waiter roster p).roster
+pub reach_begin_waiter : (roster : Roster) (p : ℕ) → IsBegun roster → first_to_start roster ≡ Some p
+    → Reaches 1 roster (begin_waiter roster p).roster
 reach_begin_waiter roster p begun is =
     let stands = first_stands roster queues.Normal p is in
     reaches_begin roster p (first_within roster queues.Normal p is) (delay_of (record_at roster p).wait)
     (queued_started roster begun.starts p queues.Normal stands) (λ e. both_ways _ e begun.normal)
 
-pub stays_begun : (roster : Roster) (p : ℕ) → IsBegun roster → first_to_start roster ≡ Some p → IsBegun (begin_waiter roster p).roster
+pub stays_begun : (roster : Roster) (p : ℕ) → IsBegun roster → first_to_start roster ≡ Some p
+    → IsBegun (begin_waiter roster p).roster
 stays_begun roster p begun is = record {
   normal = ap is_normal (mode_begin roster p (delay_of (record_at roster p).wait)) ∙ begun.normal;
   starts = (reach_begin_waiter roster p begun is).starts begun.starts;
@@ -38,9 +40,11 @@ few_starts roster p = few_by (delay_of (record_at roster p).wait == 0) where
 pub begun_normal : (roster : Roster) → HasOrderlyStarts roster → IsBegun (set_mode roster mode.Normal)
 begun_normal roster starts = record { normal = refl; starts = (reaches_set_mode roster mode.Normal refl).starts starts }
 
-pub reach_enter_normal : (roster : Roster) → HasOrderlyStarts roster → length roster.records ≤ 64 → Reaches 64 roster (enter_normal roster).roster
+pub reach_enter_normal : (roster : Roster) → HasOrderlyStarts roster → length roster.records ≤ 64
+    → Reaches 64 roster (enter_normal roster).roster
 unfolding enter_normal
 reach_enter_normal roster starts many =
     let steps = reaches_in_turn first_to_start begin_waiter IsBegun stays_begun reach_begin_waiter
     (length roster.records) (set_mode roster mode.Normal) (begun_normal roster starts) in
-    reaches_more (0 + length roster.records) 64 (omega (arith, many)) (reaches_then 0 (length roster.records) (reaches_set_mode roster mode.Normal refl) steps)
+    reaches_more (0 + length roster.records) 64 (omega (arith, many))
+    (reaches_then 0 (length roster.records) (reaches_set_mode roster mode.Normal refl) steps)

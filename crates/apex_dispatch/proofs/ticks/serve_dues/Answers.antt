@@ -1,6 +1,6 @@
-use Rattle.std.proofs.Common.{◌≡◌, ◌<◌, length, Some, ◌∙◌, arith, sym, ap, subst, length-append}
+use Rattle.std.proofs.Common.{◌≡◌, ◌<◌, length, Some, ◌∙◌, arith, sym, ap, length-append}
 use Rattle.apex_types.specs.Dues.{first_due}
-use Rattle.apex_types.specs.InTurn.{Changed, Makes}
+use Rattle.apex_types.specs.InTurn.{Makes}
 use Rattle.apex_types.specs.Stamps.{without_due, without_due_of}
 use Rattle.apex_types.specs.Ticks.{serve_due}
 use Rattle.apex_types.proofs.Dues.{first_due_within}
@@ -22,9 +22,12 @@ loop-turn-preserved g c =
     let before = c.loop-turn.invariant in
     let found : first_due old ≡ Some process = sym c.in-Some.ensures.value in
     let known : process < length old.records = first_due_within old process found in
-    let freed : g.S.Store.roster c.take_due.new.self ≡ without_due old process = c.in-Some.ensures.taken ∙ ap (without_due_of old) found in
-    let is = served_is old (g.S.Store.roster c.take_due.new.self) process c.record-wait.result.wait known freed (ap (λ (r : _). r.wait) c.record-wait.ensures) in
-    let makes = subst (λ (changed : Changed). Makes changed (g.S.Store.roster c.wait_over.new.store) c.loop-turn.notices c.wait_over.new.notices) is c.wait_over.ensures in
+    let freed : g.S.Store.roster c.take_due.new.self ≡ without_due old process =
+    c.in-Some.ensures.taken ∙ ap (without_due_of old) found in
+    let wait = ap (λ (r : _). r.wait) c.record-wait.ensures in
+    let is = served_is old (g.S.Store.roster c.take_due.new.self) process _ known freed wait in
+    let makes : Makes (serve_due old process) (g.S.Store.roster c.wait_over.new.store)
+    c.loop-turn.notices c.wait_over.new.notices = rw (← is) c.wait_over.ensures in
     let reaches = reach_serve_due old process before.starts found in
     record {
       rest = leads_on first_due serve_due _ _ _ old _ _ _ process before.rest found makes;

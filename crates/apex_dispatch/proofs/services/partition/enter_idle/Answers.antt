@@ -1,7 +1,6 @@
-use Rattle.std.proofs.Common.{◌≡◌, map, ◌∙◌, sym, ap, List, arith}
+use Rattle.std.proofs.Common.{◌≡◌, map, ◌∙◌, refl, sym, arith}
 use Rattle.std.proofs.lemmas.List.{ext_get_or, get_or-map, length-map}
-use Rattle.apex_types.specs.declared.Mode.TheVariants.{Idle}
-use Rattle.apex_types.specs.declared.Record.{Record}
+use Rattle.apex_types.specs.PartitionServices.{enter_idle}
 use Rattle.apex_types.specs.Roster.{nobody}
 use Rattle.apex_types.specs.Stamps.{stopped}
 use Rattle.apex_dispatch.proofs.services.partition.enter_idle.Goals as goal
@@ -15,4 +14,4 @@ returns g c =
     ext_get_or nobody new.records (map stopped old.records) (kept.many ∙ sym (length-map old.records stopped))
     (λ p within. kept.done p (omega (arith, within, kept.many, kept.end, c.loop-place-test.false))
     ∙ sym (get_or-map stopped old.records p nobody nobody (omega (arith, within, kept.many)))) in
-    kept.same ∙ ap (λ (rs : List Record). record old { mode = Idle; records = rs }) records
+    rw (kept.same, records) (refl {a = enter_idle old})

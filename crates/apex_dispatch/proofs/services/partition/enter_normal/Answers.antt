@@ -8,11 +8,13 @@ use Rattle.apex_dispatch.proofs.services.partition.enter_normal.Goals as goal
 
 pub returns-in-None : goal.returns-in-None
 returns-in-None g c =
-    made_by_none first_to_start begin_waiter _ _ _ _ _ _ c.loop-turn.invariant.rest (omega arith) (sym c.in-None.ensures.value)
+    made_by_none first_to_start begin_waiter _ _ _ _ _ _ c.loop-turn.invariant.rest
+    (omega arith) (sym c.in-None.ensures.value)
 
 pub begin_waiter-requires-clause-free : goal.begin_waiter-requires-clause-free
 begin_waiter-requires-clause-free g c =
-    first_may_wait (g.S.Store.roster c.loop-turn.store) c.loop-turn.invariant.begun.starts c.in-Some.process (sym c.in-Some.ensures.value)
+    first_may_wait (g.S.Store.roster c.loop-turn.store) c.loop-turn.invariant.begun.starts
+    c.in-Some.process (sym c.in-Some.ensures.value)
 
 pub loop-turn-preserved : goal.loop-turn-preserved
 loop-turn-preserved g c =
@@ -21,9 +23,10 @@ loop-turn-preserved g c =
     let before = c.loop-turn.invariant in
     let found : first_to_start old ≡ Some process = sym c.in-Some.ensures.value in
     let makes = c.begin_waiter.ensures in
+    let reaches = reach_begin_waiter old process before.begun found in
     record {
       rest = leads_on first_to_start begin_waiter _ _ _ old _ _ _ process before.rest found makes;
-      reaches = rw makes.roster (reaches_then c.loop-turn.turn 1 before.reaches (reach_begin_waiter old process before.begun found));
+      reaches = rw makes.roster (reaches_then c.loop-turn.turn 1 before.reaches reaches);
       begun = rw makes.roster (stays_begun old process before.begun found);
       end = before.end;
       room = rw (makes.notices, length-append) (omega (arith, few_starts old process, before.room));
