@@ -1,7 +1,7 @@
 -- What one entry more satisfies, and whose latest call it leaves: laws for things of all kinds.
-use Rattle.std.proofs.Common.{◌≡◌, ℕ, Bool, true, false, ◌&&◌, ◌==◌, List, [], ◌∷◌, ◌++◌, Option, None, Some, option_and_then, option_to_list, filter, flat_map, All, if◌then◌else◌, ◌⊎◌, inl, inr, refl, sym, ◌∙◌, ap, append_assoc, append-nil}
+use Rattle.std.proofs.Common.{◌≡◌, ℕ, Bool, true, false, ◌&&◌, ◌||◌, ◌==◌, List, [], ◌∷◌, ◌++◌, Option, None, Some, option_and_then, option_to_list, filter, flat_map, All, if◌then◌else◌, ◌⊎◌, inl, inr, refl, sym, ◌∙◌, ap, append_assoc, append-nil}
 use Rattle.std.specs.List.{list_any}
-use Rattle.std.proofs.lemmas.Bool.{eq-eqb, cases_Bool}
+use Rattle.std.proofs.lemmas.Bool.{eq-eqb, eqb-true, cases_Bool}
 use Rattle.std.proofs.lemmas.List.Elements.{All-nil, All-cons, All-head, All-tail, All-append, filter-append}
 use Rattle.std.proofs.lemmas.List.Sums.{fold-append}
 use Rattle.std.proofs.lemmas.Option.{none-some, same_Some}
@@ -14,6 +14,7 @@ use Rattle.apex_types.specs.declared.Notice.TheVariants.{Woken, Released}
 use Rattle.apex_types.specs.declared.CallerCall.TheVariants.{SuspendSelf}
 use Rattle.apex_types.specs.declared.ObjectCall.TheVariants.{Own}
 use Rattle.apex_types.specs.declared.SemaphoreService.TheVariants as semaphore
+use Rattle.apex_types.specs.declared.ReturnCode.TheVariants.{NoError}
 use Rattle.apex_types.specs.declared.TimeCall.TheVariants.{TimedWait}
 use Rattle.apex_types.specs.declared.Wait.{Wait}
 use Rattle.apex_types.specs.declared.Wait.TheVariants.{Time, Semaphore}
@@ -162,3 +163,10 @@ asked-push history e old new idle asked asks p w waits =
       ]
       | inr own ↦ pushed ∙ rw own.0 own.1
     ]
+
+-- one notice wakes nobody but its process
+pub woken_alone : (q p : ℕ) → wakes q (Woken p NoError ∷ []) ≡ true → q ≡ p
+woken_alone q p woken = eqb-true q p (only (q == p) woken) where
+  only : (b : Bool) → ((b && true) || false) ≡ true → b ≡ true
+  only true h = refl
+  only false h = h

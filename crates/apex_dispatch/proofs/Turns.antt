@@ -24,10 +24,10 @@ use Rattle.apex_types.proofs.Reaches.{Reaches, reaches_none, reaches_then, reach
 use Rattle.apex_types.proofs.Starts.{chosen_ready, ready_step}
 use Rattle.apex_dispatch.specs.AskedWaits.{asked_of, or_suspended, awaited}
 use Rattle.apex_dispatch.proofs.Effects.{frees_moved, frees_none}
-use Rattle.apex_dispatch.proofs.Exact.{AreKept, IsExact, exact_service, exact_uncalled}
+use Rattle.apex_dispatch.proofs.Exact.{AreKept, IsExact, serves_call, exact_uncalled}
 use Rattle.apex_dispatch.proofs.Known.{known_script_step}
 use Rattle.apex_dispatch.proofs.Satisfied.{IsIdle}
-use Rattle.apex_dispatch.proofs.Serving.{Scene, reach_service}
+use Rattle.apex_dispatch.proofs.Serving.{Scene}
 
 -- who is eligible waits for nothing that it asked for
 eligible_free : (mode : Mode) (r : Record) → is_eligible mode r ≡ true → awaited r ≡ None
@@ -72,11 +72,11 @@ module _ (table : Table) (lawful : IsLawful table) (history : List Entry) (who :
       let count = lawful.process_count in
       let few : length roster.records ≤ 64 = omega (arith, orderly.many, count) in
       let scene : Scene roster caller = record { starts = orderly.starts; one = orderly.one; few = few; ready = ready } in
+      let serves = serves_call table history roster orderly.kept caller scene (ready_idle roster caller ready) orderly.many call known in
       record {
-        reaches = reach_service table objects roster caller scene orderly.many call known;
+        reaches = serves.reaches;
         known = known;
-        exact = exact_service table history roster orderly.kept caller scene (ready_idle roster caller ready) orderly.many
-            call known (length history + 1) (service roster objects caller call).roster.now who;
+        exact = serves.exact (length history + 1) (service roster objects caller call).roster.now who;
       }
 
   module _ (roster : Roster) (orderly : IsOrderly table history roster) where

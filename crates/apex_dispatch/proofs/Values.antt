@@ -1,5 +1,5 @@
 -- What one entry more does to the objects that are read off the history.
-use Rattle.std.proofs.Common.{◌≡◌, ℕ, ◌+◌, ◌-◌, Bool, false, ◌||◌, Option, List, [], ◌∷◌, ◌++◌, All, count_by, if◌then◌else◌, filter, refl, ◌∙◌, ap, arith}
+use Rattle.std.proofs.Common.{◌≡◌, ℕ, ◌+◌, ◌-◌, ◌≤◌, Bool, false, ◌||◌, Option, List, [], ◌∷◌, ◌++◌, All, count_by, if◌then◌else◌, filter, refl, ◌∙◌, ap, arith}
 use Rattle.std.proofs.lemmas.List.Sums.{sum_by-append}
 use Rattle.std.proofs.lemmas.List.Folds.{list_any-append}
 use Rattle.apex_types.specs.declared.Call.{Call}
@@ -11,6 +11,7 @@ use Rattle.apex_types.specs.History.{creates, is_created}
 use Rattle.apex_types.specs.SemaphoreServices.{semaphore_after, SemaphoreObject}
 use Rattle.apex_dispatch.specs.AskedWaits.{Accounts, IsAccounted}
 use Rattle.apex_dispatch.proofs.Satisfied.{calls-push, filter_all}
+use Rattle.apex_dispatch.proofs.Things.{IsQuiet, IsRead}
 use Rattle.apex_dispatch.proofs.Truths.{or_false}
 
 -- one entry more creates what its call says
@@ -29,49 +30,42 @@ accounts_more initial v after calls more accounts balance =
     let signals = sum_by-append (λ (c : Call). if is_signal c then 1 else 0) calls more in
     omega (arith, waits, signals, accounts, balance)
 
--- semaphore s is this object after one entry more, whose value accounts for all its satisfied calls
-pub record IsAfter (s : ℕ) (entry : SemaphoreEntry) (history : List Entry) (e : Entry)
-    (object : SemaphoreObject) : Type 0 where
-  pub is : semaphore_after (history ++ e ∷ []) s entry ≡ object
-  pub enough : IsAccounted entry.initial s (history ++ e ∷ [])
+-- what a history keeps of semaphore s: its value accounts for all its satisfied calls, and is at most
+-- its maximum
+pub record KeepsSemaphore (history : List Entry) (s : ℕ) (entry : SemaphoreEntry) : Type 0 where
+  pub enough : IsAccounted entry.initial s history
+  pub bounded : semaphore_value entry.initial s history ≤ entry.maximum
 
--- the call names another thing than semaphore s
-abbrev pub IsElsewhere : ℕ → Call → Type 0
-IsElsewhere s c = names_semaphore s c ≡ false
+-- semaphore s after one entry more
+abbrev pub IsSemaphore : List Entry → Entry → ℕ → SemaphoreEntry → SemaphoreObject → Type 0
+IsSemaphore = IsRead semaphore_after KeepsSemaphore
 
--- the entry says nothing of semaphore s
-pub record IsQuiet (s : ℕ) (history : List Entry) (e : Entry) : Type 0 where
-  pub calls : All (IsElsewhere s) (satisfied_by history e)
-  pub create : creates created_semaphore s e ≡ false
-
-module _ (s : ℕ) (entry : SemaphoreEntry) (history : List Entry) (e : Entry)
-    (enough : IsAccounted entry.initial s history) where
+module _ (history : List Entry) (e : Entry) (s : ℕ) (entry : SemaphoreEntry) (keeps : KeepsSemaphore history s entry) where
   -- after an entry that satisfies these calls of it, a value that accounts for them is its value
   pub after_calls : (more : List Call) (v : ℕ) (created : Bool)
       → filter (names_semaphore s) (satisfied_by history e) ≡ more
       → (is_created created_semaphore s history || creates created_semaphore s e) ≡ created
-      → v + count_by is_wait more
-      ≡ semaphore_value entry.initial s history + count_by is_signal more
-      → IsAfter s entry history e (record { maximum = entry.maximum; created = created; value = v })
-  after_calls more v created is creates balance =
+      → v + count_by is_wait more ≡ semaphore_value entry.initial s history + count_by is_signal more
+      → v ≤ entry.maximum
+      → IsSemaphore history e s entry (record { maximum = entry.maximum; created = created; value = v })
+  after_calls more v created is creates balance below =
       let old = calls_where (names_semaphore s) history in
       let before = semaphore_value entry.initial s history in
-      let all = accounts_more entry.initial before v old more enough balance in
+      let all = accounts_more entry.initial before v old more keeps.enough balance in
       let calls : calls_where (names_semaphore s) (history ++ e ∷ []) ≡ old ++ more =
       calls-push (names_semaphore s) history e ∙ ap (λ c. old ++ c) is in
       let now = old ++ more in
-      let value : entry.initial + count_by is_signal now - count_by is_wait now ≡ v =
-      omega (arith, all) in
+      let value : entry.initial + count_by is_signal now - count_by is_wait now ≡ v = omega (arith, all) in
       record {
         is = rw (created-push created_semaphore s history e, creates, calls, value) refl;
-        enough = rw (calls, value) all;
+        kept = record { enough = rw (calls, value) all; bounded = rw (calls, value) below };
       }
 
   -- an entry that says nothing of it leaves it
-  pub after_quiet : IsQuiet s history e
-      → IsAfter s entry history e (semaphore_after history s entry)
+  pub after_quiet : IsQuiet names_semaphore created_semaphore s history e
+      → IsSemaphore history e s entry (semaphore_after history s entry)
   after_quiet quiet =
       let created = is_created created_semaphore s history in
       after_calls [] (semaphore_value entry.initial s history) created
       (filter_all (names_semaphore s) false (satisfied_by history e) quiet.calls)
-      (rw quiet.create (or_false created)) refl
+      (rw quiet.create (or_false created)) refl keeps.bounded

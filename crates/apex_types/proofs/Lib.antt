@@ -6,5 +6,6 @@ pub mod Orders
 pub mod DistinctStamps
 pub mod Starts
 pub mod Reaches
+pub mod Rows
 pub mod Dues
 pub mod Digits

@@ -1,0 +1,148 @@
+-- The services of no object: those of the partition, of time, and those that a process asks for itself.
+use Rattle.std.proofs.Common.{◌≡◌, ℕ, ◌≤◌, Bool, true, false, cond, List, [], ◌∷◌, ◌++◌, Option, None, Some, length, map, get_or, zero, suc, lit≤, refl, sym, ◌∙◌}
+use Rattle.std.proofs.lemmas.Bool.{both_ways}
+use Rattle.std.proofs.lemmas.List.Folds.{list_any-append}
+use Rattle.std.proofs.lemmas.Option.{none-some}
+use Rattle.apex_types.specs.declared.Call.{Call}
+use Rattle.apex_types.specs.declared.Call.TheVariants as call
+use Rattle.apex_types.specs.declared.Caller.{Caller}
+use Rattle.apex_types.specs.declared.Caller.TheVariants.{Process, Init, Nobody}
+use Rattle.apex_types.specs.declared.CallerCall.{CallerCall}
+use Rattle.apex_types.specs.declared.CallerCall.TheVariants.{StopSelf, SuspendSelf, GetMyId, GetMyProcessorCoreId}
+use Rattle.apex_types.specs.declared.Mode.TheVariants as mode
+use Rattle.apex_types.specs.declared.Notice.{Notice}
+use Rattle.apex_types.specs.declared.PartitionCall.{PartitionCall}
+use Rattle.apex_types.specs.declared.PartitionCall.TheVariants.{SetPartitionMode, GetPartitionStatus}
+use Rattle.apex_types.specs.declared.Record.{Record}
+use Rattle.apex_types.specs.declared.RequestedMode.TheVariants as requested
+use Rattle.apex_types.specs.declared.Reply.{Reply}
+use Rattle.apex_types.specs.declared.Reply.TheVariants.{Code}
+use Rattle.apex_types.specs.declared.ReturnCode.{ReturnCode}
+use Rattle.apex_types.specs.declared.TimeCall.{TimeCall}
+use Rattle.apex_types.specs.declared.TimeCall.TheVariants.{TimedWait, GetTime}
+use Rattle.apex_types.specs.declared.Timeout.{Timeout}
+use Rattle.apex_types.specs.declared.Timeout.TheVariants.{Poll, Ticks, Infinite}
+use Rattle.apex_types.specs.declared.Wait.TheVariants.{Time}
+use Rattle.apex_types.specs.Callers.{IsReady}
+use Rattle.apex_types.specs.CallerServices as callers
+use Rattle.apex_types.specs.Dues.{due_after}
+use Rattle.apex_types.specs.PartitionServices as partitions
+use Rattle.apex_types.specs.Roster.{Roster, nobody, record_at, is_normal}
+use Rattle.apex_types.specs.Rows.{Outcome, told, refused}
+use Rattle.apex_types.specs.Satisfied.{is_no_error}
+use Rattle.apex_types.specs.Stamps as stamps
+use Rattle.apex_types.specs.Ticks.{begin_notices}
+use Rattle.apex_types.specs.TimeServices as times
+use Rattle.apex_types.proofs.Dues.{due_later}
+use Rattle.apex_types.proofs.InTurn.{holds_in_turn}
+use Rattle.apex_types.proofs.Reaches.{reaches_more, reaches_stop, reaches_suspend_self, reaches_place_newest, reaches_enter_idle}
+use Rattle.apex_types.proofs.Rows.{by_guard, by_caller}
+use Rattle.apex_dispatch.specs.AskedWaits.{awaited}
+use Rattle.apex_dispatch.proofs.Begun.{reach_enter_normal}
+use Rattle.apex_dispatch.proofs.Effects.{Frees, frees_none, frees_then, frees_moved, asks_waiting}
+use Rattle.apex_dispatch.proofs.ProcessesServe.{begin_frees, begin_quiet, stop_frees}
+use Rattle.apex_dispatch.proofs.Satisfied.{is_waking}
+use Rattle.apex_dispatch.proofs.Serving.{Scene, Serves, ServesBy, AreQuiet, few, ready_started, ready_normal, serves_freed, serves_same, serves_blocked}
+
+-- the entry into NORMAL wakes nobody, and nobody waits afterwards for what he asked for who did not before
+record Spares (old new : Roster) (notices : List Notice) : Type 0 where
+  frees : Frees old new
+  quiet : AreQuiet notices
+
+enter_spares : (roster : Roster) → Spares roster (partitions.enter_normal roster).roster (partitions.enter_normal roster).notices
+unfolding partitions.enter_normal
+enter_spares roster =
+    holds_in_turn partitions.first_to_start partitions.begin_waiter (Spares roster)
+    (λ r notices p is holds.
+    let delay = partitions.delay_of (record_at r p).wait in
+    record {
+      frees = frees_then holds.frees (begin_frees r p delay);
+      quiet = λ q. list_any-append (is_waking q) notices (begin_notices p delay)
+          ∙ rw (holds.quiet q, begin_quiet p delay q) refl;
+    })
+    (length roster.records) (stamps.set_mode roster mode.Normal) []
+    (record { frees = record { still = λ q w h. h }; quiet = λ q. refl })
+
+-- in IDLE nobody waits
+stopped_free : (rs : List Record) (p : ℕ) → awaited (get_or (map stamps.stopped rs) p nobody) ≡ None
+stopped_free [] p = refl
+stopped_free (r ∷ rs) zero = refl
+stopped_free (r ∷ rs) (suc p) = stopped_free rs p
+
+-- what a service of no object keeps: whom it wakes with NO_ERROR had waited for time, and all objects stay
+pub record ServesNone {X : Type 0} (roster : Roster) (objects : X) (caller : Caller) (call : Call) (o : Outcome X) : Type 0 where
+  pub serves : ServesBy roster caller call Time o
+  pub stays : o.object ≡ objects
+
+module _ {X : Type 0} (roster : Roster) (objects : X) (caller : Caller) (scene : Scene roster caller) where
+  abbrev Served : Call → Outcome X → Type 0
+  Served = ServesNone roster objects caller
+
+  served : (call : Call) (new : Roster) (reply : Reply) (notices : List Notice) → Serves roster caller call Time new notices
+      → Served call (record { roster = new; object = objects; reply = reply; notices = notices })
+  served call new reply notices serves = record { serves = serves; stays = refl }
+
+  same : (call : Call) (reply : Reply) → Served call (told roster objects reply)
+  same call reply = served call roster reply [] (serves_same roster caller call Time)
+
+  served_refused : (call : Call) (code : ReturnCode) → is_no_error code ≡ false → Served call (refused roster objects code)
+  served_refused call code bad = same call (Code code)
+
+  pub served_partition : (asked : PartitionCall) → Served (call.Partition asked) (partitions.partition_service roster objects asked)
+  served_partition (SetPartitionMode requested.Idle) =
+      served _ _ _ _ (serves_freed roster caller (call.Partition (SetPartitionMode requested.Idle)) Time (partitions.enter_idle roster) []
+      (reaches_more 0 64 (lit≤ tt) (reaches_enter_idle roster))
+      (record { still = λ q w h. absurd (none-some w (sym (stopped_free roster.records q) ∙ h)) }) (λ q. refl))
+  served_partition (SetPartitionMode requested.Normal) =
+      let asked = call.Partition (SetPartitionMode requested.Normal) in
+      let entered = partitions.enter_normal roster in
+      let spares = enter_spares roster in
+      by_guard roster objects (Served asked) (served_refused asked) (is_normal roster.mode) _ _ refl (λ _.
+      served _ _ _ _ (serves_freed roster caller asked Time entered.roster entered.notices
+      (reach_enter_normal roster scene.starts scene.few) spares.frees spares.quiet))
+  served_partition GetPartitionStatus = same (call.Partition GetPartitionStatus) _
+
+  -- a process that asks
+  module _ (p : ℕ) (by : caller ≡ Process p) (ready : IsReady roster p) where
+    served_suspended : (timeout : Timeout) → Served (call.Caller (SuspendSelf timeout)) (callers.suspended_for roster objects p timeout)
+    served_suspended timeout =
+        let due = due_after roster timeout in
+        let r : Record = record (stamps.self_suspended (record_at roster p) due) { since = roster.young } in
+        served _ _ _ _ (record {
+          reaches = few (reaches_suspend_self roster p ready.known due (due_later roster timeout)
+              (ready_started roster p ready) (ready_normal roster p ready));
+          asks = rw by (asks_waiting p (call.Caller (SuspendSelf timeout)) Time r roster
+              (stamps.suspend_self roster p due) refl refl refl);
+          woken = λ q woken. absurd (both_ways false refl woken);
+        })
+
+    served_itself : (asked : CallerCall) → Served (call.Caller asked) (callers.service_by roster objects asked p)
+    served_itself StopSelf =
+        served _ _ _ _ (serves_freed roster caller (call.Caller StopSelf) Time (stamps.stop roster p) []
+        (few (reaches_stop roster p ready.known)) (stop_frees roster p) (λ q. refl))
+    served_itself (SuspendSelf Poll) = same (call.Caller (SuspendSelf Poll)) _
+    served_itself (SuspendSelf (Ticks n)) = served_suspended (Ticks n)
+    served_itself (SuspendSelf Infinite) = served_suspended Infinite
+    served_itself GetMyId = same (call.Caller GetMyId) _
+    served_itself GetMyProcessorCoreId = same (call.Caller GetMyProcessorCoreId) _
+
+    served_timed_wait : (timeout : Timeout) → Served (call.Time (TimedWait timeout)) (times.timed_wait roster objects timeout p)
+    served_timed_wait Poll =
+        let r : Record = record (record_at roster p) { since = roster.young } in
+        served _ _ _ _ (serves_freed roster caller (call.Time (TimedWait Poll)) Time (stamps.place_newest roster p) []
+        (few (reaches_place_newest roster p ready.known))
+        (frees_moved roster (stamps.place_newest roster p) p r refl (λ w h. h)) (λ q. refl))
+    served_timed_wait (Ticks n) =
+        served _ _ _ _ (rw by (serves_blocked roster p ready (call.Time (TimedWait (Ticks n))) Time Time (Ticks n) refl refl))
+    served_timed_wait Infinite = same (call.Time (TimedWait Infinite)) _
+
+  pub served_caller : (asked : CallerCall) → Served (call.Caller asked) (callers.caller_service roster objects caller asked)
+  served_caller asked =
+      by_caller roster objects (Served (call.Caller asked)) (served_refused (call.Caller asked)) caller _
+      (λ p by. served_itself p by (rw by at scene.ready) asked)
+
+  pub served_time : (asked : TimeCall) → Served (call.Time asked) (times.time_service roster objects caller asked)
+  served_time (TimedWait timeout) =
+      by_caller roster objects (Served (call.Time (TimedWait timeout))) (served_refused (call.Time (TimedWait timeout))) caller _
+      (λ p by. served_timed_wait p by (rw by at scene.ready) timeout)
+  served_time GetTime = same (call.Time GetTime) _

@@ -1,0 +1,256 @@
+-- Processes as objects of a kind: what their services keep.
+use Rattle.std.proofs.Common.{◌≡◌, ◌≢◌, ℕ, ◌+◌, ◌<◌, Bool, true, false, ◌&&◌, ◌||◌, ◌==◌, cond, not, nat_le, nat_lt, is_none, is_some, List, [], ◌∷◌, ◌++◌, Option, None, Some, All, length, set, lit≤, refl, sym, ap, ◌∙◌}
+use Rattle.std.proofs.lemmas.Bool.{both_ways, cond_both, not-false}
+use Rattle.std.proofs.lemmas.List.Elements.{All-nil, All-cons}
+use Rattle.std.proofs.lemmas.Option.{none-some}
+use Rattle.apex_types.specs.declared.Call.{Call}
+use Rattle.apex_types.specs.declared.Call.TheVariants as call
+use Rattle.apex_types.specs.declared.Caller.{Caller}
+use Rattle.apex_types.specs.declared.Entry.{Entry}
+use Rattle.apex_types.specs.declared.Notice.{Notice}
+use Rattle.apex_types.specs.declared.Notice.TheVariants.{Released, Woken}
+use Rattle.apex_types.specs.declared.ObjectCall.TheVariants.{Own}
+use Rattle.apex_types.specs.declared.ProcessService.{ProcessService}
+use Rattle.apex_types.specs.declared.ProcessService.TheVariants.{InitializeCoreAffinity, SetPriority, Start, DelayedStart, Stop, Suspend, Resume}
+use Rattle.apex_types.specs.declared.Queue.TheVariants as queues
+use Rattle.apex_types.specs.declared.Record.{Record}
+use Rattle.apex_types.specs.declared.Reply.{Reply}
+use Rattle.apex_types.specs.declared.Reply.TheVariants.{Code}
+use Rattle.apex_types.specs.declared.ReturnCode.{ReturnCode}
+use Rattle.apex_types.specs.declared.ReturnCode.TheVariants.{NoError}
+use Rattle.apex_types.specs.declared.Suspender.TheVariants.{Other}
+use Rattle.apex_types.specs.declared.Timeout.{Timeout}
+use Rattle.apex_types.specs.declared.Timeout.TheVariants.{Poll}
+use Rattle.apex_types.specs.declared.Wait.{Wait}
+use Rattle.apex_types.specs.declared.Wait.TheVariants.{Normal, Start as ForStart, Time}
+use Rattle.apex_types.specs.Calls.{created_process}
+use Rattle.apex_types.specs.Callers.{is_by_process}
+use Rattle.apex_types.specs.History.{creates, is_created}
+use Rattle.apex_types.specs.ProcessServices as services
+use Rattle.apex_types.specs.ProcessServices.{ProcessObject, process_after, process_kind}
+use Rattle.apex_types.specs.Roster.{Roster, record_at, with_record, is_normal}
+use Rattle.apex_types.specs.Rows.{Outcome, refused, accepted}
+use Rattle.apex_types.specs.Running.{is_eligible}
+use Rattle.apex_types.specs.Satisfied.{is_no_error, satisfied_by}
+use Rattle.apex_types.specs.Stamps as stamps
+use Rattle.apex_types.specs.Table.{ProcessEntry, no_process}
+use Rattle.apex_types.specs.Ticks.{begin_notices}
+use Rattle.apex_types.specs.Waiters.{queue_in, goes_by_priority}
+use Rattle.apex_types.proofs.Reaches.{Reaches, reaches_more, reaches_set_core, reaches_set_priority, reaches_start, reaches_stop, reaches_suspend, reaches_resume}
+use Rattle.apex_types.proofs.Rows.{by_guard}
+use Rattle.apex_types.proofs.Starts.{waitless_queue}
+use Rattle.apex_dispatch.specs.AskedWaits.{asked_of, awaited, or_suspended, AreAsked}
+use Rattle.apex_dispatch.proofs.Effects.{Frees, frees_then, frees_moved, frees_changed, frees_lessened, frees_unblock, asks_freed, awake_free}
+use Rattle.apex_dispatch.proofs.Satisfied.{wakes, woken_alone}
+use Rattle.apex_dispatch.proofs.Serving.{Scene, Serves, AreQuiet, few, serves_same, serves_freed}
+use Rattle.apex_dispatch.proofs.Things.{LawsOf, ServesOne, IsRead, IsQuiet}
+use Rattle.apex_dispatch.proofs.Truths.{or_false, or_true}
+use Rattle.apex_dispatch.proofs.Values.{created-push}
+
+-- no call names a process of which its object would keep a value
+abbrev pub unnamed : ℕ → Call → Bool
+unnamed p c = false
+
+-- a history keeps nothing of a process but that it is created
+abbrev pub KeepsProcess : List Entry → ℕ → ProcessEntry → Type 0
+KeepsProcess history p entry = Unit {0}
+
+all_unnamed : (p : ℕ) (calls : List Call) → All (λ c. unnamed p c ≡ false) calls
+all_unnamed p [] = All-nil (λ c. unnamed p c ≡ false)
+all_unnamed p (c ∷ calls) = All-cons (λ c. unnamed p c ≡ false) c calls refl (all_unnamed p calls)
+
+pub process_stays : (history : List Entry) (e : Entry) (p : ℕ) (entry : ProcessEntry) → creates created_process p e ≡ false
+    → IsRead process_after KeepsProcess history e p entry (process_after history p entry)
+process_stays history e p entry none = record {
+  is = rw (created-push created_process p history e, none, or_false (is_created created_process p history)) refl;
+  kept = tt;
+}
+
+-- a start that begins, or waits, makes nobody wait for what he asked for
+pub begin_quiet : (p delay : ℕ) → AreQuiet (begin_notices p delay)
+begin_quiet p delay =
+    cond_both {A = List Notice} (delay == 0) (Released p ∷ []) [] AreQuiet (λ _ q. refl) (λ _ q. refl)
+
+blocked_frees : (roster : Roster) (p : ℕ) (wait : Wait) (due : Option ℕ) → asked_of (Some wait) ≡ None
+    → Frees roster (stamps.block roster p wait due)
+blocked_frees roster p wait due plain =
+    let awake = stamps.suspension_awake (record_at roster p).suspended in
+    let r : Record = record (stamps.waiting (record_at roster p) wait due) { since = roster.young } in
+    frees_changed roster (stamps.block roster p wait due) p r refl
+    (ap (λ asked. or_suspended asked (stamps.is_by_itself awake)) plain ∙ awake_free (record_at roster p).suspended)
+
+pub begin_frees : (roster : Roster) (p delay : ℕ) → Frees roster (stamps.begin roster p delay)
+begin_frees roster p delay =
+    let due = Some (roster.now + delay) in
+    cond_both {A = Roster} (delay == 0) (stamps.release roster p) (stamps.block roster p ForStart due) (Frees roster)
+    (λ _. frees_unblock roster p) (λ _. blocked_frees roster p ForStart due refl)
+
+-- who is suspended no longer, or by another, waits for no more than before
+suspended_less : (wait : Option Wait) (by_itself : Bool) (w : Wait)
+    → or_suspended (asked_of wait) false ≡ Some w → or_suspended (asked_of wait) by_itself ≡ Some w
+suspended_less wait by_itself w h = by_asked (asked_of wait) h where
+  by_asked : (asked : Option Wait) → or_suspended asked false ≡ Some w → or_suspended asked by_itself ≡ Some w
+  by_asked (Some v) h = h
+  by_asked None h = absurd (none-some w h)
+
+module _ (roster : Roster) (p : ℕ) where
+  abbrev r : Record
+  r = record_at roster p
+
+  start_frees : (delay : ℕ) → Frees roster (stamps.start roster p delay)
+  start_frees delay =
+      let fresh = with_record roster p (stamps.reset r) in
+      frees_then (frees_moved roster fresh p (stamps.reset r) refl (suspended_less r.wait (stamps.is_by_itself r.suspended)))
+      (cond_both {A = Roster} (is_normal roster.mode) (stamps.begin fresh p delay) (stamps.block fresh p (Normal delay) None) (Frees fresh)
+      (λ _. begin_frees fresh p delay) (λ _. blocked_frees fresh p (Normal delay) None refl))
+
+  start_quiet : (delay : ℕ) → AreQuiet (services.start_notices roster p delay)
+  start_quiet delay =
+      cond_both {A = List Notice} (is_normal roster.mode) (begin_notices p delay) [] AreQuiet
+      (λ _. begin_quiet p delay) (λ _ q. refl)
+
+  priority_frees : (priority : ℕ) → Frees roster (stamps.set_priority roster p priority)
+  priority_frees priority =
+      let changed : Record = record r { base = priority } in
+      cond_both {A = Roster} (is_eligible roster.mode r || goes_by_priority roster (queue_in r))
+      (stamps.newest roster p changed) (with_record roster p changed) (Frees roster)
+      (λ _. frees_moved roster (stamps.newest roster p changed) p (record changed { since = roster.young }) refl (λ w h. h))
+      (λ _. frees_moved roster (with_record roster p changed) p changed refl (λ w h. h))
+
+  pub stop_frees : Frees roster (stamps.stop roster p)
+  stop_frees = frees_changed roster (stamps.stop roster p) p (stamps.stopped r) refl refl
+
+  suspend_frees : Frees roster (stamps.suspend roster p)
+  suspend_frees =
+      frees_moved roster (stamps.suspend roster p) p (record r { suspended = Some Other }) refl
+      (suspended_less r.wait (stamps.is_by_itself r.suspended))
+
+  -- RESUME
+  module _ (caller : Caller) (call : Call) (scene : Scene roster caller) (known : p < length roster.records) (started : r.started ≡ true) where
+    -- before NORMAL nobody that is started has suspended itself
+    itself_normal : stamps.is_by_itself r.suspended ≡ true → is_normal roster.mode ≡ false → ⊥
+    itself_normal by e = waitless_queue r queues.Normal (scene.one p by) (scene.starts.early e p started)
+
+    resume_asks : (by_itself : Bool) → stamps.is_by_itself r.suspended ≡ by_itself
+        → Frees roster (cond by_itself (stamps.unblock roster p) (stamps.readied roster p (stamps.unsuspended r)))
+    resume_asks true is = frees_unblock roster p
+    resume_asks false is = frees_lessened roster p (stamps.unsuspended r) (λ w h. rw is h)
+
+    resume_woken : (by_itself : Bool) → stamps.is_by_itself r.suspended ≡ by_itself → (q : ℕ)
+        → wakes q (cond by_itself (Woken p NoError ∷ []) []) ≡ true → awaited (record_at roster q) ≡ Some Time
+    resume_woken true is q woken =
+        let free = scene.one p is in
+        ap (λ (k : ℕ). awaited (record_at roster k)) (woken_alone q p woken) ∙ rw (free, is) refl
+    resume_woken false is q woken = absurd (both_ways false refl woken)
+
+    serves_resume : Serves roster caller call Time (stamps.resume roster p) (services.resume_notices roster p)
+    serves_resume = record {
+      reaches = few (reaches_resume roster p known itself_normal);
+      asks = asks_freed caller (Some call) roster (stamps.resume roster p) (resume_asks (stamps.is_by_itself r.suspended) refl);
+      woken = resume_woken (stamps.is_by_itself r.suspended) refl;
+    }
+
+module _ (history : List Entry) (roster : Roster) (caller : Caller) (p : ℕ) (entry : ProcessEntry)
+    (scene : Scene roster caller) (known : p < length roster.records) where
+  abbrev process : ProcessObject
+  process = process_after history p entry
+
+  abbrev asks_for : ProcessService → Call
+  asks_for service = call.Process (Own p service)
+
+  abbrev Served : ProcessService → Outcome ProcessObject → Type 0
+  Served service o = ServesOne process_after KeepsProcess history roster caller (asks_for service) Time p entry o
+
+  -- the process's object stays
+  served : (service : ProcessService) (new : Roster) (reply : Reply) (notices : List Notice)
+      → Serves roster caller (asks_for service) Time new notices
+      → Served service (record { roster = new; object = process; reply = reply; notices = notices })
+  served service new reply notices serves = record {
+    serves = serves;
+    read = λ number now who. process_stays history _ p entry refl;
+  }
+
+  -- nobody is woken, and nobody waits who did not wait before
+  served_freed : (service : ProcessService) (new : Roster) (notices : List Notice) → Reaches 64 roster new → Frees roster new
+      → AreQuiet notices → Served service (accepted new process notices)
+  served_freed service new notices reaches frees quiet =
+      served service new (Code NoError) notices (serves_freed roster caller (asks_for service) Time new notices reaches frees quiet)
+
+  served_refused : (service : ProcessService) (code : ReturnCode) → is_no_error code ≡ false → Served service (refused roster process code)
+  served_refused service code bad = served service roster (Code code) [] (serves_same roster caller (asks_for service) Time)
+
+  -- one guard of a row
+  guard : (service : ProcessService) (holds : Bool) (code : ReturnCode) (rest : Outcome ProcessObject) → is_no_error code ≡ false
+      → (holds ≡ false → Served service rest) → Served service (cond holds (refused roster process code) rest)
+  guard service = by_guard roster process (Served service) (served_refused service)
+
+  served_start : (service : ProcessService) (delay : Timeout) → Served service (services.start_process roster process p delay)
+  served_start service delay =
+      let ticks = services.delay_ticks delay in
+      guard service (not process.created) _ _ refl (λ _.
+      guard service (record_at roster p).started _ _ refl (λ _.
+      guard service (services.is_infinite delay) _ _ refl (λ _.
+      served_freed service (stamps.start roster p ticks) (services.start_notices roster p ticks)
+      (few (reaches_start roster p known ticks)) (start_frees roster p ticks) (start_quiet roster p ticks))))
+
+  pub served_own : (service : ProcessService) → Served service (services.process_own roster process p caller service)
+  served_own (InitializeCoreAffinity core) =
+      let service = InitializeCoreAffinity core in
+      guard service (is_normal roster.mode) _ _ refl (λ _.
+      guard service (not process.created) _ _ refl (λ _.
+      guard service (not (nat_lt core roster.cores)) _ _ refl (λ _.
+      let r : Record = record (record_at roster p) { core = core } in
+      served_freed service (stamps.set_core roster p core) []
+      (reaches_more 0 64 (lit≤ tt) (reaches_set_core roster p known core))
+      (frees_moved roster (stamps.set_core roster p core) p r refl (λ w h. h)) (λ q. refl))))
+  served_own (SetPriority priority) =
+      let service = SetPriority priority in
+      guard service (not process.created) _ _ refl (λ _.
+      guard service (not (nat_le 1 priority && nat_le priority 239)) _ _ refl (λ _.
+      guard service (not (record_at roster p).started) _ _ refl (λ _.
+      served_freed service (stamps.set_priority roster p priority) []
+      (few (reaches_set_priority roster p known priority)) (priority_frees roster p priority) (λ q. refl))))
+  served_own Start = served_start Start Poll
+  served_own (DelayedStart delay) = served_start (DelayedStart delay) delay
+  served_own Stop =
+      guard Stop (is_by_process p caller) _ _ refl (λ _.
+      guard Stop (not process.created) _ _ refl (λ _.
+      guard Stop (not (record_at roster p).started) _ _ refl (λ _.
+      served_freed Stop (stamps.stop roster p) [] (few (reaches_stop roster p known)) (stop_frees roster p) (λ q. refl))))
+  served_own Suspend =
+      guard Suspend (is_by_process p caller) _ _ refl (λ _.
+      guard Suspend (not process.created) _ _ refl (λ _.
+      guard Suspend (not (record_at roster p).started) _ _ refl (λ _.
+      guard Suspend (is_some (record_at roster p).suspended) _ _ refl (λ _.
+      served_freed Suspend (stamps.suspend roster p) []
+      (reaches_more 0 64 (lit≤ tt) (reaches_suspend roster p known)) (suspend_frees roster p) (λ q. refl)))))
+  served_own Resume =
+      guard Resume (is_by_process p caller) _ _ refl (λ _.
+      guard Resume (not process.created) _ _ refl (λ _.
+      guard Resume (not (record_at roster p).started) _ _ refl (λ active.
+      guard Resume (is_none (record_at roster p).suspended) _ _ refl (λ _.
+      served Resume (stamps.resume roster p) (Code NoError) (services.resume_notices roster p)
+      (serves_resume roster p caller (asks_for Resume) scene known (not-false _ active))))))
+
+-- processes are objects of a kind
+abbrev pub process_laws : LawsOf process_kind
+process_laws = record {
+  to = call.Process;
+  names = unnamed;
+  creation = created_process;
+  nothing = no_process;
+  wait = λ p. Time;
+  Keeps = KeepsProcess;
+  Stands = λ roster p. p < length roster.records;
+  created = λ call. refl;
+  named = λ call j e. refl;
+  awaited = λ c i j is apart. refl;
+  status = λ roster x i. refl;
+  stays = λ history e p entry keeps quiet. process_stays history e p entry quiet.create;
+  makes = λ history e p entry keeps alone made. record {
+    is = rw (created-push created_process p history e, made, or_true (is_created created_process p history)) refl;
+    kept = tt;
+  };
+  own = λ history roster caller p entry service keeps asked scene stands.
+      served_own history roster caller p entry scene stands service;
+}

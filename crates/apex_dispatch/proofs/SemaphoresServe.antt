@@ -1,0 +1,162 @@
+-- Semaphores: what their services keep, and what an entry does to their values.
+use Rattle.std.proofs.Common.{◌≡◌, ◌≢◌, ℕ, ◌+◌, ◌-◌, ◌≤◌, Bool, true, false, ◌||◌, ◌==◌, cond, not, nat_lt, List, [], ◌∷◌, ◌++◌, Option, None, Some, All, count_by, filter, flat_map, refl, sym, ap, ◌∙◌, arith}
+use Rattle.std.proofs.lemmas.Bool.{cond_both, eq-eqb, ltb-true, not-false}
+use Rattle.std.proofs.lemmas.List.Elements.{All-nil, All-cons}
+use Rattle.apex_types.specs.declared.Call.{Call}
+use Rattle.apex_types.specs.declared.Call.TheVariants as call
+use Rattle.apex_types.specs.declared.Caller.{Caller}
+use Rattle.apex_types.specs.declared.Caller.TheVariants.{Process}
+use Rattle.apex_types.specs.declared.Entry.{Entry}
+use Rattle.apex_types.specs.declared.Named.TheVariants.{Known}
+use Rattle.apex_types.specs.declared.Notice.{Notice}
+use Rattle.apex_types.specs.declared.Notice.TheVariants.{Woken}
+use Rattle.apex_types.specs.declared.ObjectCall.{ObjectCall}
+use Rattle.apex_types.specs.declared.ObjectCall.TheVariants.{Create, Own}
+use Rattle.apex_types.specs.declared.Queue.TheVariants as queues
+use Rattle.apex_types.specs.declared.Reply.{Reply}
+use Rattle.apex_types.specs.declared.Reply.TheVariants.{Code, Blocked}
+use Rattle.apex_types.specs.declared.ReturnCode.{ReturnCode}
+use Rattle.apex_types.specs.declared.ReturnCode.TheVariants.{NoError, NotAvailable}
+use Rattle.apex_types.specs.declared.SemaphoreService.{SemaphoreService}
+use Rattle.apex_types.specs.declared.SemaphoreService.TheVariants.{Wait, Signal}
+use Rattle.apex_types.specs.declared.Timeout.{Timeout}
+use Rattle.apex_types.specs.declared.Timeout.TheVariants.{Poll, Ticks, Infinite}
+use Rattle.apex_types.specs.declared.Wait.TheVariants.{Semaphore}
+use Rattle.apex_types.specs.declared.Who.{Who}
+use Rattle.apex_types.specs.Calls.{created_semaphore, names_semaphore, is_wait, is_signal}
+use Rattle.apex_types.specs.Callers.{IsReady}
+use Rattle.apex_types.specs.History.{creates, is_created}
+use Rattle.apex_types.specs.Roster.{Roster}
+use Rattle.apex_types.specs.Rows.{Outcome, told, refused, accepted, by_process}
+use Rattle.apex_types.specs.Satisfied.{is_no_error, answered_by, satisfied_by}
+use Rattle.apex_types.specs.SemaphoreServices.{SemaphoreObject, semaphore_after, semaphore_kind, semaphore_own, wait_semaphore, signal_semaphore, signal_to}
+use Rattle.apex_types.specs.Stamps.{unblock}
+use Rattle.apex_types.specs.Table.{SemaphoreEntry, no_semaphore}
+use Rattle.apex_types.specs.Waiters.{first_waiter}
+use Rattle.apex_types.specs.Waiting.{blocked, wait_for}
+use Rattle.apex_types.proofs.Reaches.{reaches_unblock}
+use Rattle.apex_types.proofs.Rows.{by_guard, by_caller}
+use Rattle.apex_types.proofs.Starts.{first_stands, first_within, queued_normal}
+use Rattle.apex_dispatch.specs.AskedWaits.{begins, AreAsked}
+use Rattle.apex_dispatch.proofs.Effects.{asks_freed, first_waits, frees_unblock}
+use Rattle.apex_dispatch.proofs.Satisfied.{begins_names, begins_wait, filter_all, handed_one, woken_alone}
+use Rattle.apex_dispatch.proofs.Serving.{Scene, Serves, few, serves_same, serves_blocked}
+use Rattle.apex_dispatch.proofs.Things.{LawsOf, ServesOne, IsRead, IsQuiet, entry_with, quiet_told}
+use Rattle.apex_dispatch.proofs.Truths.{or_false, or_true, other}
+use Rattle.apex_dispatch.proofs.Values.{KeepsSemaphore, after_calls, after_quiet}
+
+module _ (history : List Entry) (roster : Roster) (caller : Caller) (s : ℕ) (entry : SemaphoreEntry)
+    (keeps : KeepsSemaphore history s entry) (asked : AreAsked roster history) (scene : Scene roster caller) where
+  abbrev semaphore : SemaphoreObject
+  semaphore = semaphore_after history s entry
+
+  abbrev asks_for : SemaphoreService → Call
+  asks_for service = call.Semaphore (Own s service)
+
+  abbrev Served : SemaphoreService → Outcome SemaphoreObject → Type 0
+  Served service o = ServesOne semaphore_after KeepsSemaphore history roster caller (asks_for service) (Semaphore s) s entry o
+
+  served_refused : (service : SemaphoreService) (code : ReturnCode) → is_no_error code ≡ false → Served service (refused roster semaphore code)
+  served_refused service code bad = record {
+    serves = serves_same roster caller (asks_for service) (Semaphore s);
+    read = λ number now who. after_quiet history _ s entry keeps
+        (quiet_told names_semaphore created_semaphore s history number now who caller (asks_for service) (Code code) bad);
+  }
+
+  -- an accepted call that wakes nobody
+  read_alone : (service : SemaphoreService) (v : ℕ) (number now : ℕ) (who : Who)
+      → v + count_by is_wait (asks_for service ∷ []) ≡ semaphore.value + count_by is_signal (asks_for service ∷ [])
+      → v ≤ entry.maximum
+      → IsRead semaphore_after KeepsSemaphore history (entry_with number now who caller (asks_for service) (Code NoError) []) s entry
+      (record semaphore { value = v })
+  read_alone service v number now who balance below =
+      after_calls history _ s entry keeps (asks_for service ∷ []) v semaphore.created
+      (rw (eq-eqb s s refl) refl) (or_false semaphore.created) balance below
+
+  -- a wait, by its process
+  module _ (p : ℕ) (by : caller ≡ Process p) (ready : IsReady roster p) where
+    served_blocked : (timeout : Timeout) → Served (Wait timeout) (blocked roster semaphore p (Semaphore s) timeout)
+    served_blocked timeout = record {
+      serves = rw by (serves_blocked roster p ready (asks_for (Wait timeout)) (Semaphore s) (Semaphore s) timeout refl refl);
+      read = λ number now who. after_quiet history _ s entry keeps
+          (quiet_told names_semaphore created_semaphore s history number now who caller (asks_for (Wait timeout)) Blocked refl);
+    }
+
+    served_at_zero : (timeout : Timeout) → Served (Wait timeout) (wait_for roster semaphore p (Semaphore s) timeout)
+    served_at_zero Poll = served_refused (Wait Poll) NotAvailable refl
+    served_at_zero (Ticks n) = served_blocked (Ticks n)
+    served_at_zero Infinite = served_blocked Infinite
+
+    served_wait : (timeout : Timeout)
+        → Served (Wait timeout) (cond (nat_lt 0 semaphore.value) (accepted roster (record semaphore { value = semaphore.value - 1 }) [])
+        (wait_for roster semaphore p (Semaphore s) timeout))
+    served_wait timeout =
+        cond_both {A = Outcome SemaphoreObject} (nat_lt 0 semaphore.value) _ _ (Served (Wait timeout))
+        (λ positive. record {
+          serves = serves_same roster caller (asks_for (Wait timeout)) (Semaphore s);
+          read = λ number now who. read_alone (Wait timeout) (semaphore.value - 1) number now who
+              (omega (arith, ltb-true 0 _ positive)) (omega (arith, keeps.bounded));
+        })
+        (λ _. served_at_zero timeout)
+
+  -- a signal that is handed to the first waiter satisfies itself and then that wait
+  served_woken : (p : ℕ) → first_waiter roster (queues.Semaphore s) ≡ Some p
+      → Served Signal (accepted (unblock roster p) semaphore (Woken p NoError ∷ []))
+  served_woken p is =
+      let signal = asks_for Signal in
+      let found = handed_one roster history p (Semaphore s) asked (first_waits roster s p is) in
+      let waits = begins_wait found.0 s found.2 in
+      record {
+        serves = record {
+          reaches = few (reaches_unblock roster p (first_within roster (queues.Semaphore s) p is)
+              (queued_normal roster scene.starts p s (first_stands roster (queues.Semaphore s) p is)));
+          asks = asks_freed caller (Some signal) roster (unblock roster p) (frees_unblock roster p);
+          woken = λ q woken. rw (woken_alone q p woken) (first_waits roster s p is);
+        };
+        read = λ number now who. after_calls history _ s entry keeps (signal ∷ found.0 ∷ []) semaphore.value semaphore.created
+            (rw found.1 (filter_all (names_semaphore s) true (signal ∷ found.0 ∷ [])
+            (All-cons (λ c. names_semaphore s c ≡ true) signal (found.0 ∷ []) (eq-eqb s s refl)
+            (All-cons (λ c. names_semaphore s c ≡ true) found.0 [] (begins_names found.0 (Semaphore s) found.2 s ∙ eq-eqb s s refl) (All-nil _)))))
+            (or_false semaphore.created) (rw (waits.0, waits.1) refl) keeps.bounded;
+      }
+
+  served_signal : (first : Option ℕ) → first_waiter roster (queues.Semaphore s) ≡ first
+      → Served Signal (signal_to roster semaphore first)
+  served_signal None is =
+      by_guard roster semaphore (Served Signal) (served_refused Signal) (not (nat_lt semaphore.value entry.maximum)) _ _ refl (λ less. record {
+        serves = serves_same roster caller (asks_for Signal) (Semaphore s);
+        read = λ number now who. read_alone Signal (semaphore.value + 1) number now who (omega arith)
+            (omega (arith, ltb-true _ _ (not-false _ less)));
+      })
+  served_signal (Some p) is = served_woken p is
+
+  pub served_own : (service : SemaphoreService) → Served service (semaphore_own roster semaphore s caller service)
+  served_own (Wait timeout) =
+      by_guard roster semaphore (Served (Wait timeout)) (served_refused (Wait timeout)) (not semaphore.created) _ _ refl
+      (λ _. by_caller roster semaphore (Served (Wait timeout)) (served_refused (Wait timeout)) caller _
+      (λ p by. served_wait p by (rw by at scene.ready) timeout))
+  served_own Signal =
+      by_guard roster semaphore (Served Signal) (served_refused Signal) (not semaphore.created) _ _ refl
+      (λ _. served_signal (first_waiter roster (queues.Semaphore s)) refl)
+
+-- semaphores are objects of a kind
+abbrev pub semaphore_laws : LawsOf semaphore_kind
+semaphore_laws = record {
+  to = call.Semaphore;
+  names = names_semaphore;
+  creation = created_semaphore;
+  nothing = no_semaphore;
+  wait = Semaphore;
+  Keeps = KeepsSemaphore;
+  Stands = λ roster s. Unit {0};
+  created = λ call. refl;
+  named = λ call j e. e;
+  awaited = λ c i j is apart. begins_names c (Semaphore i) is j ∙ other j i apart;
+  status = λ roster x i. refl;
+  stays = λ history e s entry keeps quiet. after_quiet history e s entry keeps quiet;
+  makes = λ history e s entry keeps alone made.
+      after_calls history e s entry keeps (call.Semaphore (Create (Known s)) ∷ []) _ true
+      (rw (alone, eq-eqb s s refl) refl) (rw made (or_true _)) refl keeps.bounded;
+  own = λ history roster caller s entry service keeps asked scene stands.
+      served_own history roster caller s entry keeps asked scene service;
+}
