@@ -20,9 +20,10 @@ pass_time-went-requires-clause-stamps g c = kept_stamps c.self.invariant
 
 pub pass_time-went-requires-clause-near : goal.pass_time-went-requires-clause-near
 pass_time-went-requires-clause-near g c =
-    let within = c.self.invariant.lawful.limit in
-    omega (arith, kept_time c.self.invariant, within, c.self.invariant.limit, c.requires.range,
-    c.in_ok-refuse_full.ensures.accepted.0 refl)
+    let kept = c.self.invariant in
+    let within = kept.lawful.limit in
+    let room = c.in_ok-refuse_full.ensures.accepted.0 refl in
+    omega (arith, kept_time kept, within, kept.limit, c.requires.range, room)
 
 pub pass_time-went-requires-clause-dues : goal.pass_time-went-requires-clause-dues
 pass_time-went-requires-clause-dues g c = (kept_sound c.self.invariant).dues

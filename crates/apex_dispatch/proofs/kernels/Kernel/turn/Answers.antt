@@ -33,9 +33,10 @@ carry_out-deed-requires-clause-stamps g c = kept_stamps c.self.invariant
 
 pub carry_out-deed-requires-clause-time : goal.carry_out-deed-requires-clause-time
 carry_out-deed-requires-clause-time g c =
-    let within = c.self.invariant.lawful.limit in
-    omega (arith, kept_time c.self.invariant, within, c.self.invariant.limit,
-    c.in_ok-refuse_full.ensures.accepted.0 refl)
+    let kept = c.self.invariant in
+    let within = kept.lawful.limit in
+    let room = c.in_ok-refuse_full.ensures.accepted.0 refl in
+    omega (arith, kept_time kept, within, kept.limit, room)
 
 -- the kernel afterwards is the one after the turn
 turned : (g : Over) (c : After-append g) →
