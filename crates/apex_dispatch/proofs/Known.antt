@@ -11,7 +11,8 @@ use Rattle.apex_types.specs.Machine.{Objects}
 use Rattle.apex_dispatch.specs.Premises.{AreOf, IsKnownTo}
 
 -- there is an object for each entry of the table
-pub known_to : (table : Table) (objects : Objects) (call : Call) → AreOf table objects → IsKnown table call → IsKnownTo objects call
+pub known_to : (table : Table) (objects : Objects) (call : Call) → AreOf table objects → IsKnown table call
+    → IsKnownTo objects call
 known_to table objects (Partition call) all h = tt
 known_to table objects (Process call) all h = rw all.processes h
 known_to table objects (Caller call) all h = tt

@@ -1,5 +1,5 @@
 -- What a kernel keeps: that its history replays, and with it all that holds after every run.
-use Rattle.std.proofs.Common.{◌≡◌, ℕ, ◌+◌, ◌*◌, ◌<◌, ◌≤◌, Bool, false, Option, None, arith, List, [], ◌∷◌, ◌++◌, length, Some, ap, ap₂, refl, sym, ◌∙◌, subst, is_some, if◌then◌else◌}
+use Rattle.std.proofs.Common.{◌≡◌, ℕ, ◌+◌, ◌*◌, ◌<◌, ◌≤◌, false, Option, None, arith, List, [], ◌∷◌, ◌++◌, length, Some, ap, ap₂, refl, sym, ◌∙◌, subst, is_some, if◌then◌else◌}
 use Rattle.std.proofs.lemmas.List.Elements.{All-nil, All-push}
 use Rattle.std.proofs.lemmas.List.Sums.{sum_by-append}
 use Rattle.std.proofs.lemmas.Int.{ints}
@@ -88,7 +88,8 @@ machine_is : (table : Table) (machine : Machine) → replay table machine.histor
 machine_is table machine replays = ap (λ (m : Machine). record machine { past = m.past }) replays
 
 -- the kernel is the one after the event, and keeps what each kernel keeps
-pub record IsAfter (table : Table) (old : Machine) (event : Event) (kernel : KernelState) (init_made log_limit : ℕ) : Type 0 where
+pub record IsAfter (table : Table) (old : Machine) (event : Event) (kernel : KernelState)
+    (init_made log_limit : ℕ) : Type 0 where
   pub is : kernel ≡ kernel_in table (happen table old event)
   pub kept : IsKept kernel init_made log_limit
 
@@ -113,12 +114,19 @@ module _ (table : Table) (objects : Objects) (roster : Roster) (history : List E
       ∙ machine_is table (happen table machine event) after_sound.replays
 
   -- so it is where the event's deed was done on the running values, and its entry added
-  pub after_does : {caller : Caller} {call : Option Call} {reply : Reply} {left : Roster} {now : Objects} {notices : List Notice}
-      → Does (deed_at table machine objects event) caller call reply left now [] notices
-      → (entries : List Entry)
-      → entries ≡ history ++ record { number = length history + 1; now = left.now; who = who_of event; process = caller; call = call; reply = reply; notices = notices } ∷ []
-      → (new_made new_limit : ℕ) → new_made ≡ init_made + (if is_some (due_at table machine event) then 1 else 0) → new_limit ≡ log_limit
-      → IsWithin table.cores event
+  pub after_does : {caller : Caller} {call : Option Call} {reply : Reply} {left : Roster} {now : Objects}
+      → {notices : List Notice} → Does (deed_at table machine objects event) caller call reply left now [] notices
+      → (entries : List Entry) → entries ≡ history ++ record {
+        number = length history + 1;
+        now = left.now;
+        who = who_of event;
+        process = caller;
+        call = call;
+        reply = reply;
+        notices = notices;
+      } ∷ []
+      → (new_made new_limit : ℕ) → new_made ≡ init_made + (if is_some (due_at table machine event) then 1 else 0)
+      → new_limit ≡ log_limit → IsWithin table.cores event
       → IsAfter table machine event (kernel_with table now left entries) new_made new_limit
   after_does {caller} {call} {reply} {left} {now} {notices} does entries entered new_made new_limit made same range =
       let outcome = does.outcome in
@@ -133,7 +141,8 @@ module _ (table : Table) (objects : Objects) (roster : Roster) (history : List E
           limit = kept.limit;
           init = rw (init_count_happen table machine event, ← kept.init) made;
           objects = refl;
-          events = rw (told table machine event) (All-push (IsWithin table.cores) (events_of history) event kept.events range);
+          events = rw (told table machine event)
+              (All-push (IsWithin table.cores) (events_of history) event kept.events range);
           replays = after_sound.replays;
         });
       }

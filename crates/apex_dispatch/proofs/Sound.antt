@@ -17,7 +17,7 @@ use Rattle.apex_types.specs.History.{init_count}
 use Rattle.apex_types.specs.Lines.{IsPrintable}
 use Rattle.apex_types.specs.Machine.{Machine, Deed, Objects, objects_after, tick_deed, turn_deed, due_init_call, opening, after_deed, turn, tick, happen, accept, run, replay, events_of, event_of, entry_of}
 use Rattle.apex_types.specs.Places.{map_places}
-use Rattle.apex_types.specs.Roster.{Roster, nobody, record_at, opening_record, is_cold_start}
+use Rattle.apex_types.specs.Roster.{Roster, nobody, opening_record, is_cold_start}
 use Rattle.apex_types.specs.Stamps.{advance_to}
 use Rattle.apex_types.specs.Table.{Table, ProcessEntry, IsLawful}
 use Rattle.apex_types.specs.Ticks.{tick_goal}
@@ -49,7 +49,8 @@ abbrev pub happened : Table → Machine → Event → Machine
 happened table machine event =
     after_deed machine (who_of event) (deed_at table machine (objects_after table machine.history) event)
 
-pub happens : (table : Table) (machine : Machine) (event : Event) → happen table machine event ≡ happened table machine event
+pub happens : (table : Table) (machine : Machine) (event : Event)
+    → happen table machine event ≡ happened table machine event
 unfolding turn tick
 happens table machine (Turn core) = refl
 happens table machine (Tick n) = refl
@@ -65,10 +66,11 @@ pub told : (table : Table) (machine : Machine) (event : Event)
     → events_of (happen table machine event).history ≡ events_of machine.history ++ event ∷ []
 told table machine event =
     let objects = objects_after table machine.history in
-    let e = entry_of (length machine.history + 1) (who_of event) (deed_at table machine objects event) in
+    let number = length machine.history + 1 in
+    let e = entry_of number (who_of event) (deed_at table machine objects event) in
     ap (λ (m : Machine). events_of m.history) (happens table machine event)
     ∙ map-append event_of machine.history (e ∷ [])
-    ∙ ap (λ (x : Event). events_of machine.history ++ x ∷ []) (tells table machine (length machine.history + 1) objects event)
+    ∙ ap (λ (x : Event). events_of machine.history ++ x ∷ []) (tells table machine number objects event)
 
 -- events in range take at most 1,048,576 ticks for each entry
 abbrev pub IsTimely : Table → Machine → Type 0
@@ -111,7 +113,8 @@ module _ (table : Table) (lawful : IsLawful table) (machine : Machine) (sound : 
       → Owes table machine.history (advance_to machine.roster (instant_of machine.roster event)) (who_of event)
       (deed_at table machine (objects_after table machine.history) event)
   owes (Turn core) =
-      turn_owes table lawful machine.history (Core core) machine.roster sound.orderly core (due_init_call table machine core)
+      turn_owes table lawful machine.history (Core core) machine.roster sound.orderly core
+      (due_init_call table machine core)
       (known_due table (init_count machine.history) lawful (is_cold_start machine.roster.mode && core == 0))
   owes (Tick n) =
       let count = lawful.process_count in
@@ -129,7 +132,8 @@ module _ (table : Table) (lawful : IsLawful table) (machine : Machine) (sound : 
 
   time_happen : (event : Event) → IsTimely table (happen table machine event)
   time_happen event all =
-      let parts = All-pop (IsWithin table.cores) _ (events_of machine.history) (Some event) (told table machine event) all in
+      let is = told table machine event in
+      let parts = All-pop (IsWithin table.cores) _ (events_of machine.history) (Some event) is all in
       let now = ap (λ (m : Machine). m.roster.now) (happens table machine event) ∙ (owes event).reaches.time in
       omega (arith, length-happen table machine event, sound.time parts.0, (goes event).near parts.1, now)
 
@@ -139,7 +143,8 @@ module _ (table : Table) (lawful : IsLawful table) (machine : Machine) (sound : 
       let again = run-append table (opening table) (events_of machine.history) (event ∷ []) in
       rw (told table machine event, again, sound.replays) (accept-room table machine event room)
 
-  pub sound_happen : (event : Event) → length machine.history < table.limit → IsSound table (happen table machine event)
+  pub sound_happen : (event : Event) → length machine.history < table.limit
+      → IsSound table (happen table machine event)
   sound_happen event room =
       let after = happened table machine event in
       let is = happens table machine event in
@@ -147,12 +152,13 @@ module _ (table : Table) (lawful : IsLawful table) (machine : Machine) (sound : 
       let due = owes event in
       let reaches = due.reaches in
       let orderly = sound.orderly in
+      let starts = orderly.starts in
       subst (IsSound table) (sym is) (record {
         orderly = record {
           many = reaches.many ∙ orderly.many;
           one = reaches.one orderly.one;
           starts = reaches.starts
-              (let starts = orderly.starts in record { dormant = starts.dormant; early = starts.early; undue = starts.undue });
+              (record { dormant = starts.dormant; early = starts.early; undue = starts.undue });
           kept = due.exact.kept;
         };
         stamps = rw longer (omega (arith, ints, reaches.stamps, sound.stamps));
@@ -168,8 +174,8 @@ module _ (table : Table) (lawful : IsLawful table) (machine : Machine) (sound : 
   -- so it is where the history may be full
   sound_accept : (event : Event) → IsSound table (accept table machine event)
   sound_accept event =
-      cond_both {A = Machine} (nat_lt (length machine.history) table.limit) (happen table machine event) machine (IsSound table)
-      (λ room. sound_happen event (ltb-true _ _ room)) (λ _. sound)
+      cond_both {A = Machine} (nat_lt (length machine.history) table.limit) (happen table machine event) machine
+      (IsSound table) (λ room. sound_happen event (ltb-true _ _ room)) (λ _. sound)
 
   forward_accept : (event : Event) → machine.roster.now ≤ (accept table machine event).roster.now
   forward_accept event =
@@ -198,7 +204,8 @@ record IsDormant (r : Record) : Type 0 where
   wait : r.wait ≡ None
   due : r.due ≡ None
 
-opening_dormant : (entries : List ProcessEntry) (q p : ℕ) → IsDormant (get_or (map_places opening_record q entries) p nobody)
+opening_dormant : (entries : List ProcessEntry) (q p : ℕ)
+    → IsDormant (get_or (map_places opening_record q entries) p nobody)
 opening_dormant [] q p = record { started = refl; suspended = refl; wait = refl; due = refl }
 opening_dormant (e ∷ entries) q zero = record { started = refl; suspended = refl; wait = refl; due = refl }
 opening_dormant (e ∷ entries) q (suc p) = opening_dormant entries (q + 1) p

@@ -1,6 +1,6 @@
 -- What a tick owes: it leaves all objects as they are, for whom it wakes with NO_ERROR had waited for
 -- time alone.
-use Rattle.std.proofs.Common.{◌≡◌, ℕ, ◌+◌, ◌≤◌, Bool, true, false, ◌&&◌, ◌==◌, List, [], ◌++◌, length, Option, None, Some, refl, sym, inl, inr, arith}
+use Rattle.std.proofs.Common.{◌≡◌, ℕ, ◌≤◌, Bool, true, false, ◌&&◌, ◌==◌, List, [], ◌++◌, length, Option, None, Some, refl, sym, inl, inr}
 use Rattle.std.proofs.lemmas.Bool.{cases_Bool, and_parts, eqb-true, both_ways}
 use Rattle.std.proofs.lemmas.List.Folds.{list_any-append}
 use Rattle.apex_types.specs.declared.Entry.{Entry}
@@ -11,7 +11,7 @@ use Rattle.apex_types.specs.declared.Wait.TheVariants.{Normal, Start, Time, Sema
 use Rattle.apex_types.specs.declared.Who.TheVariants.{Ticker}
 use Rattle.apex_types.specs.Roster.{Roster, record_at}
 use Rattle.apex_types.specs.Dues.{first_due}
-use Rattle.apex_types.specs.Stamps.{unblock, without_due, advance_to}
+use Rattle.apex_types.specs.Stamps.{HasOrderlyStarts, unblock, without_due, advance_to}
 use Rattle.apex_types.specs.Table.{Table}
 use Rattle.apex_types.specs.Ticks.{wait_over, serve_due, serve_dues, tick_goal, pass_time}
 use Rattle.apex_types.specs.Machine.{objects_after, tick_deed}
@@ -30,7 +30,8 @@ is_for_time : Option Wait → Bool
 is_for_time (Some Time) = true
 is_for_time _ = false
 
-for_time : (wait : Option Wait) (by_itself : Bool) → is_for_time wait ≡ true → or_suspended (asked_of wait) by_itself ≡ Some Time
+for_time : (wait : Option Wait) (by_itself : Bool) → is_for_time wait ≡ true
+    → or_suspended (asked_of wait) by_itself ≡ Some Time
 unfolding is_for_time
 for_time (Some Time) by_itself h = refl
 for_time (Some (Normal delay)) by_itself h = cc
@@ -93,15 +94,18 @@ all_served roster =
 -- a tick owes this from the instant at which it halts
 pub tick_owes : (table : Table) (history : List Entry) (roster : Roster) → IsOrderly table history roster
     → length roster.records ≤ 64 → (n : ℕ)
-    → Owes table history (advance_to roster (tick_goal roster n)) Ticker (tick_deed roster (objects_after table history) n)
+    → Owes table history (advance_to roster (tick_goal roster n)) Ticker
+    (tick_deed roster (objects_after table history) n)
 unfolding pass_time
 tick_owes table history roster orderly few n =
     let advanced = advance_to roster (tick_goal roster n) in
     let served = all_served advanced in
     let starts = orderly.starts in
+    let later : HasOrderlyStarts advanced =
+    record { dormant = starts.dormant; early = starts.early; undue = starts.undue } in
     record {
-      reaches = reaches_more (length roster.records) 64 few
-          (reach_serve_dues advanced (record { dormant = starts.dormant; early = starts.early; undue = starts.undue }));
+      reaches = reaches_more (length roster.records) 64 few (reach_serve_dues advanced later);
       known = tt;
-      exact = exact_uncalled table history roster _ orderly.kept _ refl refl served.timed (record { still = served.frees.still });
+      exact = exact_uncalled table history roster _ orderly.kept _ refl refl served.timed
+          (record { still = served.frees.still });
     }

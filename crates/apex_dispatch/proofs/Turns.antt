@@ -71,8 +71,10 @@ module _ (table : Table) (lawful : IsLawful table) (history : List Entry) (who :
   served_owes roster orderly caller ready call known =
       let count = lawful.process_count in
       let few : length roster.records ≤ 64 = omega (arith, orderly.many, count) in
-      let scene : Scene roster caller = record { starts = orderly.starts; one = orderly.one; few = few; ready = ready } in
-      let serves = serves_call table history roster orderly.kept caller scene (ready_idle roster caller ready) orderly.many call known in
+      let scene : Scene roster caller =
+      record { starts = orderly.starts; one = orderly.one; few = few; ready = ready } in
+      let idle = ready_idle roster caller ready in
+      let serves = serves_call table history roster orderly.kept caller scene idle orderly.many call known in
       record {
         reaches = serves.reaches;
         known = known;

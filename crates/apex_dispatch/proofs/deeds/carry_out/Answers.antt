@@ -10,4 +10,5 @@ ask-requires-clause-known g c =
 
 pub carry_out_step-requires-clause-ready : goal.carry_out_step-requires-clause-ready
 carry_out_step-requires-clause-ready g c =
-    chosen_ready (g.S.Store.roster c.args.store.now) c.args.core c.in-Some-chosen.process (sym c.in-Some-chosen.ensures.value)
+    chosen_ready (g.S.Store.roster c.args.store.now) c.args.core c.in-Some-chosen.process
+    (sym c.in-Some-chosen.ensures.value)

@@ -10,6 +10,7 @@ returns c =
     record {
       forward = λ first rest.
           let here = run table (opening table) first in
-          rw (run-append table (opening table) first rest) (forward_after table lawful here rest (sound_run table lawful first));
+          rw (run-append table (opening table) first rest)
+          (forward_after table lawful here rest (sound_run table lawful first));
       dues = λ events. (sound_run table lawful events).dues;
     }

@@ -3,4 +3,6 @@ use Rattle.apex_dispatch.proofs.kernels.Kernel.boot.Goals as goal
 
 pub invariant_of-result : goal.invariant_of-result
 invariant_of-result g c =
-    rw (c.requires, c.in_ok-log.ensures.entries, c.in_ok-log.ensures.limit, c.limit.ensures.value, c.in_ok-objects.ensures) (kept_opening c.args.table c.lawful.ensures)
+    let log = c.in_ok-log.ensures in
+    rw (c.requires, log.entries, log.limit, c.limit.ensures.value, c.in_ok-objects.ensures)
+    (kept_opening c.args.table c.lawful.ensures)

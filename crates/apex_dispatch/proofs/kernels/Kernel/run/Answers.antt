@@ -24,7 +24,8 @@ returns-in_err-accept-clause-done g c =
     let machine = c.loop-event.self.machine in
     let invariant = c.loop-event.invariant in
     let told = c.in_err-accept.ensures.full in
-    let full : table.limit ≤ length machine.history = omega (arith, told.0, told.1, ap (λ (t : _). t.limit) invariant.table) in
+    let full : table.limit ≤ length machine.history =
+    omega (arith, told.0, told.1, ap (λ (t : _). t.limit) invariant.table) in
     let end = sym (run-full table machine (drop c.loop-event.event-index c.args.events.now) full) ∙ invariant.rest in
     c.in_err-accept.ensures.refused ∙ invariant.values ∙ ap (λ (m : Machine). kernel_in table m) end
 
@@ -33,15 +34,18 @@ loop-event-preserved g c =
     let table = c.args.self.now.table in
     let machine = c.loop-event.self.machine in
     let invariant = c.loop-event.invariant in
-    let done : c.accept.new.self ≡ kernel_in table (happen table machine c.event-item.result) = rw (← invariant.table) c.in_ok-accept.ensures.done in
-    let new : c.accept.new.self.machine ≡ happen table machine c.event-item.result = ap (λ (k : KernelState). k.machine) done in
-    let room : length machine.history < table.limit = rw (← invariant.table) (c.in_ok-accept.ensures.accepted.0 refl) in
+    let done : c.accept.new.self ≡ kernel_in table (happen table machine c.event-item.result) =
+    rw (← invariant.table) c.in_ok-accept.ensures.done in
+    let new : c.accept.new.self.machine ≡ happen table machine c.event-item.result =
+    ap (λ (k : KernelState). k.machine) done in
+    let room : length machine.history < table.limit =
+    rw (← invariant.table) (c.in_ok-accept.ensures.accepted.0 refl) in
     let longer = length-happen table machine c.event-item.result in
     record {
       table = ap (λ (k : KernelState). k.table) done;
       values = done ∙ ap (λ (m : Machine). kernel_in table m) (sym new);
-      rest = run-step table machine c.accept.new.self.machine c.args.events.now c.loop-event.event-index c.event-item.result _
-          c.loop-event-test.true c.event-item.is room new invariant.rest;
+      rest = run-step table machine c.accept.new.self.machine c.args.events.now c.loop-event.event-index
+          c.event-item.result _ c.loop-event-test.true c.event-item.is room new invariant.rest;
       count = rw (new, longer) (omega (arith, invariant.count));
       within = rw (new, longer) (omega (arith, room));
     }

@@ -1,4 +1,4 @@
-use Rattle.std.proofs.Common.{◌≡◌, ◌<◌, length, refl, arith}
+use Rattle.std.proofs.Common.{◌<◌, length, refl, arith}
 use Rattle.apex_types.specs.declared.Event.TheVariants.{Tick}
 use Rattle.apex_types.specs.Machine.{machine_with}
 use Rattle.apex_dispatch.specs.Kernel.{kernel_with}
@@ -20,8 +20,10 @@ pass_time-went-requires-clause-stamps g c = kept_stamps c.self.invariant
 
 pub pass_time-went-requires-clause-near : goal.pass_time-went-requires-clause-near
 pass_time-went-requires-clause-near g c =
-    let within = c.self.invariant.lawful.limit in
-    omega (arith, kept_time c.self.invariant, within, c.self.invariant.limit, c.requires.range, c.in_ok-refuse_full.ensures.accepted.0 refl)
+    let kept = c.self.invariant in
+    let within = kept.lawful.limit in
+    let room = c.in_ok-refuse_full.ensures.accepted.0 refl in
+    omega (arith, kept_time kept, within, kept.limit, c.requires.range, room)
 
 pub pass_time-went-requires-clause-dues : goal.pass_time-went-requires-clause-dues
 pass_time-went-requires-clause-dues g c = (kept_sound c.self.invariant).dues
@@ -35,7 +37,8 @@ ticked : (g : Over) (c : After-append g) →
 ticked g c =
     let passed = c.pass_time-went.ensures in
     let changes = rw c.new-notices.ensures at passed.changes in
-    let room : length c.self.inside.log.entries < c.self.inside.table.limit = omega (arith, c.self.invariant.limit, c.in_ok-refuse_full.ensures.accepted.0 refl) in
+    let room : length c.self.inside.log.entries < c.self.inside.table.limit =
+    omega (arith, c.self.invariant.limit, c.in_ok-refuse_full.ensures.accepted.0 refl) in
     after_does _ _ _ _ _ _ c.self.invariant room (Tick c.args.n)
     (record {
       caller = refl;

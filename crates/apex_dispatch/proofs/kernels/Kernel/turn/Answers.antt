@@ -1,4 +1,4 @@
-use Rattle.std.proofs.Common.{◌≡◌, ◌&&◌, ◌==◌, ◌∙◌, ◌+◌, ◌<◌, length, refl, sym, arith}
+use Rattle.std.proofs.Common.{◌&&◌, ◌==◌, ◌∙◌, ◌+◌, ◌<◌, length, refl, sym, arith}
 use Rattle.apex_types.specs.declared.Event.TheVariants.{Turn}
 use Rattle.apex_types.specs.Machine.{machine_with}
 use Rattle.apex_types.specs.Roster.{is_cold_start}
@@ -13,7 +13,8 @@ use Rattle.apex_dispatch.proofs.kernels.Kernel.turn.Goals as goal
 pub carry_out-deed-requires-clause-due : goal.carry_out-deed-requires-clause-due
 carry_out-deed-requires-clause-due g c call e =
     let due = is_cold_start (g.S.Store.roster c.self.inside.store).mode && c.args.core == 0 in
-    known_due c.self.inside.table c.self.inside.init_made c.self.invariant.lawful due call (sym c.due_call-due.ensures ∙ e)
+    known_due c.self.inside.table c.self.inside.init_made c.self.invariant.lawful due call
+    (sym c.due_call-due.ensures ∙ e)
 
 pub carry_out-deed-requires-clause-records : goal.carry_out-deed-requires-clause-records
 carry_out-deed-requires-clause-records g c = (kept_sound c.self.invariant).orderly.many
@@ -32,17 +33,22 @@ carry_out-deed-requires-clause-stamps g c = kept_stamps c.self.invariant
 
 pub carry_out-deed-requires-clause-time : goal.carry_out-deed-requires-clause-time
 carry_out-deed-requires-clause-time g c =
-    let within = c.self.invariant.lawful.limit in
-    omega (arith, kept_time c.self.invariant, within, c.self.invariant.limit, c.in_ok-refuse_full.ensures.accepted.0 refl)
+    let kept = c.self.invariant in
+    let within = kept.lawful.limit in
+    let room = c.in_ok-refuse_full.ensures.accepted.0 refl in
+    omega (arith, kept_time kept, within, kept.limit, room)
 
 -- the kernel afterwards is the one after the turn
 turned : (g : Over) (c : After-append g) →
     let inside = c.self.inside in
-    IsAfter inside.table (machine_with inside.table (g.S.Store.roster inside.store) inside.log.entries) (Turn c.args.core)
-    (kernel_with inside.table c.carry_out-deed.new.objects (g.S.Store.roster c.carry_out-deed.new.store) c.append.new.log.entries)
+    let done = c.carry_out-deed.new in
+    IsAfter inside.table (machine_with inside.table (g.S.Store.roster inside.store) inside.log.entries)
+    (Turn c.args.core)
+    (kernel_with inside.table done.objects (g.S.Store.roster done.store) c.append.new.log.entries)
     (inside.init_made + c.steps_in.result) c.append.new.log.limit
 turned g c =
-    let room : length c.self.inside.log.entries < c.self.inside.table.limit = omega (arith, c.self.invariant.limit, c.in_ok-refuse_full.ensures.accepted.0 refl) in
+    let room : length c.self.inside.log.entries < c.self.inside.table.limit =
+    omega (arith, c.self.invariant.limit, c.in_ok-refuse_full.ensures.accepted.0 refl) in
     let due = c.due_call-due.ensures in
     after_does _ _ _ _ _ _ c.self.invariant room (Turn c.args.core)
     (rw (c.new-notices.ensures, due, c.self.invariant.init) at c.carry_out-deed.ensures)
