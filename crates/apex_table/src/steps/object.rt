@@ -12,25 +12,26 @@ use crate::named::{Named, place_of};
 use crate::steps::words::entry_of;
 use apex_types::{Id, ObjectCall};
 
-/// A kind of things, as steps ask for its services.
-pub trait Kind {
+/// The services of a kind of things, as steps ask for them.
+pub trait Services {
     /// A service that the kind alone has.
-    type Service: Copy;
+    type Own: Copy;
 
     ghost word: { List ℕ };
 
-    ghost own: { Place → List ℕ → List (List ℕ) → Result (Option Self.Service) TableFault };
+    ghost own: { Place → List ℕ → List (List ℕ) → Result (Option Self.Own) TableFault };
 
     /// What stands for the kind in the names of the services that each kind has.
     fn word() -> &'static str
         ensures { result.now ≡ word };
 
-    /// The service that the kind alone has, if the words ask for one; they stand behind the name.
+    /// The service that the kind alone has, if there is one of this name with these words, which
+    /// stand behind the name of the thing.
     fn own_service(
         at: Place,
         service: &str,
         words: &[&str],
-    ) -> Result<Option<Self::Service>, TableFault>
+    ) -> Result<Option<Self::Own>, TableFault>
         ensures { result ≡ own at service.now (map (λ w. w.now) words.now) };
 }
 
@@ -73,13 +74,13 @@ fn thing<T: Named, K>(at: Place, entries: &[T], name: &str) -> Result<Id<K>, Tab
 
 /// The call of a service that each kind has.
 #[tactic(auto, unfolding(crate::specs::ObjectSteps::common_call))]
-fn common_call<T: Named, K: Kind>(
+fn common_call<T: Named, K: Services>(
     at: Place,
     entries: &[T],
     service: &str,
     name: &str,
     words: &[&str],
-) -> Result<Option<ObjectCall<Id<K>, K::Service>>, TableFault>
+) -> Result<Option<ObjectCall<Id<K>, K::Own>>, TableFault>
     requires { length entries.now ≤ 32 }
     ensures { Gives (λ c. c) result (common_call at K.word (map T.name_of entries.now) service.now name.now (map (λ w. w.now) words.now)) }
 {
@@ -119,11 +120,11 @@ fn own_call<T: Named, K, W: Copy>(
 }
 
 /// The call of a step's words, none where they are no step of the kind.
-pub fn object_call<T: Named, K: Kind>(
+pub fn object_call<T: Named, K: Services>(
     at: Place,
     entries: &[T],
     words: &[&str],
-) -> Result<Option<ObjectCall<Id<K>, K::Service>>, TableFault>
+) -> Result<Option<ObjectCall<Id<K>, K::Own>>, TableFault>
     requires { length entries.now ≤ 32 }
     ensures { Gives (λ c. c) result (object_call at K.word (map T.name_of entries.now) (K.own at) (map (λ w. w.now) words.now)) }
 {

@@ -2,7 +2,7 @@ ghost use Rattle.std.specs.Prelude.{codes, ◌≡◌};
 ghost use Rattle.apex_table.specs.ProcessSteps.{process_alone, process_with_word, process_service};
 
 use crate::fault::{Place, TableFault};
-use crate::steps::object::Kind;
+use crate::steps::object::Services;
 use crate::steps::words::{is_number, is_timeout, number, timeout};
 use apex_types::{ProcessKind, ProcessService};
 
@@ -35,8 +35,8 @@ fn with_word(at: Place, service: &str, word: &str) -> Result<Option<ProcessServi
     Ok(Some(service))
 }
 
-impl Kind for ProcessKind {
-    type Service = ProcessService;
+impl Services for ProcessKind {
+    type Own = ProcessService;
 
     ghost word = { codes "PROCESS" };
 

@@ -2,7 +2,7 @@ ghost use Rattle.std.specs.Prelude.{codes, ◌≡◌};
 ghost use Rattle.apex_table.specs.SemaphoreSteps.{semaphore_alone, semaphore_with_word, semaphore_service};
 
 use crate::fault::{Place, TableFault};
-use crate::steps::object::Kind;
+use crate::steps::object::Services;
 use crate::steps::words::{is_timeout, timeout};
 use apex_types::{SemaphoreKind, SemaphoreService};
 
@@ -26,8 +26,8 @@ fn with_word(at: Place, service: &str, word: &str) -> Result<Option<SemaphoreSer
     }
 }
 
-impl Kind for SemaphoreKind {
-    type Service = SemaphoreService;
+impl Services for SemaphoreKind {
+    type Own = SemaphoreService;
 
     ghost word = { codes "SEMAPHORE" };
 
