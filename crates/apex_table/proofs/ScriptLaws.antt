@@ -1,11 +1,10 @@
 -- Each process keeps what was read of it, and the steps of its script name entries of the table.
-use Rattle.std.proofs.Common.{◌≡◌, ℕ, ◌+◌, ◌<◌, ◌≤◌, List, [], length, Result, Ok, Err, IfOk, IsTrue, refl}
+use Rattle.std.proofs.Common.{◌≡◌, ℕ, ◌+◌, ◌<◌, ◌≤◌, List, [], length, IfOk, IsTrue, refl}
 use Rattle.std.specs.List.{AllByRecursion}
 use Rattle.std.proofs.lemmas.Result.{IfOk-at_ok}
 use Rattle.apex_types.specs.Name.{is_name}
 use Rattle.apex_types.specs.Table.{ProcessEntry, SemaphoreEntry}
 use Rattle.apex_table.specs.declared.fault.Section.TheVariants.{Process}
-use Rattle.apex_table.specs.declared.fault.TableFault.{TableFault}
 use Rattle.apex_table.specs.Outcome.{place}
 use Rattle.apex_table.specs.Processes.{ProcessDraft, process_names}
 use Rattle.apex_table.specs.Semaphores.{semaphore_names}

@@ -61,7 +61,7 @@ module _ {A : Type 0} (kind : KindOf A) (IsSound : A → Type 0) (reads : ReadsS
       IfOk-weaker (kind.read at name ms) (IsRead kind IsSound name) _ (λ x h. record {
         each = all_push IsSound before x all.each h.sound;
         distinct = subst (IsDistinct bytes_eq) (sym (map-append kind.name_of before (x ∷ [])))
-        (IsDistinct-push nat_list_eq_equiv taken (kind.name_of x) all.distinct (rw h.named new.new));
+            (IsDistinct-push nat_list_eq_equiv taken (kind.name_of x) all.distinct (rw h.named new.new));
       }) (reads at name ms new.good))))
 
   pub section_law : (top : Members) → IfOk (section kind top) (AreSound kind IsSound)
