@@ -1,7 +1,6 @@
 pub mod Lists
 pub mod Document
 pub mod Results
-pub mod Distinct
 pub mod KeyLaws
 pub mod ServiceNames
 pub mod SectionLaws

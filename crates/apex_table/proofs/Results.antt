@@ -1,6 +1,7 @@
 -- What holds of the value of a reading that gives one.
-use Rattle.std.proofs.Common.{◌≡◌, ◌+◌, Bool, true, false, List, [], ◌∷◌, ◌++◌, length, map, Option, Some, None, IfSome, Result, Ok, Err, IfOk, refl, ap, ◌∙◌, if◌then◌else◌, arith, length-append}
+use Rattle.std.proofs.Common.{◌≡◌, ◌+◌, Bool, true, false, List, [], ◌∷◌, ◌++◌, length, map, Option, Some, None, IfSome, Result, Ok, Err, IfOk, refl, sym, ap, ◌∙◌, if◌then◌else◌, arith, length-append}
 use Rattle.std.specs.List.{AllByRecursion}
+use Rattle.std.proofs.lemmas.List.{append-nil, append_assoc, map-append}
 use Rattle.std.proofs.lemmas.Result.{IfOk-at_ok, IfOk-weaker}
 use Rattle.apex_table.specs.declared.fault.TableFault.{TableFault}
 use Rattle.apex_table.specs.Outcome.{◌>>=◌, some_or, called, as_call, or_else, first_of, each}
@@ -85,24 +86,12 @@ each_all read P Q gives done (y ∷ ys) all sound =
     ok_then (read done y) _ (AllByRecursion P) (λ x e.
     each_all read P Q gives (done ++ x ∷ []) ys (all_push P done x all (IfOk-at_ok P e (gives done y sound.0))) sound.1)
 
-map_push : {A B : Type 0} (f : A → B) (xs : List A) (x : A) → map f (xs ++ x ∷ []) ≡ map f xs ++ f x ∷ []
-map_push f [] x = refl
-map_push f (y ∷ ys) x = ap (λ zs. f y ∷ zs) (map_push f ys x)
-
-push_append : {A : Type 0} (xs : List A) (x : A) (ys : List A) → (xs ++ x ∷ []) ++ ys ≡ xs ++ x ∷ ys
-push_append [] x ys = refl
-push_append (z ∷ zs) x ys = ap (λ l. z ∷ l) (push_append zs x ys)
-
-append_none : {A : Type 0} (xs : List A) → xs ≡ xs ++ []
-append_none [] = refl
-append_none (x ∷ xs) = ap (λ l. x ∷ l) (append_none xs)
-
 -- a part of each element that its reading leaves as it was
 pub each_map : {A B C : Type 0} (read : List A → B → Result A TableFault) (f : A → C) (g : B → C) → ((done : List A) (y : B) → IfOk (read done y) (λ x. f x ≡ g y)) → (done : List A) (ys : List B) → IfOk (each read done ys) (λ xs. map f xs ≡ map f done ++ map g ys)
-each_map read f g same done [] = append_none (map f done)
+each_map read f g same done [] = sym (append-nil (map f done))
 each_map read f g same done (y ∷ ys) =
     ok_then (read done y) _ (λ xs. map f xs ≡ map f done ++ map g (y ∷ ys)) (λ x e.
     IfOk-weaker (each read (done ++ x ∷ []) ys) _ _ (λ xs h.
-    h ∙ ap (λ l. l ++ map g ys) (map_push f done x) ∙ push_append (map f done) (f x) (map g ys)
+    h ∙ ap (λ l. l ++ map g ys) (map-append f done (x ∷ [])) ∙ append_assoc (map f done) (f x ∷ []) (map g ys)
     ∙ ap (λ z. map f done ++ z ∷ map g ys) (IfOk-at_ok (λ x. f x ≡ g y) e (same done y)))
     (each_map read f g same (done ++ x ∷ []) ys))

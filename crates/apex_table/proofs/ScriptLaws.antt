@@ -1,17 +1,16 @@
 -- Each process keeps what was read of it, and the steps of its script name entries of the table.
-use Rattle.std.proofs.Common.{◌≡◌, ℕ, ◌+◌, ◌<◌, ◌≤◌, List, [], length, Result, Ok, Err, IfOk, IsTrue, refl}
+use Rattle.std.proofs.Common.{◌≡◌, ℕ, ◌+◌, ◌<◌, ◌≤◌, List, [], length, IfOk, IsTrue, refl}
 use Rattle.std.specs.List.{AllByRecursion}
 use Rattle.std.proofs.lemmas.Result.{IfOk-at_ok}
 use Rattle.apex_types.specs.Name.{is_name}
 use Rattle.apex_types.specs.Table.{ProcessEntry, SemaphoreEntry}
 use Rattle.apex_table.specs.declared.fault.Section.TheVariants.{Process}
-use Rattle.apex_table.specs.declared.fault.TableFault.{TableFault}
 use Rattle.apex_table.specs.Outcome.{place}
 use Rattle.apex_table.specs.Processes.{ProcessDraft, process_names}
 use Rattle.apex_table.specs.Semaphores.{semaphore_names}
 use Rattle.apex_table.specs.Scripts.{script, next_entry, with_scripts}
 use Rattle.apex_table.specs.Init.{entry_names}
-use Rattle.apex_table.proofs.Results.{ok_then, each_all, each_map}
+use Rattle.apex_table.proofs.Results.{ok_then, both_ok, each_all, each_map}
 use Rattle.apex_table.proofs.ProcessLaws.{IsScript, same_script, IsSoundDraft}
 use Rattle.apex_table.proofs.StepLaws.{IsWithin, script_law, script_length}
 
@@ -47,15 +46,11 @@ pub record AreSoundProcesses (cores : ℕ) (drafts : List ProcessDraft) (sems : 
   pub each : AllByRecursion (IsSoundProcess cores (length (process_names drafts)) (length (semaphore_names sems))) procs
   pub names : entry_names procs ≡ process_names drafts
 
-both : (cores : ℕ) (drafts : List ProcessDraft) (sems : List SemaphoreEntry) (r : Result (List ProcessEntry) TableFault) → IfOk r (AllByRecursion (IsSoundProcess cores (length (process_names drafts)) (length (semaphore_names sems)))) → IfOk r (λ procs. entry_names procs ≡ process_names drafts) → IfOk r (AreSoundProcesses cores drafts sems)
-both cores drafts sems (Ok procs) all names = record { each = all; names = names }
-both cores drafts sems (Err e) _ _ = tt
-
 pub with_scripts_law : (cores : ℕ) (drafts : List ProcessDraft) (sems : List SemaphoreEntry) → AllByRecursion (IsSoundDraft cores) drafts → IfOk (with_scripts drafts sems) (AreSoundProcesses cores drafts sems)
 unfolding with_scripts
 with_scripts_law cores drafts sems sound =
     let ps = process_names drafts in
     let ss = semaphore_names sems in
-    both cores drafts sems (with_scripts drafts sems)
+    both_ok (with_scripts drafts sems) (AllByRecursion (IsSoundProcess cores (length ps) (length ss))) (λ procs. entry_names procs ≡ ps) (λ procs all names. record { each = all; names = names })
     (each_all (next_entry ps ss) (IsSoundProcess cores (length ps) (length ss)) (IsSoundDraft cores) (next_entry_law cores ps ss) [] drafts tt sound)
     (each_map (next_entry ps ss) (λ (e : ProcessEntry). e.name) (λ (p : ProcessDraft). p.name) (next_entry_name ps ss) [] drafts)

@@ -1,7 +1,10 @@
 -- A section has no more entries than its kind may have; each is sound, and their names differ.
-use Rattle.std.proofs.Common.{◌≡◌, ℕ, ◌+◌, ◌≤◌, List, [], ◌∷◌, ◌++◌, length, map, Option, IfOk, IsTrue, arith}
+use Rattle.std.proofs.Common.{◌≡◌, ℕ, ◌+◌, ◌≤◌, List, [], ◌∷◌, ◌++◌, length, map, Option, IfOk, IsTrue, sym, subst, arith}
 use Rattle.std.specs.List.{AllByRecursion, IsDistinct}
 use Rattle.std.specs.Str.{bytes_eq}
+use Rattle.std.proofs.lemmas.Cmp.{nat_list_eq_equiv}
+use Rattle.std.proofs.lemmas.List.{map-append}
+use Rattle.std.proofs.lemmas.Map.Keys.{IsDistinct-push}
 use Rattle.std.proofs.lemmas.Result.{IfOk-at_ok, IfOk-weaker}
 use Rattle.toml.specs.Data.{Data, Members, get_member}
 use Rattle.apex_types.specs.Name.{is_name}
@@ -11,7 +14,6 @@ use Rattle.apex_table.specs.Outcome.{each, place}
 use Rattle.apex_table.specs.Keys.{known, table, array, name_at}
 use Rattle.apex_table.specs.Sections.{SectionHead, KindOf, tables, entry, next_entry, section}
 use Rattle.apex_table.proofs.Results.{ok_then, each_keeps, each_length, all_push}
-use Rattle.apex_table.proofs.Distinct.{distinct_push}
 use Rattle.apex_table.proofs.KeyLaws.{optional_law, at_most_law, IsNew, name_law}
 
 tables_law : (head : SectionHead) (o : Option Data) → IfOk (tables head o) (λ ds. length ds ≤ head.most)
@@ -58,7 +60,8 @@ module _ {A : Type 0} (kind : KindOf A) (IsSound : A → Type 0) (reads : ReadsS
       let new : IsNew taken name = IfOk-at_ok (IsNew taken) e (name_law at taken ms) in
       IfOk-weaker (kind.read at name ms) (IsRead kind IsSound name) _ (λ x h. record {
         each = all_push IsSound before x all.each h.sound;
-        distinct = distinct_push kind.name_of before x all.distinct (rw h.named new.new);
+        distinct = subst (IsDistinct bytes_eq) (sym (map-append kind.name_of before (x ∷ [])))
+            (IsDistinct-push nat_list_eq_equiv taken (kind.name_of x) all.distinct (rw h.named new.new));
       }) (reads at name ms new.good))))
 
   pub section_law : (top : Members) → IfOk (section kind top) (AreSound kind IsSound)
