@@ -125,15 +125,17 @@ module _ (passes : Record → Bool) (before : Record → Record → Bool) (rs : 
       → (p : ℕ) → place_of_least passes before rs ≡ Some p → (r : Record) × IsLeast passes before rs p r
   place_least order all p e =
       let is = place_first order p e in
-      let here = slice_get-get_or rs p nobody is.within in
-      (at_place rs p, record {
-        here = here;
-        passing = is.passing;
-        first = λ q s there passed apart.
-            let same = get_or_from_slice_get rs q s nobody there in
-            let behind = rw same at (is.least q (slice_get_within rs q s there) (rw same passed)) in
-            all.total q p s (at_place rs p) there here apart behind;
-      })
+      let here = slice_get-get_or rs p nobody is.within in (
+        at_place rs p,
+        record {
+          here = here;
+          passing = is.passing;
+          first = λ q s there passed apart.
+              let same = get_or_from_slice_get rs q s nobody there in
+              let behind = rw same at (is.least q (slice_get_within rs q s there) (rw same passed)) in
+              all.total q p s (at_place rs p) there here apart behind;
+        },
+      )
 
   -- who is before every other one that passes is found
   pub place_is : IsStrictWeakOrder before → (p : ℕ) (r : Record) → IsLeast passes before rs p r

@@ -54,7 +54,7 @@ impl<K> Model for Id<K> {
 
     ghost view = { λ i. i.place };
 
-    ghost inverse = { λ n. record { place = n; kind = record { } } };
+    ghost inverse = { λ n. record { place = n; kind = record {} } };
 }
 
 impl<K> Id<K> {

@@ -5,5 +5,5 @@ use Rattle.apex_store.proofs.scan.first_of.Goals as goal
 pub returns-clause-value : goal.returns-clause-value
 returns-clause-value g c =
     let e : c.loop-place.place ≡ length c.args.records.now =
-        omega (arith, c.loop-place.auto.place-end, c.loop-place-test.false) in
+    omega (arith, c.loop-place.auto.place-end, c.loop-place-test.false) in
     sym (place_found _ _ c.args.records.now c.loop-place.found (rw e at c.loop-place.invariant))
