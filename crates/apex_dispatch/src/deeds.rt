@@ -88,7 +88,13 @@ fn carry_out_step<S: Store>(
             store.set_step(process, next_place(table.process(process), step));
             ask(store, objects, caller, call, notices)
         }
-        None => ask(store, objects, caller, Call::Caller(CallerCall::StopSelf), notices),
+        None => ask(
+            store,
+            objects,
+            caller,
+            Call::Caller(CallerCall::StopSelf),
+            notices,
+        ),
     }
 }
 

@@ -43,6 +43,12 @@ pub(crate) fn serve<S: Store>(
         Call::Process(call) => serve_object(store, &mut objects.processes, caller, call, notices),
         Call::Caller(call) => caller::serve(store, objects, caller, call),
         Call::Time(call) => time::serve(store, objects, caller, call),
-        Call::Semaphore(call) => serve_object(store, &mut objects.semaphores, caller, call, notices),
+        Call::Semaphore(call) => serve_object(
+            store,
+            &mut objects.semaphores,
+            caller,
+            call,
+            notices,
+        ),
     }
 }

@@ -8,8 +8,8 @@ ghost use Rattle.apex_types.specs.Stamps.{HasStamps};
 
 use apex_store::{Object, Store, wait_for};
 use apex_types::{
-    Caller, Notice, Notices, Queue, Reply, ReturnCode, SemaphoreId, SemaphoreKind, SemaphoreService,
-    Timeout, Wait,
+    Caller, Notice, Notices, Queue, Reply, ReturnCode, SemaphoreId, SemaphoreKind,
+    SemaphoreService, Timeout, Wait,
 };
 use std::marker::Model;
 
@@ -76,7 +76,12 @@ impl Semaphore {
 
     /// SIGNAL_SEMAPHORE: wakes the first waiter, else raises the value. INVALID_PARAM where the
     /// semaphore isn't created, NO_ACTION where nobody waits and the value is the maximum.
-    pub fn signal<S: Store>(&mut self, store: &mut S, id: SemaphoreId, notices: &mut Notices) -> Reply
+    pub fn signal<S: Store>(
+        &mut self,
+        store: &mut S,
+        id: SemaphoreId,
+        notices: &mut Notices,
+    ) -> Reply
         requires stamps { HasStamps (S.roster store.old) }
         requires room { length notices.old < 64 }
         ensures { Leaves (services.signal_semaphore (S.roster store.old) self.old id)

@@ -7,7 +7,7 @@ use Rattle.apex_dispatch.proofs.objects.processes_before.Goals as goal
 pub loop-place-preserved : goal.loop-place-preserved
 loop-place-preserved c =
     let entries = c.args.table.now.processes in
-    let within : c.loop-place.place < length entries = 
+    let within : c.loop-place.place < length entries =
     omega (arith, c.loop-place-test.true, c.loop-place.invariant.many) in
     let next = map_places-drop (process_kind.after []) c.loop-place.place
     entries c.loop-place.place no_process within in

@@ -8,5 +8,5 @@ abbrev pub invariant-loop-place : goal.invariant-loop-place
 invariant-loop-place l = record {
   many : l.place-end ≡ length l.table.processes;
   rest : l.processes.items ++ map_places (process_kind.after []) l.place (drop l.place l.table.processes)
-  ≡ objects_of process_kind [] l.table.processes;
+      ≡ objects_of process_kind [] l.table.processes;
 }

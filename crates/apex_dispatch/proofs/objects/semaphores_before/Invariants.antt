@@ -8,5 +8,5 @@ abbrev pub invariant-loop-place : goal.invariant-loop-place
 invariant-loop-place l = record {
   many : l.place-end ≡ length l.table.semaphores;
   rest : l.semaphores.items ++ map_places (semaphore_kind.after []) l.place (drop l.place l.table.semaphores)
-  ≡ objects_of semaphore_kind [] l.table.semaphores;
+      ≡ objects_of semaphore_kind [] l.table.semaphores;
 }

@@ -4,8 +4,11 @@ use Rattle.apex_dispatch.proofs.ticks.pass_time.Goals as goal
 
 pub advance_to-requires-clause-forward : goal.advance_to-requires-clause-forward
 advance_to-requires-clause-forward g c =
-    omega (arith, c.tick_goal-goal.ensures,
-    goal_forward (g.S.Store.roster c.args.store.now) c.args.n c.requires.dues)
+    omega (
+      arith,
+      c.tick_goal-goal.ensures,
+      goal_forward (g.S.Store.roster c.args.store.now) c.args.n c.requires.dues,
+    )
 
 pub advance_to-requires-clause-dues : goal.advance_to-requires-clause-dues
 advance_to-requires-clause-dues g c =
@@ -13,5 +16,9 @@ advance_to-requires-clause-dues g c =
 
 pub overflow_sub-result : goal.overflow_sub-result
 overflow_sub-result g c =
-    omega (arith, c.now-before.ensures, c.tick_goal-goal.ensures,
-    goal_forward (g.S.Store.roster c.args.store.now) c.args.n c.requires.dues)
+    omega (
+      arith,
+      c.now-before.ensures,
+      c.tick_goal-goal.ensures,
+      goal_forward (g.S.Store.roster c.args.store.now) c.args.n c.requires.dues,
+    )

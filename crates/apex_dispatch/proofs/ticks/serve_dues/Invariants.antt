@@ -10,7 +10,7 @@ use Rattle.apex_dispatch.proofs.ticks.serve_dues.Given as goal
 abbrev pub invariant-loop-turn : goal.invariant-loop-turn
 invariant-loop-turn g l = record {
   rest : LeadsTo first_due serve_due
-  (behind l.fn.notices (serve_dues (g.S.Store.roster l.fn.store))) l.turn l.turn-end (g.S.Store.roster l.store) l.notices;
+      (behind l.fn.notices (serve_dues (g.S.Store.roster l.fn.store))) l.turn l.turn-end (g.S.Store.roster l.store) l.notices;
   reaches : Reaches l.turn (g.S.Store.roster l.fn.store) (g.S.Store.roster l.store);
   starts : HasOrderlyStarts (g.S.Store.roster l.store);
   end : l.turn-end ≡ length (g.S.Store.roster l.fn.store).records;

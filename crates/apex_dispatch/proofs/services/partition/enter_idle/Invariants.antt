@@ -7,11 +7,11 @@ use Rattle.apex_dispatch.proofs.services.partition.enter_idle.Given as goal
 abbrev pub invariant-loop-place : goal.invariant-loop-place
 invariant-loop-place g l = record {
   same : g.S.Store.roster l.store
-  ≡ record (g.S.Store.roster l.fn.store) { mode = Idle; records = (g.S.Store.roster l.store).records };
+      ≡ record (g.S.Store.roster l.fn.store) { mode = Idle; records = (g.S.Store.roster l.store).records };
   many : length (g.S.Store.roster l.store).records ≡ length (g.S.Store.roster l.fn.store).records;
   end : l.place-end ≡ length (g.S.Store.roster l.fn.store).records;
   few : l.place-end ≤ 32;
   done : (p : ℕ) → p < l.place → record_at (g.S.Store.roster l.store) p
-  ≡ stopped (record_at (g.S.Store.roster l.fn.store) p);
+      ≡ stopped (record_at (g.S.Store.roster l.fn.store) p);
   rest : (p : ℕ) → l.place ≤ p → record_at (g.S.Store.roster l.store) p ≡ record_at (g.S.Store.roster l.fn.store) p;
 }

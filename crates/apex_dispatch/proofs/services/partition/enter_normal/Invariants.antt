@@ -9,7 +9,7 @@ use Rattle.apex_dispatch.proofs.services.partition.enter_normal.Given as goal
 abbrev pub invariant-loop-turn : goal.invariant-loop-turn
 invariant-loop-turn g l = record {
   rest : LeadsTo first_to_start begin_waiter
-  (behind l.fn.notices (enter_normal (g.S.Store.roster l.fn.store))) l.turn l.turn-end (g.S.Store.roster l.store) l.notices;
+      (behind l.fn.notices (enter_normal (g.S.Store.roster l.fn.store))) l.turn l.turn-end (g.S.Store.roster l.store) l.notices;
   reaches : Reaches l.turn (g.S.Store.roster l.fn.store) (g.S.Store.roster l.store);
   begun : IsBegun (g.S.Store.roster l.store);
   end : l.turn-end ≡ length (g.S.Store.roster l.fn.store).records;
