@@ -6,6 +6,8 @@ mod kernels;
 mod laws;
 mod objects;
 mod services;
+#[cfg(test)]
+mod tests;
 mod ticks;
 
 pub use kernels::Kernel;

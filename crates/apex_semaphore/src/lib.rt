@@ -5,5 +5,7 @@
 #![tactic(auto)]
 
 mod semaphores;
+#[cfg(test)]
+mod tests;
 
 pub use semaphores::Semaphore;
