@@ -6,7 +6,7 @@ use Rattle.std.proofs.lemmas.Bool.{both_ways, cases_Bool, cases_lt, le-leb, lt-l
 use Rattle.std.proofs.lemmas.List.{append-nil, length-take, take_all, take-append-drop, take-append-le, take_more, take-replicate, length-replicate}
 use Rattle.std.proofs.lemmas.List.Folds.{list_all_at}
 use Rattle.std.proofs.lemmas.Grind.{flat_map-append}
-use Rattle.apex_types.specs.declared.Event.{Event}
+use Rattle.apex_cli.specs.Terms.{Event}
 use Rattle.apex_types.specs.Machine.{Machine, run, opening}
 use Rattle.apex_types.specs.Lines.{lines_of}
 use Rattle.apex_types.specs.Table.{Table}

@@ -1,3 +1,4 @@
+pub mod Terms
 pub mod Exits
 pub mod Faults
 pub mod Replay

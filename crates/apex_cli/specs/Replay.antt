@@ -1,7 +1,6 @@
 -- What `replay` answers: a refusal, or the lines of the history.
 use Rattle.std.specs.Prelude.{◌≡◌, ◌⊎◌, ℕ, List, Option, Some, None, Result, Ok, Err, length, nat_le, if◌then◌else◌, option_and_then}
-use Rattle.apex_types.specs.declared.Entry.{Entry}
-use Rattle.apex_types.specs.declared.Event.{Event}
+use Rattle.apex_cli.specs.Terms.{Entry, Event}
 use Rattle.apex_types.specs.Table as tables
 use Rattle.apex_types.specs.Machine.{run, opening}
 use Rattle.apex_types.specs.Lines.{lines_of}

@@ -2,7 +2,7 @@
 use Rattle.std.specs.Prelude.{ℕ, ◌-◌, Bool, true, List, [], ◌∷◌, Option, Some, None, map, option_map, option_and_then}
 use Rattle.std.specs.Prelude.{◌==◌, ◌&&◌, nat_lt, nat_le, if◌then◌else◌, replicate}
 use Rattle.std.specs.List.{slice_split, list_all, flat_map}
-use Rattle.apex_types.specs.declared.Event.{Event}
+use Rattle.apex_cli.specs.Terms.{Event}
 use Rattle.apex_types.specs.declared.Event.TheVariants as event
 use Rattle.apex_cli.specs.declared.schedule.Item.{Item}
 use Rattle.apex_cli.specs.declared.schedule.Item.TheVariants.{Turns, Tick}

@@ -1,4 +1,5 @@
 ghost use Rattle.std.specs.Prelude.{◌≡◌, ℕ, ◌<◌, ◌≤◌, ◌∷◌, None, length, option_map, IfSome, ◌==◌, IfOk, IfErr, IsErrOf, Some};
+ghost use Rattle.apex_types.specs.Limits.{most_ticks};
 ghost use Rattle.std.specs.List.{position};
 ghost use Rattle.apex_cli.specs.Schedule.{parts, parts_after, core_of, times_after, turns_of_parts, ticks_of, item_of, items_of, is_core_below, are_cores_below};
 ghost use Rattle.apex_cli.specs.Faults.{IsUsageOrMemory};
@@ -16,12 +17,13 @@ pub struct Ticks {
 
 impl Model for Ticks {
     ghost use Rattle.std.specs.Prelude.{ℕ, ◌≤◌};
+    ghost use Rattle.apex_types.specs.Limits.{most_ticks};
 
     ghost Value = { ℕ };
 
     ghost view = { λ t. t.count };
 
-    ghost invariant = { λ t. (1 ≤ t.count) × (t.count ≤ 1048576) };
+    ghost invariant = { λ t. (1 ≤ t.count) × (t.count ≤ most_ticks) };
 
     ghost inverse = { λ n. record { count = n } };
 }

@@ -2,7 +2,7 @@
 use Rattle.std.proofs.Common.{◌≡◌, ℕ, ◌+◌, ◌≤◌, Bool, true, false, cond, List, [], ◌∷◌, length, Some, refl, ap, ◌∙◌, arith, ◌==◌}
 use Rattle.std.proofs.lemmas.Bool.{both_ways}
 use Rattle.apex_types.specs.declared.Mode.TheVariants as mode
-use Rattle.apex_types.specs.declared.Notice.{Notice}
+use Rattle.apex_dispatch.specs.Terms.{Notice}
 use Rattle.apex_types.specs.declared.Notice.TheVariants.{Released}
 use Rattle.apex_types.specs.declared.Queue.TheVariants as queues
 use Rattle.apex_types.specs.PartitionServices.{first_to_start, begin_waiter, delay_of, enter_normal}

@@ -1,7 +1,7 @@
 -- The dues at a tick: the waits that they end.
 use Rattle.std.proofs.Common.{◌≡◌, ℕ, ◌<◌, false, length, Option, None, Some, refl, sym, ◌∙◌}
 use Rattle.std.proofs.lemmas.Option.{none-some}
-use Rattle.apex_types.specs.declared.Wait.{Wait}
+use Rattle.apex_dispatch.specs.Terms.{Wait}
 use Rattle.apex_types.specs.declared.Wait.TheVariants as wait
 use Rattle.apex_types.specs.Dues.{first_due}
 use Rattle.apex_types.specs.Roster.{Roster, record_at, is_normal}

@@ -3,10 +3,10 @@ use Rattle.std.proofs.Common.{◌≡◌, ◌∙◌, ap, sym, inl, inr, ℕ, ◌<
 use Rattle.std.proofs.lemmas.Bool.{cases_lt}
 use Rattle.std.proofs.lemmas.List.{get_or_past}
 use Rattle.std.proofs.lemmas.Option.{none-some, slice_get_within, get_or_from_slice_get}
-use Rattle.apex_types.specs.declared.Call.{Call}
+use Rattle.apex_dispatch.specs.Terms.{Call}
 use Rattle.apex_types.specs.declared.Call.TheVariants.{Partition, Process, Caller, Time, Semaphore}
 use Rattle.apex_types.specs.declared.CallerCall.TheVariants.{StopSelf}
-use Rattle.apex_types.specs.Table.{Table, ProcessEntry, IsLawful, IsKnown, call_at, no_process, process_entry}
+use Rattle.apex_types.specs.Table.{Table, ProcessConfig, IsLawful, IsKnown, call_at, no_process, process_config}
 use Rattle.apex_types.specs.Machine.{Objects}
 use Rattle.apex_dispatch.specs.Premises.{AreOf, IsKnownTo}
 
@@ -29,12 +29,12 @@ known_step table steps k call all e =
 
 -- a step of a process's script
 pub known_script_step : (table : Table) (p k : ℕ) (call : Call) → IsLawful table
-    → slice_get (process_entry table p).script k ≡ Some call → IsKnown table call
+    → slice_get (process_config table p).script k ≡ Some call → IsKnown table call
 known_script_step table p k call lawful e = elim (cases_lt p (length table.processes)) [
   | inl within ↦ known_step table _ k call (lawful.processes p within).known e
   | inr past ↦
-      let nobody : process_entry table p ≡ no_process = get_or_past table.processes p no_process past in
-      let none : None ≡ Some call = sym (ap (λ (entry : ProcessEntry). slice_get entry.script k) nobody) ∙ e in
+      let nobody : process_config table p ≡ no_process = get_or_past table.processes p no_process past in
+      let none : None ≡ Some call = sym (ap (λ (entry : ProcessConfig). slice_get entry.script k) nobody) ∙ e in
       absurd (none-some call none)
 ]
 

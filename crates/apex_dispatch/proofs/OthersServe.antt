@@ -3,24 +3,15 @@ use Rattle.std.proofs.Common.{◌≡◌, ℕ, ◌≤◌, Bool, true, false, cond
 use Rattle.std.proofs.lemmas.Bool.{both_ways}
 use Rattle.std.proofs.lemmas.List.Folds.{list_any-append}
 use Rattle.std.proofs.lemmas.Option.{none-some}
-use Rattle.apex_types.specs.declared.Call.{Call}
+use Rattle.apex_dispatch.specs.Terms.{Call, Caller, CallerCall, Notice, PartitionCall, Record, Reply, ReturnCode, TimeCall, Timeout}
 use Rattle.apex_types.specs.declared.Call.TheVariants as call
-use Rattle.apex_types.specs.declared.Caller.{Caller}
 use Rattle.apex_types.specs.declared.Caller.TheVariants.{Process, Init, Nobody}
-use Rattle.apex_types.specs.declared.CallerCall.{CallerCall}
 use Rattle.apex_types.specs.declared.CallerCall.TheVariants.{StopSelf, SuspendSelf, GetMyId, GetMyProcessorCoreId}
 use Rattle.apex_types.specs.declared.Mode.TheVariants as mode
-use Rattle.apex_types.specs.declared.Notice.{Notice}
-use Rattle.apex_types.specs.declared.PartitionCall.{PartitionCall}
 use Rattle.apex_types.specs.declared.PartitionCall.TheVariants.{SetPartitionMode, GetPartitionStatus}
-use Rattle.apex_types.specs.declared.Record.{Record}
 use Rattle.apex_types.specs.declared.RequestedMode.TheVariants as requested
-use Rattle.apex_types.specs.declared.Reply.{Reply}
 use Rattle.apex_types.specs.declared.Reply.TheVariants.{Code}
-use Rattle.apex_types.specs.declared.ReturnCode.{ReturnCode}
-use Rattle.apex_types.specs.declared.TimeCall.{TimeCall}
 use Rattle.apex_types.specs.declared.TimeCall.TheVariants.{TimedWait, GetTime}
-use Rattle.apex_types.specs.declared.Timeout.{Timeout}
 use Rattle.apex_types.specs.declared.Timeout.TheVariants.{Poll, Ticks, Infinite}
 use Rattle.apex_types.specs.declared.Wait.TheVariants.{Time}
 use Rattle.apex_types.specs.Callers.{IsReady}
@@ -39,7 +30,7 @@ use Rattle.apex_types.proofs.Reaches.{reaches_more, reaches_stop, reaches_suspen
 use Rattle.apex_types.proofs.Rows.{by_guard, by_caller}
 use Rattle.apex_dispatch.specs.AskedWaits.{awaited}
 use Rattle.apex_dispatch.proofs.Begun.{reach_enter_normal}
-use Rattle.apex_dispatch.proofs.Effects.{Frees, frees_none, frees_then, frees_moved, asks_waiting}
+use Rattle.apex_dispatch.proofs.AskedWaits.{Frees, frees_none, frees_then, frees_moved, asks_waiting}
 use Rattle.apex_dispatch.proofs.ProcessesServe.{begin_frees, begin_quiet, stop_frees}
 use Rattle.apex_dispatch.proofs.Satisfied.{is_waking}
 use Rattle.apex_dispatch.proofs.Serving.{Scene, Serves, ServesBy, AreQuiet, few, ready_started, ready_normal, serves_freed, serves_same, serves_blocked}

@@ -3,25 +3,16 @@ use Rattle.std.proofs.Common.{◌≡◌, ◌≢◌, ℕ, ◌+◌, ◌<◌, Bool,
 use Rattle.std.proofs.lemmas.Bool.{both_ways, cond_both, not-false}
 use Rattle.std.proofs.lemmas.List.Elements.{All-nil, All-cons}
 use Rattle.std.proofs.lemmas.Option.{none-some}
-use Rattle.apex_types.specs.declared.Call.{Call}
+use Rattle.apex_dispatch.specs.Terms.{Call, Caller, Entry, Notice, ProcessService, Record, Reply, ReturnCode, Timeout, Wait}
 use Rattle.apex_types.specs.declared.Call.TheVariants as call
-use Rattle.apex_types.specs.declared.Caller.{Caller}
-use Rattle.apex_types.specs.declared.Entry.{Entry}
-use Rattle.apex_types.specs.declared.Notice.{Notice}
 use Rattle.apex_types.specs.declared.Notice.TheVariants.{Released, Woken}
 use Rattle.apex_types.specs.declared.ObjectCall.TheVariants.{Own}
-use Rattle.apex_types.specs.declared.ProcessService.{ProcessService}
 use Rattle.apex_types.specs.declared.ProcessService.TheVariants.{InitializeCoreAffinity, SetPriority, Start, DelayedStart, Stop, Suspend, Resume}
 use Rattle.apex_types.specs.declared.Queue.TheVariants as queues
-use Rattle.apex_types.specs.declared.Record.{Record}
-use Rattle.apex_types.specs.declared.Reply.{Reply}
 use Rattle.apex_types.specs.declared.Reply.TheVariants.{Code}
-use Rattle.apex_types.specs.declared.ReturnCode.{ReturnCode}
 use Rattle.apex_types.specs.declared.ReturnCode.TheVariants.{NoError}
 use Rattle.apex_types.specs.declared.Suspender.TheVariants.{Other}
-use Rattle.apex_types.specs.declared.Timeout.{Timeout}
 use Rattle.apex_types.specs.declared.Timeout.TheVariants.{Poll}
-use Rattle.apex_types.specs.declared.Wait.{Wait}
 use Rattle.apex_types.specs.declared.Wait.TheVariants.{Normal, Start as ForStart, Time}
 use Rattle.apex_types.specs.Calls.{created_process}
 use Rattle.apex_types.specs.Callers.{is_by_process}
@@ -33,17 +24,17 @@ use Rattle.apex_types.specs.Rows.{Outcome, refused, accepted}
 use Rattle.apex_types.specs.Running.{is_eligible}
 use Rattle.apex_types.specs.Satisfied.{is_no_error, satisfied_by}
 use Rattle.apex_types.specs.Stamps as stamps
-use Rattle.apex_types.specs.Table.{ProcessEntry, no_process}
+use Rattle.apex_types.specs.Table.{ProcessConfig, no_process}
 use Rattle.apex_types.specs.Ticks.{begin_notices}
 use Rattle.apex_types.specs.Waiters.{queue_in, goes_by_priority}
 use Rattle.apex_types.proofs.Reaches.{Reaches, reaches_more, reaches_set_core, reaches_set_priority, reaches_start, reaches_stop, reaches_suspend, reaches_resume}
 use Rattle.apex_types.proofs.Rows.{by_guard}
 use Rattle.apex_types.proofs.Starts.{waitless_queue}
 use Rattle.apex_dispatch.specs.AskedWaits.{asked_of, awaited, or_suspended, AreAsked}
-use Rattle.apex_dispatch.proofs.Effects.{Frees, frees_then, frees_moved, frees_changed, frees_lessened, frees_unblock, asks_freed, awake_free}
+use Rattle.apex_dispatch.proofs.AskedWaits.{Frees, frees_then, frees_moved, frees_changed, frees_lessened, frees_unblock, asks_freed, awake_free}
 use Rattle.apex_dispatch.proofs.Satisfied.{wakes, woken_alone}
 use Rattle.apex_dispatch.proofs.Serving.{Scene, Serves, AreQuiet, few, serves_same, serves_freed}
-use Rattle.apex_dispatch.proofs.Things.{LawsOf, ServesOne, IsRead, IsQuiet}
+use Rattle.apex_dispatch.proofs.ObjectsServe.{LawsOf, ServesOne, IsRead, IsQuiet}
 use Rattle.apex_dispatch.proofs.Truths.{or_false, or_true}
 use Rattle.apex_dispatch.proofs.Values.{created-push}
 
@@ -52,14 +43,14 @@ abbrev pub unnamed : ℕ → Call → Bool
 unnamed p c = false
 
 -- a history keeps nothing of a process but that it is created
-abbrev pub KeepsProcess : List Entry → ℕ → ProcessEntry → Type 0
+abbrev pub KeepsProcess : List Entry → ℕ → ProcessConfig → Type 0
 KeepsProcess history p entry = Unit {0}
 
 all_unnamed : (p : ℕ) (calls : List Call) → All (λ c. unnamed p c ≡ false) calls
 all_unnamed p [] = All-nil (λ c. unnamed p c ≡ false)
 all_unnamed p (c ∷ calls) = All-cons (λ c. unnamed p c ≡ false) c calls refl (all_unnamed p calls)
 
-pub process_stays : (history : List Entry) (e : Entry) (p : ℕ) (entry : ProcessEntry) → creates created_process p e ≡ false
+pub process_stays : (history : List Entry) (e : Entry) (p : ℕ) (entry : ProcessConfig) → creates created_process p e ≡ false
     → IsRead process_after KeepsProcess history e p entry (process_after history p entry)
 process_stays history e p entry none = record {
   is = rw (created-push created_process p history e, none, or_false (is_created created_process p history)) refl;
@@ -150,7 +141,7 @@ module _ (roster : Roster) (p : ℕ) where
       woken = resume_woken (stamps.is_by_itself r.suspended) refl;
     }
 
-module _ (history : List Entry) (roster : Roster) (caller : Caller) (p : ℕ) (entry : ProcessEntry)
+module _ (history : List Entry) (roster : Roster) (caller : Caller) (p : ℕ) (entry : ProcessConfig)
     (scene : Scene roster caller) (known : p < length roster.records) where
   abbrev process : ProcessObject
   process = process_after history p entry

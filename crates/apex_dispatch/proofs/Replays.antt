@@ -3,13 +3,8 @@ use Rattle.std.proofs.Common.{◌≡◌, ℕ, ◌+◌, ◌*◌, ◌<◌, ◌≤�
 use Rattle.std.proofs.lemmas.List.Elements.{All-nil, All-push}
 use Rattle.std.proofs.lemmas.List.Sums.{sum_by-append}
 use Rattle.std.proofs.lemmas.Int.{ints}
-use Rattle.apex_types.specs.declared.Call.{Call}
-use Rattle.apex_types.specs.declared.Caller.{Caller}
-use Rattle.apex_types.specs.declared.Entry.{Entry}
-use Rattle.apex_types.specs.declared.Event.{Event}
+use Rattle.apex_dispatch.specs.Terms.{Call, Caller, Entry, Event, Notice, Reply}
 use Rattle.apex_types.specs.declared.Event.TheVariants.{Turn, Tick}
-use Rattle.apex_types.specs.declared.Notice.{Notice}
-use Rattle.apex_types.specs.declared.Reply.{Reply}
 use Rattle.apex_types.specs.Callers.{is_by_init}
 use Rattle.apex_types.specs.History.{init_count}
 use Rattle.apex_types.specs.Machine.{Machine, Objects, objects_after, happen, replay, machine_with, events_of, entry_of, due_init_call, script_deed, chosen_deed, step_of, turn_deed}

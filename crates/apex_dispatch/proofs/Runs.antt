@@ -2,7 +2,7 @@
 use Rattle.std.proofs.Common.{◌≡◌, ℕ, ◌+◌, ◌≤◌, ◌<◌, List, [], ◌∷◌, ◌++◌, length, refl, drop, get_or, add-one, arith, length-append, inl, inr, subst, sym}
 use Rattle.std.proofs.Math.Seq.{drop-cons}
 use Rattle.std.proofs.lemmas.Bool.{lt-ltb, le-ltb, cases_lt}
-use Rattle.apex_types.specs.declared.Event.{Event}
+use Rattle.apex_dispatch.specs.Terms.{Event}
 use Rattle.apex_types.specs.declared.Event.TheVariants.{Turn, Tick}
 use Rattle.apex_types.specs.Table.{Table}
 use Rattle.apex_types.specs.Machine.{Machine, turn, tick, happen, accept, run}

@@ -2,27 +2,18 @@
 use Rattle.std.proofs.Common.{◌≡◌, ◌≢◌, ℕ, ◌+◌, ◌-◌, ◌≤◌, Bool, true, false, ◌||◌, ◌==◌, cond, not, nat_lt, List, [], ◌∷◌, ◌++◌, Option, None, Some, All, count_by, filter, flat_map, refl, sym, ap, ◌∙◌, arith}
 use Rattle.std.proofs.lemmas.Bool.{cond_both, eq-eqb, ltb-true, not-false}
 use Rattle.std.proofs.lemmas.List.Elements.{All-nil, All-cons}
-use Rattle.apex_types.specs.declared.Call.{Call}
+use Rattle.apex_dispatch.specs.Terms.{Call, Caller, Entry, Notice, ObjectCall, Reply, ReturnCode, SemaphoreService, Timeout, Who}
 use Rattle.apex_types.specs.declared.Call.TheVariants as call
-use Rattle.apex_types.specs.declared.Caller.{Caller}
 use Rattle.apex_types.specs.declared.Caller.TheVariants.{Process}
-use Rattle.apex_types.specs.declared.Entry.{Entry}
 use Rattle.apex_types.specs.declared.Named.TheVariants.{Known}
-use Rattle.apex_types.specs.declared.Notice.{Notice}
 use Rattle.apex_types.specs.declared.Notice.TheVariants.{Woken}
-use Rattle.apex_types.specs.declared.ObjectCall.{ObjectCall}
 use Rattle.apex_types.specs.declared.ObjectCall.TheVariants.{Create, Own}
 use Rattle.apex_types.specs.declared.Queue.TheVariants as queues
-use Rattle.apex_types.specs.declared.Reply.{Reply}
 use Rattle.apex_types.specs.declared.Reply.TheVariants.{Code, Blocked}
-use Rattle.apex_types.specs.declared.ReturnCode.{ReturnCode}
 use Rattle.apex_types.specs.declared.ReturnCode.TheVariants.{NoError, NotAvailable}
-use Rattle.apex_types.specs.declared.SemaphoreService.{SemaphoreService}
 use Rattle.apex_types.specs.declared.SemaphoreService.TheVariants.{Wait, Signal}
-use Rattle.apex_types.specs.declared.Timeout.{Timeout}
 use Rattle.apex_types.specs.declared.Timeout.TheVariants.{Poll, Ticks, Infinite}
 use Rattle.apex_types.specs.declared.Wait.TheVariants.{Semaphore}
-use Rattle.apex_types.specs.declared.Who.{Who}
 use Rattle.apex_types.specs.Calls.{created_semaphore, names_semaphore, is_wait, is_signal}
 use Rattle.apex_types.specs.Callers.{IsReady}
 use Rattle.apex_types.specs.History.{creates, is_created}
@@ -31,21 +22,21 @@ use Rattle.apex_types.specs.Rows.{Outcome, told, refused, accepted, by_process}
 use Rattle.apex_types.specs.Satisfied.{is_no_error, answered_by, satisfied_by}
 use Rattle.apex_types.specs.SemaphoreServices.{SemaphoreObject, semaphore_after, semaphore_kind, semaphore_own, wait_semaphore, signal_semaphore, signal_to}
 use Rattle.apex_types.specs.Stamps.{unblock}
-use Rattle.apex_types.specs.Table.{SemaphoreEntry, no_semaphore}
+use Rattle.apex_types.specs.Table.{SemaphoreConfig, no_semaphore}
 use Rattle.apex_types.specs.Waiters.{first_waiter}
 use Rattle.apex_types.specs.Waiting.{blocked, wait_for}
 use Rattle.apex_types.proofs.Reaches.{reaches_unblock}
 use Rattle.apex_types.proofs.Rows.{by_guard, by_caller}
 use Rattle.apex_types.proofs.Starts.{first_stands, first_within, queued_normal}
 use Rattle.apex_dispatch.specs.AskedWaits.{begins, AreAsked}
-use Rattle.apex_dispatch.proofs.Effects.{asks_freed, first_waits, frees_unblock}
+use Rattle.apex_dispatch.proofs.AskedWaits.{asks_freed, first_waits, frees_unblock}
 use Rattle.apex_dispatch.proofs.Satisfied.{begins_names, begins_wait, filter_all, handed_one, woken_alone}
 use Rattle.apex_dispatch.proofs.Serving.{Scene, Serves, few, serves_same, serves_blocked}
-use Rattle.apex_dispatch.proofs.Things.{LawsOf, ServesOne, IsRead, IsQuiet, entry_with, quiet_told}
+use Rattle.apex_dispatch.proofs.ObjectsServe.{LawsOf, ServesOne, IsRead, IsQuiet, entry_with, quiet_told}
 use Rattle.apex_dispatch.proofs.Truths.{or_false, or_true, other}
 use Rattle.apex_dispatch.proofs.Values.{KeepsSemaphore, after_calls, after_quiet}
 
-module _ (history : List Entry) (roster : Roster) (caller : Caller) (s : ℕ) (entry : SemaphoreEntry)
+module _ (history : List Entry) (roster : Roster) (caller : Caller) (s : ℕ) (entry : SemaphoreConfig)
     (keeps : KeepsSemaphore history s entry) (asked : AreAsked roster history) (scene : Scene roster caller) where
   abbrev semaphore : SemaphoreObject
   semaphore = semaphore_after history s entry

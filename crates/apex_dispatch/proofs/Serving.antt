@@ -2,12 +2,8 @@
 -- asked for it, and whom it wakes with NO_ERROR had waited for one thing.
 use Rattle.std.proofs.Common.{◌≡◌, ℕ, ◌≤◌, Bool, true, false, List, [], length, Some, lit≤, refl}
 use Rattle.std.proofs.lemmas.Bool.{both_ways}
-use Rattle.apex_types.specs.declared.Call.{Call}
-use Rattle.apex_types.specs.declared.Caller.{Caller}
+use Rattle.apex_dispatch.specs.Terms.{Call, Caller, Notice, Timeout, Wait}
 use Rattle.apex_types.specs.declared.Caller.TheVariants.{Process}
-use Rattle.apex_types.specs.declared.Notice.{Notice}
-use Rattle.apex_types.specs.declared.Timeout.{Timeout}
-use Rattle.apex_types.specs.declared.Wait.{Wait}
 use Rattle.apex_types.specs.Callers.{IsReady, IsReadyCaller}
 use Rattle.apex_types.specs.Dues.{due_after}
 use Rattle.apex_types.specs.Roster.{Roster, record_at, is_normal}
@@ -18,7 +14,7 @@ use Rattle.apex_types.proofs.Reaches.{Reaches, reaches_none, reaches_more, reach
 use Rattle.apex_types.proofs.Starts.{runnable}
 use Rattle.apex_dispatch.specs.AskedWaits.{begins, asked_of, awaited}
 use Rattle.apex_dispatch.proofs.Satisfied.{Asks, wakes}
-use Rattle.apex_dispatch.proofs.Effects.{Frees, frees_none, asks_freed, asks_blocked}
+use Rattle.apex_dispatch.proofs.AskedWaits.{Frees, frees_none, asks_freed, asks_blocked}
 
 -- what a service may rely on
 pub record Scene (roster : Roster) (caller : Caller) : Type 0 where

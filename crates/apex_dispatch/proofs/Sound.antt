@@ -6,10 +6,8 @@ use Rattle.std.proofs.lemmas.List.{map-append}
 use Rattle.std.proofs.lemmas.List.Elements.{All-nil, All-pop, All-push}
 use Rattle.std.proofs.lemmas.Int.{ints}
 use Rattle.std.proofs.lemmas.Option.{none-some}
-use Rattle.apex_types.specs.declared.Event.{Event}
+use Rattle.apex_dispatch.specs.Terms.{Event, Record, Who}
 use Rattle.apex_types.specs.declared.Event.TheVariants.{Turn, Tick}
-use Rattle.apex_types.specs.declared.Record.{Record}
-use Rattle.apex_types.specs.declared.Who.{Who}
 use Rattle.apex_types.specs.declared.Who.TheVariants.{Core, Ticker}
 use Rattle.apex_types.specs.Distinct.{IsStamped}
 use Rattle.apex_types.specs.Dues.{HasNoDueBelow, HasNoPastDue}
@@ -19,7 +17,7 @@ use Rattle.apex_types.specs.Machine.{Machine, Deed, Objects, objects_after, tick
 use Rattle.apex_types.specs.Places.{map_places}
 use Rattle.apex_types.specs.Roster.{Roster, nobody, opening_record, is_cold_start}
 use Rattle.apex_types.specs.Stamps.{advance_to}
-use Rattle.apex_types.specs.Table.{Table, ProcessEntry, IsLawful}
+use Rattle.apex_types.specs.Table.{Table, ProcessConfig, IsLawful}
 use Rattle.apex_types.specs.Ticks.{tick_goal}
 use Rattle.apex_types.proofs.DistinctStamps.{stamped_opening, stamped_advance_to}
 use Rattle.apex_types.proofs.Dues.{goal_forward, goal_near, goal_not_past}
@@ -204,7 +202,7 @@ record IsDormant (r : Record) : Type 0 where
   wait : r.wait ≡ None
   due : r.due ≡ None
 
-opening_dormant : (entries : List ProcessEntry) (q p : ℕ)
+opening_dormant : (entries : List ProcessConfig) (q p : ℕ)
     → IsDormant (get_or (map_places opening_record q entries) p nobody)
 opening_dormant [] q p = record { started = refl; suspended = refl; wait = refl; due = refl }
 opening_dormant (e ∷ entries) q zero = record { started = refl; suspended = refl; wait = refl; due = refl }

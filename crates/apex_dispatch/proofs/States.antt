@@ -1,7 +1,7 @@
 -- Each process is in one state.
 use Rattle.std.proofs.Common.{◌≡◌, ℕ, Bool, true, false, Option, Some, refl, sym, ap, ◌∙◌}
 use Rattle.std.proofs.lemmas.Bool.{both_ways}
-use Rattle.apex_types.specs.declared.State.{State}
+use Rattle.apex_dispatch.specs.Terms.{State}
 use Rattle.apex_types.specs.declared.State.TheVariants.{Dormant, Ready, Running, Waiting}
 use Rattle.apex_types.specs.Roster.{Roster, record_at}
 use Rattle.apex_types.specs.Running.{is_eligible, chosen, is_process}

@@ -3,10 +3,7 @@
 use Rattle.std.proofs.Common.{◌≡◌, ℕ, ◌≤◌, Bool, true, false, ◌&&◌, ◌==◌, List, [], ◌++◌, length, Option, None, Some, refl, sym, inl, inr}
 use Rattle.std.proofs.lemmas.Bool.{cases_Bool, and_parts, eqb-true, both_ways}
 use Rattle.std.proofs.lemmas.List.Folds.{list_any-append}
-use Rattle.apex_types.specs.declared.Entry.{Entry}
-use Rattle.apex_types.specs.declared.Notice.{Notice}
-use Rattle.apex_types.specs.declared.Record.{Record}
-use Rattle.apex_types.specs.declared.Wait.{Wait}
+use Rattle.apex_dispatch.specs.Terms.{Entry, Notice, Record, Wait}
 use Rattle.apex_types.specs.declared.Wait.TheVariants.{Normal, Start, Time, Semaphore}
 use Rattle.apex_types.specs.declared.Who.TheVariants.{Ticker}
 use Rattle.apex_types.specs.Roster.{Roster, record_at}
@@ -19,8 +16,8 @@ use Rattle.apex_types.proofs.InTurn.{holds_in_turn}
 use Rattle.apex_types.proofs.Reaches.{reaches_more}
 use Rattle.apex_dispatch.specs.AskedWaits.{asked_of, or_suspended, awaited}
 use Rattle.apex_dispatch.proofs.DuesServed.{reach_serve_dues}
-use Rattle.apex_dispatch.proofs.Effects.{Frees, frees_none, frees_then, frees_moved, frees_unblock}
-use Rattle.apex_dispatch.proofs.Exact.{exact_uncalled}
+use Rattle.apex_dispatch.proofs.AskedWaits.{Frees, frees_none, frees_then, frees_moved, frees_unblock}
+use Rattle.apex_dispatch.proofs.CallsServe.{exact_uncalled}
 use Rattle.apex_dispatch.proofs.Satisfied.{is_waking, wakes}
 use Rattle.apex_dispatch.proofs.Truths.{or_false, and_false}
 use Rattle.apex_dispatch.proofs.Turns.{IsOrderly, Owes}

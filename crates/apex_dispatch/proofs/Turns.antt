@@ -3,28 +3,21 @@
 use Rattle.std.proofs.Common.{◌≡◌, ℕ, ◌+◌, ◌≤◌, true, false, List, length, Option, None, Some, is_none, IfSome, refl, sym, ◌∙◌, arith}
 use Rattle.std.proofs.lemmas.Option.{none-some}
 use Rattle.std.proofs.lemmas.Bool.{both_ways, and_parts, eqb-true}
-use Rattle.apex_types.specs.declared.Call.{Call}
+use Rattle.apex_dispatch.specs.Terms.{Call, Caller, Entry, Mode, Record, Suspender, Wait, Who}
 use Rattle.apex_types.specs.declared.Call.TheVariants.{Caller as ToCaller}
 use Rattle.apex_types.specs.declared.CallerCall.TheVariants.{StopSelf}
-use Rattle.apex_types.specs.declared.Caller.{Caller}
 use Rattle.apex_types.specs.declared.Caller.TheVariants.{Process, Init, Nobody}
-use Rattle.apex_types.specs.declared.Entry.{Entry}
-use Rattle.apex_types.specs.declared.Mode.{Mode}
-use Rattle.apex_types.specs.declared.Record.{Record}
-use Rattle.apex_types.specs.declared.Suspender.{Suspender}
-use Rattle.apex_types.specs.declared.Wait.{Wait}
-use Rattle.apex_types.specs.declared.Who.{Who}
 use Rattle.apex_types.specs.Callers.{IsReady, IsReadyCaller}
 use Rattle.apex_types.specs.Machine.{Objects, objects_after, Deed, service, served, next_place, script_deed, chosen_deed, turn_deed, step_of, entry_of}
 use Rattle.apex_types.specs.Roster.{Roster, record_at}
 use Rattle.apex_types.specs.Running.{is_eligible, chosen}
 use Rattle.apex_types.specs.Stamps.{WaitsForOne, HasOrderlyStarts, is_by_itself, set_step}
-use Rattle.apex_types.specs.Table.{Table, process_entry, IsLawful, IsKnown}
+use Rattle.apex_types.specs.Table.{Table, process_config, IsLawful, IsKnown}
 use Rattle.apex_types.proofs.Reaches.{Reaches, reaches_none, reaches_then, reaches_set_step}
 use Rattle.apex_types.proofs.Starts.{chosen_ready, ready_step}
 use Rattle.apex_dispatch.specs.AskedWaits.{asked_of, or_suspended, awaited}
-use Rattle.apex_dispatch.proofs.Effects.{frees_moved, frees_none}
-use Rattle.apex_dispatch.proofs.Exact.{AreKept, IsExact, serves_call, exact_uncalled}
+use Rattle.apex_dispatch.proofs.AskedWaits.{frees_moved, frees_none}
+use Rattle.apex_dispatch.proofs.CallsServe.{AreKept, IsExact, serves_call, exact_uncalled}
 use Rattle.apex_dispatch.proofs.Known.{known_script_step}
 use Rattle.apex_dispatch.proofs.Satisfied.{IsIdle}
 use Rattle.apex_dispatch.proofs.Serving.{Scene}
@@ -87,7 +80,7 @@ module _ (table : Table) (lawful : IsLawful table) (history : List Entry) (who :
     script_owes p ready None is = served_owes roster orderly (Process p) ready (ToCaller StopSelf) tt
     script_owes p ready (Some call) is =
         let r = record_at roster p in
-        let next = next_place (process_entry table p) r.step in
+        let next = next_place (process_config table p) r.step in
         let moved = set_step roster p next in
         let moves = reaches_set_step roster p ready.known next in
         let frees = frees_moved roster moved p (record r { step = next }) refl (λ w h. h) in

@@ -2,16 +2,15 @@
 use Rattle.std.proofs.Common.{◌≡◌, ℕ, ◌+◌, ◌-◌, ◌≤◌, Bool, false, ◌||◌, Option, List, [], ◌∷◌, ◌++◌, All, count_by, if◌then◌else◌, filter, refl, ◌∙◌, ap, arith}
 use Rattle.std.proofs.lemmas.List.Sums.{sum_by-append}
 use Rattle.std.proofs.lemmas.List.Folds.{list_any-append}
-use Rattle.apex_types.specs.declared.Call.{Call}
-use Rattle.apex_types.specs.declared.Entry.{Entry}
-use Rattle.apex_types.specs.Table.{SemaphoreEntry}
+use Rattle.apex_dispatch.specs.Terms.{Call, Entry}
+use Rattle.apex_types.specs.Table.{SemaphoreConfig}
 use Rattle.apex_types.specs.Calls.{created_semaphore, names_semaphore, is_wait, is_signal}
 use Rattle.apex_types.specs.Satisfied.{satisfied_by, calls_where, semaphore_value}
 use Rattle.apex_types.specs.History.{creates, is_created}
 use Rattle.apex_types.specs.SemaphoreServices.{semaphore_after, SemaphoreObject}
 use Rattle.apex_dispatch.specs.AskedWaits.{Accounts, IsAccounted}
 use Rattle.apex_dispatch.proofs.Satisfied.{calls-push, filter_all}
-use Rattle.apex_dispatch.proofs.Things.{IsQuiet, IsRead}
+use Rattle.apex_dispatch.proofs.ObjectsServe.{IsQuiet, IsRead}
 use Rattle.apex_dispatch.proofs.Truths.{or_false}
 
 -- one entry more creates what its call says
@@ -32,15 +31,15 @@ accounts_more initial v after calls more accounts balance =
 
 -- what a history keeps of semaphore s: its value accounts for all its satisfied calls, and is at most
 -- its maximum
-pub record KeepsSemaphore (history : List Entry) (s : ℕ) (entry : SemaphoreEntry) : Type 0 where
+pub record KeepsSemaphore (history : List Entry) (s : ℕ) (entry : SemaphoreConfig) : Type 0 where
   pub enough : IsAccounted entry.initial s history
   pub bounded : semaphore_value entry.initial s history ≤ entry.maximum
 
 -- semaphore s after one entry more
-abbrev pub IsSemaphore : List Entry → Entry → ℕ → SemaphoreEntry → SemaphoreObject → Type 0
+abbrev pub IsSemaphore : List Entry → Entry → ℕ → SemaphoreConfig → SemaphoreObject → Type 0
 IsSemaphore = IsRead semaphore_after KeepsSemaphore
 
-module _ (history : List Entry) (e : Entry) (s : ℕ) (entry : SemaphoreEntry) (keeps : KeepsSemaphore history s entry) where
+module _ (history : List Entry) (e : Entry) (s : ℕ) (entry : SemaphoreConfig) (keeps : KeepsSemaphore history s entry) where
   -- after an entry that satisfies these calls of it, a value that accounts for them is its value
   pub after_calls : (more : List Call) (v : ℕ) (created : Bool)
       → filter (names_semaphore s) (satisfied_by history e) ≡ more

@@ -1,18 +1,15 @@
 -- What a kernel keeps of waits and values: who waits asked for it last, and no value is too great.
 use Rattle.std.specs.Prelude.{◌≡◌, ℕ, ◌+◌, ◌≤◌, ◌<◌, Bool, List, Option, None, Some, length, count_by, option_and_then, if◌then◌else◌}
-use Rattle.apex_types.specs.declared.Call.{Call}
+use Rattle.apex_dispatch.specs.Terms.{Call, Entry, Record, Wait}
 use Rattle.apex_types.specs.declared.Call.TheVariants as call
-use Rattle.apex_types.specs.declared.Entry.{Entry}
 use Rattle.apex_types.specs.declared.CallerCall.TheVariants.{SuspendSelf}
 use Rattle.apex_types.specs.declared.ObjectCall.TheVariants.{Own}
-use Rattle.apex_types.specs.declared.Record.{Record}
 use Rattle.apex_types.specs.declared.SemaphoreService.TheVariants as semaphore
 use Rattle.apex_types.specs.declared.TimeCall.TheVariants.{TimedWait}
-use Rattle.apex_types.specs.declared.Wait.{Wait}
 use Rattle.apex_types.specs.declared.Wait.TheVariants.{Time, Semaphore}
 use Rattle.apex_types.specs.Roster.{Roster, record_at}
 use Rattle.apex_types.specs.Stamps.{is_by_itself}
-use Rattle.apex_types.specs.Table.{Table, semaphore_entry}
+use Rattle.apex_types.specs.Table.{Table, semaphore_config}
 use Rattle.apex_types.specs.Calls.{names_semaphore, is_wait, is_signal}
 use Rattle.apex_types.specs.Satisfied.{latest_call, calls_where, semaphore_value}
 
@@ -29,12 +26,12 @@ IsAccounted initial s history =
 -- that holds of each semaphore
 abbrev pub AreEnough : Table → List Entry → Type 0
 AreEnough table history = (s : ℕ) → s < length table.semaphores
-    → IsAccounted (semaphore_entry table s).initial s history
+    → IsAccounted (semaphore_config table s).initial s history
 
 -- no semaphore's value is above its maximum
 abbrev pub AreBounded : Table → List Entry → Type 0
 AreBounded table history = (s : ℕ) → s < length table.semaphores →
-    let entry = semaphore_entry table s in semaphore_value entry.initial s history ≤ entry.maximum
+    let entry = semaphore_config table s in semaphore_value entry.initial s history ≤ entry.maximum
 
 -- the wait that a call begins where it is not answered at once
 abbrev pub begins : Call → Option Wait

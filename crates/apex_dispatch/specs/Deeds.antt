@@ -1,9 +1,6 @@
 -- What carrying out a deed leaves.
 use Rattle.std.specs.Prelude.{◌≡◌, List, Option}
-use Rattle.apex_types.specs.declared.Call.{Call}
-use Rattle.apex_types.specs.declared.Caller.{Caller}
-use Rattle.apex_types.specs.declared.Notice.{Notice}
-use Rattle.apex_types.specs.declared.Reply.{Reply}
+use Rattle.apex_dispatch.specs.Terms.{Call, Caller, Notice, Reply}
 use Rattle.apex_types.specs.Machine.{Deed, Objects}
 use Rattle.apex_types.specs.Roster.{Roster}
 use Rattle.apex_types.specs.Rows.{Leaves}

@@ -1,6 +1,6 @@
 -- What every contract sees of a kernel, and what each kernel keeps.
 use Rattle.std.specs.Prelude.{◌≡◌, ℕ, List, All}
-use Rattle.apex_types.specs.declared.Entry.{Entry}
+use Rattle.apex_dispatch.specs.Terms.{Entry}
 use Rattle.apex_types.specs.Table.{Table, IsLawful}
 use Rattle.apex_types.specs.Roster.{Roster}
 use Rattle.apex_types.specs.History.{init_count}

@@ -1,9 +1,8 @@
 -- Laws of whole runs, in the subject's own words.
 use Rattle.std.specs.Prelude.{◌≡◌, ℕ, ◌≤◌, ◌<◌, List, ◌++◌, length}
-use Rattle.apex_types.specs.declared.Event.{Event}
-use Rattle.apex_types.specs.declared.Entry.{Entry}
+use Rattle.apex_dispatch.specs.Terms.{Entry, Event}
 use Rattle.apex_types.specs.Dues.{HasNoPastDue}
-use Rattle.apex_types.specs.Table.{Table, semaphore_entry}
+use Rattle.apex_types.specs.Table.{Table, semaphore_config}
 use Rattle.apex_types.specs.Satisfied.{semaphore_value}
 use Rattle.apex_types.specs.Machine.{Machine, run, opening, events_of}
 use Rattle.apex_dispatch.specs.AskedWaits.{IsAccounted}
@@ -11,8 +10,8 @@ use Rattle.apex_dispatch.specs.AskedWaits.{IsAccounted}
 -- the value of semaphore s accounts for all its satisfied calls, so that it never served more waits
 -- than its start and its signals allow, and it is at most its maximum
 pub record IsInRange (table : Table) (history : List Entry) (s : ℕ) : Type 0 where
-  pub served : IsAccounted (semaphore_entry table s).initial s history
-  pub most : semaphore_value (semaphore_entry table s).initial s history ≤ (semaphore_entry table s).maximum
+  pub served : IsAccounted (semaphore_config table s).initial s history
+  pub most : semaphore_value (semaphore_config table s).initial s history ≤ (semaphore_config table s).maximum
 
 -- in every run each semaphore's value stays from 0 to its maximum
 abbrev pub ValuesStayInRange : Table → Type 0

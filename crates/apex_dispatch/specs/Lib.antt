@@ -1,3 +1,4 @@
+pub mod Terms
 pub mod Premises
 pub mod AskedWaits
 pub mod Deeds

@@ -1,6 +1,7 @@
 -- What a service may rely on: what is named is there, and stamps are left.
 use Rattle.std.specs.Prelude.{◌≡◌, ◌^◌, length, pos, ◌<ℤ◌, ◌+ℤ◌}
-use Rattle.apex_types.specs.declared.Call.{Call}
+use Rattle.apex_types.specs.Limits.{most_stamps}
+use Rattle.apex_dispatch.specs.Terms.{Call}
 use Rattle.apex_types.specs.declared.Call.TheVariants.{Partition, Process as ToProcess, Caller as ToCaller, Time, Semaphore}
 use Rattle.apex_types.specs.Machine.{Objects}
 use Rattle.apex_types.specs.Roster.{Roster}
@@ -21,5 +22,5 @@ pub record AreOf (table : Table) (objects : Objects) : Type 0 where
 
 -- there are stamps left, upwards and downwards, for all that one event may stamp
 pub record HasManyStamps (roster : Roster) : Type 0 where
-  pub young : (roster.young +ℤ pos 256) <ℤ pos (2 ^ 40)
-  pub old : pos 256 <ℤ (roster.old +ℤ pos (2 ^ 40))
+  pub young : (roster.young +ℤ pos 256) <ℤ pos most_stamps
+  pub old : pos 256 <ℤ (roster.old +ℤ pos most_stamps)

@@ -1,7 +1,6 @@
 -- The four states of a process, each told for itself (ARINC 653 Part 1, process management).
 use Rattle.std.specs.Prelude.{◌≡◌, ◌≢◌, ℕ, ◌<◌, true, false, List, Some, length}
-use Rattle.apex_types.specs.declared.Event.{Event}
-use Rattle.apex_types.specs.declared.State.{State}
+use Rattle.apex_dispatch.specs.Terms.{Event, State}
 use Rattle.apex_types.specs.declared.State.TheVariants.{Dormant, Ready, Running, Waiting}
 use Rattle.apex_types.specs.Roster.{Roster, record_at}
 use Rattle.apex_types.specs.Running.{is_eligible, chosen, process_state}

@@ -1,6 +1,6 @@
 -- Worked histories: small tables and events, and the lines that the definitions give for them.
 use Rattle.std.specs.Prelude.{◌≡◌, ℕ, true, false, List, [], ◌∷◌, codes, flat_map, replicate, ◌++◌}
-use Rattle.apex_types.specs.declared.Call.{Call}
+use Rattle.apex_dispatch.specs.Terms.{Call, Event}
 use Rattle.apex_types.specs.declared.Call.TheVariants.{Partition, Process, Caller, Time, Semaphore}
 use Rattle.apex_types.specs.declared.Discipline.TheVariants.{Fifo, Priority}
 use Rattle.apex_types.specs.declared.CallerCall.TheVariants.{SuspendSelf, GetMyId}
@@ -12,14 +12,13 @@ use Rattle.apex_types.specs.declared.ProcessService.TheVariants.{InitializeCoreA
 use Rattle.apex_types.specs.declared.SemaphoreService.TheVariants.{Wait, Signal}
 use Rattle.apex_types.specs.declared.TimeCall.TheVariants.{TimedWait, GetTime}
 use Rattle.apex_types.specs.declared.Timeout.TheVariants.{Poll, Ticks, Infinite}
-use Rattle.apex_types.specs.declared.Event.{Event}
 use Rattle.apex_types.specs.declared.Event.TheVariants.{Turn, Tick}
-use Rattle.apex_types.specs.Table.{Table, ProcessEntry}
+use Rattle.apex_types.specs.Table.{Table, ProcessConfig}
 use Rattle.apex_types.specs.Machine.{run, opening}
 use Rattle.apex_types.specs.Lines.{lines_of}
 
 -- a process that the init list starts, with a script that ends
-abbrev pub starts : List ℕ → ℕ → ℕ → List Call → ProcessEntry
+abbrev pub starts : List ℕ → ℕ → ℕ → List Call → ProcessConfig
 starts name priority core script =
     record { name = name; priority = priority; core = core; loops = false; start = true; script = script }
 

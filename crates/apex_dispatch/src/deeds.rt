@@ -1,4 +1,5 @@
 ghost use Rattle.std.specs.Prelude.{◌≡◌, ◌<◌, ◌≤◌, length, Some};
+ghost use Rattle.apex_types.specs.Limits.{most_processes, most_steps};
 ghost use Rattle.std.specs.Option.{ForSome};
 ghost use Rattle.apex_types.specs.Callers.{IsReady, IsReadyCaller};
 ghost use Rattle.apex_types.specs.Dues.{HasTime};
@@ -11,7 +12,7 @@ ghost use Rattle.apex_dispatch.specs.Premises.{AreOf, HasManyStamps, IsKnownTo};
 use crate::objects::Objects;
 use crate::services::serve;
 use apex_store::Store;
-use apex_table::{Process, Table};
+use apex_table::{ProcessConfig, Table};
 use apex_types::{Call, Caller, CallerCall, CoreId, Notices, ProcessId, Reply};
 
 /// A call that was carried out, and its reply; no call at an idle turn and a tick.
@@ -30,7 +31,7 @@ fn ask<S: Store>(
     call: Call,
     notices: &mut Notices,
 ) -> Deed
-    requires few { length (S.roster store.old).records ≤ 32 }
+    requires few { length (S.roster store.old).records ≤ most_processes }
     requires many { length objects.old.processes ≡ length (S.roster store.old).records }
     requires caller { IsReadyCaller (S.roster store.old) caller }
     requires known { IsKnownTo objects.old call }
@@ -50,8 +51,8 @@ fn ask<S: Store>(
 }
 
 /// The place after this one: a looping script is at its first step again after its last one.
-fn next_place(process: &Process, step: u8) -> u8
-    requires { step < 64 }
+fn next_place(process: &ProcessConfig, step: u8) -> u8
+    requires { step < most_steps }
     ensures { result ≡ next_place process.now step }
 {
     if process.loops() && usize::from(step) + 1 == process.step_count() {

@@ -1,4 +1,5 @@
 ghost use Rattle.std.specs.Prelude.{◌≡◌, ◌<◌, ◌≤◌, ◌↔◌, ◌+◌, ◌^◌, [], ◌∷◌, ◌++◌, length, slice_get, ◌&&◌, ◌==◌, if◌then◌else◌, None, is_some, All, IfOk, IfErr, OnOk, OnErr, IsOk};
+ghost use Rattle.apex_types.specs.Limits.{latest, most_entries, most_ticks};
 ghost use Rattle.apex_types.specs.Roster.{opening_roster, is_cold_start};
 ghost use Rattle.apex_types.specs.Lines.{IsPrintable};
 ghost use Rattle.apex_types.specs.Machine.{opening, turn, tick, happen, run, replay, events_of};
@@ -10,10 +11,10 @@ ghost use Rattle.apex_dispatch.specs.Kernel.{kernel_in};
 use crate::deeds::{Deed, carry_out};
 use crate::objects::Objects;
 use crate::ticks::pass_time;
-use apex_history::Log;
+use apex_history::{Entries, Log};
 use apex_store::Store;
 use apex_table::Table;
-use apex_types::{Call, Caller, CoreId, Entry, Event, Full, Mode, Notices, Reply, Who};
+use apex_types::{Call, Caller, CoreId, Event, Full, LentEntry, Mode, Notices, Reply, Who};
 use std::alloc::{AllocError, Global};
 use std::marker::Model;
 
@@ -26,6 +27,8 @@ pub struct Kernel<S: Store> {
     /// How many init steps were carried out.
     init_made: usize,
     log: Log,
+    /// The notices of the latest event.
+    notices: Notices,
 }
 
 impl<S: Store> Model for Kernel<S> {
@@ -72,9 +75,9 @@ fn refuse_full(log: &Log) -> Result<(), Full>
 }
 
 /// Adds the entry that tells of a deed.
-fn append<S: Store>(log: &mut Log, store: &S, who: Who, deed: Deed, notices: Notices)
+fn append<S: Store>(log: &mut Log, store: &S, who: Who, deed: Deed, notices: &Notices)
     requires room { length log.old.entries < log.old.limit }
-    requires few { log.old.limit ≤ 65536 }
+    requires few { log.old.limit ≤ most_entries }
     ensures entries { log.new.entries ≡ log.old.entries ++ record {
       number = length log.old.entries + 1;
       now = (S.roster store.now).now;
@@ -82,19 +85,19 @@ fn append<S: Store>(log: &mut Log, store: &S, who: Who, deed: Deed, notices: Not
       process = deed.caller;
       call = deed.call;
       reply = deed.reply;
-      notices = notices;
+      notices = notices.now;
     } ∷ [] }
     ensures limit { log.new.limit ≡ log.old.limit }
 {
     let number = log.len() as u32 + 1;
-    log.push(Entry {
+    log.push(&LentEntry {
         number,
         now: store.now(),
         who,
         process: deed.caller,
         call: deed.call,
         reply: deed.reply,
-        notices,
+        notices: notices.as_slice(),
     });
 }
 
@@ -114,6 +117,7 @@ impl<S: Store> Kernel<S> {
             objects,
             init_made: 0,
             log,
+            notices: Notices::new(),
         })
     }
 
@@ -127,38 +131,38 @@ impl<S: Store> Kernel<S> {
     {
         refuse_full(&self.log)?;
         let due = due_call(&self.table, &self.store, self.init_made, core);
-        let mut notices = Notices::new();
+        self.notices.clear();
         let deed = carry_out(
             &self.table,
             &mut self.store,
             &mut self.objects,
             core,
             due,
-            &mut notices,
+            &mut self.notices,
         );
         self.init_made += steps_in(&due);
-        append(&mut self.log, &self.store, Who::Core(core), deed, notices);
+        append(&mut self.log, &self.store, Who::Core(core), deed, &self.notices);
         Ok(())
     }
 
     /// One tick, whole: time goes on by `n` ticks, but not past the next instant at which a wait ends
     /// by itself.
     pub fn tick(&mut self, n: u32) -> Result<(), Full>
-        requires range { (1 ≤ n) × (n ≤ 1048576) }
+        requires range { (1 ≤ n) × (n ≤ most_ticks) }
         ensures accepted { IsOk result ↔ (length self.old.machine.history < self.old.table.limit) }
         ensures done { OnOk result (self.new ≡ kernel_in self.old.table (tick self.old.table self.old.machine n)) }
         ensures refused { OnErr result (self.new ≡ self.old) }
         ensures full { IfErr result (λ e. (e.entries ≡ length self.old.machine.history) × (e.entries ≡ self.old.table.limit)) }
     {
         refuse_full(&self.log)?;
-        let mut notices = Notices::new();
-        let went = pass_time(&mut self.store, n, &mut notices);
+        self.notices.clear();
+        let went = pass_time(&mut self.store, n, &mut self.notices);
         let deed = Deed {
             caller: Caller::Nobody,
             call: None,
             reply: Reply::Advanced(n, went),
         };
-        append(&mut self.log, &self.store, Who::Ticker, deed, notices);
+        append(&mut self.log, &self.store, Who::Ticker, deed, &self.notices);
         Ok(())
     }
 
@@ -204,7 +208,7 @@ impl<S: Store> Kernel<S> {
         ensures events { All (IsWithin self.now.table.cores) (events_of self.now.machine.history) }
         ensures records { length self.now.machine.roster.records ≡ length self.now.table.processes }
         ensures within { length self.now.machine.history ≤ self.now.table.limit }
-        ensures time { self.now.machine.roster.now ≤ 2 ^ 36 }
+        ensures time { self.now.machine.roster.now ≤ latest }
         ensures lawful { IsLawful self.now.table }
         ensures stamps { HasDistinctStamps self.now.machine.roster }
         ensures printable { All (IsPrintable self.now.table) self.now.machine.history }
@@ -213,8 +217,8 @@ impl<S: Store> Kernel<S> {
     }
 
     /// The history so far, the oldest entry first.
-    pub fn entries(&self) -> &[Entry]
-        ensures { result.now ≡ self.now.machine.history }
+    pub fn entries(&self) -> Entries<'_>
+        ensures { result ≡ self.now.machine.history }
     {
         self.log.entries()
     }

@@ -1,6 +1,7 @@
 //! The services, a room for each kind.
 
 ghost use Rattle.std.specs.Prelude.{◌≡◌, ◌≤◌, length};
+ghost use Rattle.apex_types.specs.Limits.{most_processes};
 ghost use Rattle.apex_types.specs.Callers.{IsReadyCaller};
 ghost use Rattle.apex_types.specs.Dues.{HasTime};
 ghost use Rattle.apex_types.specs.Machine.{service};
@@ -27,7 +28,7 @@ pub(crate) fn serve<S: Store>(
     call: &Call,
     notices: &mut Notices,
 ) -> Reply
-    requires few { length (S.roster store.old).records ≤ 32 }
+    requires few { length (S.roster store.old).records ≤ most_processes }
     requires many { length objects.old.processes ≡ length (S.roster store.old).records }
     requires caller { IsReadyCaller (S.roster store.old) caller.now }
     requires known { IsKnownTo objects.old call.now }

@@ -64,16 +64,20 @@ fn signal_wakes_the_waiter(rt: HostRuntime) -> Result<(), Fail> {
     assert_eq!(rt; kernel.store().mode(), Mode::Normal);
     assert_eq!(rt; run_one(&rt, &mut kernel, second), Ok(()));
     assert_eq!(rt; kernel.store().chosen(first), Some(ProcessId::at(0)));
-    let entries = kernel.entries();
+    let mut entries = kernel.entries();
     assert_eq!(rt; entries.len(), 10);
-    let blocked = &entries[8];
+    let Some(blocked) = entries.nth(8) else {
+        return Err(Fail::from("there is a ninth entry"));
+    };
     assert_eq!(rt; blocked.number, 9);
     assert_eq!(rt; blocked.process, Caller::Process(ProcessId::at(0)));
     assert_eq!(rt; blocked.reply, Reply::Blocked);
-    let signalled = &entries[9];
+    let Some(signalled) = entries.next() else {
+        return Err(Fail::from("there is a tenth entry"));
+    };
     assert_eq!(rt; signalled.reply, Reply::Code(ReturnCode::NoError));
     let woken = Notice::Woken(ProcessId::at(0), ReturnCode::NoError);
-    assert_eq!(rt; signalled.notices.as_slice(), [woken].as_slice());
+    assert_eq!(rt; signalled.notices, [woken].as_slice());
     Ok(())
 }
 
@@ -97,7 +101,9 @@ fn a_tick_lets_time_go_on(rt: HostRuntime) -> Result<(), Fail> {
     let mut kernel = booted(rt.alloc())?;
     assert_eq!(rt; tick_of(&rt, &mut kernel, 1_048_576), Ok(()));
     assert_eq!(rt; kernel.now(), 1_048_576);
-    let entry = &kernel.entries()[0];
+    let Some(entry) = kernel.entries().next() else {
+        return Err(Fail::from("there is an entry"));
+    };
     assert_eq!(rt; entry.who, Who::Ticker);
     assert_eq!(rt; entry.reply, Reply::Advanced(1_048_576, 1_048_576));
     Ok(())

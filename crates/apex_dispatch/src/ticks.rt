@@ -1,4 +1,5 @@
 ghost use Rattle.std.specs.Prelude.{◌≡◌, ◌+◌, ◌-◌, ◌<◌, ◌≤◌, ◌^◌, [], ◌++◌, length};
+ghost use Rattle.apex_types.specs.Limits.{latest, most_notices, most_processes};
 ghost use Rattle.apex_types.specs.Dues.{HasNoPastDue, HasTime};
 ghost use Rattle.apex_types.specs.InTurn.{Makes};
 ghost use Rattle.apex_types.specs.Stamps.{HasOrderlyStarts, HasStamps};
@@ -31,7 +32,7 @@ fn tick_goal<S: Store>(store: &S, n: u32) -> u64
 fn wait_over<S: Store>(store: &mut S, process: ProcessId, wait: Option<Wait>, notices: &mut Notices)
     requires known { process < length (S.roster store.old).records }
     requires stamps { HasStamps (S.roster store.old) }
-    requires room { length notices.old < 64 }
+    requires room { length notices.old < most_notices }
     ensures { Makes (ticks.wait_over (S.roster store.old) process wait)
         (S.roster store.new) notices.old notices.new }
 {
@@ -53,7 +54,7 @@ fn wait_over<S: Store>(store: &mut S, process: ProcessId, wait: Option<Wait>, no
 
 /// The dues at now, by process number.
 fn serve_dues<S: Store>(store: &mut S, notices: &mut Notices)
-    requires few { length (S.roster store.old).records ≤ 32 }
+    requires few { length (S.roster store.old).records ≤ most_processes }
     requires starts { HasOrderlyStarts (S.roster store.old) }
     requires stamps { HasManyStamps (S.roster store.old) }
     requires room { length notices.old ≤ 32 }
@@ -75,10 +76,10 @@ fn serve_dues<S: Store>(store: &mut S, notices: &mut Notices)
 /// ticks.
 #[tactic(auto, unfolding(apex_types::specs::Ticks::pass_time))]
 pub(crate) fn pass_time<S: Store>(store: &mut S, n: u32, notices: &mut Notices) -> u32
-    requires few { length (S.roster store.old).records ≤ 32 }
+    requires few { length (S.roster store.old).records ≤ most_processes }
     requires starts { HasOrderlyStarts (S.roster store.old) }
     requires stamps { HasManyStamps (S.roster store.old) }
-    requires near { (S.roster store.old).now + n ≤ 2 ^ 36 }
+    requires near { (S.roster store.old).now + n ≤ latest }
     requires dues { HasNoPastDue (S.roster store.old) }
     requires room { length notices.old ≤ 32 }
     ensures changes { Makes (ticks.pass_time (S.roster store.old) n)

@@ -1,3 +1,4 @@
+pub mod EntriesOf
 pub mod LinesOf
 pub mod Outcomes
 pub mod Passing

@@ -1,7 +1,7 @@
 -- Texts that reach a writer by way of a page.
-use Rattle.std.proofs.Common.{◌≡◌, ℕ, List, ◌++◌, take, drop, Option, sym, ap, subst, ◌∙◌, append_assoc}
+use Rattle.std.proofs.Common.{◌≡◌, ℕ, List, ◌++◌, Option, sym, ap, subst, ◌∙◌, append_assoc}
 use Rattle.std.proofs.KnownBytes.{Appends-trans}
-use Rattle.apex_types.specs.declared.Entry.{Entry}
+use Rattle.apex_history.specs.Terms.{Entry}
 use Rattle.apex_types.specs.Table.{Table}
 use Rattle.apex_types.specs.Lines.{lines_of}
 use Rattle.apex_history.specs.Counted.{AppendsBeginning}
@@ -30,8 +30,8 @@ passes_more a b c text held kept line p q =
     (front ++ done, ap (λ l. l ++ line) same ∙ append_assoc (front ++ done) kept line, Appends-trans a b c front done first second)
 
 -- a beginning of what the page held of the first lines is a beginning of all lines
-pub beginning_of_lines : (a b c : Option (List ℕ)) (table : Table) (entries : List Entry) (i : ℕ) (held : List ℕ)
-    → Passes a b (lines_of table (take i entries)) held → AppendsBeginning b c held → AppendsBeginning a c (lines_of table entries)
-beginning_of_lines a b c table entries i held p h =
-    subst (AppendsBeginning a c) (lines_split table entries i)
-    (beginning_longer a c (lines_of table (take i entries)) (lines_of table (drop i entries)) (beginning_after a b c _ held p h))
+pub beginning_of_lines : (a b c : Option (List ℕ)) (table : Table) (first others entries : List Entry) (held : List ℕ)
+    → entries ≡ first ++ others → Passes a b (lines_of table first) held → AppendsBeginning b c held → AppendsBeginning a c (lines_of table entries)
+beginning_of_lines a b c table first others entries held split p h =
+    subst (AppendsBeginning a c) (lines_split table first others ∙ sym (ap (lines_of table) split))
+    (beginning_longer a c (lines_of table first) (lines_of table others) (beginning_after a b c _ held p h))

@@ -1,6 +1,6 @@
 -- The log of a history as every contract sees it.
 use Rattle.std.specs.Prelude.{ℕ, List}
-use Rattle.apex_types.specs.declared.Entry.{Entry}
+use Rattle.apex_history.specs.Terms.{Entry}
 
 -- the entries so far, the oldest first, and how many there may be
 pub record History : Type 0 where

@@ -1,55 +1,99 @@
-ghost use Rattle.std.specs.Prelude.{◌≡◌, ◌<◌, ◌≤◌, ◌↔◌, [], ◌∷◌, ◌++◌, length, false, IsTrue, IfOk};
+ghost use Rattle.std.specs.Prelude.{◌≡◌, ◌+◌, ◌<◌, ◌≤◌, ◌↔◌, [], ◌∷◌, ◌++◌, length, vec_capacity, slice_get, Some, false, IsTrue, IfOk};
+ghost use Rattle.apex_types.specs.Limits.{most_entries};
 
-use apex_types::Entry;
+use crate::lent::Entries;
+use crate::rows::Row;
+use apex_types::{LentEntry, Notice};
 use std::alloc::{AllocError, Global};
 use std::marker::Model;
+
+/// How many notices an entry has at the most.
+const NOTICES: usize = 64;
 
 /// The entries of one history, the oldest first, up to a limit that is set beforehand.
 #[derive(Drop)]
 pub struct Log {
-    entries: Vec<Entry>,
+    rows: Vec<Row>,
+    /// The notices of all entries, one behind the other.
+    notices: Vec<Notice>,
     limit: u32,
 }
 
 impl Model for Log {
-    ghost use Rattle.std.specs.Prelude.{◌≤◌, length, vec_capacity};
+    ghost use Rattle.std.specs.Prelude.{vec_capacity};
     ghost use Rattle.apex_history.specs.Log.{History};
+    ghost use Rattle.apex_history.specs.RowEntries.{entries_from, IsKept};
 
     ghost Value = { History };
 
-    ghost view = { λ a. record { entries = a.entries.items; limit = a.limit } };
+    ghost view = { λ a. record { entries = entries_from a.notices.items 0 a.rows.items; limit = a.limit } };
 
-    ghost invariant = { λ a. (length a.entries.items ≤ a.limit) × (a.limit ≤ vec_capacity a.entries) × (1 ≤ a.limit) × (a.limit ≤ 65536) };
+    ghost invariant = { λ a. IsKept a.limit (vec_capacity a.rows) (vec_capacity a.notices)
+        a.rows.items a.notices.items };
 }
 
+/// Puts the notices behind all others. There is room for them.
+fn put_notices(all: &mut Vec<Notice>, notices: &[Notice])
+    requires { length all.old.items + length notices.now ≤ vec_capacity all.old }
+    ensures items { all.new.items ≡ all.old.items ++ notices.now }
+    ensures room { vec_capacity all.old ≤ vec_capacity all.new }
+{
+    let put = all.extend_from_slice(notices);
+    let fits = put.is_ok();
+    prove!(fits);
+}
+
+#[tactic(auto, using(crate::proofs::EntriesOf::length_entries))]
 impl Log {
-    /// A log with no entry, which takes the memory for `limit` entries at once. It fails only for
-    /// want of memory.
+    /// A log with no entry, which takes the memory for `limit` entries, with all their notices, at
+    /// once. It fails only for want of memory.
     pub fn new(alloc: Global, limit: u32) -> Result<Log, AllocError>
-        requires { (1 ≤ limit) × (limit ≤ 65536) }
+        requires { (1 ≤ limit) × (limit ≤ most_entries) }
         ensures entries { IfOk result (λ log. log.entries ≡ []) }
         ensures limit { IfOk result (λ log. log.limit ≡ limit) }
     {
-        let entries = Vec::with_capacity(alloc, limit as usize)?;
-        Ok(Log { entries, limit })
+        let rows = Vec::with_capacity(alloc, limit as usize)?;
+        let notices = Vec::with_capacity(alloc, NOTICES * limit as usize)?;
+        Ok(Log {
+            rows,
+            notices,
+            limit,
+        })
     }
 
     /// Puts the entry last. Takes no memory.
-    pub fn push(&mut self, entry: Entry)
-        requires { length self.old.entries < self.old.limit }
-        ensures { self.new ≡ record self.old { entries = self.old.entries ++ entry ∷ [] } }
+    pub fn push(&mut self, entry: &LentEntry<'_>)
+        requires room { length self.old.entries < self.old.limit }
+        requires number { entry.now.number ≡ length self.old.entries + 1 }
+        ensures { self.new ≡ record self.old { entries = self.old.entries ++ entry.entry.now ∷ [] } }
     {
-        let pushed = self.entries.push(entry);
-        let fits = pushed.is_ok();
-        prove!(fits);
+        let start = self.notices.len() as u32;
+        put_notices(&mut self.notices, entry.notices);
+        self.rows.push_reserved(Row {
+            now: entry.now,
+            who: entry.who,
+            process: entry.process,
+            call: entry.call,
+            reply: entry.reply,
+            start,
+            end: self.notices.len() as u32,
+        });
+    }
+
+    /// The entry at this place, counted from 0.
+    pub fn entry(&self, place: usize) -> LentEntry<'_>
+        requires { place < length self.now.entries }
+        ensures { slice_get self.now.entries place ≡ Some result }
+    {
+        self.rows[place].lent(place as u32, self.notices.as_slice())
     }
 
     /// The entries so far, the oldest first.
-    pub fn entries(&self) -> &[Entry]
-        ensures value { result.now ≡ self.now.entries }
-        ensures range { length result.now ≤ self.now.limit }
+    pub fn entries(&self) -> Entries<'_>
+        ensures value { result ≡ self.now.entries }
+        ensures range { length result ≤ self.now.limit }
     {
-        self.entries.as_slice()
+        Entries::new(self.rows.as_slice(), self.notices.as_slice())
     }
 
     /// How many entries there are.
@@ -57,14 +101,14 @@ impl Log {
         ensures value { result ≡ length self.now.entries }
         ensures range { result ≤ self.now.limit }
     {
-        self.entries.len()
+        self.rows.len()
     }
 
     /// Whether there is no entry.
     pub fn is_empty(&self) -> bool
         ensures { IsTrue result ↔ (self.now.entries ≡ []) }
     {
-        self.entries.is_empty()
+        self.len() == 0
     }
 
     /// How many entries there may be: 1 to 65,536.

@@ -1,4 +1,5 @@
 ghost use Rattle.std.specs.Prelude.{◌≡◌, ◌+◌, ◌<◌, ◌≤◌, ◌++◌, length, flat_map, codes, decimal, IfSome};
+ghost use Rattle.apex_types.specs.Limits.{most_notices};
 ghost use Rattle.arrayvec.specs.ArrayVec.{array_vec_len};
 ghost use Rattle.apex_types.specs.Table.{IsKnown};
 ghost use Rattle.apex_types.specs.Lines.{id_text, code_text, timeout_text, call_text, no_call_text, asked_text, who_text, caller_text, reply_text, notice_text, noticed_text, line_of, IsPrintable};
@@ -11,7 +12,9 @@ mod semaphore;
 mod time;
 
 use apex_table::Table;
-use apex_types::{Call, Caller, Entry, Name, Notice, ProcessId, Reply, ReturnCode, Timeout, Who};
+use apex_types::{
+    Call, Caller, LentEntry, Name, Notice, ProcessId, Reply, ReturnCode, Timeout, Who,
+};
 use arrayvec::ArrayVec;
 use caller::put_caller_call;
 use itoa::Buffer;
@@ -278,7 +281,7 @@ fn put_noticed(line: &mut Line, notice: &Notice)
 }
 
 fn put_notices(line: &mut Line, notices: &[Notice])
-    requires few { length notices.now ≤ 64 }
+    requires few { length notices.now ≤ most_notices }
     requires room { array_vec_len line.old + 2560 ≤ 4096 }
     ensures text { line.new.items ≡ line.old.items ++ flat_map noticed_text notices.now }
     ensures short { array_vec_len line.new ≤ array_vec_len line.old + 2560 }
@@ -289,7 +292,7 @@ fn put_notices(line: &mut Line, notices: &[Notice])
 }
 
 /// Makes the line that of the entry.
-pub(crate) fn set_line(line: &mut Line, table: &Table, entry: &Entry)
+pub(crate) fn set_line(line: &mut Line, table: &Table, entry: &LentEntry<'_>)
     requires { IsPrintable table.now entry.now }
     ensures { line.new.items ≡ line_of table.now entry.entry.now }
 {
@@ -305,6 +308,6 @@ pub(crate) fn set_line(line: &mut Line, table: &Table, entry: &Entry)
     put_asked(line, table, &entry.call, &entry.reply);
     put(line, " -> ");
     put_reply(line, &entry.reply);
-    put_notices(line, entry.notices.as_slice());
+    put_notices(line, entry.notices);
     put(line, "\n");
 }

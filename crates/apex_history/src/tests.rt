@@ -5,9 +5,11 @@ mod ticks;
 ghost use Rattle.std.specs.Prelude.{◌≡◌, ◌<◌, ◌↔◌, [], None, Some, IsErr};
 ghost use Rattle.apex_types.specs.declared.Call.TheVariants.{Process, Semaphore};
 ghost use Rattle.apex_types.specs.declared.ObjectCall.TheVariants.{Own};
+ghost use Rattle.apex_types.specs.Lines.{IsPrintable};
 ghost use Rattle.apex_history.specs.Counted.{inner_of, reads_left_of};
 
-use crate::{Counted, FailAt, Log, Page, ReadFault, Sink, Source, read_all};
+use crate::{Counted, FailAt, Log, Page, ReadFault, Sink, Source, print_entry, read_all};
+use apex_table::Table;
 use apex_types::{
     Call, Caller, CoreId, Entry, Notices, ProcessCall, ProcessId, ProcessService, Reply,
     SemaphoreCall, SemaphoreId, SemaphoreService, Who,
@@ -30,7 +32,8 @@ fn paper(rt: HostRuntime, room: usize, call: u64) -> Result<FailAt, Fail> {
 
 // The entry of an idle turn of core 0.
 fn idle(number: u32) -> Entry
-    ensures { result.call ≡ None }
+    ensures number { result.number ≡ number }
+    ensures call { result.call ≡ None }
 {
     Entry {
         number,
@@ -57,6 +60,13 @@ fn called(number: u32, now: u64, process: ProcessId, call: Call, reply: Reply) -
         reply,
         notices: Notices::new(),
     }
+}
+
+// Writes the line of the entry.
+fn print<W: Sink>(table: &Table, entry: &Entry, writer: &mut Counted<W>) -> io::Result<()>
+    requires { IsPrintable table.now entry.now }
+{
+    print_entry(table, &entry.lent(), writer)
 }
 
 fn of_process(process: ProcessId, service: ProcessService) -> Call
@@ -148,12 +158,13 @@ fn a_log_holds_its_limit(rt: HostRuntime) -> Result<(), Fail> {
     let mut log = Log::new(rt.alloc(), 2)?;
     assert!(rt; log.is_empty());
     assert_eq!(rt; log.limit(), 2);
-    log.push(idle(1));
+    log.push(&idle(1).lent());
     assert!(rt; !log.is_full());
-    log.push(idle(2));
+    log.push(&idle(2).lent());
     assert!(rt; log.is_full());
     assert_eq!(rt; log.len(), 2);
-    for (place, entry) in log.entries().iter().enumerate() {
+    assert_eq!(rt; log.entry(1).kept().number, 2);
+    for (place, entry) in log.entries().enumerate() {
         assert_eq!(rt; entry.number as usize, place + 1);
     }
     let longest = Log::new(rt.alloc(), 65_536)?;

@@ -1,4 +1,5 @@
 ghost use Rattle.std.specs.Prelude.{◌≡◌, ◌<◌, [], length, false};
+ghost use Rattle.apex_types.specs.Limits.{most_notices};
 ghost use Rattle.apex_types.specs.Callers.{IsReadyCaller};
 ghost use Rattle.apex_types.specs.Dues.{HasTime};
 ghost use Rattle.apex_types.specs.Roster.{Roster};
@@ -83,7 +84,7 @@ impl Semaphore {
         notices: &mut Notices,
     ) -> Reply
         requires stamps { HasStamps (S.roster store.old) }
-        requires room { length notices.old < 64 }
+        requires room { length notices.old < most_notices }
         ensures { Leaves (services.signal_semaphore (S.roster store.old) self.old id)
             (S.roster store.new) self.new result notices.old notices.new }
     {
@@ -112,9 +113,9 @@ impl Object for Semaphore {
 
     ghost use Rattle.apex_types.specs.Roster.{Roster};
     ghost use Rattle.apex_types.specs.SemaphoreServices.{semaphore_kind};
-    ghost use Rattle.apex_types.specs.Table.{SemaphoreEntry};
+    ghost use Rattle.apex_types.specs.Table.{SemaphoreConfig};
 
-    ghost Config = { SemaphoreEntry };
+    ghost Config = { SemaphoreConfig };
 
     ghost kind = { semaphore_kind };
 
@@ -148,7 +149,7 @@ impl Object for Semaphore {
         requires caller { IsReadyCaller (S.roster store.old) caller.now }
         requires stamps { HasStamps (S.roster store.old) }
         requires time { HasTime (S.roster store.old) }
-        requires room { length notices.old < 64 }
+        requires room { length notices.old < most_notices }
         ensures { Leaves (services.semaphore_own (S.roster store.old) self.old id caller.now service.now)
             (S.roster store.new) self.new result notices.old notices.new }
     {

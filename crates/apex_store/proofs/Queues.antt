@@ -1,5 +1,5 @@
 -- A record waits in one queue at the most.
-use Rattle.apex_types.specs.declared.records.Record.{Record}
+use Rattle.apex_store.specs.Terms.{Record}
 use Rattle.apex_types.proofs.Starts.{stands_in, waits_there}
 use Rattle.apex_store.specs.Laws.{WaitsInOneQueue}
 

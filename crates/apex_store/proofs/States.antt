@@ -1,9 +1,7 @@
 -- A process is running exactly where it is the chosen one of its core.
 use Rattle.std.proofs.Common.{◌≡◌, ℕ, Bool, true, false, not, ◌&&◌, if◌then◌else◌, Option, None, Some, is_none, ◌==◌, refl, sym, ap}
 use Rattle.std.proofs.lemmas.Bool.{and_parts, eqb-true, eq-eqb}
-use Rattle.apex_types.specs.declared.records.Mode.{Mode}
-use Rattle.apex_types.specs.declared.records.Record.{Record}
-use Rattle.apex_types.specs.declared.records.State.{State}
+use Rattle.apex_store.specs.Terms.{Mode, Record, State}
 use Rattle.apex_types.specs.declared.records.State.TheVariants.{Dormant, Ready, Running, Waiting}
 use Rattle.apex_types.specs.Roster.{Roster, nobody, record_at, is_normal}
 use Rattle.apex_types.specs.Running.{chosen, is_before, is_eligible, is_process, runs_on}

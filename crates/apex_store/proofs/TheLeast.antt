@@ -2,11 +2,10 @@
 use Rattle.std.proofs.Common.{◌≡◌, ℕ, Bool, List, Some, slice_get}
 use Rattle.std.specs.Cmp.{IsStrictWeakOrder}
 use Rattle.std.proofs.lemmas.Option.{get_or_from_slice_get, slice_get_within}
-use Rattle.apex_types.specs.declared.records.Record.{Record}
+use Rattle.apex_store.specs.Terms.{Discipline, Record}
 use Rattle.apex_types.specs.Roster.{Roster, nobody}
 use Rattle.apex_types.specs.Distinct.{HasDistinctStamps}
 use Rattle.apex_types.specs.Choice.{place_of_least}
-use Rattle.apex_types.specs.declared.records.Discipline.{Discipline}
 use Rattle.apex_types.specs.declared.records.Discipline.TheVariants.{Fifo, Priority}
 use Rattle.apex_types.specs.Waiters.{waits_before}
 use Rattle.apex_types.specs.Running.{is_before, is_older}

@@ -3,8 +3,7 @@ use Rattle.std.proofs.Common.{◌≡◌, ℕ, inl, inr, true, Some, slice_get, a
 use Rattle.std.proofs.lemmas.Bool.{eqb-true, eq-eqb, ltb-true, and_parts, and_from, or_cases, both_ways}
 use Rattle.std.proofs.lemmas.Int.{ints}
 use Rattle.std.proofs.lemmas.Option.{get_or_from_slice_get, slice_get-get_or, slice_get_within}
-use Rattle.apex_types.specs.declared.records.Mode.{Mode}
-use Rattle.apex_types.specs.declared.records.Record.{Record}
+use Rattle.apex_store.specs.Terms.{Mode, Record}
 use Rattle.apex_types.specs.Roster.{Roster, nobody, record_at}
 use Rattle.apex_types.specs.Running.{chosen, is_before, is_eligible, runs_on}
 use Rattle.apex_store.specs.Laws.{IsMoreUrgent, IsTheLeast, MayRun, RunsMostUrgent}

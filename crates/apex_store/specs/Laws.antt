@@ -1,10 +1,7 @@
 -- What the choices of a store mean, in the standard's own words.
 use Rattle.std.specs.Prelude.{◌≡◌, ◌≢◌, ℕ, ◌<◌, ◌≤◌, ◌<ℤ◌, ◌⊎◌, Bool, true, false, List, length, Option, None, Some, slice_get}
-use Rattle.apex_types.specs.declared.records.Mode.{Mode}
-use Rattle.apex_types.specs.declared.records.Record.{Record}
+use Rattle.apex_store.specs.Terms.{Mode, Queue, Record, Wait}
 use Rattle.apex_types.specs.declared.records.State.TheVariants.{Running}
-use Rattle.apex_types.specs.declared.records.Queue.{Queue}
-use Rattle.apex_types.specs.declared.records.Wait.{Wait}
 use Rattle.apex_types.specs.Roster.{Roster, record_at}
 use Rattle.apex_types.specs.Choice.{IsLeast}
 use Rattle.apex_types.specs.Distinct.{IsStamped}

@@ -1,6 +1,7 @@
 //! Objects of any kind: the three services that each kind has, and how a call finds its object.
 
 ghost use Rattle.std.specs.Prelude.{◌≡◌, ℕ, ◌<◌, [], length};
+ghost use Rattle.apex_types.specs.Limits.{most_notices};
 ghost use Rattle.apex_types.specs.declared.calls.ObjectCall.{ObjectCall};
 ghost use Rattle.apex_types.specs.Callers.{IsReadyCaller};
 ghost use Rattle.apex_types.specs.Dues.{HasTime};
@@ -55,7 +56,7 @@ pub trait Object: Drop {
         requires caller { IsReadyCaller (S.roster store.old) caller.now }
         requires stamps { HasStamps (S.roster store.old) }
         requires time { HasTime (S.roster store.old) }
-        requires room { length notices.old < 64 }
+        requires room { length notices.old < most_notices }
         ensures { Leaves (kind.own (S.roster store.old) self.old id caller.now service.now)
             (S.roster store.new) self.new result notices.old notices.new };
 }
@@ -113,7 +114,7 @@ fn serve_one<S: Store, O: Object>(
     requires caller { IsReadyCaller (S.roster store.old) caller.now }
     requires stamps { HasStamps (S.roster store.old) }
     requires time { HasTime (S.roster store.old) }
-    requires room { length notices.old < 64 }
+    requires room { length notices.old < most_notices }
     ensures { Leaves (objects.object_service O.kind (S.roster store.old) object.old id caller.now call.now)
         (S.roster store.new) object.new result notices.old notices.new }
 {
@@ -153,7 +154,7 @@ pub fn serve_object<S: Store, O: Object>(
     requires caller { IsReadyCaller (S.roster store.old) caller.now }
     requires stamps { HasStamps (S.roster store.old) }
     requires time { HasTime (S.roster store.old) }
-    requires room { length notices.old < 64 }
+    requires room { length notices.old < most_notices }
     ensures { Leaves (objects.object_deed O.kind (S.roster store.old) all.old caller.now call.now)
         (S.roster store.new) all.new result notices.old notices.new }
 {

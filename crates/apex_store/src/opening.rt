@@ -1,14 +1,14 @@
 ghost use Rattle.std.specs.Prelude.{◌≡◌, ◌+◌, ◌<◌, ◌≤◌, [], ◌∷◌, ◌++◌, length, map, vec_capacity, vec_len, IfOk};
 ghost use Rattle.apex_types.specs.Places.{map_places};
 ghost use Rattle.apex_types.specs.Roster.{opening_record};
-ghost use Rattle.apex_types.specs.Table.{SemaphoreEntry};
+ghost use Rattle.apex_types.specs.Table.{SemaphoreConfig};
 
-use apex_table::{Process, Table};
+use apex_table::{ProcessConfig, Table};
 use apex_types::{Attributes, CoreId, Discipline, ProcessId, Record, SemaphoreId};
 use std::alloc::{AllocError, Global};
 
 /// Adds the record of a process before any event: dormant on core 0, and as old as its place says.
-fn push_opening(records: &mut Vec<Record>, place: usize, process: &Process)
+fn push_opening(records: &mut Vec<Record>, place: usize, process: &ProcessConfig)
     requires few { place < 64 }
     requires room { vec_len records.old < vec_capacity records.old }
     ensures records { records.new.items ≡ records.old.items ++ opening_record place process.now ∷ [] }
@@ -46,7 +46,7 @@ pub fn opening_records(alloc: Global, table: &Table) -> Result<Vec<Record>, Allo
 
 /// The discipline of each semaphore's queue.
 pub fn disciplines_of(alloc: Global, table: &Table) -> Result<Vec<Discipline>, AllocError>
-    ensures { IfOk result (λ disciplines. disciplines.items ≡ map (λ (s : SemaphoreEntry). s.discipline) table.now.semaphores) }
+    ensures { IfOk result (λ disciplines. disciplines.items ≡ map (λ (s : SemaphoreConfig). s.discipline) table.now.semaphores) }
 {
     let count = table.semaphore_count();
     let mut disciplines = Vec::with_capacity(alloc, count)?;

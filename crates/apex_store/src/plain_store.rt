@@ -30,13 +30,14 @@ pub struct PlainStore {
 
 impl Model for PlainStore {
     ghost use Rattle.std.specs.Prelude.{◌≤◌, length};
+    ghost use Rattle.apex_types.specs.Limits.{most_cores};
     ghost use Rattle.apex_types.specs.Roster.{Roster};
 
     ghost Value = { Roster };
 
     ghost view = { λ a. record { cores = a.cores; mode = a.mode; now = a.time; records = a.records.items; young = a.next_young; old = a.next_old; disciplines = a.disciplines.items } };
 
-    ghost invariant = { λ a. (a.cores ≤ 8) × (length a.records.items ≤ 64) };
+    ghost invariant = { λ a. (a.cores ≤ most_cores) × (length a.records.items ≤ 64) };
 }
 
 /// The process is this one.

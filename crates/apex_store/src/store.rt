@@ -1,4 +1,5 @@
 ghost use Rattle.std.specs.Prelude.{◌≡◌, ◌<◌, ◌≤◌, ◌^◌, true, length, IfSome};
+ghost use Rattle.apex_types.specs.Limits.{latest};
 ghost use Rattle.apex_types.specs.Roster.{Roster, record_at};
 ghost use Rattle.apex_types.specs.Running.{chosen, process_state, IsEligible, IsIneligible};
 ghost use Rattle.apex_types.specs.Waiters.{first_waiter, next_waiter, waiter_count, waits_in};
@@ -133,7 +134,7 @@ pub trait Store: Drop {
     /// Time goes on to this instant, in ticks, and passes over no due.
     fn advance_to(&mut self, instant: u64)
         requires forward { (roster self.old).now ≤ instant }
-        requires near { instant ≤ 2 ^ 36 }
+        requires near { instant ≤ latest }
         requires dues { HasNoDueBelow (roster self.old) instant }
         ensures { roster self.new ≡ stamps.advance_to (roster self.old) instant };
 

@@ -2,8 +2,8 @@
 use Rattle.std.proofs.Common.{◌≡◌, ℕ, ◌+◌, ◌*◌, ◌<◌, ◌≤◌, suc, Bool, true, false, cond, List, [], ◌∷◌, ◌++◌, length, refl, arith, length-append}
 use Rattle.std.specs.List.{AllByRecursion}
 use Rattle.apex_types.specs.Places.{map_places}
-use Rattle.apex_types.specs.Table.{ProcessEntry, SemaphoreEntry}
-use Rattle.apex_types.specs.declared.calls.Call.{Call}
+use Rattle.apex_types.specs.Table.{ProcessConfig, SemaphoreConfig}
+use Rattle.apex_table.specs.Terms.{Call}
 use Rattle.apex_types.specs.declared.calls.Call.TheVariants.{Semaphore}
 use Rattle.apex_types.proofs.Places.{length-map_places}
 use Rattle.apex_table.specs.DefaultInit.{creates, creates_process, starts_process, joined, default_init}
@@ -23,7 +23,7 @@ start_law : (P : Call → Type 0) (b : Bool) (call : Call) → P call → AllByR
 start_law P true call here = (here, tt)
 start_law P false call here = tt
 
-pub default_init_law : (ps : List ProcessEntry) (ss : List SemaphoreEntry) → AllByRecursion (IsWithin (length ps) (length ss)) (default_init ps ss)
+pub default_init_law : (ps : List ProcessConfig) (ss : List SemaphoreConfig) → AllByRecursion (IsWithin (length ps) (length ss)) (default_init ps ss)
 default_init_law ps ss =
     let P : Call → Type 0 = IsWithin (length ps) (length ss) in
     let semaphores : AllByRecursion P (map_places (creates Semaphore) 0 ss) =
@@ -34,7 +34,7 @@ default_init_law ps ss =
     all_joined P _ (all_places starts_process (AllByRecursion P) (length ps) (λ p entry below. start_law P entry.start _ below) 0 ps (omega arith)) in
     all_append P _ _ (all_append P _ _ (all_append P _ _ semaphores processes) started) (tt, tt)
 
-created_length : (p : ℕ) (entries : List ProcessEntry) → length (joined (map_places creates_process p entries)) ≡ 2 * length entries
+created_length : (p : ℕ) (entries : List ProcessConfig) → length (joined (map_places creates_process p entries)) ≡ 2 * length entries
 created_length p [] = refl
 created_length p (entry ∷ rest) = omega (arith, created_length (p + 1) rest)
 
@@ -42,10 +42,10 @@ start_length : (b : Bool) (call : Call) (rest : List Call) (n : ℕ) → length 
 start_length true call rest n few = omega arith
 start_length false call rest n few = omega arith
 
-started_length : (p : ℕ) (entries : List ProcessEntry) → length (joined (map_places starts_process p entries)) ≤ length entries
+started_length : (p : ℕ) (entries : List ProcessConfig) → length (joined (map_places starts_process p entries)) ≤ length entries
 started_length p [] = omega arith
 started_length p (entry ∷ rest) = start_length entry.start _ _ (length rest) (started_length (p + 1) rest)
 
-pub default_init_length : (ps : List ProcessEntry) (ss : List SemaphoreEntry) → length (default_init ps ss) ≤ length ss + 3 * length ps + 1
+pub default_init_length : (ps : List ProcessConfig) (ss : List SemaphoreConfig) → length (default_init ps ss) ≤ length ss + 3 * length ps + 1
 default_init_length ps ss =
     simp length-append (omega (arith, length-map_places (creates Semaphore) 0 ss, created_length 0 ps, started_length 0 ps))

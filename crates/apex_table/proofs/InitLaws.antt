@@ -4,8 +4,8 @@ use Rattle.std.specs.List.{AllByRecursion}
 use Rattle.std.proofs.lemmas.List.{length-map}
 use Rattle.std.proofs.lemmas.Result.{IfOk-at_ok, IfOk-weaker}
 use Rattle.toml.specs.Data.{Data}
-use Rattle.apex_types.specs.Table.{ProcessEntry, SemaphoreEntry}
-use Rattle.apex_types.specs.declared.calls.Call.{Call}
+use Rattle.apex_types.specs.Table.{ProcessConfig, SemaphoreConfig}
+use Rattle.apex_table.specs.Terms.{Call}
 use Rattle.apex_table.specs.declared.fault.Section.TheVariants.{Init}
 use Rattle.apex_table.specs.declared.fault.Place.{Place}
 use Rattle.apex_table.specs.declared.fault.TableFault.TheVariants.{BadInitStep}
@@ -64,10 +64,10 @@ module _ (ps ss : List (List ℕ)) where
   init_steps_law : (ts : List (List ℕ)) → length ts ≤ 512 → IfOk (init_steps ps ss ts) (IsInitList (length ps) (length ss))
   init_steps_law ts few = both_ok (init_steps ps ss ts) _ _ (λ calls short known. record { few = short; known = known }) (steps_length ts few) (steps_known ts)
 
-pub init_list_law : (procs : List ProcessEntry) (sems : List SemaphoreEntry) (o : Option (List (List ℕ))) → length procs ≤ 32 → length sems ≤ 16 → AreFew o → IfOk (init_list procs sems o) (IsInitList (length procs) (length sems))
+pub init_list_law : (procs : List ProcessConfig) (sems : List SemaphoreConfig) (o : Option (List (List ℕ))) → length procs ≤ 32 → length sems ≤ 16 → AreFew o → IfOk (init_list procs sems o) (IsInitList (length procs) (length sems))
 init_list_law procs sems (Some ts) some few short =
-    subst (λ (n : ℕ). IfOk (init_steps (entry_names procs) (semaphore_names sems) ts) (IsInitList n (length sems))) (length-map procs (λ (e : ProcessEntry). e.name))
-    (subst (λ (m : ℕ). IfOk (init_steps (entry_names procs) (semaphore_names sems) ts) (IsInitList (length (entry_names procs)) m)) (length-map sems (λ (s : SemaphoreEntry). s.name))
+    subst (λ (n : ℕ). IfOk (init_steps (entry_names procs) (semaphore_names sems) ts) (IsInitList n (length sems))) (length-map procs (λ (e : ProcessConfig). e.name))
+    (subst (λ (m : ℕ). IfOk (init_steps (entry_names procs) (semaphore_names sems) ts) (IsInitList (length (entry_names procs)) m)) (length-map sems (λ (s : SemaphoreConfig). s.name))
     (init_steps_law (entry_names procs) (semaphore_names sems) ts short))
 init_list_law procs sems None some few short =
     record { few = omega (arith, default_init_length procs sems); known = default_init_law procs sems }

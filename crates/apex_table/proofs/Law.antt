@@ -7,8 +7,8 @@ use Rattle.std.proofs.lemmas.List.{length-map}
 use Rattle.std.proofs.lemmas.List.Elements.{All-from_recursion}
 use Rattle.std.proofs.lemmas.Result.{IfOk-at_ok}
 use Rattle.toml.specs.Data.{Members, get_member}
-use Rattle.apex_types.specs.Table.{Table, ProcessEntry, SemaphoreEntry, no_process, no_semaphore, call_at, IsKnown, IsLawfulProcess, IsLawfulSemaphore, IsLawful}
-use Rattle.apex_types.specs.declared.calls.Call.{Call}
+use Rattle.apex_types.specs.Table.{Table, ProcessConfig, SemaphoreConfig, no_process, no_semaphore, call_at, IsKnown, IsLawfulProcess, IsLawfulSemaphore, IsLawful}
+use Rattle.apex_table.specs.Terms.{Call}
 use Rattle.apex_types.specs.declared.calls.Call.TheVariants as call
 use Rattle.apex_types.specs.declared.calls.CallerCall.TheVariants.{StopSelf}
 use Rattle.apex_table.specs.declared.fault.Section.TheVariants.{Top}
@@ -40,14 +40,14 @@ all_known : (table : Table) (calls : List Call) → AllByRecursion (IsWithin (le
 all_known table calls all k below =
     is_known table (call_at calls k) (All-from_recursion (IsWithin (length table.processes) (length table.semaphores)) calls all k (call.Caller StopSelf) below)
 
-process_lawful : (table : Table) (entry : ProcessEntry) → IsSoundProcess table.cores (length table.processes) (length table.semaphores) entry → IsLawfulProcess table entry
+process_lawful : (table : Table) (entry : ProcessConfig) → IsSoundProcess table.cores (length table.processes) (length table.semaphores) entry → IsLawfulProcess table entry
 process_lawful table entry h = record { name = h.name; priority = h.priority; core = h.core; steps = h.script.few; looping = h.script.some; known = all_known table entry.script h.known }
 
-lawful : (cores limit : ℕ) (drafts : List ProcessDraft) (procs : List ProcessEntry) (sems : List SemaphoreEntry) (calls : List Call) → (1 ≤ cores) × (cores ≤ 8) → (1 ≤ limit) × (limit ≤ 65536) → (1 ≤ length drafts) × (length drafts ≤ 32) → length sems ≤ 16 → IsDistinct bytes_eq (process_names drafts) → AreSoundProcesses cores drafts sems procs → AreSound semaphores IsLawfulSemaphore sems → IsInitList (length procs) (length sems) calls → IsLawful (record { cores = cores; limit = limit; processes = procs; semaphores = sems; init = calls })
+lawful : (cores limit : ℕ) (drafts : List ProcessDraft) (procs : List ProcessConfig) (sems : List SemaphoreConfig) (calls : List Call) → (1 ≤ cores) × (cores ≤ 8) → (1 ≤ limit) × (limit ≤ 65536) → (1 ≤ length drafts) × (length drafts ≤ 32) → length sems ≤ 16 → IsDistinct bytes_eq (process_names drafts) → AreSoundProcesses cores drafts sems procs → AreSound semaphores IsLawfulSemaphore sems → IsInitList (length procs) (length sems) calls → IsLawful (record { cores = cores; limit = limit; processes = procs; semaphores = sems; init = calls })
 lawful cores limit drafts procs sems calls in_cores in_limit count few distinct all sound init =
     let table : Table = record { cores = cores; limit = limit; processes = procs; semaphores = sems; init = calls } in
-    let ps : length (process_names drafts) ≡ length procs = sym (ap length all.names) ∙ length-map procs (λ (e : ProcessEntry). e.name) in
-    let ss : length (semaphore_names sems) ≡ length sems = length-map sems (λ (s : SemaphoreEntry). s.name) in
+    let ps : length (process_names drafts) ≡ length procs = sym (ap length all.names) ∙ length-map procs (λ (e : ProcessConfig). e.name) in
+    let ss : length (semaphore_names sems) ≡ length sems = length-map sems (λ (s : SemaphoreConfig). s.name) in
     let ds : length (process_names drafts) ≡ length drafts = length-map drafts (λ (p : ProcessDraft). p.name) in
     let each : AllByRecursion (IsSoundProcess cores (length procs) (length sems)) procs =
     subst (λ (n : ℕ). AllByRecursion (IsSoundProcess cores n (length sems)) procs) ps
@@ -81,12 +81,12 @@ reading_law tree =
     let in_limit : (1 ≤ limit) × (limit ≤ 65536) = IfOk-at_ok (λ n. (1 ≤ n) × (n ≤ 65536)) el (number_or_law (place Top 0) 4096 1 65536 (codes "history") ms (omega arith, omega arith)) in
     let some : (read ≡ drafts) × (1 ≤ length drafts) = IfOk-at_ok (λ (xs : List ProcessDraft). (read ≡ xs) × (1 ≤ length xs)) es (some_process_law read) in
     let at_most_32 : length drafts ≤ 32 = subst (λ (xs : List ProcessDraft). length xs ≤ 32) some.0 (IfOk-at_ok (λ (xs : List ProcessDraft). length xs ≤ 32) ep (section_few (processes cores) ms)) in
-    let at_most_16 : length sems ≤ 16 = IfOk-at_ok (λ (xs : List SemaphoreEntry). length xs ≤ 16) em (section_few semaphores ms) in
+    let at_most_16 : length sems ≤ 16 = IfOk-at_ok (λ (xs : List SemaphoreConfig). length xs ≤ 16) em (section_few semaphores ms) in
     let sound : AreSound (processes cores) (IsSoundDraft cores) drafts =
     subst (AreSound (processes cores) (IsSoundDraft cores)) some.0 (IfOk-at_ok (AreSound (processes cores) (IsSoundDraft cores)) ep (section_law (processes cores) (IsSoundDraft cores) (process_law cores in_cores.0) ms)) in
     let all : AreSoundProcesses cores drafts sems procs = IfOk-at_ok (AreSoundProcesses cores drafts sems) ew (with_scripts_law cores drafts sems sound.each) in
     let names : length (entry_names procs) ≡ length (process_names drafts) = ap length all.names in
-    let procs_count : length (entry_names procs) ≡ length procs = length-map procs (λ (e : ProcessEntry). e.name) in
+    let procs_count : length (entry_names procs) ≡ length procs = length-map procs (λ (e : ProcessConfig). e.name) in
     let drafts_count : length (process_names drafts) ≡ length drafts = length-map drafts (λ (p : ProcessDraft). p.name) in
     let few : AreFew texts = IfOk-at_ok AreFew et (init_texts_law (get_member (codes "init") ms)) in
     let init : IsInitList (length procs) (length sems) calls = IfOk-at_ok (IsInitList (length procs) (length sems)) ei (init_list_law procs sems texts (omega arith) (omega arith) few) in

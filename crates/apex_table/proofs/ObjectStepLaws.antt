@@ -4,8 +4,7 @@ use Rattle.std.specs.Prelude.{codes}
 use Rattle.std.specs.Str.{bytes_eq}
 use Rattle.std.proofs.lemmas.Result.{IfOk-at_ok}
 use Rattle.apex_types.specs.Table.{IsKnownName, IsKnownObject}
-use Rattle.apex_types.specs.declared.calls.Named.{Named}
-use Rattle.apex_types.specs.declared.calls.ObjectCall.{ObjectCall}
+use Rattle.apex_table.specs.Terms.{Named, ObjectCall}
 use Rattle.apex_types.specs.declared.calls.ObjectCall.TheVariants.{Create, GetId, GetStatus}
 use Rattle.apex_table.specs.declared.fault.Place.{Place}
 use Rattle.apex_table.specs.declared.fault.TableFault.{TableFault}

@@ -3,7 +3,7 @@ use Rattle.std.proofs.Common.{◌≡◌, ℕ, ◌+◌, ◌<◌, ◌≤◌, List,
 use Rattle.std.specs.List.{AllByRecursion}
 use Rattle.std.proofs.lemmas.Result.{IfOk-at_ok}
 use Rattle.apex_types.specs.Name.{is_name}
-use Rattle.apex_types.specs.Table.{ProcessEntry, SemaphoreEntry}
+use Rattle.apex_types.specs.Table.{ProcessConfig, SemaphoreConfig}
 use Rattle.apex_table.specs.declared.fault.Section.TheVariants.{Process}
 use Rattle.apex_table.specs.Outcome.{place}
 use Rattle.apex_table.specs.Processes.{ProcessDraft, process_names}
@@ -15,14 +15,14 @@ use Rattle.apex_table.proofs.ProcessLaws.{IsScript, same_script, IsSoundDraft}
 use Rattle.apex_table.proofs.StepLaws.{IsWithin, script_law, script_length}
 
 -- what holds of a process with its calls, where there are so many processes and semaphores
-pub record IsSoundProcess (cores ps ss : ℕ) (entry : ProcessEntry) : Type 0 where
+pub record IsSoundProcess (cores ps ss : ℕ) (entry : ProcessConfig) : Type 0 where
   pub name : IsTrue (is_name entry.name)
   pub priority : (1 ≤ entry.priority) × (entry.priority ≤ 239)
   pub core : entry.core < cores
   pub script : IsScript entry.loops entry.script
   pub known : AllByRecursion (IsWithin ps ss) entry.script
 
-next_entry_law : (cores : ℕ) (ps ss : List (List ℕ)) (before : List ProcessEntry) (draft : ProcessDraft) → IsSoundDraft cores draft → IfOk (next_entry ps ss before draft) (IsSoundProcess cores (length ps) (length ss))
+next_entry_law : (cores : ℕ) (ps ss : List (List ℕ)) (before : List ProcessConfig) (draft : ProcessDraft) → IsSoundDraft cores draft → IfOk (next_entry ps ss before draft) (IsSoundProcess cores (length ps) (length ss))
 unfolding next_entry
 next_entry_law cores ps ss before draft sound =
     let at = place Process (length before + 1) in
@@ -36,21 +36,21 @@ next_entry_law cores ps ss before draft sound =
       known = IfOk-at_ok (AllByRecursion (IsWithin (length ps) (length ss))) e (script_law at ps ss draft.script);
     })
 
-next_entry_name : (ps ss : List (List ℕ)) (before : List ProcessEntry) (draft : ProcessDraft) → IfOk (next_entry ps ss before draft) (λ entry. entry.name ≡ draft.name)
+next_entry_name : (ps ss : List (List ℕ)) (before : List ProcessConfig) (draft : ProcessDraft) → IfOk (next_entry ps ss before draft) (λ entry. entry.name ≡ draft.name)
 unfolding next_entry
 next_entry_name ps ss before draft =
     ok_then (script (place Process (length before + 1)) ps ss draft.script) _ (λ entry. entry.name ≡ draft.name) (λ calls e. refl)
 
 -- the processes with their calls have the names of the drafts
-pub record AreSoundProcesses (cores : ℕ) (drafts : List ProcessDraft) (sems : List SemaphoreEntry) (procs : List ProcessEntry) : Type 0 where
+pub record AreSoundProcesses (cores : ℕ) (drafts : List ProcessDraft) (sems : List SemaphoreConfig) (procs : List ProcessConfig) : Type 0 where
   pub each : AllByRecursion (IsSoundProcess cores (length (process_names drafts)) (length (semaphore_names sems))) procs
   pub names : entry_names procs ≡ process_names drafts
 
-pub with_scripts_law : (cores : ℕ) (drafts : List ProcessDraft) (sems : List SemaphoreEntry) → AllByRecursion (IsSoundDraft cores) drafts → IfOk (with_scripts drafts sems) (AreSoundProcesses cores drafts sems)
+pub with_scripts_law : (cores : ℕ) (drafts : List ProcessDraft) (sems : List SemaphoreConfig) → AllByRecursion (IsSoundDraft cores) drafts → IfOk (with_scripts drafts sems) (AreSoundProcesses cores drafts sems)
 unfolding with_scripts
 with_scripts_law cores drafts sems sound =
     let ps = process_names drafts in
     let ss = semaphore_names sems in
     both_ok (with_scripts drafts sems) (AllByRecursion (IsSoundProcess cores (length ps) (length ss))) (λ procs. entry_names procs ≡ ps) (λ procs all names. record { each = all; names = names })
     (each_all (next_entry ps ss) (IsSoundProcess cores (length ps) (length ss)) (IsSoundDraft cores) (next_entry_law cores ps ss) [] drafts tt sound)
-    (each_map (next_entry ps ss) (λ (e : ProcessEntry). e.name) (λ (p : ProcessDraft). p.name) (next_entry_name ps ss) [] drafts)
+    (each_map (next_entry ps ss) (λ (e : ProcessConfig). e.name) (λ (p : ProcessDraft). p.name) (next_entry_name ps ss) [] drafts)

@@ -2,13 +2,12 @@
 use Rattle.std.specs.Prelude.{ℕ, if◌then◌else◌, List, [], ◌∷◌, ◌++◌}
 use Rattle.std.specs.List.{flat_map}
 use Rattle.apex_types.specs.Places.{map_places}
-use Rattle.apex_types.specs.Table.{ProcessEntry, SemaphoreEntry}
-use Rattle.apex_types.specs.declared.calls.Call.{Call}
+use Rattle.apex_types.specs.Table.{ProcessConfig, SemaphoreConfig}
+use Rattle.apex_table.specs.Terms.{Call, ObjectCall}
 use Rattle.apex_types.specs.declared.calls.Call.TheVariants.{Partition, Process, Semaphore}
 use Rattle.apex_types.specs.declared.calls.RequestedMode.TheVariants.{Normal}
 use Rattle.apex_types.specs.declared.calls.PartitionCall.TheVariants.{SetPartitionMode}
 use Rattle.apex_types.specs.declared.calls.Named.TheVariants.{Known}
-use Rattle.apex_types.specs.declared.calls.ObjectCall.{ObjectCall}
 use Rattle.apex_types.specs.declared.calls.ObjectCall.TheVariants.{Create, Own}
 use Rattle.apex_types.specs.declared.calls.ProcessService.TheVariants.{InitializeCoreAffinity, Start}
 
@@ -17,11 +16,11 @@ abbrev pub creates : {E W : Type 0} → (ObjectCall ℕ W → Call) → ℕ → 
 creates kind i entry = kind (Create (Known i))
 
 -- for the process at place p its CREATE_PROCESS and its INITIALIZE_PROCESS_CORE_AFFINITY
-abbrev pub creates_process : ℕ → ProcessEntry → List Call
+abbrev pub creates_process : ℕ → ProcessConfig → List Call
 creates_process p entry = creates Process p entry ∷ Process (Own p (InitializeCoreAffinity entry.core)) ∷ []
 
 -- for the process at place p, if it starts, its START
-abbrev pub starts_process : ℕ → ProcessEntry → List Call
+abbrev pub starts_process : ℕ → ProcessConfig → List Call
 starts_process p entry = if entry.start then Process (Own p Start) ∷ [] else []
 
 -- the calls of one element after the other
@@ -29,7 +28,7 @@ abbrev pub joined : List (List Call) → List Call
 joined calls = flat_map (λ cs. cs) calls
 
 -- creates everything, starts what starts, and enters NORMAL
-abbrev pub default_init : List ProcessEntry → List SemaphoreEntry → List Call
+abbrev pub default_init : List ProcessConfig → List SemaphoreConfig → List Call
 default_init processes semaphores =
     map_places (creates Semaphore) 0 semaphores
     ++ joined (map_places creates_process 0 processes)

@@ -1,16 +1,12 @@
 -- The init list that a table gives: its texts, and their calls.
 use Rattle.std.specs.Prelude.{ℕ, ◌+◌, Bool, true, false, if◌then◌else◌, List, [], length, map, Option, Some, None, Result, Ok, Err}
 use Rattle.toml.specs.Data.{Data}
-use Rattle.apex_types.specs.Table.{ProcessEntry, SemaphoreEntry}
-use Rattle.apex_types.specs.declared.calls.Call.{Call}
+use Rattle.apex_types.specs.Table.{ProcessConfig, SemaphoreConfig}
+use Rattle.apex_table.specs.Terms.{Call, ObjectCall, ProcessService, SemaphoreService, TimeCall}
 use Rattle.apex_types.specs.declared.calls.Call.TheVariants.{Partition, Process, Caller, Time, Semaphore}
-use Rattle.apex_types.specs.declared.calls.ObjectCall.{ObjectCall}
 use Rattle.apex_types.specs.declared.calls.ObjectCall.TheVariants.{Create, GetId, GetStatus, Own}
-use Rattle.apex_types.specs.declared.calls.ProcessService.{ProcessService}
 use Rattle.apex_types.specs.declared.calls.ProcessService.TheVariants.{InitializeCoreAffinity, SetPriority, Start, DelayedStart, Stop, Suspend, Resume}
-use Rattle.apex_types.specs.declared.calls.SemaphoreService.{SemaphoreService}
 use Rattle.apex_types.specs.declared.calls.SemaphoreService.TheVariants.{Wait, Signal}
-use Rattle.apex_types.specs.declared.calls.TimeCall.{TimeCall}
 use Rattle.apex_types.specs.declared.calls.TimeCall.TheVariants.{TimedWait, GetTime}
 use Rattle.apex_table.specs.declared.fault.Section.TheVariants.{Init}
 use Rattle.apex_table.specs.declared.fault.Place.{Place}
@@ -95,10 +91,10 @@ abbrev pub init_steps : List (List ℕ) → List (List ℕ) → List (List ℕ) 
 init_steps ps ss ts = each (next_init_step ps ss) [] ts
 
 -- the names of the processes
-abbrev pub entry_names : List ProcessEntry → List (List ℕ)
-entry_names processes = map (λ (p : ProcessEntry). p.name) processes
+abbrev pub entry_names : List ProcessConfig → List (List ℕ)
+entry_names processes = map (λ (p : ProcessConfig). p.name) processes
 
 -- the init list that the table gives, or else the default one
-abbrev pub init_list : List ProcessEntry → List SemaphoreEntry → Option (List (List ℕ)) → Result (List Call) TableFault
+abbrev pub init_list : List ProcessConfig → List SemaphoreConfig → Option (List (List ℕ)) → Result (List Call) TableFault
 init_list processes semaphores (Some ts) = init_steps (entry_names processes) (semaphore_names semaphores) ts
 init_list processes semaphores None = Ok (default_init processes semaphores)

@@ -1,3 +1,4 @@
+pub mod Terms
 pub mod Fault
 pub mod Outcome
 pub mod Keys

@@ -3,9 +3,8 @@
 use Rattle.std.specs.Prelude.{codes, ℕ, if◌then◌else◌, List, [], ◌∷◌, ◌++◌, Option, Some, None, Result, Ok}
 use Rattle.std.specs.List.{position_from}
 use Rattle.std.specs.Str.{bytes_eq}
-use Rattle.apex_types.specs.declared.calls.Named.{Named}
+use Rattle.apex_table.specs.Terms.{Named, ObjectCall}
 use Rattle.apex_types.specs.declared.calls.Named.TheVariants.{Known, Unknown}
-use Rattle.apex_types.specs.declared.calls.ObjectCall.{ObjectCall}
 use Rattle.apex_types.specs.declared.calls.ObjectCall.TheVariants.{Create, GetId, GetStatus, Own}
 use Rattle.apex_table.specs.declared.fault.Place.{Place}
 use Rattle.apex_table.specs.declared.fault.TableFault.{TableFault}

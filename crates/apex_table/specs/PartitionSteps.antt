@@ -1,9 +1,8 @@
 -- The steps of partition management (ARINC 653 Part 1), by the number of their words.
 use Rattle.std.specs.Prelude.{codes, ℕ, if◌then◌else◌, List, [], ◌∷◌, Option, Some, None, option_map}
 use Rattle.std.specs.Str.{bytes_eq}
-use Rattle.apex_types.specs.declared.calls.PartitionCall.{PartitionCall}
+use Rattle.apex_table.specs.Terms.{PartitionCall, RequestedMode}
 use Rattle.apex_types.specs.declared.calls.PartitionCall.TheVariants.{SetPartitionMode, GetPartitionStatus}
-use Rattle.apex_types.specs.declared.calls.RequestedMode.{RequestedMode}
 use Rattle.apex_types.specs.declared.calls.RequestedMode.TheVariants.{Idle, Normal}
 
 -- the mode that a word asks for

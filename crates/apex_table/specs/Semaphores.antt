@@ -2,8 +2,8 @@
 use Rattle.std.specs.Prelude.{codes, ℕ, if◌then◌else◌, List, [], ◌∷◌, map, Result, Ok, Err}
 use Rattle.std.specs.Str.{bytes_eq}
 use Rattle.toml.specs.Data.{Members}
-use Rattle.apex_types.specs.Table.{SemaphoreEntry}
-use Rattle.apex_types.specs.declared.records.Discipline.{Discipline}
+use Rattle.apex_types.specs.Table.{SemaphoreConfig}
+use Rattle.apex_table.specs.Terms.{Discipline}
 use Rattle.apex_types.specs.declared.records.Discipline.TheVariants.{Fifo, Priority}
 use Rattle.apex_table.specs.declared.fault.Section.TheVariants.{Semaphore}
 use Rattle.apex_table.specs.declared.fault.Place.{Place}
@@ -14,8 +14,8 @@ use Rattle.apex_table.specs.Keys.{number_at, text_at}
 use Rattle.apex_table.specs.Sections.{KindOf}
 
 -- the names of semaphores
-abbrev pub semaphore_names : List SemaphoreEntry → List (List ℕ)
-semaphore_names semaphores = map (λ (s : SemaphoreEntry). s.name) semaphores
+abbrev pub semaphore_names : List SemaphoreConfig → List (List ℕ)
+semaphore_names semaphores = map (λ (s : SemaphoreConfig). s.name) semaphores
 
 -- the discipline of a queue by its word
 abbrev pub discipline : Place → List ℕ → Result Discipline TableFault
@@ -24,7 +24,7 @@ discipline at t =
     if bytes_eq t (codes "PRIORITY") then Ok Priority else Err (OutOfRange at)
 
 -- a semaphore of a name
-unfoldable pub semaphore : Place → List ℕ → Members → Result SemaphoreEntry TableFault
+unfoldable pub semaphore : Place → List ℕ → Members → Result SemaphoreConfig TableFault
 semaphore at name ms = do
   maximum ← number_at at 1 32767 (codes "maximum") ms
   initial ← number_at at 0 maximum (codes "initial") ms
@@ -33,7 +33,7 @@ semaphore at name ms = do
   Ok (record { name = name; maximum = maximum; initial = initial; discipline = order })
 
 -- the kind of semaphores
-abbrev pub semaphores : KindOf SemaphoreEntry
+abbrev pub semaphores : KindOf SemaphoreConfig
 semaphores = record {
   head = record { section = Semaphore; most = 16; keys = codes "name" ∷ codes "maximum" ∷ codes "initial" ∷ codes "discipline" ∷ [] };
   name_of = λ s. s.name;

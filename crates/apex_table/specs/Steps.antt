@@ -1,7 +1,7 @@
 -- What a step's text means: first the form of the whole step, then its words from left to right.
 use Rattle.std.specs.Prelude.{codes, ℕ, if◌then◌else◌, List, [], ◌∷◌, Option, None, Result, Ok}
 use Rattle.std.specs.List.{list_any}
-use Rattle.apex_types.specs.declared.calls.Call.{Call}
+use Rattle.apex_table.specs.Terms.{Call}
 use Rattle.apex_types.specs.declared.calls.Call.TheVariants.{Partition, Process, Caller, Time, Semaphore}
 use Rattle.apex_table.specs.declared.fault.Place.{Place}
 use Rattle.apex_table.specs.declared.fault.TableFault.{TableFault}

@@ -1,9 +1,10 @@
 ghost use Rattle.std.specs.Prelude.{◌≡◌, ◌<◌, ◌≤◌, length, IfOk};
+ghost use Rattle.apex_types.specs.Limits.{most_objects, most_processes};
 ghost use Rattle.apex_types.specs.declared.calls.Named.TheVariants.{Known};
 ghost use Rattle.apex_types.specs.declared.calls.ObjectCall.TheVariants.{Create};
 ghost use Rattle.apex_table.specs.DefaultInit.{default_init};
 
-use crate::entries::{Process, Semaphore};
+use crate::configs::{ProcessConfig, SemaphoreConfig};
 use apex_types::{
     Call, Id, Named, ObjectCall, PartitionCall, ProcessId, ProcessService, RequestedMode,
 };
@@ -20,11 +21,11 @@ fn create<K, W>(place: usize) -> ObjectCall<Id<K>, W>
 /// The init list of a table that gives none: creates everything, starts what starts, and enters NORMAL.
 pub fn default_init(
     alloc: Global,
-    processes: &[Process],
-    semaphores: &[Semaphore],
+    processes: &[ProcessConfig],
+    semaphores: &[SemaphoreConfig],
 ) -> Result<Vec<Call>, AllocError>
-    requires processes { length processes.now ≤ 32 }
-    requires semaphores { length semaphores.now ≤ 16 }
+    requires processes { length processes.now ≤ most_processes }
+    requires semaphores { length semaphores.now ≤ most_objects }
     ensures { IfOk result (λ init. init.items ≡ default_init processes.now semaphores.now) }
 {
     let mut init = Vec::new(alloc);

@@ -1,11 +1,12 @@
 ghost use Rattle.std.specs.Prelude.{◌≡◌, ◌<◌, ◌≤◌, map, length, option_map, IfOk, IfSome};
+ghost use Rattle.apex_types.specs.Limits.{most_init_steps, most_objects, most_processes};
 ghost use Rattle.toml.specs.View.{view};
 ghost use Rattle.apex_table.specs.Outcome.{Gives};
 ghost use Rattle.apex_table.specs.Semaphores.{semaphore_names};
 ghost use Rattle.apex_table.specs.Init.{next_text, texts, given_texts, init_texts, is_init_process_service, is_init_semaphore_service, is_init_time_call, is_init_call, init_step, next_init_step, init_steps, entry_names, init_list};
 
+use crate::configs::{ProcessConfig, SemaphoreConfig};
 use crate::default_init::default_init;
-use crate::entries::{Process, Semaphore};
 use crate::fault::{Place, Section, TableFault};
 use crate::keys;
 use crate::named::Named;
@@ -14,11 +15,11 @@ use apex_types::{Call, Name, ObjectCall, ProcessService, SemaphoreService, TimeC
 use std::alloc::Global;
 use toml::Value;
 
-impl Named for Process {
+impl Named for ProcessConfig {
     ghost name_of = { λ p. p.name };
 
     fn name(&self) -> &Name {
-        Process::name(self)
+        ProcessConfig::name(self)
     }
 }
 
@@ -31,7 +32,7 @@ fn next_text<'a>(before: &[&'a str], value: &'a Value) -> Result<&'a str, TableF
 }
 
 fn texts<'a>(alloc: Global, items: &'a [Value]) -> Result<Vec<&'a str>, TableFault>
-    requires { length items.now ≤ 512 }
+    requires { length items.now ≤ most_init_steps }
     ensures gives { Gives (λ v. map (λ t. t.now) v.items) result (texts (map view items.now)) }
     ensures count { IfOk result (λ v. length v.items ≡ length items.now) }
 {
@@ -45,7 +46,7 @@ fn texts<'a>(alloc: Global, items: &'a [Value]) -> Result<Vec<&'a str>, TableFau
 #[tactic(auto, unfolding(crate::specs::Init::given_texts))]
 fn given_texts<'a>(alloc: Global, value: &'a Value) -> Result<Vec<&'a str>, TableFault>
     ensures gives { Gives (λ v. map (λ t. t.now) v.items) result (given_texts (view value.now)) }
-    ensures count { IfOk result (λ v. length v.items ≤ 512) }
+    ensures count { IfOk result (λ v. length v.items ≤ most_init_steps) }
 {
     let at = Place::of(Section::Init);
     let items = keys::array(at, value)?;
@@ -59,7 +60,7 @@ pub fn init_texts<'a>(
     value: Option<&'a Value>,
 ) -> Result<Option<Vec<&'a str>>, TableFault>
     ensures gives { Gives (option_map (λ v. map (λ t. t.now) v.items)) result (init_texts (option_map (λ v. view v.now) value.entry)) }
-    ensures few { IfOk result (λ o. IfSome o (λ v. length v.items ≤ 512)) }
+    ensures few { IfOk result (λ o. IfSome o (λ v. length v.items ≤ most_init_steps)) }
 {
     match value {
         Some(value) => Ok(Some(given_texts(alloc, value)?)),
@@ -116,12 +117,12 @@ fn is_init_call(call: &Call) -> bool
 fn init_step(
     alloc: Global,
     at: Place,
-    processes: &[Process],
-    semaphores: &[Semaphore],
+    processes: &[ProcessConfig],
+    semaphores: &[SemaphoreConfig],
     text: &str,
 ) -> Result<Call, TableFault>
-    requires processes { length processes.now ≤ 32 }
-    requires semaphores { length semaphores.now ≤ 32 }
+    requires processes { length processes.now ≤ most_processes }
+    requires semaphores { length semaphores.now ≤ most_objects }
     ensures { Gives (λ c. c) result (init_step at (entry_names processes.now) (semaphore_names semaphores.now) text.now) }
 {
     let call = step(alloc, at, processes, semaphores, text)?;
@@ -134,13 +135,13 @@ fn init_step(
 
 fn next_init_step(
     alloc: Global,
-    processes: &[Process],
-    semaphores: &[Semaphore],
+    processes: &[ProcessConfig],
+    semaphores: &[SemaphoreConfig],
     before: &[Call],
     text: &str,
 ) -> Result<Call, TableFault>
-    requires processes { length processes.now ≤ 32 }
-    requires semaphores { length semaphores.now ≤ 32 }
+    requires processes { length processes.now ≤ most_processes }
+    requires semaphores { length semaphores.now ≤ most_objects }
     requires few { length before.now < 512 }
     ensures { Gives (λ c. c) result (next_init_step (entry_names processes.now) (semaphore_names semaphores.now) before.now text.now) }
 {
@@ -150,13 +151,13 @@ fn next_init_step(
 
 fn init_steps(
     alloc: Global,
-    processes: &[Process],
-    semaphores: &[Semaphore],
+    processes: &[ProcessConfig],
+    semaphores: &[SemaphoreConfig],
     texts: &[&str],
 ) -> Result<Vec<Call>, TableFault>
-    requires processes { length processes.now ≤ 32 }
-    requires semaphores { length semaphores.now ≤ 32 }
-    requires texts { length texts.now ≤ 512 }
+    requires processes { length processes.now ≤ most_processes }
+    requires semaphores { length semaphores.now ≤ most_objects }
+    requires texts { length texts.now ≤ most_init_steps }
     ensures { Gives (λ v. v.items) result (init_steps (entry_names processes.now) (semaphore_names semaphores.now) (map (λ t. t.now) texts.now)) }
 {
     let mut calls = Vec::new(alloc);
@@ -169,13 +170,13 @@ fn init_steps(
 /// The init list that the table gives by these texts, or else the default one.
 pub fn init_list(
     alloc: Global,
-    processes: &[Process],
-    semaphores: &[Semaphore],
+    processes: &[ProcessConfig],
+    semaphores: &[SemaphoreConfig],
     texts: Option<Vec<&str>>,
 ) -> Result<Vec<Call>, TableFault>
-    requires processes { length processes.now ≤ 32 }
-    requires semaphores { length semaphores.now ≤ 16 }
-    requires texts { IfSome texts (λ v. length v.items ≤ 512) }
+    requires processes { length processes.now ≤ most_processes }
+    requires semaphores { length semaphores.now ≤ most_objects }
+    requires texts { IfSome texts (λ v. length v.items ≤ most_init_steps) }
     ensures { Gives (λ v. v.items) result (init_list processes.now semaphores.now (option_map (λ v. map (λ t. t.now) v.items) texts.entry)) }
 {
     match texts {

@@ -1,8 +1,8 @@
 //! The partition table: what is read of a table's text, or the first fault that it has.
 #![tactic(auto)]
 
+mod configs;
 mod default_init;
-mod entries;
 mod fault;
 mod init;
 mod keys;
@@ -15,7 +15,7 @@ mod semaphores;
 mod steps;
 mod table;
 
-pub use entries::{Process, Semaphore};
+pub use configs::{ProcessConfig, SemaphoreConfig};
 pub use fault::{Place, Section, TableFault};
 pub use reading::read_table;
 pub use table::Table;

@@ -1,4 +1,5 @@
 ghost use Rattle.std.specs.Prelude.{◌≡◌, ◌≤◌, map};
+ghost use Rattle.apex_types.specs.Limits.{most_cores};
 ghost use Rattle.toml.specs.View.{view, table_view};
 ghost use Rattle.apex_table.specs.Outcome.{Gives};
 ghost use Rattle.apex_table.specs.Sections.{head_of};
@@ -81,7 +82,7 @@ fn script_at<'a>(
 #[derive(Drop)]
 pub struct Processes {
     pub cores: u32,
-    ghost in_range: { (1 ≤ cores) × (cores ≤ 8) },
+    ghost in_range: { (1 ≤ cores) × (cores ≤ most_cores) },
 }
 
 impl<'a> Kind<'a> for Processes {

@@ -1,10 +1,11 @@
 ghost use Rattle.std.specs.Prelude.{◌≡◌, ◌<◌, ◌≤◌, map, length, IfOk};
+ghost use Rattle.apex_types.specs.Limits.{most_objects, most_processes};
 ghost use Rattle.apex_table.specs.Outcome.{Gives};
 ghost use Rattle.apex_table.specs.Processes.{process_names};
 ghost use Rattle.apex_table.specs.Semaphores.{semaphore_names};
 ghost use Rattle.apex_table.specs.Scripts.{script, next_entry, with_scripts};
 
-use crate::entries::{Process, Semaphore};
+use crate::configs::{ProcessConfig, SemaphoreConfig};
 use crate::fault::{Place, Section, TableFault};
 use crate::named::Named;
 use crate::processes::Draft;
@@ -19,8 +20,8 @@ fn script<P: Named, S: Named>(
     semaphores: &[S],
     steps: &[&str],
 ) -> Result<Vec<Call>, TableFault>
-    requires processes { length processes.now ≤ 32 }
-    requires semaphores { length semaphores.now ≤ 32 }
+    requires processes { length processes.now ≤ most_processes }
+    requires semaphores { length semaphores.now ≤ most_objects }
     ensures { Gives (λ v. v.items) result (script at (map P.name_of processes.now) (map S.name_of semaphores.now) (map (λ t. t.now) steps.now)) }
 {
     let mut calls = Vec::new(alloc);
@@ -34,18 +35,18 @@ fn script<P: Named, S: Named>(
 fn next_entry(
     alloc: Global,
     drafts: &[Draft],
-    semaphores: &[Semaphore],
-    before: &[Process],
+    semaphores: &[SemaphoreConfig],
+    before: &[ProcessConfig],
     draft: &Draft,
-) -> Result<Process, TableFault>
-    requires drafts { length drafts.now ≤ 32 }
-    requires semaphores { length semaphores.now ≤ 32 }
+) -> Result<ProcessConfig, TableFault>
+    requires drafts { length drafts.now ≤ most_processes }
+    requires semaphores { length semaphores.now ≤ most_objects }
     requires few { length before.now < 32 }
     ensures { Gives (λ p. p) result (next_entry (process_names drafts.now) (semaphore_names semaphores.now) before.now draft.now) }
 {
     let at = Place::next(Section::Process, before.len());
     let script = script(alloc, at, drafts, semaphores, &draft.script)?;
-    Ok(Process::new(
+    Ok(ProcessConfig::new(
         draft.name,
         draft.priority,
         draft.core,
@@ -60,10 +61,10 @@ fn next_entry(
 pub fn with_scripts(
     alloc: Global,
     drafts: &[Draft],
-    semaphores: &[Semaphore],
-) -> Result<Vec<Process>, TableFault>
-    requires drafts { length drafts.now ≤ 32 }
-    requires semaphores { length semaphores.now ≤ 32 }
+    semaphores: &[SemaphoreConfig],
+) -> Result<Vec<ProcessConfig>, TableFault>
+    requires drafts { length drafts.now ≤ most_processes }
+    requires semaphores { length semaphores.now ≤ most_objects }
     ensures gives { Gives (λ v. v.items) result (with_scripts drafts.now semaphores.now) }
     ensures count { IfOk result (λ v. length v.items ≡ length drafts.now) }
 {

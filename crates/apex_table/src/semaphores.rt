@@ -2,7 +2,7 @@ ghost use Rattle.std.specs.Prelude.{◌≡◌};
 ghost use Rattle.apex_table.specs.Outcome.{Gives};
 ghost use Rattle.apex_table.specs.Semaphores.{discipline, semaphores};
 
-use crate::entries::Semaphore;
+use crate::configs::SemaphoreConfig;
 use crate::fault::{Place, Section, TableFault};
 use crate::keys;
 use crate::named::Named;
@@ -11,11 +11,11 @@ use apex_types::{Discipline, Name};
 use std::alloc::Global;
 use toml::Table;
 
-impl Named for Semaphore {
+impl Named for SemaphoreConfig {
     ghost name_of = { λ s. s.name };
 
     fn name(&self) -> &Name {
-        Semaphore::name(self)
+        SemaphoreConfig::name(self)
     }
 }
 
@@ -34,7 +34,7 @@ fn discipline(at: Place, word: &str) -> Result<Discipline, TableFault>
 pub struct Semaphores;
 
 impl<'a> Kind<'a> for Semaphores {
-    type Entry = Semaphore;
+    type Entry = SemaphoreConfig;
 
     ghost head = { λ _. semaphores.head };
 
@@ -55,11 +55,11 @@ impl<'a> Kind<'a> for Semaphores {
         at: Place,
         name: Name,
         table: &'a Table,
-    ) -> Result<Semaphore, TableFault> {
+    ) -> Result<SemaphoreConfig, TableFault> {
         let maximum = keys::number_at(at, 1, 32767, table, "maximum")?;
         let initial = keys::number_at(at, 0, maximum, table, "initial")?;
         let word = keys::text_at(at, table, "discipline")?;
         let discipline = discipline(at, word)?;
-        Ok(Semaphore::new(name, maximum as u16, initial as u16, discipline))
+        Ok(SemaphoreConfig::new(name, maximum as u16, initial as u16, discipline))
     }
 }

@@ -1,4 +1,5 @@
 ghost use Rattle.std.specs.Prelude.{◌≤◌, map, length};
+ghost use Rattle.apex_types.specs.Limits.{most_objects, most_processes};
 ghost use Rattle.apex_table.specs.Outcome.{Gives};
 ghost use Rattle.apex_table.specs.Steps.{call_of, spaced_call_of, step};
 
@@ -27,8 +28,8 @@ fn call_of<P: Named, S: Named>(
     semaphores: &[S],
     words: &[&str],
 ) -> Result<Option<Call>, TableFault>
-    requires processes { length processes.now ≤ 32 }
-    requires semaphores { length semaphores.now ≤ 32 }
+    requires processes { length processes.now ≤ most_processes }
+    requires semaphores { length semaphores.now ≤ most_objects }
     ensures { Gives (λ c. c) result (call_of at (map P.name_of processes.now) (map S.name_of semaphores.now) (map (λ w. w.now) words.now)) }
 {
     if let Some(call) = partition_call(words) {
@@ -55,8 +56,8 @@ fn spaced_call_of<P: Named, S: Named>(
     semaphores: &[S],
     words: &[&str],
 ) -> Result<Option<Call>, TableFault>
-    requires processes { length processes.now ≤ 32 }
-    requires semaphores { length semaphores.now ≤ 32 }
+    requires processes { length processes.now ≤ most_processes }
+    requires semaphores { length semaphores.now ≤ most_objects }
     ensures { Gives (λ c. c) result (spaced_call_of at (map P.name_of processes.now) (map S.name_of semaphores.now) (map (λ w. w.now) words.now)) }
 {
     if has_empty(words) {
@@ -74,8 +75,8 @@ pub fn step<P: Named, S: Named>(
     semaphores: &[S],
     text: &str,
 ) -> Result<Call, TableFault>
-    requires processes { length processes.now ≤ 32 }
-    requires semaphores { length semaphores.now ≤ 32 }
+    requires processes { length processes.now ≤ most_processes }
+    requires semaphores { length semaphores.now ≤ most_objects }
     ensures { Gives (λ c. c) result (step at (map P.name_of processes.now) (map S.name_of semaphores.now) text.now) }
 {
     let words = words(alloc, text)?;

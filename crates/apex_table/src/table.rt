@@ -1,7 +1,7 @@
 ghost use Rattle.std.specs.Prelude.{◌≡◌, ◌<◌, ◌≤◌, length, slice_get};
-ghost use Rattle.apex_types.specs.Table.{IsLawful, process_entry, semaphore_entry};
+ghost use Rattle.apex_types.specs.Table.{IsLawful, process_config, semaphore_config};
 
-use crate::entries::{Process, Semaphore};
+use crate::configs::{ProcessConfig, SemaphoreConfig};
 use apex_types::{Call, ProcessId, SemaphoreId};
 use std::marker::Model;
 
@@ -10,8 +10,8 @@ use std::marker::Model;
 pub struct Table {
     cores: u8,
     limit: u32,
-    processes: Vec<Process>,
-    semaphores: Vec<Semaphore>,
+    processes: Vec<ProcessConfig>,
+    semaphores: Vec<SemaphoreConfig>,
     init: Vec<Call>,
 }
 
@@ -29,8 +29,8 @@ impl Table {
     pub(crate) fn new(
         cores: u8,
         limit: u32,
-        processes: Vec<Process>,
-        semaphores: Vec<Semaphore>,
+        processes: Vec<ProcessConfig>,
+        semaphores: Vec<SemaphoreConfig>,
         init: Vec<Call>,
     ) -> Table
         requires { IsLawful (record { cores = cores; limit = limit; processes = processes.items; semaphores = semaphores.items; init = init.items }) }
@@ -69,10 +69,10 @@ impl Table {
     }
 
     /// The process of this id.
-    pub fn process(&self, id: ProcessId) -> &Process
+    pub fn process(&self, id: ProcessId) -> &ProcessConfig
         requires { id < length self.now.processes }
         ensures place { slice_get self.now.processes id ≡ Some result.now }
-        ensures entry { result.now ≡ process_entry self.now id }
+        ensures entry { result.now ≡ process_config self.now id }
     {
         &self.processes[id.place()]
     }
@@ -85,10 +85,10 @@ impl Table {
     }
 
     /// The semaphore of this id.
-    pub fn semaphore(&self, id: SemaphoreId) -> &Semaphore
+    pub fn semaphore(&self, id: SemaphoreId) -> &SemaphoreConfig
         requires { id < length self.now.semaphores }
         ensures place { slice_get self.now.semaphores id ≡ Some result.now }
-        ensures entry { result.now ≡ semaphore_entry self.now id }
+        ensures entry { result.now ≡ semaphore_config self.now id }
     {
         &self.semaphores[id.place()]
     }

@@ -3,9 +3,8 @@
 use Rattle.std.proofs.Common.{◌≡◌, ◌≢◌, ℕ, zero, suc, ◌+◌, ◌≤◌, ◌<◌, ◌⊎◌, inl, inr, true, false, min, List, [], ◌∷◌, length, get_or, Option, None, Some, refl, sym, ◌∙◌, ap, arith}
 use Rattle.std.proofs.lemmas.Bool.{eqb-true, eq-eqb, cases_lt, both_ways}
 use Rattle.std.proofs.lemmas.Option.{none-some, same_Some}
-use Rattle.apex_types.specs.declared.records.Record.{Record}
+use Rattle.apex_types.specs.Terms.{Record, Timeout}
 use Rattle.apex_types.specs.Roster.{Roster, nobody, record_at}
-use Rattle.apex_types.specs.declared.calls.Timeout.{Timeout}
 use Rattle.apex_types.specs.declared.calls.Timeout.TheVariants.{Poll, Ticks, Infinite}
 use Rattle.apex_types.specs.Dues.{sooner, earliest_due, next_instant, is_instant, is_due_at, by_number, first_due, due_after, IsFrom, HasNoDueBelow, HasNoPastDue}
 use Rattle.apex_types.specs.Ticks.{not_beyond, tick_goal}

@@ -4,8 +4,7 @@ use Rattle.std.proofs.Common.{◌≡◌, ◌≢◌, true, false, refl, arith}
 use Rattle.std.specs.Cmp.{IsStrictWeakOrder}
 use Rattle.std.proofs.lemmas.Bool.Decides.{nat_tests}
 use Rattle.std.proofs.lemmas.Int.{ints}
-use Rattle.apex_types.specs.declared.records.Record.{Record}
-use Rattle.apex_types.specs.declared.records.Discipline.{Discipline}
+use Rattle.apex_types.specs.Terms.{Discipline, Record}
 use Rattle.apex_types.specs.declared.records.Discipline.TheVariants.{Fifo, Priority}
 use Rattle.apex_types.specs.Waiters.{waits_before}
 use Rattle.apex_types.specs.Running.{is_before, is_older}

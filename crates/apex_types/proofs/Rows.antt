@@ -2,9 +2,8 @@
 -- no guard holds.
 use Rattle.std.proofs.Common.{◌≡◌, ℕ, Bool, true, false, cond, refl}
 use Rattle.std.proofs.lemmas.Bool.{cond_both}
-use Rattle.apex_types.specs.declared.entries.Caller.{Caller}
+use Rattle.apex_types.specs.Terms.{Caller, ReturnCode}
 use Rattle.apex_types.specs.declared.entries.Caller.TheVariants.{Process, Init, Nobody}
-use Rattle.apex_types.specs.declared.entries.ReturnCode.{ReturnCode}
 use Rattle.apex_types.specs.declared.entries.ReturnCode.TheVariants.{InvalidMode}
 use Rattle.apex_types.specs.Roster.{Roster}
 use Rattle.apex_types.specs.Rows.{Outcome, refused, by_process}

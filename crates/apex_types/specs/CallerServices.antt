@@ -1,11 +1,9 @@
 -- The services of process management that a process asks for itself (ARINC 653 Part 1, process
 -- management; the guards are this profile's).
 use Rattle.std.specs.Prelude.{ℕ, ◌+◌, []}
-use Rattle.apex_types.specs.declared.calls.CallerCall.{CallerCall}
+use Rattle.apex_types.specs.Terms.{Caller, CallerCall, Timeout}
 use Rattle.apex_types.specs.declared.calls.CallerCall.TheVariants.{StopSelf, SuspendSelf, GetMyId, GetMyProcessorCoreId}
-use Rattle.apex_types.specs.declared.calls.Timeout.{Timeout}
 use Rattle.apex_types.specs.declared.calls.Timeout.TheVariants.{Poll, Ticks, Infinite}
-use Rattle.apex_types.specs.declared.entries.Caller.{Caller}
 use Rattle.apex_types.specs.declared.entries.Reply.TheVariants.{Value, Blocked, Gone}
 use Rattle.apex_types.specs.Dues.{due_after}
 use Rattle.apex_types.specs.Roster.{Roster, record_at}

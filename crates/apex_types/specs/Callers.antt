@@ -1,6 +1,6 @@
 -- Who calls a service, and who may.
 use Rattle.std.specs.Prelude.{ℕ, ◌<◌, Bool, true, false, ◌==◌, length}
-use Rattle.apex_types.specs.declared.entries.Caller.{Caller}
+use Rattle.apex_types.specs.Terms.{Caller}
 use Rattle.apex_types.specs.declared.entries.Caller.TheVariants.{Process, Init, Nobody}
 use Rattle.apex_types.specs.Roster.{Roster}
 use Rattle.apex_types.specs.Running.{IsEligible}

@@ -1,10 +1,8 @@
 -- What a call names, and what it creates.
 use Rattle.std.specs.Prelude.{ℕ, Bool, true, false, Option, None, Some, ◌==◌}
-use Rattle.apex_types.specs.declared.calls.Call.{Call}
+use Rattle.apex_types.specs.Terms.{Call, Named, ObjectCall}
 use Rattle.apex_types.specs.declared.calls.Call.TheVariants.{Process, Semaphore}
-use Rattle.apex_types.specs.declared.calls.Named.{Named}
 use Rattle.apex_types.specs.declared.calls.Named.TheVariants.{Known, Unknown}
-use Rattle.apex_types.specs.declared.calls.ObjectCall.{ObjectCall}
 use Rattle.apex_types.specs.declared.calls.ObjectCall.TheVariants.{Create, GetId, GetStatus, Own}
 use Rattle.apex_types.specs.declared.calls.SemaphoreService.TheVariants.{Wait, Signal}
 

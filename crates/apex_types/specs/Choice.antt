@@ -1,7 +1,7 @@
 -- The one record that passes a test and comes before every other that does: a minimum over all records.
 use Rattle.std.specs.Prelude.{◌≡◌, ◌≢◌, ℕ, Bool, true, List, Option, Some, slice_get, ◌&&◌, not, position}
 use Rattle.std.specs.List.{list_any}
-use Rattle.apex_types.specs.declared.records.Record.{Record}
+use Rattle.apex_types.specs.Terms.{Record}
 
 -- a record that passes comes before r
 abbrev pub is_preceded : (Record → Bool) → (Record → Record → Bool) → List Record → Record → Bool

@@ -1,9 +1,9 @@
 -- When waits end by themselves: the dues of the processes, and the instant at which the next one falls
 -- (this profile).
 use Rattle.std.specs.Prelude.{ℕ, ◌≤◌, ◌+◌, Bool, false, List, [], ◌∷◌, Option, None, Some, ◌==◌, min, ◌^◌, ◌≡◌}
-use Rattle.apex_types.specs.declared.calls.Timeout.{Timeout}
+use Rattle.apex_types.specs.Limits.{latest}
+use Rattle.apex_types.specs.Terms.{Record, Timeout}
 use Rattle.apex_types.specs.declared.calls.Timeout.TheVariants.{Poll, Ticks, Infinite}
-use Rattle.apex_types.specs.declared.records.Record.{Record}
 use Rattle.apex_types.specs.Roster.{Roster, record_at}
 use Rattle.apex_types.specs.Choice.{place_of_least}
 
@@ -47,7 +47,7 @@ due_after roster Infinite = None
 
 -- so little time has passed that no sum of times overflows
 abbrev pub HasTime : Roster → Type 0
-HasTime roster = roster.now ≤ 2 ^ 36
+HasTime roster = roster.now ≤ latest
 
 -- the due, where there is one, is not below this instant
 abbrev pub IsFrom : ℕ → Option ℕ → Type 0

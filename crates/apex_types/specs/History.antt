@@ -2,8 +2,7 @@
 use Rattle.std.specs.Prelude.{ℕ, Bool, List, Option, ◌&&◌, count_by, slice_get}
 use Rattle.std.specs.List.{list_any}
 use Rattle.std.specs.Option.{option_and_then}
-use Rattle.apex_types.specs.declared.calls.Call.{Call}
-use Rattle.apex_types.specs.declared.entries.Entry.{Entry}
+use Rattle.apex_types.specs.Terms.{Call, Entry}
 use Rattle.apex_types.specs.Callers.{is_by_init}
 use Rattle.apex_types.specs.Calls.{is_place}
 use Rattle.apex_types.specs.Satisfied.{is_accepted}

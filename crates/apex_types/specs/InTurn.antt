@@ -1,6 +1,6 @@
 -- Changes of several processes, one after the other.
 use Rattle.std.specs.Prelude.{◌≡◌, ℕ, zero, suc, List, [], ◌++◌, Option, None, Some}
-use Rattle.apex_types.specs.declared.entries.Notice.{Notice}
+use Rattle.apex_types.specs.Terms.{Notice}
 use Rattle.apex_types.specs.Roster.{Roster}
 
 -- the processes after some changes, which these notices tell

@@ -1,3 +1,5 @@
+pub mod Terms
+pub mod Limits
 pub mod Name
 pub mod Numbers
 pub mod Table

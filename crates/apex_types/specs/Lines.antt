@@ -1,37 +1,22 @@
 -- The lines of a history: what is printed of each entry (this profile).
 use Rattle.std.specs.Prelude.{ℕ, ◌+◌, List, ◌++◌, flat_map, Option, None, Some, IfSome, codes, decimal}
-use Rattle.apex_types.specs.declared.calls.Call.{Call}
+use Rattle.apex_types.specs.Terms.{Call, Caller, CallerCall, Entry, Named, Notice, ObjectCall, PartitionCall, ProcessService, Reply, RequestedMode, ReturnCode, SemaphoreService, TimeCall, Timeout, Who}
 use Rattle.apex_types.specs.declared.calls.Call.TheVariants.{Partition, Process, Caller as ToCaller, Time, Semaphore}
-use Rattle.apex_types.specs.declared.calls.CallerCall.{CallerCall}
 use Rattle.apex_types.specs.declared.calls.CallerCall.TheVariants.{StopSelf, SuspendSelf, GetMyId, GetMyProcessorCoreId}
-use Rattle.apex_types.specs.declared.calls.Named.{Named}
 use Rattle.apex_types.specs.declared.calls.Named.TheVariants.{Known, Unknown}
-use Rattle.apex_types.specs.declared.calls.ObjectCall.{ObjectCall}
 use Rattle.apex_types.specs.declared.calls.ObjectCall.TheVariants.{Create, GetId, GetStatus, Own}
-use Rattle.apex_types.specs.declared.calls.PartitionCall.{PartitionCall}
 use Rattle.apex_types.specs.declared.calls.PartitionCall.TheVariants.{SetPartitionMode, GetPartitionStatus}
-use Rattle.apex_types.specs.declared.calls.ProcessService.{ProcessService}
 use Rattle.apex_types.specs.declared.calls.ProcessService.TheVariants.{InitializeCoreAffinity, SetPriority, Start, DelayedStart, Stop, Suspend, Resume}
-use Rattle.apex_types.specs.declared.calls.RequestedMode.{RequestedMode}
 use Rattle.apex_types.specs.declared.calls.RequestedMode.TheVariants.{Idle, Normal}
-use Rattle.apex_types.specs.declared.calls.SemaphoreService.{SemaphoreService}
 use Rattle.apex_types.specs.declared.calls.SemaphoreService.TheVariants.{Wait, Signal}
-use Rattle.apex_types.specs.declared.calls.TimeCall.{TimeCall}
 use Rattle.apex_types.specs.declared.calls.TimeCall.TheVariants.{TimedWait, GetTime}
-use Rattle.apex_types.specs.declared.calls.Timeout.{Timeout}
 use Rattle.apex_types.specs.declared.calls.Timeout.TheVariants.{Poll, Ticks, Infinite}
-use Rattle.apex_types.specs.declared.entries.Caller.{Caller}
 use Rattle.apex_types.specs.declared.entries.Caller.TheVariants.{Process as AskedBy, Init, Nobody}
-use Rattle.apex_types.specs.declared.entries.Entry.{Entry}
-use Rattle.apex_types.specs.declared.entries.Notice.{Notice}
 use Rattle.apex_types.specs.declared.entries.Notice.TheVariants.{Woken, Released}
-use Rattle.apex_types.specs.declared.entries.Reply.{Reply}
 use Rattle.apex_types.specs.declared.entries.Reply.TheVariants.{Code, Value, Status, Blocked, Gone, Idle as IdleTurn, Advanced}
-use Rattle.apex_types.specs.declared.entries.ReturnCode.{ReturnCode}
 use Rattle.apex_types.specs.declared.entries.ReturnCode.TheVariants.{NoError, NoAction, NotAvailable, InvalidParam, InvalidConfig, InvalidMode, TimedOut}
-use Rattle.apex_types.specs.declared.entries.Who.{Who}
 use Rattle.apex_types.specs.declared.entries.Who.TheVariants.{Core, Ticker}
-use Rattle.apex_types.specs.Table.{Table, process_entry, semaphore_entry, IsKnown}
+use Rattle.apex_types.specs.Table.{Table, process_config, semaphore_config, IsKnown}
 
 -- the id of a process as users see it: its place in the table, counted from 1
 abbrev pub id_text : ℕ → List ℕ
@@ -60,11 +45,11 @@ mode_text Normal = codes "NORMAL"
 
 -- the name that the table gives a process
 abbrev pub process_name : Table → ℕ → List ℕ
-process_name table p = (process_entry table p).name
+process_name table p = (process_config table p).name
 
 -- the name that the table gives a semaphore
 abbrev pub semaphore_name : Table → ℕ → List ℕ
-semaphore_name table s = (semaphore_entry table s).name
+semaphore_name table s = (semaphore_config table s).name
 
 -- a step of partition management
 abbrev pub partition_call_text : PartitionCall → List ℕ

@@ -1,19 +1,14 @@
 -- The machine: what each event does to a partition. It has records, a history, and the records after
 -- each entry.
 use Rattle.std.specs.Prelude.{ℕ, ◌+◌, ◌-◌, List, [], ◌∷◌, ◌++◌, length, map, Option, None, Some, ◌==◌, nat_lt, ◌&&◌, slice_get, if◌then◌else◌}
-use Rattle.apex_types.specs.declared.calls.Call.{Call}
+use Rattle.apex_types.specs.Terms.{Call, Caller, Entry, Event, Reply, Who}
 use Rattle.apex_types.specs.declared.calls.Call.TheVariants.{Partition, Process as ToProcess, Caller as ToCaller, Time, Semaphore}
 use Rattle.apex_types.specs.declared.calls.CallerCall.TheVariants.{StopSelf}
-use Rattle.apex_types.specs.declared.entries.Caller.{Caller}
 use Rattle.apex_types.specs.declared.entries.Caller.TheVariants.{Process, Init, Nobody}
-use Rattle.apex_types.specs.declared.entries.Entry.{Entry}
-use Rattle.apex_types.specs.declared.entries.Event.{Event}
 use Rattle.apex_types.specs.declared.entries.Event.TheVariants.{Turn, Tick}
-use Rattle.apex_types.specs.declared.entries.Reply.{Reply}
 use Rattle.apex_types.specs.declared.entries.Reply.TheVariants.{Idle, Advanced}
-use Rattle.apex_types.specs.declared.entries.Who.{Who}
 use Rattle.apex_types.specs.declared.entries.Who.TheVariants.{Core, Ticker}
-use Rattle.apex_types.specs.Table.{Table, ProcessEntry, process_entry}
+use Rattle.apex_types.specs.Table.{Table, ProcessConfig, process_config}
 use Rattle.apex_types.specs.Roster.{Roster, record_at, is_cold_start, opening_roster}
 use Rattle.apex_types.specs.Running.{chosen}
 use Rattle.apex_types.specs.Stamps.{set_step}
@@ -74,19 +69,19 @@ served roster objects caller call =
     record { caller = caller; call = Some call; outcome = service roster objects caller call }
 
 -- the place after this one: a looping script is at its first step again after its last one
-abbrev pub next_place : ProcessEntry → ℕ → ℕ
+abbrev pub next_place : ProcessConfig → ℕ → ℕ
 next_place entry step = if entry.loops && step + 1 == length entry.script then 0 else step + 1
 
 -- process p carries out its step: every step moves the place first; the end of a script is STOP_SELF
 abbrev pub script_deed : Table → Roster → Objects → ℕ → Option Call → Deed
 script_deed table roster objects p None = served roster objects (Process p) (ToCaller StopSelf)
 script_deed table roster objects p (Some call) =
-    let next = next_place (process_entry table p) (record_at roster p).step in
+    let next = next_place (process_config table p) (record_at roster p).step in
     served (set_step roster p next) objects (Process p) call
 
 -- the step of process p
 abbrev pub step_of : Table → Roster → ℕ → Option Call
-step_of table roster p = slice_get (process_entry table p).script (record_at roster p).step
+step_of table roster p = slice_get (process_config table p).script (record_at roster p).step
 
 -- the chosen process carries out its step; where there is none the turn is idle
 abbrev pub chosen_deed : Table → Roster → Objects → Option ℕ → Deed

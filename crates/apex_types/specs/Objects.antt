@@ -1,10 +1,7 @@
 -- Objects of any kind: the three services that each kind has, and how a call finds its object.
 use Rattle.std.specs.Prelude.{ℕ, ◌+◌, Bool, List, [], ◌∷◌, Option, None, Some, not, slice_index_or, slice_set}
-use Rattle.apex_types.specs.declared.calls.ObjectCall.{ObjectCall}
+use Rattle.apex_types.specs.Terms.{Caller, Entry, ObjectCall, Reply}
 use Rattle.apex_types.specs.declared.calls.ObjectCall.TheVariants.{Create, GetId, GetStatus, Own}
-use Rattle.apex_types.specs.declared.entries.Caller.{Caller}
-use Rattle.apex_types.specs.declared.entries.Entry.{Entry}
-use Rattle.apex_types.specs.declared.entries.Reply.{Reply}
 use Rattle.apex_types.specs.declared.entries.Reply.TheVariants.{Value}
 use Rattle.apex_types.specs.declared.entries.ReturnCode.TheVariants.{NoAction, InvalidParam, InvalidConfig, InvalidMode}
 use Rattle.apex_types.specs.Calls.{object_of}

@@ -1,18 +1,13 @@
 -- The services of partition management, row by row (ARINC 653 Part 1, partition management; the
 -- order of releases is this profile's).
 use Rattle.std.specs.Prelude.{ℕ, List, [], ◌∷◌, length, map, Option, Some, if◌then◌else◌}
-use Rattle.apex_types.specs.declared.calls.PartitionCall.{PartitionCall}
+use Rattle.apex_types.specs.Terms.{Mode, Notice, PartitionCall, Reply, RequestedMode, Wait}
 use Rattle.apex_types.specs.declared.calls.PartitionCall.TheVariants.{SetPartitionMode, GetPartitionStatus}
-use Rattle.apex_types.specs.declared.calls.RequestedMode.{RequestedMode}
 use Rattle.apex_types.specs.declared.calls.RequestedMode.TheVariants as requested
-use Rattle.apex_types.specs.declared.entries.Notice.{Notice}
-use Rattle.apex_types.specs.declared.entries.Reply.{Reply}
 use Rattle.apex_types.specs.declared.entries.Reply.TheVariants.{Code, Status, Gone}
 use Rattle.apex_types.specs.declared.entries.ReturnCode.TheVariants.{NoError, NoAction}
-use Rattle.apex_types.specs.declared.records.Mode.{Mode}
 use Rattle.apex_types.specs.declared.records.Mode.TheVariants as mode
 use Rattle.apex_types.specs.declared.records.Queue.TheVariants as queues
-use Rattle.apex_types.specs.declared.records.Wait.{Wait}
 use Rattle.apex_types.specs.declared.records.Wait.TheVariants as wait
 use Rattle.apex_types.specs.Rows.{Outcome, told, accepted, guarded, ◌⟶◌}
 use Rattle.apex_types.specs.Roster.{Roster, record_at, is_normal}

@@ -2,18 +2,12 @@
 -- holds answers and changes nothing (ARINC 653 Part 1, process management; the guards are this
 -- profile's).
 use Rattle.std.specs.Prelude.{ℕ, Bool, true, false, List, [], ◌∷◌, ◌++◌, nat_le, nat_lt, is_none, is_some, not, ◌&&◌, if◌then◌else◌}
-use Rattle.apex_types.specs.declared.calls.ProcessService.{ProcessService}
+use Rattle.apex_types.specs.Terms.{Caller, Entry, Notice, ProcessService, Reply, State, Timeout}
 use Rattle.apex_types.specs.declared.calls.ProcessService.TheVariants.{InitializeCoreAffinity, SetPriority, Start, DelayedStart, Stop, Suspend, Resume}
-use Rattle.apex_types.specs.declared.calls.Timeout.{Timeout}
 use Rattle.apex_types.specs.declared.calls.Timeout.TheVariants.{Poll, Ticks, Infinite}
-use Rattle.apex_types.specs.declared.entries.Caller.{Caller}
-use Rattle.apex_types.specs.declared.entries.Entry.{Entry}
-use Rattle.apex_types.specs.declared.entries.Notice.{Notice}
 use Rattle.apex_types.specs.declared.entries.Notice.TheVariants.{Woken}
-use Rattle.apex_types.specs.declared.entries.Reply.{Reply}
 use Rattle.apex_types.specs.declared.entries.Reply.TheVariants.{Status}
 use Rattle.apex_types.specs.declared.entries.ReturnCode.TheVariants.{NoError, NoAction, InvalidParam, InvalidConfig, InvalidMode}
-use Rattle.apex_types.specs.declared.records.State.{State}
 use Rattle.apex_types.specs.declared.records.State.TheVariants as state
 use Rattle.apex_types.specs.Callers.{is_by_process}
 use Rattle.apex_types.specs.Calls.{created_process}
@@ -23,7 +17,7 @@ use Rattle.apex_types.specs.Roster.{Roster, record_at, is_normal}
 use Rattle.apex_types.specs.Rows.{Outcome, Guard, accepted, guarded, ◌⟶◌}
 use Rattle.apex_types.specs.Running.{current_priority, process_state}
 use Rattle.apex_types.specs.Stamps as stamps
-use Rattle.apex_types.specs.Table.{ProcessEntry}
+use Rattle.apex_types.specs.Table.{ProcessConfig}
 use Rattle.apex_types.specs.Ticks.{begin_notices}
 
 -- a process as its services see it, besides its record
@@ -128,11 +122,11 @@ process_status roster process p =
     Status (state_number (process_state roster p)) (current_priority (record_at roster p))
 
 -- process p of this entry after the history
-abbrev pub process_after : List Entry → ℕ → ProcessEntry → ProcessObject
+abbrev pub process_after : List Entry → ℕ → ProcessConfig → ProcessObject
 process_after history p entry = record { created = is_created created_process p history }
 
 -- processes
-abbrev pub process_kind : KindOf ProcessEntry ProcessObject ProcessService
+abbrev pub process_kind : KindOf ProcessConfig ProcessObject ProcessService
 process_kind = record {
   absent = record { created = false };
   created = λ process. process.created;

@@ -1,11 +1,9 @@
 -- What a contract sees of the processes: mode, time, one record each, and the two counters of stamps.
 use Rattle.std.specs.Prelude.{ℕ, ◌+◌, Bool, true, false, List, length, map, slice_index_or, slice_set, ℤ, pos, None}
-use Rattle.apex_types.specs.declared.records.Mode.{Mode}
+use Rattle.apex_types.specs.Terms.{Discipline, Mode, Record}
 use Rattle.apex_types.specs.declared.records.Mode.TheVariants.{Idle, ColdStart, Normal}
-use Rattle.apex_types.specs.declared.records.Discipline.{Discipline}
-use Rattle.apex_types.specs.declared.records.Record.{Record}
 use Rattle.apex_types.specs.Places.{map_places}
-use Rattle.apex_types.specs.Table.{Table, ProcessEntry, SemaphoreEntry}
+use Rattle.apex_types.specs.Table.{Table, ProcessConfig, SemaphoreConfig}
 
 -- the processes of a partition at one moment, and what stays: how many cores it has, and the
 -- disciplines of its semaphores' queues
@@ -53,7 +51,7 @@ is_cold_start ColdStart = true
 is_cold_start Normal = false
 
 -- the record with which the process of a table's entry opens, dormant on core 0 (this profile)
-abbrev pub opening_record : ℕ → ProcessEntry → Record
+abbrev pub opening_record : ℕ → ProcessConfig → Record
 opening_record p entry = record {
   attributes = record { priority = entry.priority };
   core = 0;
@@ -75,5 +73,5 @@ opening_roster table = record {
   records = map_places opening_record 0 table.processes;
   young = pos (length table.processes + 1);
   old = pos 0;
-  disciplines = map (λ (s : SemaphoreEntry). s.discipline) table.semaphores;
+  disciplines = map (λ (s : SemaphoreConfig). s.discipline) table.semaphores;
 }

@@ -1,12 +1,9 @@
 -- What a service leaves and answers, and how the rows of the services read: guards in order, then the
 -- effect.
 use Rattle.std.specs.Prelude.{◌≡◌, ℕ, Bool, List, [], ◌∷◌, ◌++◌, if◌then◌else◌}
-use Rattle.apex_types.specs.declared.entries.Caller.{Caller}
+use Rattle.apex_types.specs.Terms.{Caller, Notice, Reply, ReturnCode}
 use Rattle.apex_types.specs.declared.entries.Caller.TheVariants.{Process, Init, Nobody}
-use Rattle.apex_types.specs.declared.entries.Notice.{Notice}
-use Rattle.apex_types.specs.declared.entries.Reply.{Reply}
 use Rattle.apex_types.specs.declared.entries.Reply.TheVariants.{Code}
-use Rattle.apex_types.specs.declared.entries.ReturnCode.{ReturnCode}
 use Rattle.apex_types.specs.declared.entries.ReturnCode.TheVariants.{NoError, InvalidMode}
 use Rattle.apex_types.specs.Roster.{Roster}
 

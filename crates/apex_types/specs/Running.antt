@@ -1,8 +1,6 @@
 -- Which process each core runs (ARINC 653 Part 1, process management; here core by core).
 use Rattle.std.specs.Prelude.{◌≡◌, ℕ, Bool, true, false, Option, None, Some, is_none, ◌==◌, nat_lt, int_lt, ◌&&◌, ◌||◌, not, if◌then◌else◌}
-use Rattle.apex_types.specs.declared.records.Mode.{Mode}
-use Rattle.apex_types.specs.declared.records.Record.{Record}
-use Rattle.apex_types.specs.declared.records.State.{State}
+use Rattle.apex_types.specs.Terms.{Mode, Record, State}
 use Rattle.apex_types.specs.declared.records.State.TheVariants.{Dormant, Ready, Running, Waiting}
 use Rattle.apex_types.specs.Roster.{Roster, record_at, is_normal}
 use Rattle.apex_types.specs.Choice.{place_of_least}

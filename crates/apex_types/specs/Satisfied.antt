@@ -1,12 +1,8 @@
 -- Which calls a history satisfied, in order, and the values that follow from them.
 use Rattle.std.specs.Prelude.{ℕ, ◌+◌, ◌-◌, Bool, true, false, List, [], ◌∷◌, ◌++◌, Option, None, fold, filter, flat_map, count_by, option_to_list, if◌then◌else◌}
-use Rattle.apex_types.specs.declared.calls.Call.{Call}
-use Rattle.apex_types.specs.declared.entries.Entry.{Entry}
-use Rattle.apex_types.specs.declared.entries.Notice.{Notice}
+use Rattle.apex_types.specs.Terms.{Call, Entry, Notice, Reply, ReturnCode}
 use Rattle.apex_types.specs.declared.entries.Notice.TheVariants.{Woken, Released}
-use Rattle.apex_types.specs.declared.entries.Reply.{Reply}
 use Rattle.apex_types.specs.declared.entries.Reply.TheVariants.{Code}
-use Rattle.apex_types.specs.declared.entries.ReturnCode.{ReturnCode}
 use Rattle.apex_types.specs.declared.entries.ReturnCode.TheVariants.{NoError}
 use Rattle.apex_types.specs.Callers.{is_by_process}
 use Rattle.apex_types.specs.Calls.{names_semaphore, is_wait, is_signal}

@@ -1,13 +1,9 @@
 -- The services of semaphores, row by row: the first guard that holds answers and changes nothing
 -- (ARINC 653 Part 1, semaphores; the guards are this profile's).
 use Rattle.std.specs.Prelude.{ℕ, ◌+◌, ◌-◌, Bool, true, false, List, [], ◌∷◌, Option, None, Some, nat_lt, not, if◌then◌else◌}
-use Rattle.apex_types.specs.declared.calls.SemaphoreService.{SemaphoreService}
+use Rattle.apex_types.specs.Terms.{Caller, Entry, Reply, SemaphoreService, Timeout}
 use Rattle.apex_types.specs.declared.calls.SemaphoreService.TheVariants.{Wait, Signal}
-use Rattle.apex_types.specs.declared.calls.Timeout.{Timeout}
-use Rattle.apex_types.specs.declared.entries.Caller.{Caller}
-use Rattle.apex_types.specs.declared.entries.Entry.{Entry}
 use Rattle.apex_types.specs.declared.entries.Notice.TheVariants.{Woken}
-use Rattle.apex_types.specs.declared.entries.Reply.{Reply}
 use Rattle.apex_types.specs.declared.entries.Reply.TheVariants.{Status}
 use Rattle.apex_types.specs.declared.entries.ReturnCode.TheVariants.{NoError, NoAction, InvalidParam}
 use Rattle.apex_types.specs.declared.records.Queue.TheVariants as queues
@@ -19,7 +15,7 @@ use Rattle.apex_types.specs.Roster.{Roster}
 use Rattle.apex_types.specs.Rows.{Outcome, accepted, guarded, ◌⟶◌, by_process}
 use Rattle.apex_types.specs.Satisfied.{semaphore_value}
 use Rattle.apex_types.specs.Stamps.{unblock}
-use Rattle.apex_types.specs.Table.{SemaphoreEntry}
+use Rattle.apex_types.specs.Table.{SemaphoreConfig}
 use Rattle.apex_types.specs.Waiters.{first_waiter, waiter_count}
 use Rattle.apex_types.specs.Waiting.{wait_for}
 
@@ -61,7 +57,7 @@ abbrev pub semaphore_status : Roster → SemaphoreObject → ℕ → Reply
 semaphore_status roster semaphore s = Status semaphore.value (waiter_count roster (queues.Semaphore s))
 
 -- semaphore s of this entry after the history
-abbrev pub semaphore_after : List Entry → ℕ → SemaphoreEntry → SemaphoreObject
+abbrev pub semaphore_after : List Entry → ℕ → SemaphoreConfig → SemaphoreObject
 semaphore_after history s entry = record {
   maximum = entry.maximum;
   created = is_created created_semaphore s history;
@@ -69,7 +65,7 @@ semaphore_after history s entry = record {
 }
 
 -- semaphores
-abbrev pub semaphore_kind : KindOf SemaphoreEntry SemaphoreObject SemaphoreService
+abbrev pub semaphore_kind : KindOf SemaphoreConfig SemaphoreObject SemaphoreService
 semaphore_kind = record {
   absent = record { maximum = 0; created = false; value = 0 };
   created = λ semaphore. semaphore.created;

@@ -1,11 +1,9 @@
 -- How records change and when a process takes a new stamp (this profile).
 use Rattle.std.specs.Prelude.{◌≡◌, ℕ, ◌+◌, Bool, true, false, Option, None, Some, pos, ◌+ℤ◌, ◌<ℤ◌, ◌^◌, ◌==◌, ◌&&◌, ◌||◌, slice_set, if◌then◌else◌}
-use Rattle.apex_types.specs.declared.records.Mode.{Mode}
+use Rattle.apex_types.specs.Limits.{most_stamps}
+use Rattle.apex_types.specs.Terms.{Mode, Record, Suspender, Wait}
 use Rattle.apex_types.specs.declared.records.Queue.TheVariants as queues
-use Rattle.apex_types.specs.declared.records.Record.{Record}
-use Rattle.apex_types.specs.declared.records.Suspender.{Suspender}
 use Rattle.apex_types.specs.declared.records.Suspender.TheVariants.{Itself, Other}
-use Rattle.apex_types.specs.declared.records.Wait.{Wait}
 use Rattle.apex_types.specs.declared.records.Wait.TheVariants.{Normal, Start}
 use Rattle.apex_types.specs.Roster.{Roster, record_at, with_record, is_normal}
 use Rattle.apex_types.specs.Running.{is_eligible}
@@ -14,8 +12,8 @@ use Rattle.apex_types.specs.Dues.{first_due}
 
 -- there are stamps left, upwards and downwards: no history is long enough to use them up
 pub record HasStamps (roster : Roster) : Type 0 where
-  pub young : roster.young <ℤ pos (2 ^ 40)
-  pub old : pos 0 <ℤ (roster.old +ℤ pos (2 ^ 40))
+  pub young : roster.young <ℤ pos most_stamps
+  pub old : pos 0 <ℤ (roster.old +ℤ pos most_stamps)
 
 -- process p has this record with the next stamp upwards: it is the newest
 abbrev pub newest : Roster → ℕ → Record → Roster

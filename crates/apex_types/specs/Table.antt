@@ -1,20 +1,18 @@
 -- A partition table as every contract sees it, and what holds of each accepted one.
 use Rattle.std.specs.Prelude.{◌≡◌, ℕ, ◌<◌, ◌≤◌, Bool, true, false, List, [], length, slice_index_or, map, IsTrue}
+use Rattle.apex_types.specs.Limits.{most_cores, most_entries, most_init_steps, most_objects, most_priority, most_processes, most_steps, most_value}
 use Rattle.std.specs.List.{IsDistinct}
 use Rattle.std.specs.Str.{bytes_eq}
-use Rattle.apex_types.specs.declared.calls.Call.{Call}
+use Rattle.apex_types.specs.Terms.{Call, Discipline, Named, ObjectCall}
 use Rattle.apex_types.specs.declared.calls.Call.TheVariants.{Partition, Process, Caller, Time, Semaphore}
 use Rattle.apex_types.specs.declared.calls.CallerCall.TheVariants.{StopSelf}
-use Rattle.apex_types.specs.declared.calls.Named.{Named}
 use Rattle.apex_types.specs.declared.calls.Named.TheVariants.{Known, Unknown}
-use Rattle.apex_types.specs.declared.calls.ObjectCall.{ObjectCall}
 use Rattle.apex_types.specs.declared.calls.ObjectCall.TheVariants.{Create, GetId, GetStatus, Own}
-use Rattle.apex_types.specs.declared.records.Discipline.{Discipline}
 use Rattle.apex_types.specs.declared.records.Discipline.TheVariants.{Fifo}
 use Rattle.apex_types.specs.Name.{is_name}
 
 -- a process as the table gives it
-pub record ProcessEntry : Type 0 where
+pub record ProcessConfig : Type 0 where
   pub name : List ℕ
   pub priority : ℕ
   pub core : ℕ
@@ -23,7 +21,7 @@ pub record ProcessEntry : Type 0 where
   pub script : List Call
 
 -- a semaphore as the table gives it
-pub record SemaphoreEntry : Type 0 where
+pub record SemaphoreConfig : Type 0 where
   pub name : List ℕ
   pub maximum : ℕ
   pub initial : ℕ
@@ -33,23 +31,23 @@ pub record SemaphoreEntry : Type 0 where
 pub record Table : Type 0 where
   pub cores : ℕ
   pub limit : ℕ
-  pub processes : List ProcessEntry
-  pub semaphores : List SemaphoreEntry
+  pub processes : List ProcessConfig
+  pub semaphores : List SemaphoreConfig
   pub init : List Call
 
 -- an entry that no table has, for a place past the end
-abbrev pub no_process : ProcessEntry
+abbrev pub no_process : ProcessConfig
 no_process = record { name = []; priority = 0; core = 0; loops = false; start = false; script = [] }
 
-abbrev pub no_semaphore : SemaphoreEntry
+abbrev pub no_semaphore : SemaphoreConfig
 no_semaphore = record { name = []; maximum = 0; initial = 0; discipline = Fifo }
 
 -- the entry at a place, counted from 0
-abbrev pub process_entry : Table → ℕ → ProcessEntry
-process_entry table p = slice_index_or table.processes p no_process
+abbrev pub process_config : Table → ℕ → ProcessConfig
+process_config table p = slice_index_or table.processes p no_process
 
-abbrev pub semaphore_entry : Table → ℕ → SemaphoreEntry
-semaphore_entry table s = slice_index_or table.semaphores s no_semaphore
+abbrev pub semaphore_config : Table → ℕ → SemaphoreConfig
+semaphore_config table s = slice_index_or table.semaphores s no_semaphore
 
 -- the step at a place of a script or of an init list, counted from 0; past the end STOP_SELF, the
 -- end of every script
@@ -77,29 +75,29 @@ IsKnown table (Time call) = Unit {0}
 IsKnown table (Semaphore call) = IsKnownObject (length table.semaphores) call
 
 -- what holds of a process of an accepted table
-pub record IsLawfulProcess (table : Table) (entry : ProcessEntry) : Type 0 where
+pub record IsLawfulProcess (table : Table) (entry : ProcessConfig) : Type 0 where
   pub name : IsTrue (is_name entry.name)
-  pub priority : (1 ≤ entry.priority) × (entry.priority ≤ 239)
+  pub priority : (1 ≤ entry.priority) × (entry.priority ≤ most_priority)
   pub core : entry.core < table.cores
-  pub steps : length entry.script ≤ 64
+  pub steps : length entry.script ≤ most_steps
   pub looping : entry.loops ≡ true → 1 ≤ length entry.script
   pub known : (k : ℕ) → k < length entry.script → IsKnown table (call_at entry.script k)
 
 -- what holds of a semaphore of an accepted table
-pub record IsLawfulSemaphore (entry : SemaphoreEntry) : Type 0 where
+pub record IsLawfulSemaphore (entry : SemaphoreConfig) : Type 0 where
   pub name : IsTrue (is_name entry.name)
-  pub maximum : (1 ≤ entry.maximum) × (entry.maximum ≤ 32767)
+  pub maximum : (1 ≤ entry.maximum) × (entry.maximum ≤ most_value)
   pub initial : entry.initial ≤ entry.maximum
 
 -- what holds of an accepted table: ranges and references
 pub record IsLawful (table : Table) : Type 0 where
-  pub cores : (1 ≤ table.cores) × (table.cores ≤ 8)
-  pub limit : (1 ≤ table.limit) × (table.limit ≤ 65536)
-  pub process_count : (1 ≤ length table.processes) × (length table.processes ≤ 32)
-  pub semaphore_count : length table.semaphores ≤ 16
-  pub init_count : length table.init ≤ 512
-  pub processes : (p : ℕ) → p < length table.processes → IsLawfulProcess table (process_entry table p)
-  pub semaphores : (s : ℕ) → s < length table.semaphores → IsLawfulSemaphore (semaphore_entry table s)
+  pub cores : (1 ≤ table.cores) × (table.cores ≤ most_cores)
+  pub limit : (1 ≤ table.limit) × (table.limit ≤ most_entries)
+  pub process_count : (1 ≤ length table.processes) × (length table.processes ≤ most_processes)
+  pub semaphore_count : length table.semaphores ≤ most_objects
+  pub init_count : length table.init ≤ most_init_steps
+  pub processes : (p : ℕ) → p < length table.processes → IsLawfulProcess table (process_config table p)
+  pub semaphores : (s : ℕ) → s < length table.semaphores → IsLawfulSemaphore (semaphore_config table s)
   pub init : (k : ℕ) → k < length table.init → IsKnown table (call_at table.init k)
-  pub process_names : IsDistinct bytes_eq (map (λ (e : ProcessEntry). e.name) table.processes)
-  pub semaphore_names : IsDistinct bytes_eq (map (λ (e : SemaphoreEntry). e.name) table.semaphores)
+  pub process_names : IsDistinct bytes_eq (map (λ (e : ProcessConfig). e.name) table.processes)
+  pub semaphore_names : IsDistinct bytes_eq (map (λ (e : SemaphoreConfig). e.name) table.semaphores)

@@ -1,10 +1,8 @@
 -- A tick: how far time goes on, and which waits it ends (this profile).
 use Rattle.std.specs.Prelude.{ℕ, ◌+◌, List, [], ◌∷◌, length, Option, None, Some, min, ◌==◌, if◌then◌else◌}
-use Rattle.apex_types.specs.declared.entries.Notice.{Notice}
+use Rattle.apex_types.specs.Terms.{Notice, ReturnCode, Wait}
 use Rattle.apex_types.specs.declared.entries.Notice.TheVariants.{Woken, Released}
-use Rattle.apex_types.specs.declared.entries.ReturnCode.{ReturnCode}
 use Rattle.apex_types.specs.declared.entries.ReturnCode.TheVariants.{NoError, TimedOut}
-use Rattle.apex_types.specs.declared.records.Wait.{Wait}
 use Rattle.apex_types.specs.declared.records.Wait.TheVariants.{Start, Time}
 use Rattle.apex_types.specs.Roster.{Roster, record_at}
 use Rattle.apex_types.specs.Dues.{next_instant, first_due}

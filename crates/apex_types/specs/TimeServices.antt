@@ -1,11 +1,9 @@
 -- The services of time management, row by row: the first guard that holds answers and changes nothing
 -- (ARINC 653 Part 1, time management; the guards are this profile's).
 use Rattle.std.specs.Prelude.{ℕ, []}
-use Rattle.apex_types.specs.declared.calls.TimeCall.{TimeCall}
+use Rattle.apex_types.specs.Terms.{Caller, TimeCall, Timeout}
 use Rattle.apex_types.specs.declared.calls.TimeCall.TheVariants.{TimedWait, GetTime}
-use Rattle.apex_types.specs.declared.calls.Timeout.{Timeout}
 use Rattle.apex_types.specs.declared.calls.Timeout.TheVariants.{Poll, Ticks, Infinite}
-use Rattle.apex_types.specs.declared.entries.Caller.{Caller}
 use Rattle.apex_types.specs.declared.entries.Reply.TheVariants.{Value}
 use Rattle.apex_types.specs.declared.entries.ReturnCode.TheVariants.{InvalidParam}
 use Rattle.apex_types.specs.declared.records.Wait.TheVariants as wait

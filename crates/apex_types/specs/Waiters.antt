@@ -1,12 +1,9 @@
 -- Who waits in a queue, and in which order (ARINC 653 Part 1, intrapartition communication).
 use Rattle.std.specs.Prelude.{ℕ, Bool, true, false, Option, None, Some, ◌==◌, ◌&&◌, count_by, slice_index_or}
 use Rattle.std.specs.Option.{option_and_then}
-use Rattle.apex_types.specs.declared.records.Discipline.{Discipline}
+use Rattle.apex_types.specs.Terms.{Discipline, Queue, Record, Wait}
 use Rattle.apex_types.specs.declared.records.Discipline.TheVariants.{Fifo, Priority}
-use Rattle.apex_types.specs.declared.records.Queue.{Queue}
 use Rattle.apex_types.specs.declared.records.Queue.TheVariants as queues
-use Rattle.apex_types.specs.declared.records.Record.{Record}
-use Rattle.apex_types.specs.declared.records.Wait.{Wait}
 use Rattle.apex_types.specs.declared.records.Wait.TheVariants.{Normal, Start, Time, Semaphore}
 use Rattle.apex_types.specs.Roster.{Roster, record_at}
 use Rattle.apex_types.specs.Choice.{place_of_least}

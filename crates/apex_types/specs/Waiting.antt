@@ -1,10 +1,9 @@
 -- How a process that calls begins to wait.
 use Rattle.std.specs.Prelude.{ℕ, []}
-use Rattle.apex_types.specs.declared.calls.Timeout.{Timeout}
+use Rattle.apex_types.specs.Terms.{Timeout, Wait}
 use Rattle.apex_types.specs.declared.calls.Timeout.TheVariants.{Poll, Ticks, Infinite}
 use Rattle.apex_types.specs.declared.entries.Reply.TheVariants.{Blocked}
 use Rattle.apex_types.specs.declared.entries.ReturnCode.TheVariants.{NotAvailable}
-use Rattle.apex_types.specs.declared.records.Wait.{Wait}
 use Rattle.apex_types.specs.Roster.{Roster}
 use Rattle.apex_types.specs.Dues.{due_after}
 use Rattle.apex_types.specs.Rows.{Outcome, told, refused}

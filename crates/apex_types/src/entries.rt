@@ -1,4 +1,5 @@
 ghost use Rattle.std.specs.Prelude.{◌≡◌, ◌<◌, ◌≤◌, [], ◌∷◌, ◌++◌, length};
+ghost use Rattle.apex_types.specs.Limits.{most_notices};
 
 use crate::calls::Call;
 use crate::identifiers::{CoreId, ProcessId};
@@ -101,16 +102,35 @@ impl Notices {
         }
     }
 
+    /// The notices of this slice. Takes no memory.
+    fn copied(notices: &[Notice]) -> Notices
+        requires { length notices.now ≤ 64 }
+        ensures { result ≡ notices.now }
+    {
+        let mut copied = ArrayVec::new();
+        let taken = copied.try_extend_from_slice(notices);
+        let fits = taken.is_ok();
+        prove!(fits);
+        Notices { notices: copied }
+    }
+
     pub fn push(&mut self, notice: Notice)
-        requires { length self.old < 64 }
+        requires { length self.old < most_notices }
         ensures { self.new ≡ self.old ++ notice ∷ [] }
     {
         self.notices.push(notice);
     }
 
+    /// Leaves no notice.
+    pub fn clear(&mut self)
+        ensures { self.new ≡ [] }
+    {
+        self.notices.clear();
+    }
+
     pub fn as_slice(&self) -> &[Notice]
         ensures value { result.now ≡ self.now }
-        ensures few { length result.now ≤ 64 }
+        ensures few { length result.now ≤ most_notices }
     {
         self.notices.as_slice()
     }
@@ -129,6 +149,72 @@ pub struct Entry {
     pub call: Option<Call>,
     pub reply: Reply,
     pub notices: Notices,
+}
+
+impl Entry {
+    /// The entry, lent.
+    pub fn lent(&self) -> LentEntry<'_>
+        ensures { result ≡ self.entry.now }
+    {
+        LentEntry {
+            number: self.number,
+            now: self.now,
+            who: self.who,
+            process: self.process,
+            call: self.call,
+            reply: self.reply,
+            notices: self.notices.as_slice(),
+        }
+    }
+}
+
+/// An [`Entry`] whose notices are lent, as a log lends it.
+#[derive(Debug, Drop)]
+pub struct LentEntry<'a> {
+    pub number: u32,
+    pub now: u64,
+    pub who: Who,
+    pub process: Caller,
+    pub call: Option<Call>,
+    pub reply: Reply,
+    /// 64 at the most.
+    pub notices: &'a [Notice],
+}
+
+impl<'a> Model for LentEntry<'a> {
+    ghost use Rattle.std.specs.Prelude.{◌≤◌, length};
+    ghost use Rattle.apex_types.specs.declared.entries.Entry.{Entry};
+
+    ghost Value = { Entry };
+
+    ghost view = { λ e. record {
+      number = e.number;
+      now = e.now;
+      who = e.who;
+      process = e.process;
+      call = e.call;
+      reply = e.reply;
+      notices = e.notices.now;
+    } };
+
+    ghost invariant = { λ e. length e.notices.now ≤ 64 };
+}
+
+impl<'a> LentEntry<'a> {
+    /// The entry with notices of its own. Takes no memory.
+    pub fn kept(&self) -> Entry
+        ensures { result ≡ self.entry.now }
+    {
+        Entry {
+            number: self.number,
+            now: self.now,
+            who: self.who,
+            process: self.process,
+            call: self.call,
+            reply: self.reply,
+            notices: Notices::copied(self.notices),
+        }
+    }
 }
 
 /// The history holds as many entries as its limit allows, and refused an event.

@@ -16,7 +16,9 @@ pub use calls::{
     Call, CallerCall, Named, ObjectCall, PartitionCall, ProcessCall, ProcessService, RequestedMode,
     SemaphoreCall, SemaphoreService, TimeCall, Timeout,
 };
-pub use entries::{Caller, Entry, Event, Full, Notice, Notices, Reply, ReturnCode, Who};
+pub use entries::{
+    Caller, Entry, Event, Full, LentEntry, Notice, Notices, Reply, ReturnCode, Who,
+};
 pub use identifiers::{CoreId, Id, ProcessId, ProcessKind, SemaphoreId, SemaphoreKind};
 pub use names::Name;
 pub use numbers::{number, number_at_most};

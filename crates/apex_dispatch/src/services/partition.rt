@@ -1,6 +1,7 @@
 //! The services of partition management.
 
 ghost use Rattle.std.specs.Prelude.{◌≡◌, ◌<◌, ◌≤◌, true, false, [], ◌++◌, length, IfSome};
+ghost use Rattle.apex_types.specs.Limits.{most_notices, most_processes};
 ghost use Rattle.apex_types.specs.Dues.{HasTime};
 ghost use Rattle.apex_types.specs.InTurn.{Makes};
 ghost use Rattle.apex_types.specs.PartitionServices as services;
@@ -33,7 +34,7 @@ fn begin_waiter<S: Store>(store: &mut S, process: ProcessId, notices: &mut Notic
     requires free { may_wait (record_at (S.roster store.old) process) ≡ true }
     requires stamps { HasStamps (S.roster store.old) }
     requires time { HasTime (S.roster store.old) }
-    requires room { length notices.old < 64 }
+    requires room { length notices.old < most_notices }
     ensures { Makes (services.begin_waiter (S.roster store.old) process)
         (S.roster store.new) notices.old notices.new }
 {
@@ -58,7 +59,7 @@ fn first_to_start<S: Store>(store: &S) -> Option<ProcessId>
 /// The entry into NORMAL: begins the starts of all who wait for it, who waits longest first.
 #[tactic(auto, unfolding(apex_types::specs::PartitionServices::enter_normal))]
 fn enter_normal<S: Store>(store: &mut S, notices: &mut Notices)
-    requires few { length (S.roster store.old).records ≤ 32 }
+    requires few { length (S.roster store.old).records ≤ most_processes }
     requires early { is_normal (S.roster store.old).mode ≡ false }
     requires starts { HasOrderlyStarts (S.roster store.old) }
     requires stamps { HasManyStamps (S.roster store.old) }
@@ -78,7 +79,7 @@ fn enter_normal<S: Store>(store: &mut S, notices: &mut Notices)
 
 /// IDLE: stops every process for good, and tells nobody.
 fn enter_idle<S: Store>(store: &mut S)
-    requires few { length (S.roster store.old).records ≤ 32 }
+    requires few { length (S.roster store.old).records ≤ most_processes }
     ensures { S.roster store.new ≡ services.enter_idle (S.roster store.old) }
 {
     store.set_mode(Mode::Idle);
@@ -94,7 +95,7 @@ fn set_partition_mode<S: Store>(
     requested: RequestedMode,
     notices: &mut Notices,
 ) -> Reply
-    requires few { length (S.roster store.old).records ≤ 32 }
+    requires few { length (S.roster store.old).records ≤ most_processes }
     requires starts { HasOrderlyStarts (S.roster store.old) }
     requires stamps { HasManyStamps (S.roster store.old) }
     requires time { HasTime (S.roster store.old) }
@@ -135,7 +136,7 @@ pub(crate) fn serve<S: Store>(
     call: &PartitionCall,
     notices: &mut Notices,
 ) -> Reply
-    requires few { length (S.roster store.old).records ≤ 32 }
+    requires few { length (S.roster store.old).records ≤ most_processes }
     requires starts { HasOrderlyStarts (S.roster store.old) }
     requires stamps { HasManyStamps (S.roster store.old) }
     requires time { HasTime (S.roster store.old) }

@@ -1,6 +1,7 @@
 //! The services of process management for a process that is named.
 
 ghost use Rattle.std.specs.Prelude.{◌≡◌, ◌<◌, [], ◌++◌, length, false};
+ghost use Rattle.apex_types.specs.Limits.{most_notices};
 ghost use Rattle.apex_types.specs.Callers.{IsReadyCaller, is_by_process};
 ghost use Rattle.apex_types.specs.Dues.{HasTime};
 ghost use Rattle.apex_types.specs.ProcessServices as services;
@@ -112,7 +113,7 @@ impl ProcessObject {
         requires known { id < length (S.roster store.old).records }
         requires stamps { HasStamps (S.roster store.old) }
         requires time { HasTime (S.roster store.old) }
-        requires room { length notices.old < 64 }
+        requires room { length notices.old < most_notices }
         ensures { Leaves (services.start_process (S.roster store.old) self.now id delay)
             (S.roster store.new) self.now result notices.old notices.new }
     {
@@ -184,7 +185,7 @@ impl ProcessObject {
     ) -> Reply
         requires known { id < length (S.roster store.old).records }
         requires stamps { HasStamps (S.roster store.old) }
-        requires room { length notices.old < 64 }
+        requires room { length notices.old < most_notices }
         ensures { Leaves (services.resume_process (S.roster store.old) self.now id caller.now)
             (S.roster store.new) self.now result notices.old notices.new }
     {
@@ -213,9 +214,9 @@ impl Object for ProcessObject {
 
     ghost use Rattle.std.specs.Prelude.{◌<◌, length};
     ghost use Rattle.apex_types.specs.ProcessServices.{process_kind};
-    ghost use Rattle.apex_types.specs.Table.{ProcessEntry};
+    ghost use Rattle.apex_types.specs.Table.{ProcessConfig};
 
-    ghost Config = { ProcessEntry };
+    ghost Config = { ProcessConfig };
 
     ghost kind = { process_kind };
 
@@ -249,7 +250,7 @@ impl Object for ProcessObject {
         requires caller { IsReadyCaller (S.roster store.old) caller.now }
         requires stamps { HasStamps (S.roster store.old) }
         requires time { HasTime (S.roster store.old) }
-        requires room { length notices.old < 64 }
+        requires room { length notices.old < most_notices }
         ensures { Leaves (services.process_own (S.roster store.old) self.old id caller.now service.now)
             (S.roster store.new) self.new result notices.old notices.new }
     {

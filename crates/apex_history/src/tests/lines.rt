@@ -4,7 +4,7 @@ ghost use Rattle.apex_types.specs.declared.Named.TheVariants.{Known};
 ghost use Rattle.apex_types.specs.declared.ObjectCall.TheVariants.{Create};
 ghost use Rattle.apex_types.specs.Lines.{IsPrintable};
 
-use super::{idle, of_process, of_semaphore, paper};
+use super::{idle, of_process, of_semaphore, paper, print};
 use crate::{Counted, Log, Page, print_entry, print_history};
 use apex_table::{Table, read_table};
 use apex_types::{
@@ -53,6 +53,7 @@ const LINES: &str = "\
 
 // The entry of a call that core 0 carried out for the init list.
 fn of_init(number: u32, call: Call) -> Entry
+    ensures number { result.number ≡ number }
     ensures call { result.call ≡ Some call }
     ensures notices { length result.notices ≡ 0 }
 {
@@ -76,6 +77,7 @@ fn created(process: ProcessId) -> Call
 // Puts an entry last.
 fn add(log: &mut Log, table: &Table, entry: Entry)
     requires room { length log.old.entries < log.old.limit }
+    requires number { entry.number ≡ length log.old.entries + 1 }
     requires printable { IsPrintable table.now entry }
     requires before { All (IsPrintable table.now) log.old.entries }
     ensures limit { log.new.limit ≡ log.old.limit }
@@ -83,7 +85,7 @@ fn add(log: &mut Log, table: &Table, entry: Entry)
     ensures after { All (IsPrintable table.now) log.new.entries }
 {
     let _cores = table.cores();
-    log.push(entry);
+    log.push(&entry.lent());
 }
 
 // The entries of the init list.
@@ -157,7 +159,7 @@ fn a_signal_wakes_a_waiter(rt: HostRuntime) -> Result<(), Fail> {
     let mut paper = paper(rt, 4096, 0)?;
     let mut writer = Counted::new(&mut paper);
     for entry in log.entries() {
-        print_entry(&table, entry, &mut writer)?;
+        print_entry(&table, &entry, &mut writer)?;
     }
     assert_eq!(rt; writer.failures(), 0);
     assert_eq!(rt; paper.held(), LINES.as_bytes());
@@ -191,7 +193,7 @@ fn each_reply_has_its_word(rt: HostRuntime) -> Result<(), Fail> {
         entry.now = 68_719_476_736;
         entry.reply = reply;
         let mut paper = paper(rt, 80, 0)?;
-        print_entry(&table, &entry, &mut Counted::new(&mut paper))?;
+        print(&table, &entry, &mut Counted::new(&mut paper))?;
         let expected = format!(in rt.alloc(); "4294967295 68719476736 core0 - idle -> {word}\n")?;
         assert_eq!(rt; paper.held(), expected.as_bytes());
     }
@@ -208,11 +210,11 @@ fn a_poll_and_the_end_of_a_script(rt: HostRuntime) -> Result<(), Fail> {
     let mut entry = of_init(5, poll);
     entry.process = Caller::Process(ProcessId::at(1));
     entry.reply = Reply::Code(ReturnCode::NotAvailable);
-    print_entry(&table, &entry, &mut writer)?;
+    print(&table, &entry, &mut writer)?;
     let mut entry = of_init(6, Call::Caller(CallerCall::StopSelf));
     entry.process = Caller::Process(ProcessId::at(0));
     entry.reply = Reply::Gone;
-    print_entry(&table, &entry, &mut writer)?;
+    print(&table, &entry, &mut writer)?;
     let expected =
         "5 0 core0 2 WAIT_SEMAPHORE S 0 -> NOT_AVAILABLE\n6 0 core0 1 STOP_SELF -> GONE\n";
     assert_eq!(rt; paper.held(), expected.as_bytes());
@@ -264,7 +266,7 @@ fn a_line_that_finds_no_room_is_begun(rt: HostRuntime) -> Result<(), Fail> {
     let table = read_table(rt.alloc(), TABLE.as_bytes())?;
     let mut paper = paper(rt, 7, 0)?;
     let mut writer = Counted::new(&mut paper);
-    assert!(rt; print_entry(&table, &idle(1), &mut writer).is_err());
+    assert!(rt; print(&table, &idle(1), &mut writer).is_err());
     assert_eq!(rt; writer.failures(), 1);
     assert_eq!(rt; paper.held(), b"1 0 cor".as_slice());
     Ok(())

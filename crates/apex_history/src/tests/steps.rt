@@ -1,5 +1,5 @@
-use super::{called, of_process, paper};
-use crate::{Counted, print_entry};
+use super::{called, of_process, paper, print};
+use crate::Counted;
 use apex_table::read_table;
 use apex_types::{
     Call, CallerCall, CoreId, Name, Named, Notice, PartitionCall, ProcessCall, ProcessId,
@@ -82,22 +82,22 @@ fn suspensions(rt: HostRuntime) -> Result<(), Fail> {
     let mut writer = Counted::new(&mut paper);
 
     let own = Call::Caller(CallerCall::SuspendSelf(Timeout::Ticks(3)));
-    print_entry(&table, &called(5, 0, p1, own, Reply::Blocked), &mut writer)?;
+    print(&table, &called(5, 0, p1, own, Reply::Blocked), &mut writer)?;
     let poll = Call::Caller(CallerCall::SuspendSelf(Timeout::Poll));
     let ok = Reply::Code(ReturnCode::NoError);
-    print_entry(&table, &called(7, 3, p1, poll, ok), &mut writer)?;
+    print(&table, &called(7, 3, p1, poll, ok), &mut writer)?;
     let own = Call::Caller(CallerCall::SuspendSelf(Timeout::Infinite));
-    print_entry(&table, &called(8, 3, p1, own, Reply::Blocked), &mut writer)?;
+    print(&table, &called(8, 3, p1, own, Reply::Blocked), &mut writer)?;
     let refused = Reply::Code(ReturnCode::NoAction);
     let suspend = of_process(p1, ProcessService::Suspend);
     let mut entry = called(10, 3, p2, suspend, refused);
     entry.who = Who::Core(CoreId::new(1));
-    print_entry(&table, &entry, &mut writer)?;
+    print(&table, &entry, &mut writer)?;
     let resume = of_process(p1, ProcessService::Resume);
     let mut entry = called(13, 3, p2, resume, ok);
     entry.who = Who::Core(CoreId::new(1));
     entry.notices.push(Notice::Woken(p1, ReturnCode::NoError));
-    print_entry(&table, &entry, &mut writer)?;
+    print(&table, &entry, &mut writer)?;
 
     assert_eq!(rt; paper.held(), SUSPENSIONS.as_bytes());
     Ok(())
@@ -114,15 +114,15 @@ fn priorities_and_stops(rt: HostRuntime) -> Result<(), Fail> {
     let mut writer = Counted::new(&mut paper);
 
     let raise = of_process(p2, ProcessService::SetPriority(20));
-    print_entry(&table, &called(9, 0, p1, raise, ok), &mut writer)?;
+    print(&table, &called(9, 0, p1, raise, ok), &mut writer)?;
     let least = of_process(p1, ProcessService::SetPriority(0));
-    print_entry(&table, &called(10, 0, p1, least, refused), &mut writer)?;
+    print(&table, &called(10, 0, p1, least, refused), &mut writer)?;
     let greatest = of_process(p2, ProcessService::SetPriority(65_535));
-    print_entry(&table, &called(11, 0, p1, greatest, refused), &mut writer)?;
+    print(&table, &called(11, 0, p1, greatest, refused), &mut writer)?;
     let stop = of_process(p1, ProcessService::Stop);
-    print_entry(&table, &called(12, 0, p2, stop, ok), &mut writer)?;
+    print(&table, &called(12, 0, p2, stop, ok), &mut writer)?;
     let own = of_process(p2, ProcessService::Stop);
-    print_entry(&table, &called(13, 0, p2, own, refused), &mut writer)?;
+    print(&table, &called(13, 0, p2, own, refused), &mut writer)?;
 
     assert_eq!(rt; paper.held(), PRIORITIES_AND_STOPS.as_bytes());
     Ok(())
@@ -138,18 +138,18 @@ fn statuses_and_the_idle_mode(rt: HostRuntime) -> Result<(), Fail> {
 
     let status = Call::Process(ProcessCall::GetStatus(p1));
     let reply = Reply::Status(3, 10);
-    print_entry(&table, &called(12, 0, p2, status, reply), &mut writer)?;
+    print(&table, &called(12, 0, p2, status, reply), &mut writer)?;
     let core = Call::Caller(CallerCall::GetMyProcessorCoreId);
-    print_entry(
+    print(
         &table,
         &called(13, 0, p2, core, Reply::Value(0)),
         &mut writer,
     )?;
     let status = Call::Partition(PartitionCall::GetPartitionStatus);
     let reply = Reply::Status(3, 2);
-    print_entry(&table, &called(14, 0, p2, status, reply), &mut writer)?;
+    print(&table, &called(14, 0, p2, status, reply), &mut writer)?;
     let idle = Call::Partition(PartitionCall::SetPartitionMode(RequestedMode::Idle));
-    print_entry(&table, &called(15, 0, p2, idle, Reply::Gone), &mut writer)?;
+    print(&table, &called(15, 0, p2, idle, Reply::Gone), &mut writer)?;
 
     assert_eq!(rt; paper.held(), STATUSES.as_bytes());
     Ok(())
@@ -167,14 +167,14 @@ fn names_of_processes(rt: HostRuntime) -> Result<(), Fail> {
     let mut writer = Counted::new(&mut paper);
 
     let create = Call::Process(ProcessCall::Create(p2));
-    print_entry(&table, &called(9, 0, p1, create, refused), &mut writer)?;
+    print(&table, &called(9, 0, p1, create, refused), &mut writer)?;
     let create = Call::Process(ProcessCall::Create(nobody));
-    print_entry(&table, &called(10, 0, p1, create, refused), &mut writer)?;
+    print(&table, &called(10, 0, p1, create, refused), &mut writer)?;
     let id = Call::Process(ProcessCall::GetId(p2));
-    print_entry(&table, &called(11, 0, p1, id, Reply::Value(2)), &mut writer)?;
+    print(&table, &called(11, 0, p1, id, Reply::Value(2)), &mut writer)?;
     let id = Call::Process(ProcessCall::GetId(nobody));
     let absent = Reply::Code(ReturnCode::InvalidConfig);
-    print_entry(&table, &called(12, 0, p1, id, absent), &mut writer)?;
+    print(&table, &called(12, 0, p1, id, absent), &mut writer)?;
 
     assert_eq!(rt; paper.held(), PROCESS_NAMES.as_bytes());
     Ok(())
@@ -192,14 +192,14 @@ fn names_of_semaphores(rt: HostRuntime) -> Result<(), Fail> {
     let mut writer = Counted::new(&mut paper);
 
     let create = Call::Semaphore(SemaphoreCall::Create(s));
-    print_entry(&table, &called(9, 0, p1, create, refused), &mut writer)?;
+    print(&table, &called(9, 0, p1, create, refused), &mut writer)?;
     let create = Call::Semaphore(SemaphoreCall::Create(none));
-    print_entry(&table, &called(10, 0, p1, create, refused), &mut writer)?;
+    print(&table, &called(10, 0, p1, create, refused), &mut writer)?;
     let id = Call::Semaphore(SemaphoreCall::GetId(s));
-    print_entry(&table, &called(11, 0, p1, id, Reply::Value(1)), &mut writer)?;
+    print(&table, &called(11, 0, p1, id, Reply::Value(1)), &mut writer)?;
     let id = Call::Semaphore(SemaphoreCall::GetId(none));
     let absent = Reply::Code(ReturnCode::InvalidConfig);
-    print_entry(&table, &called(12, 0, p1, id, absent), &mut writer)?;
+    print(&table, &called(12, 0, p1, id, absent), &mut writer)?;
 
     assert_eq!(rt; paper.held(), SEMAPHORE_NAMES.as_bytes());
     Ok(())

@@ -1,7 +1,7 @@
 ghost use Rattle.std.specs.Prelude.{◌≡◌, [], None};
 
-use super::{called, of_process, of_semaphore, paper};
-use crate::{Counted, print_entry};
+use super::{called, of_process, of_semaphore, paper, print};
+use crate::Counted;
 use apex_table::read_table;
 use apex_types::{
     Call, Caller, CallerCall, Entry, Notice, Notices, ProcessId, ProcessService, Reply, ReturnCode,
@@ -75,12 +75,12 @@ fn a_delayed_start_and_its_release(rt: HostRuntime) -> Result<(), Fail> {
 
     let start = of_process(b, ProcessService::DelayedStart(Timeout::Ticks(3)));
     let ok = Reply::Code(ReturnCode::NoError);
-    print_entry(&table, &called(7, 0, a, start, ok), &mut writer)?;
+    print(&table, &called(7, 0, a, start, ok), &mut writer)?;
     let mut tick = ticked(8, 3, 5, 3);
     tick.notices.push(Notice::Released(b));
-    print_entry(&table, &tick, &mut writer)?;
+    print(&table, &tick, &mut writer)?;
     let time = Call::Time(TimeCall::GetTime);
-    print_entry(&table, &called(9, 3, b, time, Reply::Value(3)), &mut writer)?;
+    print(&table, &called(9, 3, b, time, Reply::Value(3)), &mut writer)?;
 
     assert_eq!(rt; paper.held(), DELAYED_START.as_bytes());
     Ok(())
@@ -96,12 +96,12 @@ fn a_wait_that_times_out(rt: HostRuntime) -> Result<(), Fail> {
 
     let look = Call::Semaphore(SemaphoreCall::GetStatus(semaphore));
     let status = Reply::Status(32_767, 0);
-    print_entry(&table, &called(7, 0, a, look, status), &mut writer)?;
+    print(&table, &called(7, 0, a, look, status), &mut writer)?;
     let wait = of_semaphore(semaphore, SemaphoreService::Wait(Timeout::Ticks(5)));
-    print_entry(&table, &called(9, 0, a, wait, Reply::Blocked), &mut writer)?;
+    print(&table, &called(9, 0, a, wait, Reply::Blocked), &mut writer)?;
     let mut tick = ticked(10, 5, 5, 5);
     tick.notices.push(Notice::Woken(a, ReturnCode::TimedOut));
-    print_entry(&table, &tick, &mut writer)?;
+    print(&table, &tick, &mut writer)?;
 
     assert_eq!(rt; paper.held(), TIMED_OUT.as_bytes());
     Ok(())
@@ -117,20 +117,20 @@ fn the_least_and_the_widest_numbers(rt: HostRuntime) -> Result<(), Fail> {
 
     let poll = Call::Time(TimeCall::TimedWait(Timeout::Poll));
     let ok = Reply::Code(ReturnCode::NoError);
-    print_entry(&table, &called(11, 0, a, poll, ok), &mut writer)?;
+    print(&table, &called(11, 0, a, poll, ok), &mut writer)?;
     let id = Call::Caller(CallerCall::GetMyId);
-    print_entry(&table, &called(12, 0, b, id, Reply::Value(2)), &mut writer)?;
+    print(&table, &called(12, 0, b, id, Reply::Value(2)), &mut writer)?;
     let wait = Call::Time(TimeCall::TimedWait(Timeout::Ticks(4_294_967_295)));
-    print_entry(
+    print(
         &table,
         &called(13, last, a, wait, Reply::Blocked),
         &mut writer,
     )?;
     let tick = ticked(65_536, last, 1_048_576, 1_048_576);
-    print_entry(&table, &tick, &mut writer)?;
+    print(&table, &tick, &mut writer)?;
     let time = Call::Time(TimeCall::GetTime);
     let value = Reply::Value(last);
-    print_entry(&table, &called(65_536, last, b, time, value), &mut writer)?;
+    print(&table, &called(65_536, last, b, time, value), &mut writer)?;
 
     assert_eq!(rt; paper.held(), WIDEST.as_bytes());
     Ok(())

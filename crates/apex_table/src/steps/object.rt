@@ -1,4 +1,5 @@
 ghost use Rattle.std.specs.Prelude.{ℕ, List, Option, Result, ◌≡◌, ◌++◌, ◌≤◌, map, length};
+ghost use Rattle.apex_types.specs.Limits.{most_processes};
 ghost use Rattle.std.specs.Str.{bytes_eq};
 ghost use Rattle.apex_table.specs.declared.fault.Place.{Place};
 ghost use Rattle.apex_table.specs.declared.fault.TableFault.{TableFault};
@@ -54,7 +55,7 @@ fn named<T: Named, K>(
     entries: &[T],
     name: &str,
 ) -> Result<apex_types::Named<Id<K>>, TableFault>
-    requires { length entries.now ≤ 32 }
+    requires { length entries.now ≤ most_processes }
     ensures { Gives (λ n. n) result (named at (map T.name_of entries.now) name.now) }
 {
     let name = well_formed(at, name)?;
@@ -66,7 +67,7 @@ fn named<T: Named, K>(
 
 /// A thing by the name of an entry.
 fn thing<T: Named, K>(at: Place, entries: &[T], name: &str) -> Result<Id<K>, TableFault>
-    requires { length entries.now ≤ 32 }
+    requires { length entries.now ≤ most_processes }
     ensures { result ≡ entry_of at (map T.name_of entries.now) name.now }
 {
     Ok(Id::at(entry_of(at, entries, name)?))
@@ -81,7 +82,7 @@ fn common_call<T: Named, K: Services>(
     name: &str,
     words: &[&str],
 ) -> Result<Option<ObjectCall<Id<K>, K::Own>>, TableFault>
-    requires { length entries.now ≤ 32 }
+    requires { length entries.now ≤ most_processes }
     ensures { Gives (λ c. c) result (common_call at K.word (map T.name_of entries.now) service.now name.now (map (λ w. w.now) words.now)) }
 {
     if !words.is_empty() {
@@ -106,7 +107,7 @@ fn own_call<T: Named, K, W: Copy>(
     name: &str,
     own: Result<Option<W>, TableFault>,
 ) -> Result<Option<ObjectCall<Id<K>, W>>, TableFault>
-    requires { length entries.now ≤ 32 }
+    requires { length entries.now ≤ most_processes }
     ensures { result ≡ own_call at (map T.name_of entries.now) name.now own }
 {
     if let Ok(None) = own {
@@ -125,7 +126,7 @@ pub fn object_call<T: Named, K: Services>(
     entries: &[T],
     words: &[&str],
 ) -> Result<Option<ObjectCall<Id<K>, K::Own>>, TableFault>
-    requires { length entries.now ≤ 32 }
+    requires { length entries.now ≤ most_processes }
     ensures { Gives (λ c. c) result (object_call at K.word (map T.name_of entries.now) (K.own at) (map (λ w. w.now) words.now)) }
 {
     let [service, name, words @ ..] = words else {

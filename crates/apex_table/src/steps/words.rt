@@ -1,4 +1,5 @@
 ghost use Rattle.std.specs.Prelude.{ℕ, ◌≡◌, ◌<◌, ◌≤◌, map, length, IfOk};
+ghost use Rattle.apex_types.specs.Limits.{most_processes};
 ghost use Rattle.std.specs.List.{list_any};
 ghost use Rattle.apex_table.specs.Words.{words, is_empty, is_number, is_timeout, number, timeout, entry_of};
 
@@ -64,7 +65,7 @@ pub fn timeout(at: Place, word: &str) -> Result<Timeout, TableFault>
 
 /// The place, counted from 0, of the entry of this name.
 pub fn entry_of<T: Named>(at: Place, entries: &[T], name: &str) -> Result<u8, TableFault>
-    requires { length entries.now ≤ 32 }
+    requires { length entries.now ≤ most_processes }
     ensures { result ≡ entry_of at (map T.name_of entries.now) name.now }
 {
     match place_of(entries, name.as_bytes()) {

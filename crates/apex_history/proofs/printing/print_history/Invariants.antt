@@ -1,12 +1,15 @@
 -- No write failed so far; of the lines so far the writer has a beginning, and the page the rest.
-use Rattle.std.proofs.Common.{◌≡◌, take}
-use Rattle.apex_types.specs.Lines.{lines_of}
+use Rattle.std.proofs.Common.{◌≡◌, ◌++◌}
+use Rattle.std.specs.Prelude.{All}
+use Rattle.apex_types.specs.Lines.{lines_of, IsPrintable}
 use Rattle.apex_history.specs.Counted.{inner_of, failures_of}
 use Rattle.apex_history.specs.Page.{Passes}
 use Rattle.apex_history.proofs.printing.print_history.Given as goal
 
 abbrev pub invariant-loop-entry : goal.invariant-loop-entry
 invariant-loop-entry g l = record {
-  lines : Passes (g.W.Sink.contents (inner_of l.fn.writer)) (g.W.Sink.contents (inner_of l.writer)) (lines_of l.table (take l.entry-index l.entries)) l.page;
+  split : l.fn.entries ≡ l.yielded ++ l.entry-iterator;
+  printable : All (IsPrintable l.table) l.entry-iterator;
+  lines : Passes (g.W.Sink.contents (inner_of l.fn.writer)) (g.W.Sink.contents (inner_of l.writer)) (lines_of l.table l.yielded) l.page;
   failures : failures_of l.writer ≡ failures_of l.fn.writer;
 }

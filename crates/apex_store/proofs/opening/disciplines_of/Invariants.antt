@@ -1,9 +1,9 @@
 use Rattle.std.proofs.Common.{◌≡◌, length, map, drop, ◌++◌}
-use Rattle.apex_types.specs.Table.{SemaphoreEntry}
+use Rattle.apex_types.specs.Table.{SemaphoreConfig}
 use Rattle.apex_store.proofs.opening.disciplines_of.Given as goal
 
 abbrev pub invariant-loop-place : goal.invariant-loop-place
 invariant-loop-place l = record {
   many : l.count ≡ length l.table.semaphores;
-  rest : l.disciplines.items ++ map (λ (s : SemaphoreEntry). s.discipline) (drop l.place l.table.semaphores) ≡ map (λ (s : SemaphoreEntry). s.discipline) l.table.semaphores;
+  rest : l.disciplines.items ++ map (λ (s : SemaphoreConfig). s.discipline) (drop l.place l.table.semaphores) ≡ map (λ (s : SemaphoreConfig). s.discipline) l.table.semaphores;
 }

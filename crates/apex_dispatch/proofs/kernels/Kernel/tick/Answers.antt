@@ -36,7 +36,7 @@ ticked : (g : Over) (c : After-append g) →
     inside.init_made c.append.new.log.limit
 ticked g c =
     let passed = c.pass_time-went.ensures in
-    let changes = rw c.new-notices.ensures at passed.changes in
+    let changes = rw c.clear.ensures at passed.changes in
     let room : length c.self.inside.log.entries < c.self.inside.table.limit =
     omega (arith, c.self.invariant.limit, c.in_ok-refuse_full.ensures.accepted.0 refl) in
     after_does _ _ _ _ _ _ c.self.invariant room (Tick c.args.n)

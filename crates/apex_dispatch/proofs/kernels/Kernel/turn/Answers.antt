@@ -51,7 +51,7 @@ turned g c =
     omega (arith, c.self.invariant.limit, c.in_ok-refuse_full.ensures.accepted.0 refl) in
     let due = c.due_call-due.ensures in
     after_does _ _ _ _ _ _ c.self.invariant room (Turn c.args.core)
-    (rw (c.new-notices.ensures, due, c.self.invariant.init) at c.carry_out-deed.ensures)
+    (rw (c.clear.ensures, due, c.self.invariant.init) at c.carry_out-deed.ensures)
     _ c.append.ensures.entries _ _ (rw (c.steps_in.ensures, due, c.self.invariant.init) refl)
     c.append.ensures.limit (rw (← c.self.view_is) at c.requires)
 

@@ -5,14 +5,10 @@ use Rattle.std.proofs.lemmas.List.{get_or-set_other, get_or_past, length-set}
 use Rattle.std.proofs.lemmas.Option.{none-some}
 use Rattle.std.proofs.lemmas.Grind.{get_or-set_at}
 use Rattle.std.proofs.lemmas.Bool.{cond_both, cases_eq, cases_Bool, eq-eqb, eqb-true, ltb-true, ltb-false}
-use Rattle.apex_types.specs.declared.Call.{Call}
-use Rattle.apex_types.specs.declared.Caller.{Caller}
+use Rattle.apex_dispatch.specs.Terms.{Call, Caller, Record, Suspender, Wait}
 use Rattle.apex_types.specs.declared.Caller.TheVariants.{Process}
-use Rattle.apex_types.specs.declared.Record.{Record}
-use Rattle.apex_types.specs.declared.Suspender.{Suspender}
 use Rattle.apex_types.specs.declared.Suspender.TheVariants.{Itself, Other}
 use Rattle.apex_types.specs.declared.Queue.TheVariants as queues
-use Rattle.apex_types.specs.declared.Wait.{Wait}
 use Rattle.apex_types.specs.declared.Wait.TheVariants.{Normal, Start, Time, Semaphore}
 use Rattle.apex_types.specs.Roster.{Roster, nobody, record_at, with_record}
 use Rattle.apex_types.specs.Stamps.{is_by_itself, suspension_awake, awake, waiting, block, unblock, newest, readied}

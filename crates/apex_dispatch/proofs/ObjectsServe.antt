@@ -4,20 +4,12 @@ use Rattle.std.specs.Option.{option_and_then}
 use Rattle.std.proofs.lemmas.Bool.{cases_eq, both_ways, eq-eqb}
 use Rattle.std.proofs.lemmas.List.Elements.{All-nil, All-cons, All-append, All-weaker}
 use Rattle.std.proofs.lemmas.Option.{none-some, same_Some}
-use Rattle.apex_types.specs.declared.Call.{Call}
-use Rattle.apex_types.specs.declared.Caller.{Caller}
-use Rattle.apex_types.specs.declared.Entry.{Entry}
+use Rattle.apex_dispatch.specs.Terms.{Call, Caller, Entry, Notice, ObjectCall, Reply, ReturnCode, Wait, Who}
 use Rattle.apex_types.specs.declared.Named.TheVariants.{Known, Unknown}
-use Rattle.apex_types.specs.declared.Notice.{Notice}
-use Rattle.apex_types.specs.declared.ObjectCall.{ObjectCall}
 use Rattle.apex_types.specs.declared.ObjectCall.TheVariants.{Create, GetId, GetStatus, Own}
-use Rattle.apex_types.specs.declared.Reply.{Reply}
 use Rattle.apex_types.specs.declared.Reply.TheVariants.{Code, Value}
-use Rattle.apex_types.specs.declared.ReturnCode.{ReturnCode}
 use Rattle.apex_types.specs.declared.ReturnCode.TheVariants.{NoError, InvalidConfig}
-use Rattle.apex_types.specs.declared.Wait.{Wait}
 use Rattle.apex_types.specs.declared.Wait.TheVariants.{Time}
-use Rattle.apex_types.specs.declared.Who.{Who}
 use Rattle.apex_types.specs.Calls.{object_of, creation_of, is_place}
 use Rattle.apex_types.specs.History.{creates}
 use Rattle.apex_types.specs.Objects.{KindOf, objects_of, object_service, create, get_id, get_status, no_entry, deed_at, object_deed}

@@ -1,33 +1,27 @@
 -- After each service and each tick the objects that it leaves are those that the history then gives.
 use Rattle.std.proofs.Common.{◌≡◌, ℕ, ◌<◌, true, false, List, [], ◌∷◌, ◌++◌, length, Option, None, Some, refl, sym, ap, ◌∙◌}
 use Rattle.std.proofs.lemmas.Bool.{both_ways}
-use Rattle.apex_types.specs.declared.Call.{Call}
+use Rattle.apex_dispatch.specs.Terms.{Call, Caller, Entry, Notice, Reply, Wait, Who}
 use Rattle.apex_types.specs.declared.Call.TheVariants.{Partition, Process as ToProcess, Caller as ToCaller, Time as ToTime, Semaphore as ToSemaphore}
-use Rattle.apex_types.specs.declared.Caller.{Caller}
 use Rattle.apex_types.specs.declared.Caller.TheVariants.{Nobody}
-use Rattle.apex_types.specs.declared.Entry.{Entry}
-use Rattle.apex_types.specs.declared.Notice.{Notice}
-use Rattle.apex_types.specs.declared.Reply.{Reply}
-use Rattle.apex_types.specs.declared.Wait.{Wait}
 use Rattle.apex_types.specs.declared.Wait.TheVariants.{Time, Semaphore}
-use Rattle.apex_types.specs.declared.Who.{Who}
 use Rattle.apex_types.specs.Calls.{object_of, names_semaphore}
 use Rattle.apex_types.specs.Machine.{Objects, objects_after, service}
 use Rattle.apex_types.specs.ProcessServices.{ProcessObject, process_kind}
 use Rattle.apex_types.specs.Roster.{Roster, record_at}
 use Rattle.apex_types.specs.Rows.{Outcome}
 use Rattle.apex_types.specs.SemaphoreServices.{SemaphoreObject, semaphore_kind}
-use Rattle.apex_types.specs.Table.{Table, IsKnown, semaphore_entry}
+use Rattle.apex_types.specs.Table.{Table, IsKnown, semaphore_config}
 use Rattle.apex_types.specs.Waiters.{is_same_wait}
 use Rattle.apex_types.proofs.Reaches.{Reaches}
 use Rattle.apex_dispatch.specs.AskedWaits.{begins, awaited, AreEnough, AreBounded, AreAsked}
-use Rattle.apex_dispatch.proofs.Effects.{Frees, asks_freed}
+use Rattle.apex_dispatch.proofs.AskedWaits.{Frees, asks_freed}
 use Rattle.apex_dispatch.proofs.OthersServe.{ServesNone, served_partition, served_caller, served_time}
 use Rattle.apex_dispatch.proofs.ProcessesServe.{process_laws}
 use Rattle.apex_dispatch.proofs.Satisfied.{IsIdle, asked-push, begins_names, wakes}
 use Rattle.apex_dispatch.proofs.SemaphoresServe.{semaphore_laws}
 use Rattle.apex_dispatch.proofs.Serving.{Scene, Serves, ServesBy}
-use Rattle.apex_dispatch.proofs.Things.{AreRead, IsQuiet, all_elsewhere, all_served, all_stay, quiet_uncalled, wait_at, entry_with}
+use Rattle.apex_dispatch.proofs.ObjectsServe.{AreRead, IsQuiet, all_elsewhere, all_served, all_stay, quiet_uncalled, wait_at, entry_with}
 use Rattle.apex_dispatch.proofs.Values.{KeepsSemaphore}
 
 -- a service of processes wakes nobody who waited for a semaphore
@@ -56,7 +50,7 @@ module _ (table : Table) (history : List Entry) (roster : Roster) (kept : AreKep
   process_keeps : (p : ℕ) → p < length table.processes → Unit {0}
   process_keeps p inside = tt
 
-  semaphore_keeps : (s : ℕ) → s < length table.semaphores → KeepsSemaphore history s (semaphore_entry table s)
+  semaphore_keeps : (s : ℕ) → s < length table.semaphores → KeepsSemaphore history s (semaphore_config table s)
   semaphore_keeps s inside = record { enough = kept.enough s inside; bounded = kept.bounded s inside }
 
   -- the processes and the semaphores after an entry

@@ -5,7 +5,7 @@ use std::marker::Model;
 
 /// A process as the table gives it (ARINC 653 Part 1, process management).
 #[derive(Debug, Drop)]
-pub struct Process {
+pub struct ProcessConfig {
     name: Name,
     priority: u8,
     core: CoreId,
@@ -14,15 +14,15 @@ pub struct Process {
     script: Vec<Call>,
 }
 
-impl Model for Process {
-    ghost use Rattle.apex_types.specs.Table.{ProcessEntry};
+impl Model for ProcessConfig {
+    ghost use Rattle.apex_types.specs.Table.{ProcessConfig};
 
-    ghost Value = { ProcessEntry };
+    ghost Value = { ProcessConfig };
 
     ghost view = { λ p. record { name = p.name; priority = p.priority; core = p.core; loops = p.loops; start = p.starts; script = p.script.items } };
 }
 
-impl Process {
+impl ProcessConfig {
     pub(crate) fn new(
         name: Name,
         priority: u8,
@@ -30,10 +30,10 @@ impl Process {
         loops: bool,
         starts: bool,
         script: Vec<Call>,
-    ) -> Process
+    ) -> ProcessConfig
         ensures { result ≡ record { name = name; priority = priority; core = core; loops = loops; start = starts; script = script.items } }
     {
-        Process {
+        ProcessConfig {
             name,
             priority,
             core,
@@ -94,26 +94,31 @@ impl Process {
 
 /// A semaphore as the table gives it (ARINC 653 Part 1, semaphores).
 #[derive(Debug, Drop)]
-pub struct Semaphore {
+pub struct SemaphoreConfig {
     name: Name,
     maximum: u16,
     initial: u16,
     discipline: Discipline,
 }
 
-impl Model for Semaphore {
-    ghost use Rattle.apex_types.specs.Table.{SemaphoreEntry};
+impl Model for SemaphoreConfig {
+    ghost use Rattle.apex_types.specs.Table.{SemaphoreConfig};
 
-    ghost Value = { SemaphoreEntry };
+    ghost Value = { SemaphoreConfig };
 
     ghost view = { λ s. record { name = s.name; maximum = s.maximum; initial = s.initial; discipline = s.discipline } };
 }
 
-impl Semaphore {
-    pub(crate) fn new(name: Name, maximum: u16, initial: u16, discipline: Discipline) -> Semaphore
+impl SemaphoreConfig {
+    pub(crate) fn new(
+        name: Name,
+        maximum: u16,
+        initial: u16,
+        discipline: Discipline,
+    ) -> SemaphoreConfig
         ensures { result ≡ record { name = name; maximum = maximum; initial = initial; discipline = discipline } }
     {
-        Semaphore {
+        SemaphoreConfig {
             name,
             maximum,
             initial,

@@ -1,0 +1,21 @@
+-- The terms in which the definitions and proofs of this crate speak: the values of a partition.
+pub use Rattle.apex_types.specs.declared.Call.{Call}
+pub use Rattle.apex_types.specs.declared.Caller.{Caller}
+pub use Rattle.apex_types.specs.declared.CallerCall.{CallerCall}
+pub use Rattle.apex_types.specs.declared.Entry.{Entry}
+pub use Rattle.apex_types.specs.declared.Event.{Event}
+pub use Rattle.apex_types.specs.declared.Mode.{Mode}
+pub use Rattle.apex_types.specs.declared.Notice.{Notice}
+pub use Rattle.apex_types.specs.declared.ObjectCall.{ObjectCall}
+pub use Rattle.apex_types.specs.declared.PartitionCall.{PartitionCall}
+pub use Rattle.apex_types.specs.declared.ProcessService.{ProcessService}
+pub use Rattle.apex_types.specs.declared.Record.{Record}
+pub use Rattle.apex_types.specs.declared.Reply.{Reply}
+pub use Rattle.apex_types.specs.declared.ReturnCode.{ReturnCode}
+pub use Rattle.apex_types.specs.declared.SemaphoreService.{SemaphoreService}
+pub use Rattle.apex_types.specs.declared.State.{State}
+pub use Rattle.apex_types.specs.declared.Suspender.{Suspender}
+pub use Rattle.apex_types.specs.declared.TimeCall.{TimeCall}
+pub use Rattle.apex_types.specs.declared.Timeout.{Timeout}
+pub use Rattle.apex_types.specs.declared.Wait.{Wait}
+pub use Rattle.apex_types.specs.declared.Who.{Who}

@@ -1,0 +1,18 @@
+use Rattle.std.proofs.Common.{◌<◌, length, Some, sym, ap, subst, ◌∙◌}
+use Rattle.apex_history.specs.RowEntries.{entry_of, IsWithin}
+use Rattle.apex_history.proofs.EntriesOf.{entry_at, within_at, length_entries}
+use Rattle.apex_history.proofs.histories.Log.entry.Goals as goal
+
+pub lent-requires-clause-within : goal.lent-requires-clause-within
+lent-requires-clause-within c =
+    let within : c.args.place < length c.self.inside.rows.items = rw (← c.self.view_is, length_entries) at c.requires in
+    rw c.as_slice.ensures.value
+    (subst (IsWithin _) (sym c.index.ensures) (within_at _ _ c.args.place c.index.result.now within c.self.invariant.within))
+
+pub returns : goal.returns
+returns c =
+    let notices = c.self.inside.notices.items in
+    let within : c.args.place < length c.self.inside.rows.items = rw (← c.self.view_is, length_entries) at c.requires in
+    rw (← c.self.view_is, c.lent.ensures, c.as_slice.ensures.value)
+    (entry_at notices c.self.inside.rows.items c.args.place c.index.result.now within
+    ∙ ap (λ row. Some (entry_of notices c.args.place row)) (sym c.index.ensures))

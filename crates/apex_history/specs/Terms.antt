@@ -1,0 +1,7 @@
+-- The terms in which the definitions and proofs of this crate speak: the values of a partition.
+pub use Rattle.apex_types.specs.declared.Call.{Call}
+pub use Rattle.apex_types.specs.declared.Caller.{Caller}
+pub use Rattle.apex_types.specs.declared.Entry.{Entry}
+pub use Rattle.apex_types.specs.declared.Notice.{Notice}
+pub use Rattle.apex_types.specs.declared.Reply.{Reply}
+pub use Rattle.apex_types.specs.declared.Who.{Who}

@@ -1,0 +1,75 @@
+ghost use Rattle.std.specs.Prelude.{◌≡◌, ◌+◌, ◌≤◌, length};
+ghost use Rattle.std.specs.Iterator.{YieldsFirst, item_count};
+ghost use Rattle.std.specs.List.{AllByRecursion};
+ghost use Rattle.apex_history.specs.RowEntries.{entries_from, IsWithin};
+
+use crate::rows::Row;
+use apex_types::{LentEntry, Notice};
+use std::marker::Model;
+
+/// The entries of a history that are left, the oldest first.
+#[derive(Drop)]
+pub struct Entries<'a> {
+    rows: &'a [Row],
+    notices: &'a [Notice],
+    /// The place of the first of them, counted from 0.
+    place: u32,
+}
+
+impl<'a> Model for Entries<'a> {
+    ghost use Rattle.std.specs.Prelude.{◌+◌, ◌≤◌, List, length};
+    ghost use Rattle.std.specs.List.{AllByRecursion};
+    ghost use Rattle.apex_types.specs.declared.Entry.{Entry};
+    ghost use Rattle.apex_history.specs.RowEntries.{entries_from, IsWithin};
+
+    ghost Value = { List Entry };
+
+    ghost view = { λ e. entries_from e.notices.now e.place e.rows.now };
+
+    ghost invariant = { λ e. AllByRecursion (IsWithin (length e.notices.now)) e.rows.now
+        × (e.place + length e.rows.now ≤ 65536) };
+}
+
+impl<'a> Entries<'a> {
+    /// The entries of these rows.
+    pub(crate) fn new(rows: &'a [Row], notices: &'a [Notice]) -> Entries<'a>
+        requires within { AllByRecursion (IsWithin (length notices.now)) rows.now }
+        requires many { length rows.now ≤ 65536 }
+        ensures { result ≡ entries_from notices.now 0 rows.now }
+    {
+        Entries {
+            rows,
+            notices,
+            place: 0,
+        }
+    }
+}
+
+#[tactic(auto, using(crate::proofs::EntriesOf::length_entries))]
+impl<'a> Iterator for Entries<'a> {
+    type Item = LentEntry<'a>;
+
+    ghost next_gives = { YieldsFirst (λ left. left) };
+
+    ghost remaining = { item_count (λ left. left) };
+
+    fn next(&mut self) -> Option<LentEntry<'a>> {
+        let (row, others) = self.rows.split_first()?;
+        let entry = row.lent(self.place, self.notices);
+        self.rows = others;
+        self.place += 1;
+        Some(entry)
+    }
+
+    fn size_hint(&self) -> (usize, Option<usize>) {
+        let len = self.len();
+        (len, Some(len))
+    }
+}
+
+impl<'a> ExactSizeIterator for Entries<'a> {
+    #[tactic(auto, using(crate::proofs::EntriesOf::length_entries))]
+    fn len(&self) -> usize {
+        self.rows.len()
+    }
+}

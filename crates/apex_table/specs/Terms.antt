@@ -1,0 +1,12 @@
+-- The terms in which the definitions and proofs of this crate speak: the values of a partition.
+pub use Rattle.apex_types.specs.declared.Call.{Call}
+pub use Rattle.apex_types.specs.declared.CallerCall.{CallerCall}
+pub use Rattle.apex_types.specs.declared.Discipline.{Discipline}
+pub use Rattle.apex_types.specs.declared.Named.{Named}
+pub use Rattle.apex_types.specs.declared.ObjectCall.{ObjectCall}
+pub use Rattle.apex_types.specs.declared.PartitionCall.{PartitionCall}
+pub use Rattle.apex_types.specs.declared.ProcessService.{ProcessService}
+pub use Rattle.apex_types.specs.declared.RequestedMode.{RequestedMode}
+pub use Rattle.apex_types.specs.declared.SemaphoreService.{SemaphoreService}
+pub use Rattle.apex_types.specs.declared.TimeCall.{TimeCall}
+pub use Rattle.apex_types.specs.declared.Timeout.{Timeout}
