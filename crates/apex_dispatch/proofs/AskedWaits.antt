@@ -1,10 +1,10 @@
 -- What each change of records does to who waits for what it asked for.
-use Rattle.std.proofs.Common.{◌≡◌, ℕ, ◌<◌, Bool, true, List, length, Option, None, Some, nat_lt, ◌⊎◌, refl, sym, ◌∙◌, ap, arith, inl, inr, set, get_or}
+use Rattle.std.proofs.Common.{◌≡◌, ℕ, ◌<◌, Bool, List, length, Option, None, Some, nat_lt, ◌⊎◌, refl, sym, ◌∙◌, ap, arith, inl, inr, set, get_or}
 use Rattle.std.specs.Option.{option_and_then}
 use Rattle.std.proofs.lemmas.List.{get_or-set_other, get_or_past, length-set}
 use Rattle.std.proofs.lemmas.Option.{none-some}
 use Rattle.std.proofs.lemmas.Grind.{get_or-set_at}
-use Rattle.std.proofs.lemmas.Bool.{cond_both, cases_eq, cases_Bool, eq-eqb, eqb-true, ltb-true, ltb-false}
+use Rattle.std.proofs.lemmas.Bool.{cond_both, cases_eq, cases_Bool, eq-eqb, ltb-true, ltb-false}
 use Rattle.apex_dispatch.specs.Terms.{Call, Caller, Record, Suspender, Wait}
 use Rattle.apex_types.specs.declared.Caller.TheVariants.{Process}
 use Rattle.apex_types.specs.declared.Suspender.TheVariants.{Itself, Other}

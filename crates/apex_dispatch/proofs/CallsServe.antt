@@ -1,5 +1,5 @@
 -- After each service and each tick the objects that it leaves are those that the history then gives.
-use Rattle.std.proofs.Common.{◌≡◌, ℕ, ◌<◌, true, false, List, [], ◌∷◌, ◌++◌, length, Option, None, Some, refl, sym, ap, ◌∙◌}
+use Rattle.std.proofs.Common.{◌≡◌, ℕ, ◌<◌, true, false, List, [], ◌∷◌, ◌++◌, length, Option, None, Some, refl, ◌∙◌}
 use Rattle.std.proofs.lemmas.Bool.{both_ways}
 use Rattle.apex_dispatch.specs.Terms.{Call, Caller, Entry, Notice, Reply, Wait, Who}
 use Rattle.apex_types.specs.declared.Call.TheVariants.{Partition, Process as ToProcess, Caller as ToCaller, Time as ToTime, Semaphore as ToSemaphore}
@@ -14,14 +14,14 @@ use Rattle.apex_types.specs.SemaphoreServices.{SemaphoreObject, semaphore_kind}
 use Rattle.apex_types.specs.Table.{Table, IsKnown, semaphore_config}
 use Rattle.apex_types.specs.Waiters.{is_same_wait}
 use Rattle.apex_types.proofs.Reaches.{Reaches}
-use Rattle.apex_dispatch.specs.AskedWaits.{begins, awaited, AreEnough, AreBounded, AreAsked}
+use Rattle.apex_dispatch.specs.AskedWaits.{awaited, AreEnough, AreBounded, AreAsked}
 use Rattle.apex_dispatch.proofs.AskedWaits.{Frees, asks_freed}
 use Rattle.apex_dispatch.proofs.OthersServe.{ServesNone, served_partition, served_caller, served_time}
 use Rattle.apex_dispatch.proofs.ProcessesServe.{process_laws}
 use Rattle.apex_dispatch.proofs.Satisfied.{IsIdle, asked-push, begins_names, wakes}
 use Rattle.apex_dispatch.proofs.SemaphoresServe.{semaphore_laws}
-use Rattle.apex_dispatch.proofs.Serving.{Scene, Serves, ServesBy}
-use Rattle.apex_dispatch.proofs.ObjectsServe.{AreRead, IsQuiet, all_elsewhere, all_served, all_stay, quiet_uncalled, wait_at, entry_with}
+use Rattle.apex_dispatch.proofs.Serving.{Scene, Serves}
+use Rattle.apex_dispatch.proofs.ObjectsServe.{AreRead, all_elsewhere, all_served, all_stay, quiet_uncalled, wait_at, entry_with}
 use Rattle.apex_dispatch.proofs.Values.{KeepsSemaphore}
 
 -- a service of processes wakes nobody who waited for a semaphore

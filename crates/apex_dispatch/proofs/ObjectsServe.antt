@@ -1,7 +1,6 @@
 -- Objects of any kind: what an entry does to them, and the services that each kind has.
-use Rattle.std.proofs.Common.{◌≡◌, ◌≢◌, ℕ, ◌+◌, ◌<◌, Bool, true, false, not, ◌&&◌, ◌==◌, if◌then◌else◌, List, [], ◌∷◌, ◌++◌, Option, None, Some, All, length, set, get_or, flat_map, option_to_list, refl, sym, ap, ◌∙◌, arith, inl, inr}
-use Rattle.std.specs.Option.{option_and_then}
-use Rattle.std.proofs.lemmas.Bool.{cases_eq, both_ways, eq-eqb}
+use Rattle.std.proofs.Common.{◌≡◌, ◌≢◌, ℕ, ◌+◌, ◌<◌, Bool, true, false, not, if◌then◌else◌, List, [], ◌∷◌, ◌++◌, Option, None, Some, All, length, set, get_or, flat_map, refl, sym, arith, inl, inr}
+use Rattle.std.proofs.lemmas.Bool.{cases_eq, eq-eqb}
 use Rattle.std.proofs.lemmas.List.Elements.{All-nil, All-cons, All-append, All-weaker}
 use Rattle.std.proofs.lemmas.Option.{none-some, same_Some}
 use Rattle.apex_dispatch.specs.Terms.{Call, Caller, Entry, Notice, ObjectCall, Reply, ReturnCode, Wait, Who}
@@ -12,10 +11,9 @@ use Rattle.apex_types.specs.declared.ReturnCode.TheVariants.{NoError, InvalidCon
 use Rattle.apex_types.specs.declared.Wait.TheVariants.{Time}
 use Rattle.apex_types.specs.Calls.{object_of, creation_of, is_place}
 use Rattle.apex_types.specs.History.{creates}
-use Rattle.apex_types.specs.Objects.{KindOf, objects_of, object_service, create, get_id, get_status, no_entry, deed_at, object_deed}
-use Rattle.apex_types.specs.Places.{map_places}
+use Rattle.apex_types.specs.Objects.{KindOf, objects_of, object_service, create, no_entry, deed_at}
 use Rattle.apex_types.specs.Roster.{Roster, record_at, is_normal}
-use Rattle.apex_types.specs.Rows.{Outcome, refused, told, accepted, Guard, within}
+use Rattle.apex_types.specs.Rows.{Outcome, refused, told}
 use Rattle.apex_types.specs.Satisfied.{is_accepted, is_no_error, own_call, answered_by, satisfied_by}
 use Rattle.apex_types.specs.Table.{IsKnownObject}
 use Rattle.apex_types.proofs.Places.{get_or-map_places, map_places_same, set-map_places}

@@ -1,11 +1,11 @@
 -- The services of no object: those of the partition, of time, and those that a process asks for itself.
-use Rattle.std.proofs.Common.{◌≡◌, ℕ, ◌≤◌, Bool, true, false, cond, List, [], ◌∷◌, ◌++◌, Option, None, Some, length, map, get_or, zero, suc, lit≤, refl, sym, ◌∙◌}
+use Rattle.std.proofs.Common.{◌≡◌, ℕ, false, List, [], ◌∷◌, None, length, map, get_or, zero, suc, lit≤, refl, sym, ◌∙◌}
 use Rattle.std.proofs.lemmas.Bool.{both_ways}
 use Rattle.std.proofs.lemmas.List.Folds.{list_any-append}
 use Rattle.std.proofs.lemmas.Option.{none-some}
 use Rattle.apex_dispatch.specs.Terms.{Call, Caller, CallerCall, Notice, PartitionCall, Record, Reply, ReturnCode, TimeCall, Timeout}
 use Rattle.apex_types.specs.declared.Call.TheVariants as call
-use Rattle.apex_types.specs.declared.Caller.TheVariants.{Process, Init, Nobody}
+use Rattle.apex_types.specs.declared.Caller.TheVariants.{Process}
 use Rattle.apex_types.specs.declared.CallerCall.TheVariants.{StopSelf, SuspendSelf, GetMyId, GetMyProcessorCoreId}
 use Rattle.apex_types.specs.declared.Mode.TheVariants as mode
 use Rattle.apex_types.specs.declared.PartitionCall.TheVariants.{SetPartitionMode, GetPartitionStatus}
@@ -30,7 +30,7 @@ use Rattle.apex_types.proofs.Reaches.{reaches_more, reaches_stop, reaches_suspen
 use Rattle.apex_types.proofs.Rows.{by_guard, by_caller}
 use Rattle.apex_dispatch.specs.AskedWaits.{awaited}
 use Rattle.apex_dispatch.proofs.Begun.{reach_enter_normal}
-use Rattle.apex_dispatch.proofs.AskedWaits.{Frees, frees_none, frees_then, frees_moved, asks_waiting}
+use Rattle.apex_dispatch.proofs.AskedWaits.{Frees, frees_then, frees_moved, asks_waiting}
 use Rattle.apex_dispatch.proofs.ProcessesServe.{begin_frees, begin_quiet, stop_frees}
 use Rattle.apex_dispatch.proofs.Satisfied.{is_waking}
 use Rattle.apex_dispatch.proofs.Serving.{Scene, Serves, ServesBy, AreQuiet, few, ready_started, ready_normal, serves_freed, serves_same, serves_blocked}

@@ -1,5 +1,5 @@
 -- Processes as objects of a kind: what their services keep.
-use Rattle.std.proofs.Common.{◌≡◌, ◌≢◌, ℕ, ◌+◌, ◌<◌, Bool, true, false, ◌&&◌, ◌||◌, ◌==◌, cond, not, nat_le, nat_lt, is_none, is_some, List, [], ◌∷◌, ◌++◌, Option, None, Some, All, length, set, lit≤, refl, sym, ap, ◌∙◌}
+use Rattle.std.proofs.Common.{◌≡◌, ℕ, ◌+◌, ◌<◌, Bool, true, false, ◌&&◌, ◌||◌, ◌==◌, cond, not, nat_le, nat_lt, is_none, is_some, List, [], ◌∷◌, Option, None, Some, All, length, lit≤, refl, ap, ◌∙◌}
 use Rattle.std.proofs.lemmas.Bool.{both_ways, cond_both, not-false}
 use Rattle.std.proofs.lemmas.List.Elements.{All-nil, All-cons}
 use Rattle.std.proofs.lemmas.Option.{none-some}
@@ -22,7 +22,7 @@ use Rattle.apex_types.specs.ProcessServices.{ProcessObject, process_after, proce
 use Rattle.apex_types.specs.Roster.{Roster, record_at, with_record, is_normal}
 use Rattle.apex_types.specs.Rows.{Outcome, refused, accepted}
 use Rattle.apex_types.specs.Running.{is_eligible}
-use Rattle.apex_types.specs.Satisfied.{is_no_error, satisfied_by}
+use Rattle.apex_types.specs.Satisfied.{is_no_error}
 use Rattle.apex_types.specs.Stamps as stamps
 use Rattle.apex_types.specs.Table.{ProcessConfig, no_process}
 use Rattle.apex_types.specs.Ticks.{begin_notices}
@@ -30,11 +30,11 @@ use Rattle.apex_types.specs.Waiters.{queue_in, goes_by_priority}
 use Rattle.apex_types.proofs.Reaches.{Reaches, reaches_more, reaches_set_core, reaches_set_priority, reaches_start, reaches_stop, reaches_suspend, reaches_resume}
 use Rattle.apex_types.proofs.Rows.{by_guard}
 use Rattle.apex_types.proofs.Starts.{waitless_queue}
-use Rattle.apex_dispatch.specs.AskedWaits.{asked_of, awaited, or_suspended, AreAsked}
+use Rattle.apex_dispatch.specs.AskedWaits.{asked_of, awaited, or_suspended}
 use Rattle.apex_dispatch.proofs.AskedWaits.{Frees, frees_then, frees_moved, frees_changed, frees_lessened, frees_unblock, asks_freed, awake_free}
 use Rattle.apex_dispatch.proofs.Satisfied.{wakes, woken_alone}
 use Rattle.apex_dispatch.proofs.Serving.{Scene, Serves, AreQuiet, few, serves_same, serves_freed}
-use Rattle.apex_dispatch.proofs.ObjectsServe.{LawsOf, ServesOne, IsRead, IsQuiet}
+use Rattle.apex_dispatch.proofs.ObjectsServe.{LawsOf, ServesOne, IsRead}
 use Rattle.apex_dispatch.proofs.Truths.{or_false, or_true}
 use Rattle.apex_dispatch.proofs.Values.{created-push}
 

@@ -1,8 +1,8 @@
 -- Semaphores: what their services keep, and what an entry does to their values.
-use Rattle.std.proofs.Common.{◌≡◌, ◌≢◌, ℕ, ◌+◌, ◌-◌, ◌≤◌, Bool, true, false, ◌||◌, ◌==◌, cond, not, nat_lt, List, [], ◌∷◌, ◌++◌, Option, None, Some, All, count_by, filter, flat_map, refl, sym, ap, ◌∙◌, arith}
+use Rattle.std.proofs.Common.{◌≡◌, ℕ, ◌+◌, ◌-◌, ◌≤◌, true, false, cond, not, nat_lt, List, [], ◌∷◌, Option, None, Some, count_by, refl, ◌∙◌, arith}
 use Rattle.std.proofs.lemmas.Bool.{cond_both, eq-eqb, ltb-true, not-false}
 use Rattle.std.proofs.lemmas.List.Elements.{All-nil, All-cons}
-use Rattle.apex_dispatch.specs.Terms.{Call, Caller, Entry, Notice, ObjectCall, Reply, ReturnCode, SemaphoreService, Timeout, Who}
+use Rattle.apex_dispatch.specs.Terms.{Call, Caller, Entry, ReturnCode, SemaphoreService, Timeout, Who}
 use Rattle.apex_types.specs.declared.Call.TheVariants as call
 use Rattle.apex_types.specs.declared.Caller.TheVariants.{Process}
 use Rattle.apex_types.specs.declared.Named.TheVariants.{Known}
@@ -16,11 +16,10 @@ use Rattle.apex_types.specs.declared.Timeout.TheVariants.{Poll, Ticks, Infinite}
 use Rattle.apex_types.specs.declared.Wait.TheVariants.{Semaphore}
 use Rattle.apex_types.specs.Calls.{created_semaphore, names_semaphore, is_wait, is_signal}
 use Rattle.apex_types.specs.Callers.{IsReady}
-use Rattle.apex_types.specs.History.{creates, is_created}
 use Rattle.apex_types.specs.Roster.{Roster}
-use Rattle.apex_types.specs.Rows.{Outcome, told, refused, accepted, by_process}
-use Rattle.apex_types.specs.Satisfied.{is_no_error, answered_by, satisfied_by}
-use Rattle.apex_types.specs.SemaphoreServices.{SemaphoreObject, semaphore_after, semaphore_kind, semaphore_own, wait_semaphore, signal_semaphore, signal_to}
+use Rattle.apex_types.specs.Rows.{Outcome, refused, accepted}
+use Rattle.apex_types.specs.Satisfied.{is_no_error}
+use Rattle.apex_types.specs.SemaphoreServices.{SemaphoreObject, semaphore_after, semaphore_kind, semaphore_own, signal_to}
 use Rattle.apex_types.specs.Stamps.{unblock}
 use Rattle.apex_types.specs.Table.{SemaphoreConfig, no_semaphore}
 use Rattle.apex_types.specs.Waiters.{first_waiter}
@@ -28,11 +27,11 @@ use Rattle.apex_types.specs.Waiting.{blocked, wait_for}
 use Rattle.apex_types.proofs.Reaches.{reaches_unblock}
 use Rattle.apex_types.proofs.Rows.{by_guard, by_caller}
 use Rattle.apex_types.proofs.Starts.{first_stands, first_within, queued_normal}
-use Rattle.apex_dispatch.specs.AskedWaits.{begins, AreAsked}
+use Rattle.apex_dispatch.specs.AskedWaits.{AreAsked}
 use Rattle.apex_dispatch.proofs.AskedWaits.{asks_freed, first_waits, frees_unblock}
 use Rattle.apex_dispatch.proofs.Satisfied.{begins_names, begins_wait, filter_all, handed_one, woken_alone}
-use Rattle.apex_dispatch.proofs.Serving.{Scene, Serves, few, serves_same, serves_blocked}
-use Rattle.apex_dispatch.proofs.ObjectsServe.{LawsOf, ServesOne, IsRead, IsQuiet, entry_with, quiet_told}
+use Rattle.apex_dispatch.proofs.Serving.{Scene, few, serves_same, serves_blocked}
+use Rattle.apex_dispatch.proofs.ObjectsServe.{LawsOf, ServesOne, IsRead, entry_with, quiet_told}
 use Rattle.apex_dispatch.proofs.Truths.{or_false, or_true, other}
 use Rattle.apex_dispatch.proofs.Values.{KeepsSemaphore, after_calls, after_quiet}
 

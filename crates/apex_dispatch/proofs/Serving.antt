@@ -1,6 +1,6 @@
 -- What each service keeps of the processes: it reaches the roster that it leaves, who waits afterwards
 -- asked for it, and whom it wakes with NO_ERROR had waited for one thing.
-use Rattle.std.proofs.Common.{◌≡◌, ℕ, ◌≤◌, Bool, true, false, List, [], length, Some, lit≤, refl}
+use Rattle.std.proofs.Common.{◌≡◌, ℕ, ◌≤◌, true, false, List, [], length, Some, lit≤, refl}
 use Rattle.std.proofs.lemmas.Bool.{both_ways}
 use Rattle.apex_dispatch.specs.Terms.{Call, Caller, Notice, Timeout, Wait}
 use Rattle.apex_types.specs.declared.Caller.TheVariants.{Process}

@@ -1,5 +1,5 @@
 -- What one entry more does to the objects that are read off the history.
-use Rattle.std.proofs.Common.{◌≡◌, ℕ, ◌+◌, ◌-◌, ◌≤◌, Bool, false, ◌||◌, Option, List, [], ◌∷◌, ◌++◌, All, count_by, if◌then◌else◌, filter, refl, ◌∙◌, ap, arith}
+use Rattle.std.proofs.Common.{◌≡◌, ℕ, ◌+◌, ◌-◌, ◌≤◌, Bool, false, ◌||◌, Option, List, [], ◌∷◌, ◌++◌, count_by, if◌then◌else◌, filter, refl, ◌∙◌, ap, arith}
 use Rattle.std.proofs.lemmas.List.Sums.{sum_by-append}
 use Rattle.std.proofs.lemmas.List.Folds.{list_any-append}
 use Rattle.apex_dispatch.specs.Terms.{Call, Entry}

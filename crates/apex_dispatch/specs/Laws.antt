@@ -2,6 +2,7 @@
 use Rattle.std.specs.Prelude.{◌≡◌, ℕ, ◌≤◌, ◌<◌, List, ◌++◌, length}
 use Rattle.apex_dispatch.specs.Terms.{Entry, Event}
 use Rattle.apex_types.specs.Dues.{HasNoPastDue}
+use Rattle.apex_types.specs.SemaphoreServices.{SemaphoreObject}
 use Rattle.apex_types.specs.Table.{Table, semaphore_config}
 use Rattle.apex_types.specs.Satisfied.{semaphore_value}
 use Rattle.apex_types.specs.Machine.{Machine, run, opening, events_of}
@@ -13,10 +14,13 @@ pub record IsInRange (table : Table) (history : List Entry) (s : ℕ) : Type 0 w
   pub served : IsAccounted (semaphore_config table s).initial s history
   pub most : semaphore_value (semaphore_config table s).initial s history ≤ (semaphore_config table s).maximum
 
+-- that holds of each semaphore
+abbrev pub AreInRange : Table → List Entry → Type 0
+AreInRange table history = (s : ℕ) → s < length table.semaphores → IsInRange table history s
+
 -- in every run each semaphore's value stays from 0 to its maximum
 abbrev pub ValuesStayInRange : Table → Type 0
-ValuesStayInRange table = (events : List Event) (s : ℕ) → s < length table.semaphores
-    → IsInRange table (run table (opening table) events).history s
+ValuesStayInRange table = (events : List Event) → AreInRange table (run table (opening table) events).history
 
 -- a run over some events and then others is a run over the first, and then over the others
 abbrev pub RunsCompose : Table → Machine → Type 0
@@ -36,3 +40,12 @@ HistoriesReplay table = (events : List Event) →
 pub record TimeGoesForward (table : Table) : Type 0 where
   pub forward : (first rest : List Event) → (run table (opening table) first).roster.now ≤ (run table (opening table) (first ++ rest)).roster.now
   pub dues : (events : List Event) → HasNoPastDue (run table (opening table) events).roster
+
+-- at no moment of the machine's history was time later than it is now
+abbrev pub WasNeverLater : Table → Machine → Type 0
+WasNeverLater table machine = (first rest : List Event) → events_of machine.history ≡ first ++ rest
+    → (run table (opening table) first).roster.now ≤ machine.roster.now
+
+-- the semaphore's running value is at most its maximum
+abbrev pub IsWithinItsMaximum : SemaphoreObject → Type 0
+IsWithinItsMaximum semaphore = semaphore.value ≤ semaphore.maximum

@@ -1,5 +1,5 @@
 -- What a service may rely on: what is named is there, and stamps are left.
-use Rattle.std.specs.Prelude.{◌≡◌, ◌^◌, length, pos, ◌<ℤ◌, ◌+ℤ◌}
+use Rattle.std.specs.Prelude.{◌≡◌, length, pos, ◌<ℤ◌, ◌+ℤ◌}
 use Rattle.apex_types.specs.Limits.{most_stamps}
 use Rattle.apex_dispatch.specs.Terms.{Call}
 use Rattle.apex_types.specs.declared.Call.TheVariants.{Partition, Process as ToProcess, Caller as ToCaller, Time, Semaphore}

@@ -7,6 +7,7 @@ pub use Rattle.apex_types.specs.declared.Event.{Event}
 pub use Rattle.apex_types.specs.declared.Mode.{Mode}
 pub use Rattle.apex_types.specs.declared.Notice.{Notice}
 pub use Rattle.apex_types.specs.declared.ObjectCall.{ObjectCall}
+pub use Rattle.apex_types.specs.declared.Origin.{Origin}
 pub use Rattle.apex_types.specs.declared.PartitionCall.{PartitionCall}
 pub use Rattle.apex_types.specs.declared.ProcessService.{ProcessService}
 pub use Rattle.apex_types.specs.declared.Record.{Record}

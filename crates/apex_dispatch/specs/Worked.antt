@@ -1,11 +1,12 @@
 -- Worked histories: small tables and events, and the lines that the definitions give for them.
-use Rattle.std.specs.Prelude.{◌≡◌, ℕ, true, false, List, [], ◌∷◌, codes, flat_map, replicate, ◌++◌}
+use Rattle.std.specs.Prelude.{◌≡◌, ℕ, true, false, List, [], ◌∷◌, codes, flat_map, map, replicate, ◌++◌}
 use Rattle.apex_dispatch.specs.Terms.{Call, Event}
 use Rattle.apex_types.specs.declared.Call.TheVariants.{Partition, Process, Caller, Time, Semaphore}
 use Rattle.apex_types.specs.declared.Discipline.TheVariants.{Fifo, Priority}
 use Rattle.apex_types.specs.declared.CallerCall.TheVariants.{SuspendSelf, GetMyId}
 use Rattle.apex_types.specs.declared.Named.TheVariants.{Known, Unknown}
 use Rattle.apex_types.specs.declared.ObjectCall.TheVariants.{Create, GetStatus, Own}
+use Rattle.apex_types.specs.declared.Origin.TheVariants.{Init}
 use Rattle.apex_types.specs.declared.PartitionCall.TheVariants.{SetPartitionMode}
 use Rattle.apex_types.specs.declared.RequestedMode.TheVariants.{Idle, Normal}
 use Rattle.apex_types.specs.declared.ProcessService.TheVariants.{InitializeCoreAffinity, SetPriority, Start, DelayedStart, Suspend, Resume}
@@ -13,14 +14,19 @@ use Rattle.apex_types.specs.declared.SemaphoreService.TheVariants.{Wait, Signal}
 use Rattle.apex_types.specs.declared.TimeCall.TheVariants.{TimedWait, GetTime}
 use Rattle.apex_types.specs.declared.Timeout.TheVariants.{Poll, Ticks, Infinite}
 use Rattle.apex_types.specs.declared.Event.TheVariants.{Turn, Tick}
-use Rattle.apex_types.specs.Table.{Table, ProcessConfig}
+use Rattle.apex_types.specs.Table.{Table, ProcessConfig, Step}
 use Rattle.apex_types.specs.Machine.{run, opening}
 use Rattle.apex_types.specs.Lines.{lines_of}
+use Rattle.apex_table.specs.DefaultInit.{bare}
+
+-- the steps of calls that name no literal
+abbrev pub bares : List Call → List Step
+bares = map bare
 
 -- a process that the init list starts, with a script that ends
 abbrev pub starts : List ℕ → ℕ → ℕ → List Call → ProcessConfig
 starts name priority core script =
-    record { name = name; priority = priority; core = core; loops = false; start = true; script = script }
+    record { name = name; priority = priority; core = core; loops = false; start = true; script = bares script }
 
 -- a waiter on core 0 and a signaller on core 1, with one semaphore of value 0
 abbrev pub waiter_and_signaller : Table
@@ -31,12 +37,12 @@ waiter_and_signaller = record {
       starts (codes "P1") 10 0 (Semaphore (Own 0 (Wait Infinite)) ∷ [])
       ∷ starts (codes "P2") 10 1 (Semaphore (Own 0 Signal) ∷ []) ∷ [];
   semaphores = (record { name = codes "S"; maximum = 1; initial = 0; discipline = Fifo }) ∷ [];
-  init =
+  init = bares (
       Semaphore (Create (Known 0))
       ∷ Process (Create (Known 0)) ∷ Process (Own 0 (InitializeCoreAffinity 0))
       ∷ Process (Create (Known 1)) ∷ Process (Own 1 (InitializeCoreAffinity 1))
       ∷ Process (Own 0 Start) ∷ Process (Own 1 Start)
-      ∷ Partition (SetPartitionMode Normal) ∷ [];
+      ∷ Partition (SetPartitionMode Normal) ∷ []);
 }
 
 -- a process with an empty script
@@ -46,9 +52,9 @@ empty_script = record {
   limit = 4096;
   processes = starts (codes "P") 10 0 [] ∷ [];
   semaphores = [];
-  init =
+  init = bares (
       Process (Create (Known 0)) ∷ Process (Own 0 (InitializeCoreAffinity 0)) ∷ Process (Own 0 Start)
-      ∷ Partition (SetPartitionMode Normal) ∷ [];
+      ∷ Partition (SetPartitionMode Normal) ∷ []);
 }
 
 -- lines, each with its line feed
@@ -131,12 +137,12 @@ three_timers = record {
       ∷ starts (codes "B") 10 0 (Time (TimedWait (Ticks 9)) ∷ [])
       ∷ starts (codes "C") 5 0 (Time (TimedWait (Ticks 4)) ∷ []) ∷ [];
   semaphores = [];
-  init =
+  init = bares (
       Process (Create (Known 0)) ∷ Process (Own 0 (InitializeCoreAffinity 0))
       ∷ Process (Create (Known 1)) ∷ Process (Own 1 (InitializeCoreAffinity 0))
       ∷ Process (Create (Known 2)) ∷ Process (Own 2 (InitializeCoreAffinity 0))
       ∷ Process (Own 0 Start) ∷ Process (Own 1 Start) ∷ Process (Own 2 Start)
-      ∷ Partition (SetPartitionMode Normal) ∷ [];
+      ∷ Partition (SetPartitionMode Normal) ∷ []);
 }
 
 -- a tick halts at the next instant, and serves its dues by process number
@@ -168,12 +174,12 @@ delayed_starter = record {
   limit = 4096;
   processes =
       starts (codes "A") 10 0 (Process (Own 1 (DelayedStart (Ticks 3))) ∷ [])
-      ∷ (record { name = codes "B"; priority = 20; core = 0; loops = false; start = false; script = Time GetTime ∷ [] }) ∷ [];
+      ∷ (record { name = codes "B"; priority = 20; core = 0; loops = false; start = false; script = bares (Time GetTime ∷ []) }) ∷ [];
   semaphores = [];
-  init =
+  init = bares (
       Process (Create (Known 0)) ∷ Process (Own 0 (InitializeCoreAffinity 0))
       ∷ Process (Create (Known 1)) ∷ Process (Own 1 (InitializeCoreAffinity 0))
-      ∷ Process (Own 0 Start) ∷ Partition (SetPartitionMode Normal) ∷ [];
+      ∷ Process (Own 0 Start) ∷ Partition (SetPartitionMode Normal) ∷ []);
 }
 
 -- a delayed start releases its process when the delay has passed, and no earlier
@@ -202,13 +208,13 @@ ranked_waiters = record {
       ∷ starts (codes "B") 20 1 (Semaphore (Own 0 (Wait Infinite)) ∷ [])
       ∷ starts (codes "D") 5 0 (Process (Own 0 (SetPriority 20)) ∷ Semaphore (Own 0 Signal) ∷ []) ∷ [];
   semaphores = (record { name = codes "Q"; maximum = 1; initial = 0; discipline = Priority }) ∷ [];
-  init =
+  init = bares (
       Semaphore (Create (Known 0))
       ∷ Process (Create (Known 0)) ∷ Process (Own 0 (InitializeCoreAffinity 0))
       ∷ Process (Create (Known 1)) ∷ Process (Own 1 (InitializeCoreAffinity 1))
       ∷ Process (Create (Known 2)) ∷ Process (Own 2 (InitializeCoreAffinity 0))
       ∷ Process (Own 0 Start) ∷ Process (Own 1 Start) ∷ Process (Own 2 Start)
-      ∷ Partition (SetPartitionMode Normal) ∷ [];
+      ∷ Partition (SetPartitionMode Normal) ∷ []);
 }
 
 -- a new priority puts a waiter behind those of the same priority
@@ -289,9 +295,11 @@ own_init_list = record {
       starts (codes "P") 10 0 (Process (Create (Known 0)) ∷ Partition (SetPartitionMode Idle) ∷ []) ∷ [];
   semaphores = [];
   init =
-      Process (Create (Known 0)) ∷ Process (Create (Known 0))
-      ∷ Process (Create (Unknown (codes "Q"))) ∷ Process (Own 0 (InitializeCoreAffinity 1))
-      ∷ Process (Own 0 Start) ∷ Partition (SetPartitionMode Normal) ∷ [];
+      bares (Process (Create (Known 0)) ∷ Process (Create (Known 0)) ∷ [])
+      ++ (record { call = Process (Create (Unknown (Init 2))); literal = codes "Q" })
+      ∷ bares (
+      Process (Own 0 (InitializeCoreAffinity 1)) ∷ Process (Own 0 Start)
+      ∷ Partition (SetPartitionMode Normal) ∷ []);
 }
 
 -- refused init steps change nothing, and in IDLE nothing runs

@@ -84,7 +84,7 @@ fn carry_out_step<S: Store>(
     table.lawful();
     let caller = Caller::Process(process);
     let step = store.record(process).step;
-    match table.process(process).step(usize::from(step)) {
+    match table.process(process).call(usize::from(step)) {
         Some(call) => {
             store.set_step(process, next_place(table.process(process), step));
             ask(store, objects, caller, call, notices)

@@ -1,9 +1,9 @@
-ghost use Rattle.std.specs.Prelude.{◌≡◌, ◌<◌, ◌≤◌, ◌↔◌, ◌+◌, ◌^◌, [], ◌∷◌, ◌++◌, length, slice_get, ◌&&◌, ◌==◌, if◌then◌else◌, None, is_some, All, IfOk, IfErr, OnOk, OnErr, IsOk};
+ghost use Rattle.std.specs.Prelude.{◌≡◌, ◌<◌, ◌≤◌, ◌↔◌, ◌+◌, ◌^◌, [], ◌∷◌, ◌++◌, length, ◌&&◌, ◌==◌, if◌then◌else◌, None, is_some, All, IfOk, IfErr, OnOk, OnErr, IsOk};
 ghost use Rattle.apex_types.specs.Limits.{latest, most_entries, most_ticks};
 ghost use Rattle.apex_types.specs.Roster.{opening_roster, is_cold_start};
 ghost use Rattle.apex_types.specs.Lines.{IsPrintable};
 ghost use Rattle.apex_types.specs.Machine.{opening, turn, tick, happen, run, replay, events_of};
-ghost use Rattle.apex_types.specs.Table.{IsLawful};
+ghost use Rattle.apex_types.specs.Table.{IsLawful, call_in};
 ghost use Rattle.apex_types.specs.Distinct.{HasDistinctStamps};
 ghost use Rattle.apex_dispatch.specs.Events.{IsWithin};
 ghost use Rattle.apex_dispatch.specs.Kernel.{kernel_in};
@@ -44,7 +44,7 @@ impl<S: Store> Model for Kernel<S> {
 
 /// The init step that is due in a turn of the core, where so many were carried out.
 fn due_call<S: Store>(table: &Table, store: &S, init_made: usize, core: CoreId) -> Option<Call>
-    ensures { result ≡ (if is_cold_start (S.roster store.now).mode && core == 0 then slice_get table.now.init init_made else None) }
+    ensures { result ≡ (if is_cold_start (S.roster store.now).mode && core == 0 then call_in table.now.init init_made else None) }
 {
     if store.mode() == Mode::ColdStart && core.number() == 0 {
         table.init_call(init_made)
@@ -141,7 +141,13 @@ impl<S: Store> Kernel<S> {
             &mut self.notices,
         );
         self.init_made += steps_in(&due);
-        append(&mut self.log, &self.store, Who::Core(core), deed, &self.notices);
+        append(
+            &mut self.log,
+            &self.store,
+            Who::Core(core),
+            deed,
+            &self.notices,
+        );
         Ok(())
     }
 

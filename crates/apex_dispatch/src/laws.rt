@@ -1,8 +1,10 @@
 //! What holds of every run and of every kernel. Each law is the contract of a function that changes
 //! nothing.
 
+ghost use Rattle.std.specs.Prelude.{All};
+ghost use Rattle.apex_types.specs.Dues.{HasNoPastDue};
 ghost use Rattle.apex_store.specs.Laws.{RunsMostUrgent, FirstWaiterIsFirst};
-ghost use Rattle.apex_dispatch.specs.Laws.{ValuesStayInRange, RunsCompose, RunsStayWithin, HistoriesReplay, TimeGoesForward};
+ghost use Rattle.apex_dispatch.specs.Laws.{AreInRange, IsWithinItsMaximum, ValuesStayInRange, RunsCompose, RunsStayWithin, HistoriesReplay, TimeGoesForward, WasNeverLater};
 ghost use Rattle.apex_dispatch.specs.States.{EachHasOneState};
 ghost use Rattle.apex_dispatch.specs.Worked.{SignalWakesWaiter, SignalBeforeWait, EmptyScriptStopsItself, TimedOutWaiterGetsNoSignal, TickHaltsAtTheNextInstant, DelayedStartReleasesAtItsTime, PriorityChangeMovesPriorityWaiter, SuspendedWaiterIsWokenAndStaysWaiting, SuspensionOfItselfEnds, InitListOfTheTable};
 
@@ -72,6 +74,19 @@ pub fn time_goes_forward(table: &Table)
     ensures { TimeGoesForward table.now }
 {
     table.lawful();
+}
+
+/// In every kernel each semaphore's value is from 0 to its maximum, time was never later than it is
+/// now, and no due that stands is below now.
+pub fn values_and_dues_are_in_range<S: Store>(kernel: &Kernel<S>)
+    ensures values { AreInRange kernel.now.table kernel.now.machine.history }
+    ensures running { All IsWithinItsMaximum kernel.now.objects.semaphores }
+    ensures forward { WasNeverLater kernel.now.table kernel.now.machine }
+    ensures dues { HasNoPastDue kernel.now.machine.roster }
+{
+    kernel.holds();
+    values_stay_in_range(kernel.table());
+    time_goes_forward(kernel.table());
 }
 
 /// The definitions compute the worked histories.

@@ -2,7 +2,8 @@ ghost use Rattle.std.specs.Prelude.{◌≡◌, ◌<◌, IfOk};
 
 use crate::{
     Kernel, each_has_one_state, first_waiter_is_first, histories_replay, most_urgent_runs,
-    runs_compose, runs_stay_within, time_goes_forward, values_stay_in_range, worked_histories,
+    runs_compose, runs_stay_within, time_goes_forward, values_and_dues_are_in_range,
+    values_stay_in_range, worked_histories,
 };
 use apex_store::{PlainStore, Store};
 use apex_table::read_table;
@@ -33,10 +34,24 @@ start = true
 script = [\"SIGNAL_SEMAPHORE S\"]
 ";
 
-fn booted(alloc: Global) -> Result<Kernel<PlainStore>, Fail> {
-    let table = read_table(alloc, WAITER_AND_SIGNALLER.as_bytes())?;
+const SLEEPER: &str = "
+cores = 1
+
+[[process]]
+name = \"P\"
+priority = 10
+start = true
+script = [\"TIMED_WAIT 5\"]
+";
+
+fn booted_with(alloc: Global, text: &str) -> Result<Kernel<PlainStore>, Fail> {
+    let table = read_table(alloc, text.as_bytes())?;
     let store = PlainStore::new(alloc, &table)?;
     Ok(Kernel::boot(alloc, table, store)?)
+}
+
+fn booted(alloc: Global) -> Result<Kernel<PlainStore>, Fail> {
+    booted_with(alloc, WAITER_AND_SIGNALLER)
 }
 
 fn turn_of<S: Store>(rt: &impl Abort, kernel: &mut Kernel<S>, core: CoreId) -> Result<(), Full> {
@@ -158,5 +173,28 @@ fn laws_hold_of_a_kernel_over_the_plain_store(rt: HostRuntime) -> Result<(), Fai
     histories_replay(kernel.table());
     time_goes_forward(kernel.table());
     worked_histories();
+    Ok(())
+}
+
+/// The due of the process, which is not below now.
+fn due_of<S: Store>(rt: &impl Abort, kernel: &Kernel<S>, process: ProcessId) -> Option<u64> {
+    let store = kernel.store();
+    assert!(rt; process.place() < store.process_count());
+    let due = store.record(process).due?;
+    values_and_dues_are_in_range(kernel);
+    let is_to_come = kernel.now() <= due;
+    prove!(is_to_come);
+    Some(due)
+}
+
+#[test]
+fn no_due_of_a_kernel_is_past(rt: HostRuntime) -> Result<(), Fail> {
+    let mut kernel = booted_with(rt.alloc(), SLEEPER)?;
+    let core = CoreId::new(0);
+    for _turn in 0..5 {
+        assert_eq!(rt; turn_of(&rt, &mut kernel, core), Ok(()));
+    }
+    assert_eq!(rt; tick_of(&rt, &mut kernel, 3), Ok(()));
+    assert_eq!(rt; due_of(&rt, &kernel, ProcessId::at(0)), Some(5));
     Ok(())
 }

@@ -15,7 +15,11 @@ use std::io::{Result, Write};
 /// Writes the line of the entry, with its line feed. Takes no memory.
 ///
 /// Where a write failed, a beginning of the line was written.
-pub fn print_entry<W: Sink>(table: &Table, entry: &LentEntry<'_>, writer: &mut Counted<W>) -> Result<()>
+pub fn print_entry<W: Sink>(
+    table: &Table,
+    entry: &LentEntry<'_>,
+    writer: &mut Counted<W>,
+) -> Result<()>
     requires { IsPrintable table.now entry.now }
     ensures ok { OnOk result (Appends (W.contents (inner_of writer.old)) (W.contents (inner_of writer.new)) (line_of table.now entry.entry.now)) }
     ensures err { OnErr result (AppendsBeginning (W.contents (inner_of writer.old)) (W.contents (inner_of writer.new)) (line_of table.now entry.entry.now)) }

@@ -46,11 +46,41 @@ fn put_bytes(line: &mut Line, text: &[u8])
     prove!(fits);
 }
 
+// A number of one digit, as most numbers of a line are.
+#[tactic(auto, using(std::proofs::lemmas::Fmt::decimal_digit))]
+fn put_digit(line: &mut Line, digit: u8)
+    requires digit { digit < 10 }
+    requires room { array_vec_len line.old + 10 ≤ 4096 }
+    ensures text { line.new.items ≡ line.old.items ++ decimal digit }
+    ensures short { array_vec_len line.new ≤ array_vec_len line.old + 10 }
+{
+    put_bytes(line, &[b'0' + digit]);
+}
+
+// A number of two digits.
+#[tactic(auto, using(itoa::proofs::Decimal::decimal_two))]
+fn put_two_digits(line: &mut Line, number: u8)
+    requires digits { (10 ≤ number) × (number < 100) }
+    requires room { array_vec_len line.old + 10 ≤ 4096 }
+    ensures text { line.new.items ≡ line.old.items ++ decimal number }
+    ensures short { array_vec_len line.new ≤ array_vec_len line.old + 10 }
+{
+    put_bytes(line, &[b'0' + number / 10, b'0' + number % 10]);
+}
+
 fn put_number(line: &mut Line, number: u32)
     requires { array_vec_len line.old + 10 ≤ 4096 }
     ensures text { line.new.items ≡ line.old.items ++ decimal number }
     ensures short { array_vec_len line.new ≤ array_vec_len line.old + 10 }
 {
+    if number < 10 {
+        put_digit(line, number as u8);
+        return;
+    }
+    if number < 100 {
+        put_two_digits(line, number as u8);
+        return;
+    }
     let mut buffer = Buffer::new();
     put(line, buffer.format(number));
 }
@@ -60,6 +90,10 @@ fn put_long_number(line: &mut Line, number: u64)
     ensures text { line.new.items ≡ line.old.items ++ decimal number }
     ensures short { array_vec_len line.new ≤ array_vec_len line.old + 20 }
 {
+    if number < 10 {
+        put_digit(line, number as u8);
+        return;
+    }
     let mut buffer = Buffer::new();
     put(line, buffer.format(number));
 }
@@ -155,9 +189,9 @@ fn put_with_name_and_timeout(line: &mut Line, word: &str, name: &Name, timeout: 
 
 fn put_call(line: &mut Line, table: &Table, call: &Call)
     requires known { IsKnown table.now call.now }
-    requires room { array_vec_len line.old + 80 ≤ 4096 }
+    requires room { array_vec_len line.old + 128 ≤ 4096 }
     ensures text { line.new.items ≡ line.old.items ++ call_text table.now call.now }
-    ensures short { array_vec_len line.new ≤ array_vec_len line.old + 80 }
+    ensures short { array_vec_len line.new ≤ array_vec_len line.old + 128 }
 {
     match call {
         Call::Partition(call) => put_partition_call(line, call),
@@ -185,9 +219,9 @@ fn put_no_call(line: &mut Line, reply: &Reply)
 
 fn put_asked(line: &mut Line, table: &Table, asked: &Option<Call>, reply: &Reply)
     requires known { IfSome asked.now (IsKnown table.now) }
-    requires room { array_vec_len line.old + 80 ≤ 4096 }
+    requires room { array_vec_len line.old + 128 ≤ 4096 }
     ensures text { line.new.items ≡ line.old.items ++ asked_text table.now asked.now reply.now }
-    ensures short { array_vec_len line.new ≤ array_vec_len line.old + 80 }
+    ensures short { array_vec_len line.new ≤ array_vec_len line.old + 128 }
 {
     match asked {
         Some(call) => put_call(line, table, call),
@@ -236,9 +270,9 @@ fn put_reply(line: &mut Line, reply: &Reply)
         }
         Reply::Status(first, second) => {
             put(line, "STATUS ");
-            put_long_number(line, *first);
+            put_number(line, *first);
             put(line, " ");
-            put_long_number(line, *second);
+            put_number(line, *second);
         }
         Reply::Blocked => put(line, "BLOCKED"),
         Reply::Gone => put(line, "GONE"),

@@ -17,6 +17,8 @@ pub(crate) struct Row {
     pub(crate) end: u32,
 }
 
+const _: () = prove!(size_of::<Row>() <= 64);
+
 impl Model for Row {
     ghost use Rattle.apex_history.specs.RowEntries.{RowEntry};
 

@@ -134,7 +134,7 @@ impl Object for Semaphore {
         ensures { result ≡ services.semaphore_status (S.roster store.now) self.now id }
     {
         let waiting = store.waiting(Queue::Semaphore(id));
-        Reply::Status(u64::from(self.value), waiting as u64)
+        Reply::Status(u32::from(self.value), waiting)
     }
 
     fn serve<S: Store>(

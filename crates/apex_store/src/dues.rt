@@ -1,9 +1,10 @@
 //! When waits end by themselves.
-ghost use Rattle.std.specs.Prelude.{◌≡◌, length};
-ghost use Rattle.apex_types.specs.Dues.{HasTime, IsFrom, due_after, earliest_due, sooner};
+ghost use Rattle.std.specs.Prelude.{◌≡◌, ◌<◌, ◌≤◌, length, position, IfSome};
+ghost use Rattle.apex_types.specs.Dues.{HasTime, IsFrom, due_after, earliest_due, is_due_at, sooner};
 
+use crate::orders::is_due_at;
 use crate::store::Store;
-use apex_types::{Record, Timeout};
+use apex_types::{ProcessId, Record, Timeout};
 
 /// The sooner of two instants.
 fn sooner(one: Option<u64>, other: Option<u64>) -> Option<u64>
@@ -25,6 +26,25 @@ pub fn earliest_due(records: &[Record]) -> Option<u64>
         earliest = sooner(records[place].due, earliest);
     }
     earliest
+}
+
+/// The place of the first record whose due is this instant.
+fn place_due(instant: u64, records: &[Record]) -> Option<usize>
+    ensures { result ≡ position (is_due_at instant) records.now }
+{
+    records.iter().position(|row| is_due_at(instant, row))
+}
+
+/// The process of the lowest number whose due is this instant.
+pub fn first_due(instant: u64, records: &[Record]) -> Option<ProcessId>
+    requires { length records.now ≤ 64 }
+    ensures value { result ≡ position (is_due_at instant) records.now }
+    ensures known { IfSome result (λ p. p < length records.now) }
+{
+    match place_due(instant, records) {
+        Some(place) => Some(ProcessId::at(place as u8)),
+        None => None,
+    }
 }
 
 /// The instant in ticks at which a wait that begins now ends by itself, if it does.

@@ -1,6 +1,6 @@
 ghost use Rattle.std.specs.Prelude.{◌≡◌};
 ghost use Rattle.apex_types.specs.Running.{is_before, is_older, runs_on};
-ghost use Rattle.apex_types.specs.Dues.{by_number, is_due_at};
+ghost use Rattle.apex_types.specs.Dues.{is_due_at};
 ghost use Rattle.apex_types.specs.Waiters.{is_queue, is_same_queue, waits_before, waits_behind, waits_in};
 
 use apex_types::{CoreId, Discipline, Mode, Queue, Record};
@@ -10,7 +10,7 @@ use apex_types::{CoreId, Discipline, Mode, Queue, Record};
 pub fn runs_on(mode: Mode, core: CoreId, row: &Record) -> bool
     ensures { result ≡ runs_on mode core row.now }
 {
-    row.is_eligible(mode) && row.core == core
+    row.core == core && row.is_eligible(mode)
 }
 
 /// The first has been in its queue for longer.
@@ -72,11 +72,4 @@ pub fn is_due_at(instant: u64, row: &Record) -> bool
         Some(due) => instant == due,
         None => false,
     }
-}
-
-/// Of two processes whose due is the same, none comes before the other but by its number.
-pub fn by_number(_first: &Record, _second: &Record) -> bool
-    ensures { result ≡ by_number _first.now _second.now }
-{
-    false
 }

@@ -1,14 +1,14 @@
-ghost use Rattle.std.specs.Prelude.{◌≡◌, ◌<◌, length, IfOk};
+ghost use Rattle.std.specs.Prelude.{◌≡◌, ◌<◌, ◌≤◌, count_by, length, IfOk};
 ghost use Rattle.apex_types.specs.Roster.{opening_roster, with_record};
 ghost use Rattle.apex_types.specs.Dues.{HasTime};
 ghost use Rattle.apex_types.specs.Running.{is_process};
 ghost use Rattle.apex_types.specs.Stamps as stamps;
-ghost use Rattle.apex_types.specs.Waiters.{discipline_of, goes_by_priority};
+ghost use Rattle.apex_types.specs.Waiters.{discipline_of, goes_by_priority, waits_in};
 
-use crate::dues::earliest_due;
+use crate::dues::{earliest_due, first_due};
 use crate::opening::{disciplines_of, opening_records};
 use crate::orders::waits_in;
-use crate::scan::{Behind, Due, Runnable, Waiting, first_of};
+use crate::scan::{Behind, Runnable, Waiting, first_of};
 use crate::store::Store;
 use apex_table::Table;
 use apex_types::{CoreId, Discipline, Mode, ProcessId, Queue, Record, State, Suspender, Wait};
@@ -83,6 +83,15 @@ fn reset(row: Record) -> Record
         step: 0,
         ..row
     }
+}
+
+/// How many of the records wait in the queue.
+#[tactic(auto, using(crate::proofs::Queues::few_wait))]
+fn waiter_count(queue: Queue, records: &[Record]) -> u32
+    requires { length records.now ≤ 64 }
+    ensures { result ≡ count_by (waits_in queue) records.now }
+{
+    records.iter().filter(|row| waits_in(queue, row)).count() as u32
 }
 
 impl PlainStore {
@@ -259,11 +268,8 @@ impl Store for PlainStore {
         earliest_due(&self.records)
     }
 
-    fn waiting(&self, queue: Queue) -> usize {
-        self.records
-            .iter()
-            .filter(|row| waits_in(queue, row))
-            .count()
+    fn waiting(&self, queue: Queue) -> u32 {
+        waiter_count(queue, &self.records)
     }
 
     fn start(&mut self, process: ProcessId, delay: u32) {
@@ -356,7 +362,7 @@ impl Store for PlainStore {
     }
 
     fn take_due(&mut self) -> Option<ProcessId> {
-        let process = first_of(&Due { instant: self.time }, &self.records)?;
+        let process = first_due(self.time, &self.records)?;
         let row = self.record(process);
         self.put(process, Record { due: None, ..row });
         Some(process)

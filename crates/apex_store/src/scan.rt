@@ -3,9 +3,8 @@ ghost use Rattle.std.specs.Cmp.{IsStrictWeakOrder};
 ghost use Rattle.apex_types.specs.declared.records.Record.{Record};
 ghost use Rattle.apex_types.specs.Choice.{place_of_least};
 ghost use Rattle.apex_types.specs.Running.{is_before, runs_on};
-ghost use Rattle.apex_types.specs.Dues.{by_number, is_due_at};
 ghost use Rattle.apex_types.specs.Waiters.{waits_before, waits_behind, waits_in};
-ghost use Rattle.apex_types.proofs.Orders.{before_strict, number_strict, waits_strict};
+ghost use Rattle.apex_types.proofs.Orders.{before_strict, waits_strict};
 
 use crate::orders;
 use apex_types::{CoreId, Discipline, Mode, ProcessId, Queue, Record};
@@ -92,28 +91,6 @@ impl Order for Behind {
 
     fn precedes(&self, first: &Record, second: &Record) -> bool {
         orders::waits_before(self.discipline, first, second)
-    }
-}
-
-/// Those whose due is this instant, the lowest number first.
-#[derive(Drop)]
-pub struct Due {
-    pub instant: u64,
-}
-
-impl Order for Due {
-    ghost passes = { λ s. is_due_at s.instant };
-
-    ghost precedes = { λ s. by_number };
-
-    ghost ranks = { λ s. number_strict };
-
-    fn passes(&self, row: &Record) -> bool {
-        orders::is_due_at(self.instant, row)
-    }
-
-    fn precedes(&self, first: &Record, second: &Record) -> bool {
-        orders::by_number(first, second)
     }
 }
 

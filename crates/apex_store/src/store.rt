@@ -58,7 +58,7 @@ pub trait Store: Drop {
         ensures known { IfSome result (λ p. p < length (roster self.now).records) };
 
     /// How many wait in the queue.
-    fn waiting(&self, queue: Queue) -> usize
+    fn waiting(&self, queue: Queue) -> u32
         ensures { result ≡ waiter_count (roster self.now) queue };
 
     /// The next instant at which a wait ends by itself: the least due of all processes.

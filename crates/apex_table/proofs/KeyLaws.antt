@@ -7,8 +7,7 @@ use Rattle.std.specs.Str.{bytes_eq}
 use Rattle.std.proofs.lemmas.Result.{IfOk-at_ok}
 use Rattle.toml.specs.Data.{Data, Members, get_member, as_integer}
 use Rattle.apex_types.specs.Name.{is_name}
-use Rattle.apex_table.specs.declared.fault.Place.{Place}
-use Rattle.apex_table.specs.declared.fault.TableFault.{TableFault}
+use Rattle.apex_table.specs.Terms.{Place, TableFault}
 use Rattle.apex_table.specs.declared.fault.TableFault.TheVariants.{WrongType, OutOfRange, BadName, DoubleName, TooMany}
 use Rattle.apex_table.specs.Outcome.{some_or}
 use Rattle.apex_table.specs.Keys.{required, optional, text_at, in_range, number, number_at, number_or, at_most, well_formed, name_at}

@@ -4,7 +4,7 @@ use Rattle.std.specs.Prelude.{codes}
 use Rattle.std.proofs.lemmas.Result.{IfOk-at_ok, IfOk-weaker}
 use Rattle.toml.specs.Data.{Data, Members}
 use Rattle.apex_types.specs.Name.{is_name}
-use Rattle.apex_table.specs.declared.fault.Place.{Place}
+use Rattle.apex_table.specs.Terms.{Place}
 use Rattle.apex_table.specs.Keys.{text, array_at, at_most, number_at, number_or, truth_or}
 use Rattle.apex_table.specs.Processes.{ProcessDraft, some_process, texts, some_step, script_at, process, processes}
 use Rattle.apex_table.proofs.Results.{ok_then, each_length}

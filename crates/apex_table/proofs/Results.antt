@@ -1,9 +1,9 @@
 -- What holds of the value of a reading that gives one.
-use Rattle.std.proofs.Common.{◌≡◌, ◌+◌, Bool, true, false, List, [], ◌∷◌, ◌++◌, length, map, Option, Some, None, IfSome, Result, Ok, Err, IfOk, refl, sym, ap, ◌∙◌, if◌then◌else◌, arith, length-append}
+use Rattle.std.proofs.Common.{◌≡◌, ℕ, zero, suc, ◌+◌, ◌<◌, slice_index_or, Bool, true, false, List, [], ◌∷◌, ◌++◌, length, map, Option, Some, None, IfSome, Result, Ok, Err, IfOk, refl, sym, ap, subst, ◌∙◌, if◌then◌else◌, arith, length-append}
 use Rattle.std.specs.List.{AllByRecursion}
 use Rattle.std.proofs.lemmas.List.{append-nil, append_assoc, map-append}
 use Rattle.std.proofs.lemmas.Result.{IfOk-at_ok, IfOk-weaker}
-use Rattle.apex_table.specs.declared.fault.TableFault.{TableFault}
+use Rattle.apex_table.specs.Terms.{TableFault}
 use Rattle.apex_table.specs.Outcome.{◌>>=◌, some_or, called, as_call, or_else, first_of, each}
 
 -- after a reading that gave x
@@ -54,10 +54,9 @@ reads_any (Ok None) = tt
 reads_any (Ok (Some x)) = tt
 reads_any (Err e) = tt
 
-pub reads_some : {A : Type 0} (fault : TableFault) (r : Result (Option A) TableFault) (P : A → Type 0) → Reads P r → IfOk (r >>= some_or fault) P
-reads_some fault (Ok None) P h = tt
-reads_some fault (Ok (Some x)) P h = h
-reads_some fault (Err e) P h = tt
+pub some_or_law : {A : Type 0} (fault : TableFault) (o : Option A) (P : A → Type 0) → IfSome o P → IfOk (some_or fault o) P
+some_or_law fault None P h = tt
+some_or_law fault (Some x) P h = h
 
 -- what each reading keeps holds of all that was read
 pub each_keeps : {A B : Type 0} (read : List A → B → Result A TableFault) (P : List A → Type 0) → ((done : List A) (y : B) → P done → IfOk (read done y) (λ x. P (done ++ x ∷ []))) → (done : List A) (ys : List B) → P done → IfOk (each read done ys) P
@@ -79,12 +78,45 @@ pub all_append : {A : Type 0} (P : A → Type 0) (xs ys : List A) → AllByRecur
 all_append P [] ys left right = right
 all_append P (x ∷ xs) ys left right = (left.0, all_append P xs ys left.1 right)
 
--- a fact of each element that is read of an element of which Q holds
-pub each_all : {A B : Type 0} (read : List A → B → Result A TableFault) (P : A → Type 0) (Q : B → Type 0) → ((done : List A) (y : B) → Q y → IfOk (read done y) P) → (done : List A) (ys : List B) → AllByRecursion P done → AllByRecursion Q ys → IfOk (each read done ys) (AllByRecursion P)
-each_all read P Q gives done [] all sound = all
-each_all read P Q gives done (y ∷ ys) all sound =
-    ok_then (read done y) _ (AllByRecursion P) (λ x e.
-    each_all read P Q gives (done ++ x ∷ []) ys (all_push P done x all (IfOk-at_ok P e (gives done y sound.0))) sound.1)
+-- a fact of each element and its place, where the first one is at place k
+abbrev pub AllFrom : {A : Type 0} → (ℕ → A → Type 0) → ℕ → List A → Type 0
+AllFrom P k [] = Unit {0}
+AllFrom P k (x ∷ xs) = P k x × AllFrom P (k + 1) xs
+
+pub all_from_push : {A : Type 0} (P : ℕ → A → Type 0) (k : ℕ) (xs : List A) (x : A) → AllFrom P k xs → P (k + length xs) x → AllFrom P k (xs ++ x ∷ [])
+all_from_push P k [] x all here = let z : k + 0 ≡ k = omega arith in (rw z at here, tt)
+all_from_push P k (y ∷ ys) x all here =
+    let z : k + suc (length ys) ≡ k + 1 + length ys = omega arith in
+    (all.0, all_from_push P (k + 1) ys x all.1 (rw z at here))
+
+all_from_at : {A : Type 0} (P : ℕ → A → Type 0) (k : ℕ) (xs : List A) → AllFrom P k xs → (i : ℕ) (default : A) → i < length xs → P (k + i) (slice_index_or xs i default)
+all_from_at P k [] all i default below = absurd (omega (arith, below))
+all_from_at P k (x ∷ xs) all zero default below = let z : k + 0 ≡ k = omega arith in rw z all.0
+all_from_at P k (x ∷ xs) all (suc i) default below =
+    let z : k + suc i ≡ k + 1 + i = omega arith in
+    rw z (all_from_at P (k + 1) xs all.1 i default (omega (arith, below)))
+
+pub all_from_start : {A : Type 0} (P : ℕ → A → Type 0) (xs : List A) → AllFrom P 0 xs → (i : ℕ) (default : A) → i < length xs → P i (slice_index_or xs i default)
+all_from_start P xs all i default below =
+    let z : 0 + i ≡ i = omega arith in subst (λ n. P n (slice_index_or xs i default)) z (all_from_at P 0 xs all i default below)
+
+pub all_any : {A : Type 0} (xs : List A) → AllByRecursion (λ x. Unit {0}) xs
+all_any [] = tt
+all_any (x ∷ xs) = (tt, all_any xs)
+
+-- where it holds at each place
+pub all_from_any : {A : Type 0} (P : ℕ → A → Type 0) (k : ℕ) (xs : List A) → AllByRecursion (λ x. (i : ℕ) → P i x) xs → AllFrom P k xs
+all_from_any P k [] all = tt
+all_from_any P k (x ∷ xs) all = (all.0 k, all_from_any P (k + 1) xs all.1)
+
+-- a fact of each element that is read at its place
+pub each_from : {A B : Type 0} (read : List A → B → Result A TableFault) (P : ℕ → A → Type 0) (Q : B → Type 0) → ((done : List A) (y : B) → Q y → IfOk (read done y) (P (length done))) → (done : List A) (ys : List B) → AllFrom P 0 done → AllByRecursion Q ys → IfOk (each read done ys) (AllFrom P 0)
+each_from read P Q gives done [] all sound = all
+each_from read P Q gives done (y ∷ ys) all sound =
+    ok_then (read done y) _ (AllFrom P 0) (λ x e.
+    let z : 0 + length done ≡ length done = omega arith in
+    let here : P (0 + length done) x = rw z (IfOk-at_ok (P (length done)) e (gives done y sound.0)) in
+    each_from read P Q gives (done ++ x ∷ []) ys (all_from_push P 0 done x all here) sound.1)
 
 -- a part of each element that its reading leaves as it was
 pub each_map : {A B C : Type 0} (read : List A → B → Result A TableFault) (f : A → C) (g : B → C) → ((done : List A) (y : B) → IfOk (read done y) (λ x. f x ≡ g y)) → (done : List A) (ys : List B) → IfOk (each read done ys) (λ xs. map f xs ≡ map f done ++ map g ys)

@@ -8,7 +8,7 @@ use Rattle.std.proofs.lemmas.Map.Keys.{IsDistinct-push}
 use Rattle.std.proofs.lemmas.Result.{IfOk-at_ok, IfOk-weaker}
 use Rattle.toml.specs.Data.{Data, Members, get_member}
 use Rattle.apex_types.specs.Name.{is_name}
-use Rattle.apex_table.specs.declared.fault.Place.{Place}
+use Rattle.apex_table.specs.Terms.{Place}
 use Rattle.apex_table.specs.Fault.{section_word}
 use Rattle.apex_table.specs.Outcome.{each, place}
 use Rattle.apex_table.specs.Keys.{known, table, array, name_at}

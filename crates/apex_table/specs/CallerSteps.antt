@@ -2,10 +2,8 @@
 -- their words.
 use Rattle.std.specs.Prelude.{codes, ℕ, ◌&&◌, if◌then◌else◌, List, [], ◌∷◌, Option, Some, None, Result, Ok}
 use Rattle.std.specs.Str.{bytes_eq}
-use Rattle.apex_table.specs.Terms.{CallerCall}
+use Rattle.apex_table.specs.Terms.{CallerCall, Place, TableFault}
 use Rattle.apex_types.specs.declared.calls.CallerCall.TheVariants.{StopSelf, SuspendSelf, GetMyId, GetMyProcessorCoreId}
-use Rattle.apex_table.specs.declared.fault.Place.{Place}
-use Rattle.apex_table.specs.declared.fault.TableFault.{TableFault}
 use Rattle.apex_table.specs.Outcome.{called}
 use Rattle.apex_table.specs.Words.{is_timeout, timeout}
 

@@ -2,8 +2,7 @@
 use Rattle.std.specs.Prelude.{codes, decimal, ℕ, List, [], ◌++◌, Option, Some, None}
 use Rattle.apex_table.specs.declared.fault.Section.{Section}
 use Rattle.apex_table.specs.declared.fault.Section.TheVariants.{Top, Process, Semaphore, Init}
-use Rattle.apex_table.specs.declared.fault.Place.{Place}
-use Rattle.apex_table.specs.declared.fault.TableFault.{TableFault}
+use Rattle.apex_table.specs.Terms.{Place, TableFault}
 use Rattle.apex_table.specs.declared.fault.TableFault.TheVariants.{Memory, NotToml, MissingKey, WrongType, OutOfRange, BadName, DoubleName, UnknownName, UnknownKey, BadStep, BadInitStep, TooMany}
 
 -- a section's word

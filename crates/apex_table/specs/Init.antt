@@ -1,16 +1,15 @@
--- The init list that a table gives: its texts, and their calls.
+-- The init list that a table gives: its texts, and their steps.
 use Rattle.std.specs.Prelude.{ℕ, ◌+◌, Bool, true, false, if◌then◌else◌, List, [], length, map, Option, Some, None, Result, Ok, Err}
 use Rattle.toml.specs.Data.{Data}
-use Rattle.apex_types.specs.Table.{ProcessConfig, SemaphoreConfig}
-use Rattle.apex_table.specs.Terms.{Call, ObjectCall, ProcessService, SemaphoreService, TimeCall}
+use Rattle.apex_types.specs.Table.{ProcessConfig, SemaphoreConfig, Step}
+use Rattle.apex_table.specs.Terms.{Call, ObjectCall, Origin, Place, ProcessService, SemaphoreService, TableFault, TimeCall}
 use Rattle.apex_types.specs.declared.calls.Call.TheVariants.{Partition, Process, Caller, Time, Semaphore}
 use Rattle.apex_types.specs.declared.calls.ObjectCall.TheVariants.{Create, GetId, GetStatus, Own}
+use Rattle.apex_types.specs.declared.calls.Origin.TheVariants as origin
 use Rattle.apex_types.specs.declared.calls.ProcessService.TheVariants.{InitializeCoreAffinity, SetPriority, Start, DelayedStart, Stop, Suspend, Resume}
 use Rattle.apex_types.specs.declared.calls.SemaphoreService.TheVariants.{Wait, Signal}
 use Rattle.apex_types.specs.declared.calls.TimeCall.TheVariants.{TimedWait, GetTime}
 use Rattle.apex_table.specs.declared.fault.Section.TheVariants.{Init}
-use Rattle.apex_table.specs.declared.fault.Place.{Place}
-use Rattle.apex_table.specs.declared.fault.TableFault.{TableFault}
 use Rattle.apex_table.specs.declared.fault.TableFault.TheVariants.{BadInitStep}
 use Rattle.apex_table.specs.Outcome.{◌>>=◌, each, place}
 use Rattle.apex_table.specs.Keys.{text, array, at_most}
@@ -73,21 +72,21 @@ is_init_call (Caller call) = false
 is_init_call (Time call) = is_init_time_call call
 is_init_call (Semaphore call) = is_init_object_call is_init_semaphore_service call
 
--- a call that an init list may have
-abbrev pub init_call : Place → Call → Result Call TableFault
-init_call at call = if is_init_call call then Ok call else Err (BadInitStep at)
+-- a step that an init list may have
+abbrev pub init_call : Place → Step → Result Step TableFault
+init_call at step = if is_init_call step.call then Ok step else Err (BadInitStep at)
 
--- the call of a step's text, by the names of the processes and of the semaphores; last, whether it may
--- stand in an init list
-unfoldable pub init_step : Place → List (List ℕ) → List (List ℕ) → List ℕ → Result Call TableFault
-init_step at ps ss text = step at ps ss text >>= init_call at
+-- the step of this origin by its text, by the names of the processes and of the semaphores; last, whether
+-- it may stand in an init list
+unfoldable pub init_step : Place → Origin → List (List ℕ) → List (List ℕ) → List ℕ → Result Step TableFault
+init_step at origin ps ss text = step at origin ps ss text >>= init_call at
 
--- the call of the step after those before
-abbrev pub next_init_step : List (List ℕ) → List (List ℕ) → List Call → List ℕ → Result Call TableFault
-next_init_step ps ss before text = init_step (place Init (length before + 1)) ps ss text
+-- the step after those before
+abbrev pub next_init_step : List (List ℕ) → List (List ℕ) → List Step → List ℕ → Result Step TableFault
+next_init_step ps ss before text = init_step (place Init (length before + 1)) (origin.Init (length before)) ps ss text
 
--- the calls of an init list
-abbrev pub init_steps : List (List ℕ) → List (List ℕ) → List (List ℕ) → Result (List Call) TableFault
+-- the steps of an init list
+abbrev pub init_steps : List (List ℕ) → List (List ℕ) → List (List ℕ) → Result (List Step) TableFault
 init_steps ps ss ts = each (next_init_step ps ss) [] ts
 
 -- the names of the processes
@@ -95,6 +94,6 @@ abbrev pub entry_names : List ProcessConfig → List (List ℕ)
 entry_names processes = map (λ (p : ProcessConfig). p.name) processes
 
 -- the init list that the table gives, or else the default one
-abbrev pub init_list : List ProcessConfig → List SemaphoreConfig → Option (List (List ℕ)) → Result (List Call) TableFault
+abbrev pub init_list : List ProcessConfig → List SemaphoreConfig → Option (List (List ℕ)) → Result (List Step) TableFault
 init_list processes semaphores (Some ts) = init_steps (entry_names processes) (semaphore_names semaphores) ts
 init_list processes semaphores None = Ok (default_init processes semaphores)

@@ -1,8 +1,7 @@
 -- How readings follow one another, and when a call gives a reading's answer.
 use Rattle.std.specs.Prelude.{◌≡◌, ℕ, Option, Some, None, Result, Ok, Err, List, [], ◌∷◌, ◌++◌, option_map}
 use Rattle.apex_table.specs.declared.fault.Section.{Section}
-use Rattle.apex_table.specs.declared.fault.Place.{Place}
-use Rattle.apex_table.specs.declared.fault.TableFault.{TableFault}
+use Rattle.apex_table.specs.Terms.{Place, TableFault}
 use Rattle.apex_table.specs.declared.fault.TableFault.TheVariants.{Memory}
 
 infixl 10 ◌>>=◌

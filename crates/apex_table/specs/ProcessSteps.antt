@@ -2,10 +2,8 @@
 -- of the process.
 use Rattle.std.specs.Prelude.{codes, ℕ, ◌&&◌, if◌then◌else◌, List, [], ◌∷◌, Option, Some, None, Result, Ok}
 use Rattle.std.specs.Str.{bytes_eq}
-use Rattle.apex_table.specs.Terms.{ProcessService}
+use Rattle.apex_table.specs.Terms.{Place, ProcessService, TableFault}
 use Rattle.apex_types.specs.declared.calls.ProcessService.TheVariants.{InitializeCoreAffinity, SetPriority, Start, DelayedStart, Stop, Suspend, Resume}
-use Rattle.apex_table.specs.declared.fault.Place.{Place}
-use Rattle.apex_table.specs.declared.fault.TableFault.{TableFault}
 use Rattle.apex_table.specs.Outcome.{called}
 use Rattle.apex_table.specs.Words.{is_number, is_timeout, number, timeout}
 

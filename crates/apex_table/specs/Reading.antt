@@ -5,7 +5,7 @@ use Rattle.toml.specs.Data.{Members, get_member}
 use Rattle.toml.specs.Parse.{parse_document}
 use Rattle.apex_types.specs.Table.{Table}
 use Rattle.apex_table.specs.declared.fault.Section.TheVariants.{Top}
-use Rattle.apex_table.specs.declared.fault.TableFault.{TableFault}
+use Rattle.apex_table.specs.Terms.{TableFault}
 use Rattle.apex_table.specs.declared.fault.TableFault.TheVariants.{NotToml}
 use Rattle.apex_table.specs.Outcome.{◌>>=◌, some_or, place}
 use Rattle.apex_table.specs.Keys.{known, number_at, number_or}
@@ -30,8 +30,8 @@ reading tree = do
   sems ← section semaphores ms
   texts ← init_texts (get_member (codes "init") ms)
   procs ← with_scripts some sems
-  calls ← init_list procs sems texts
-  Ok (record { cores = cores; limit = limit; processes = procs; semaphores = sems; init = calls })
+  steps ← init_list procs sems texts
+  Ok (record { cores = cores; limit = limit; processes = procs; semaphores = sems; init = steps })
 
 -- TOML's tree of a text
 abbrev pub tree_of : List ℕ → Option Members

@@ -2,8 +2,7 @@
 use Rattle.std.specs.Prelude.{ℕ, ◌+◌, List, [], length, map, Option, Result}
 use Rattle.toml.specs.Data.{Data, Members, get_member}
 use Rattle.apex_table.specs.declared.fault.Section.{Section}
-use Rattle.apex_table.specs.declared.fault.Place.{Place}
-use Rattle.apex_table.specs.declared.fault.TableFault.{TableFault}
+use Rattle.apex_table.specs.Terms.{Place, TableFault}
 use Rattle.apex_table.specs.declared.sections.Head.{Head}
 use Rattle.apex_table.specs.Fault.{section_word}
 use Rattle.apex_table.specs.Outcome.{◌>>=◌, each, place}

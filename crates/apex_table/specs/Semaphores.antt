@@ -3,11 +3,9 @@ use Rattle.std.specs.Prelude.{codes, ℕ, if◌then◌else◌, List, [], ◌∷�
 use Rattle.std.specs.Str.{bytes_eq}
 use Rattle.toml.specs.Data.{Members}
 use Rattle.apex_types.specs.Table.{SemaphoreConfig}
-use Rattle.apex_table.specs.Terms.{Discipline}
+use Rattle.apex_table.specs.Terms.{Discipline, Place, TableFault}
 use Rattle.apex_types.specs.declared.records.Discipline.TheVariants.{Fifo, Priority}
 use Rattle.apex_table.specs.declared.fault.Section.TheVariants.{Semaphore}
-use Rattle.apex_table.specs.declared.fault.Place.{Place}
-use Rattle.apex_table.specs.declared.fault.TableFault.{TableFault}
 use Rattle.apex_table.specs.declared.fault.TableFault.TheVariants.{OutOfRange}
 use Rattle.apex_table.specs.Outcome.{◌>>=◌}
 use Rattle.apex_table.specs.Keys.{number_at, text_at}

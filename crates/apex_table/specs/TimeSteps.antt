@@ -1,10 +1,8 @@
 -- The steps of time management (ARINC 653 Part 1), by the number of their words.
 use Rattle.std.specs.Prelude.{codes, ℕ, ◌&&◌, if◌then◌else◌, List, [], ◌∷◌, Option, Some, None, Result, Ok}
 use Rattle.std.specs.Str.{bytes_eq}
-use Rattle.apex_table.specs.Terms.{TimeCall}
+use Rattle.apex_table.specs.Terms.{Place, TableFault, TimeCall}
 use Rattle.apex_types.specs.declared.calls.TimeCall.TheVariants.{TimedWait, GetTime}
-use Rattle.apex_table.specs.declared.fault.Place.{Place}
-use Rattle.apex_table.specs.declared.fault.TableFault.{TableFault}
 use Rattle.apex_table.specs.Outcome.{called}
 use Rattle.apex_table.specs.Words.{is_timeout, timeout}
 

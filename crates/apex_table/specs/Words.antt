@@ -3,11 +3,9 @@
 use Rattle.std.specs.Prelude.{codes, ℕ, ◌==◌, ◌||◌, Bool, true, false, if◌then◌else◌, List, [], ◌∷◌, Result, Ok, is_some}
 use Rattle.std.specs.List.{slice_split, position_from}
 use Rattle.std.specs.Str.{bytes_eq}
-use Rattle.apex_table.specs.Terms.{Timeout}
+use Rattle.apex_table.specs.Terms.{Place, TableFault, Timeout}
 use Rattle.apex_types.specs.declared.calls.Timeout.TheVariants.{Poll, Ticks, Infinite}
 use Rattle.apex_types.specs.Numbers.{number_of, at_most}
-use Rattle.apex_table.specs.declared.fault.Place.{Place}
-use Rattle.apex_table.specs.declared.fault.TableFault.{TableFault}
 use Rattle.apex_table.specs.declared.fault.TableFault.TheVariants.{OutOfRange, UnknownName}
 use Rattle.apex_table.specs.Outcome.{◌>>=◌, some_or}
 

@@ -1,6 +1,9 @@
-ghost use Rattle.std.specs.Prelude.{◌≡◌, length, slice_get};
+ghost use Rattle.std.specs.Prelude.{◌≡◌, ◌≤◌, length};
+ghost use Rattle.apex_types.specs.Limits.{most_literal};
+ghost use Rattle.apex_types.specs.Table.{step_at, call_in};
 
-use apex_types::{Call, CoreId, Discipline, Name};
+use crate::listed::{call_in, literal_in};
+use apex_types::{Call, CoreId, Discipline, Name, Step};
 use std::marker::Model;
 
 /// A process as the table gives it (ARINC 653 Part 1, process management).
@@ -11,7 +14,7 @@ pub struct ProcessConfig {
     core: CoreId,
     loops: bool,
     starts: bool,
-    script: Vec<Call>,
+    script: Vec<Step>,
 }
 
 impl Model for ProcessConfig {
@@ -29,7 +32,7 @@ impl ProcessConfig {
         core: CoreId,
         loops: bool,
         starts: bool,
-        script: Vec<Call>,
+        script: Vec<Step>,
     ) -> ProcessConfig
         ensures { result ≡ record { name = name; priority = priority; core = core; loops = loops; start = starts; script = script.items } }
     {
@@ -84,11 +87,20 @@ impl ProcessConfig {
         self.script.len()
     }
 
-    /// The step at this place of the script, counted from 0, or none past its end.
-    pub fn step(&self, place: usize) -> Option<Call>
-        ensures { result ≡ slice_get self.now.script place }
+    /// The call of the step at this place of the script, counted from 0, or none past its end.
+    pub fn call(&self, place: usize) -> Option<Call>
+        ensures { result ≡ call_in self.now.script place }
     {
-        self.script.get(place).copied()
+        call_in(&self.script, place)
+    }
+
+    /// The literal of the step at this place of the script, counted from 0, which has no byte past
+    /// its end.
+    pub fn literal(&self, place: usize) -> &[u8]
+        ensures value { result.now ≡ (step_at self.now.script place).literal }
+        ensures range { length result.now ≤ most_literal }
+    {
+        literal_in(&self.script, place)
     }
 }
 

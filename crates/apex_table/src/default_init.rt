@@ -6,7 +6,7 @@ ghost use Rattle.apex_table.specs.DefaultInit.{default_init};
 
 use crate::configs::{ProcessConfig, SemaphoreConfig};
 use apex_types::{
-    Call, Id, Named, ObjectCall, PartitionCall, ProcessId, ProcessService, RequestedMode,
+    Call, Id, Named, ObjectCall, PartitionCall, ProcessId, ProcessService, RequestedMode, Step,
 };
 use std::alloc::{AllocError, Global};
 
@@ -23,27 +23,27 @@ pub fn default_init(
     alloc: Global,
     processes: &[ProcessConfig],
     semaphores: &[SemaphoreConfig],
-) -> Result<Vec<Call>, AllocError>
+) -> Result<Vec<Step>, AllocError>
     requires processes { length processes.now ≤ most_processes }
     requires semaphores { length semaphores.now ≤ most_objects }
     ensures { IfOk result (λ init. init.items ≡ default_init processes.now semaphores.now) }
 {
     let mut init = Vec::new(alloc);
     for (place, _) in semaphores.iter().enumerate() {
-        init.push(Call::Semaphore(create(place)))?;
+        init.push(Step::of(Call::Semaphore(create(place))))?;
     }
     for (place, process) in processes.iter().enumerate() {
         let id = ProcessId::at(place as u8);
         let affinity = ProcessService::InitializeCoreAffinity(process.core().number());
-        init.push(Call::Process(create(place)))?;
-        init.push(Call::Process(ObjectCall::Own(id, affinity)))?;
+        init.push(Step::of(Call::Process(create(place))))?;
+        init.push(Step::of(Call::Process(ObjectCall::Own(id, affinity))))?;
     }
     for (place, process) in processes.iter().enumerate() {
         if process.starts() {
             let id = ProcessId::at(place as u8);
-            init.push(Call::Process(ObjectCall::Own(id, ProcessService::Start)))?;
+            init.push(Step::of(Call::Process(ObjectCall::Own(id, ProcessService::Start))))?;
         }
     }
-    init.push(Call::Partition(PartitionCall::SetPartitionMode(RequestedMode::Normal)))?;
+    init.push(Step::of(Call::Partition(PartitionCall::SetPartitionMode(RequestedMode::Normal))))?;
     Ok(init)
 }

@@ -11,7 +11,9 @@ use crate::fault::{Place, Section, TableFault};
 use crate::keys;
 use crate::named::Named;
 use crate::steps::step;
-use apex_types::{Call, Name, ObjectCall, ProcessService, SemaphoreService, TimeCall};
+use apex_types::{
+    Call, Name, ObjectCall, Origin, ProcessService, SemaphoreService, Step, TimeCall,
+};
 use std::alloc::Global;
 use toml::Value;
 
@@ -112,22 +114,23 @@ fn is_init_call(call: &Call) -> bool
     }
 }
 
-/// The call of a step's text; last it is tested whether an init list may have it.
+/// The step of this origin, by its text; last it is tested whether an init list may have it.
 #[tactic(auto, unfolding(crate::specs::Init::init_step))]
 fn init_step(
     alloc: Global,
     at: Place,
+    origin: Origin,
     processes: &[ProcessConfig],
     semaphores: &[SemaphoreConfig],
     text: &str,
-) -> Result<Call, TableFault>
+) -> Result<Step, TableFault>
     requires processes { length processes.now ≤ most_processes }
     requires semaphores { length semaphores.now ≤ most_objects }
-    ensures { Gives (λ c. c) result (init_step at (entry_names processes.now) (semaphore_names semaphores.now) text.now) }
+    ensures { Gives (λ s. s) result (init_step at origin (entry_names processes.now) (semaphore_names semaphores.now) text.now) }
 {
-    let call = step(alloc, at, processes, semaphores, text)?;
-    if is_init_call(&call) {
-        Ok(call)
+    let step = step(alloc, at, origin, processes, semaphores, text)?;
+    if is_init_call(&step.call()) {
+        Ok(step)
     } else {
         Err(TableFault::BadInitStep(at))
     }
@@ -137,16 +140,17 @@ fn next_init_step(
     alloc: Global,
     processes: &[ProcessConfig],
     semaphores: &[SemaphoreConfig],
-    before: &[Call],
+    before: &[Step],
     text: &str,
-) -> Result<Call, TableFault>
+) -> Result<Step, TableFault>
     requires processes { length processes.now ≤ most_processes }
     requires semaphores { length semaphores.now ≤ most_objects }
     requires few { length before.now < 512 }
-    ensures { Gives (λ c. c) result (next_init_step (entry_names processes.now) (semaphore_names semaphores.now) before.now text.now) }
+    ensures { Gives (λ s. s) result (next_init_step (entry_names processes.now) (semaphore_names semaphores.now) before.now text.now) }
 {
     let at = Place::next(Section::Init, before.len());
-    init_step(alloc, at, processes, semaphores, text)
+    let origin = Origin::Init(before.len() as u16);
+    init_step(alloc, at, origin, processes, semaphores, text)
 }
 
 fn init_steps(
@@ -154,17 +158,17 @@ fn init_steps(
     processes: &[ProcessConfig],
     semaphores: &[SemaphoreConfig],
     texts: &[&str],
-) -> Result<Vec<Call>, TableFault>
+) -> Result<Vec<Step>, TableFault>
     requires processes { length processes.now ≤ most_processes }
     requires semaphores { length semaphores.now ≤ most_objects }
     requires texts { length texts.now ≤ most_init_steps }
     ensures { Gives (λ v. v.items) result (init_steps (entry_names processes.now) (semaphore_names semaphores.now) (map (λ t. t.now) texts.now)) }
 {
-    let mut calls = Vec::new(alloc);
+    let mut steps = Vec::new(alloc);
     for text in texts {
-        calls.push(next_init_step(alloc, processes, semaphores, &calls, text)?)?;
+        steps.push(next_init_step(alloc, processes, semaphores, &steps, text)?)?;
     }
-    Ok(calls)
+    Ok(steps)
 }
 
 /// The init list that the table gives by these texts, or else the default one.
@@ -173,7 +177,7 @@ pub fn init_list(
     processes: &[ProcessConfig],
     semaphores: &[SemaphoreConfig],
     texts: Option<Vec<&str>>,
-) -> Result<Vec<Call>, TableFault>
+) -> Result<Vec<Step>, TableFault>
     requires processes { length processes.now ≤ most_processes }
     requires semaphores { length semaphores.now ≤ most_objects }
     requires texts { IfSome texts (λ v. length v.items ≤ most_init_steps) }

@@ -6,6 +6,7 @@ mod default_init;
 mod fault;
 mod init;
 mod keys;
+mod listed;
 mod named;
 mod processes;
 mod reading;

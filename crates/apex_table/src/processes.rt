@@ -1,5 +1,5 @@
-ghost use Rattle.std.specs.Prelude.{◌≡◌, ◌≤◌, map};
-ghost use Rattle.apex_types.specs.Limits.{most_cores};
+ghost use Rattle.std.specs.Prelude.{◌≡◌, ◌≤◌, map, length, IfOk};
+ghost use Rattle.apex_types.specs.Limits.{most_cores, most_steps};
 ghost use Rattle.toml.specs.View.{view, table_view};
 ghost use Rattle.apex_table.specs.Outcome.{Gives};
 ghost use Rattle.apex_table.specs.Sections.{head_of};
@@ -26,13 +26,15 @@ pub struct Draft<'a> {
 }
 
 impl<'a> Model for Draft<'a> {
-    ghost use Rattle.std.specs.Prelude.{map};
+    ghost use Rattle.std.specs.Prelude.{◌≤◌, map, length};
     ghost use Rattle.apex_table.specs.Sections.{head_of};
     ghost use Rattle.apex_table.specs.Processes.{ProcessDraft};
 
     ghost Value = { ProcessDraft };
 
     ghost view = { λ d. record { name = d.name; priority = d.priority; core = d.core; loops = d.loops; start = d.starts; script = map (λ t. t.now) d.script.items } };
+
+    ghost invariant = { λ d. length d.script.items ≤ 64 };
 }
 
 impl<'a> Named for Draft<'a> {
@@ -44,7 +46,8 @@ impl<'a> Named for Draft<'a> {
 }
 
 fn texts<'a>(alloc: Global, at: Place, items: &'a [Value]) -> Result<Vec<&'a str>, TableFault>
-    ensures { Gives (λ v. map (λ t. t.now) v.items) result (texts at (map view items.now)) }
+    ensures gives { Gives (λ v. map (λ t. t.now) v.items) result (texts at (map view items.now)) }
+    ensures count { IfOk result (λ v. length v.items ≡ length items.now) }
 {
     let mut texts = Vec::new(alloc);
     for item in items {
@@ -70,7 +73,8 @@ fn script_at<'a>(
     loops: bool,
     table: &'a Table,
 ) -> Result<Vec<&'a str>, TableFault>
-    ensures { Gives (λ v. map (λ t. t.now) v.items) result (script_at at loops (table_view table.now)) }
+    ensures gives { Gives (λ v. map (λ t. t.now) v.items) result (script_at at loops (table_view table.now)) }
+    ensures few { IfOk result (λ v. length v.items ≤ most_steps) }
 {
     let items = keys::array_at(at, table, "script")?;
     keys::at_most(at, 64, items)?;

@@ -1,5 +1,5 @@
 ghost use Rattle.std.specs.Prelude.{◌≡◌, ◌<◌, ◌≤◌, map, length, IfOk};
-ghost use Rattle.apex_types.specs.Limits.{most_objects, most_processes};
+ghost use Rattle.apex_types.specs.Limits.{most_objects, most_processes, most_steps};
 ghost use Rattle.apex_table.specs.Outcome.{Gives};
 ghost use Rattle.apex_table.specs.Processes.{process_names};
 ghost use Rattle.apex_table.specs.Semaphores.{semaphore_names};
@@ -10,25 +10,28 @@ use crate::fault::{Place, Section, TableFault};
 use crate::named::Named;
 use crate::processes::Draft;
 use crate::steps::step;
-use apex_types::Call;
+use apex_types::{Origin, ProcessId, Step};
 use std::alloc::Global;
 
 fn script<P: Named, S: Named>(
     alloc: Global,
     at: Place,
+    process: ProcessId,
     processes: &[P],
     semaphores: &[S],
-    steps: &[&str],
-) -> Result<Vec<Call>, TableFault>
+    texts: &[&str],
+) -> Result<Vec<Step>, TableFault>
     requires processes { length processes.now ≤ most_processes }
     requires semaphores { length semaphores.now ≤ most_objects }
-    ensures { Gives (λ v. v.items) result (script at (map P.name_of processes.now) (map S.name_of semaphores.now) (map (λ t. t.now) steps.now)) }
+    requires texts { length texts.now ≤ most_steps }
+    ensures { Gives (λ v. v.items) result (script at process (map P.name_of processes.now) (map S.name_of semaphores.now) (map (λ t. t.now) texts.now)) }
 {
-    let mut calls = Vec::new(alloc);
-    for text in steps {
-        calls.push(step(alloc, at, processes, semaphores, text)?)?;
+    let mut steps = Vec::new(alloc);
+    for text in texts {
+        let origin = Origin::Script(process, steps.len() as u8);
+        steps.push(step(alloc, at, origin, processes, semaphores, text)?)?;
     }
-    Ok(calls)
+    Ok(steps)
 }
 
 #[tactic(auto, unfolding(crate::specs::Scripts::next_entry))]
@@ -45,7 +48,8 @@ fn next_entry(
     ensures { Gives (λ p. p) result (next_entry (process_names drafts.now) (semaphore_names semaphores.now) before.now draft.now) }
 {
     let at = Place::next(Section::Process, before.len());
-    let script = script(alloc, at, drafts, semaphores, &draft.script)?;
+    let process = ProcessId::at(before.len() as u8);
+    let script = script(alloc, at, process, drafts, semaphores, &draft.script)?;
     Ok(ProcessConfig::new(
         draft.name,
         draft.priority,
@@ -56,7 +60,7 @@ fn next_entry(
     ))
 }
 
-/// The processes, now with the calls of their scripts.
+/// The processes, now with the steps of their scripts.
 #[tactic(auto, unfolding(crate::specs::Scripts::with_scripts))]
 pub fn with_scripts(
     alloc: Global,

@@ -1,8 +1,10 @@
 ghost use Rattle.std.specs.Prelude.{◌≡◌, ◌<◌, ◌≤◌, length, slice_get};
-ghost use Rattle.apex_types.specs.Table.{IsLawful, process_config, semaphore_config};
+ghost use Rattle.apex_types.specs.Limits.{most_literal};
+ghost use Rattle.apex_types.specs.Table.{IsLawful, process_config, semaphore_config, call_in, literal_text};
 
 use crate::configs::{ProcessConfig, SemaphoreConfig};
-use apex_types::{Call, ProcessId, SemaphoreId};
+use crate::listed::{call_in, literal_in};
+use apex_types::{Call, Origin, ProcessId, SemaphoreId, Step};
 use std::marker::Model;
 
 /// A partition's table. By its type every range and every reference in it holds.
@@ -12,7 +14,7 @@ pub struct Table {
     limit: u32,
     processes: Vec<ProcessConfig>,
     semaphores: Vec<SemaphoreConfig>,
-    init: Vec<Call>,
+    init: Vec<Step>,
 }
 
 impl Model for Table {
@@ -31,7 +33,7 @@ impl Table {
         limit: u32,
         processes: Vec<ProcessConfig>,
         semaphores: Vec<SemaphoreConfig>,
-        init: Vec<Call>,
+        init: Vec<Step>,
     ) -> Table
         requires { IsLawful (record { cores = cores; limit = limit; processes = processes.items; semaphores = semaphores.items; init = init.items }) }
         ensures { result ≡ record { cores = cores; limit = limit; processes = processes.items; semaphores = semaphores.items; init = init.items } }
@@ -93,11 +95,25 @@ impl Table {
         &self.semaphores[id.place()]
     }
 
-    /// The step at this place of the init list, counted from 0, or none past its end.
+    /// The call of the step at this place of the init list, counted from 0, or none past its end.
     pub fn init_call(&self, place: usize) -> Option<Call>
-        ensures { result ≡ slice_get self.now.init place }
+        ensures { result ≡ call_in self.now.init place }
     {
-        self.init.get(place).copied()
+        call_in(&self.init, place)
+    }
+
+    /// The literal of the step of this origin, which has no byte where no step stands there.
+    pub fn literal(&self, origin: Origin) -> &[u8]
+        ensures value { result.now ≡ literal_text self.now origin }
+        ensures range { length result.now ≤ most_literal }
+    {
+        match origin {
+            Origin::Init(place) => literal_in(&self.init, usize::from(place)),
+            Origin::Script(process, place) => match self.processes.get(process.place()) {
+                Some(process) => process.literal(usize::from(place)),
+                None => &[],
+            },
+        }
     }
 
     /// Hands to the caller what holds of every accepted table.

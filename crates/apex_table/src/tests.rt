@@ -328,8 +328,8 @@ fn an_accepted_table_is_read_field_by_field(rt: HostRuntime) -> Result<(), Fail>
         assert_eq!(rt; process.core().number(), place);
         assert!(rt; process.starts() && !process.loops());
         assert_eq!(rt; process.step_count(), 1);
-        assert_eq!(rt; process.step(0), Some(Call::Semaphore(step)));
-        assert_eq!(rt; process.step(1), None);
+        assert_eq!(rt; process.call(0), Some(Call::Semaphore(step)));
+        assert_eq!(rt; process.call(1), None);
     }
     let semaphore = table.semaphore(s);
     assert_eq!(rt; semaphore.name().as_bytes(), b"S".as_slice());
@@ -376,7 +376,7 @@ fn defaults_are_given_where_a_key_is_absent(rt: HostRuntime) -> Result<(), Fail>
     assert_eq!(rt; process.core().number(), 0);
     assert!(rt; !process.starts());
     assert_eq!(rt;
-        process.step(0),
+        process.call(0),
         Some(Call::Process(ProcessCall::Own(ProcessId::at(0), ProcessService::Start)))
     );
     assert!(rt; table.init_call(2).is_some() && table.init_call(3).is_none());

@@ -9,8 +9,8 @@ use Rattle.apex_types.specs.Table.{Table, no_process}
 use Rattle.apex_types.specs.Running.{is_eligible}
 use Rattle.apex_types.specs.Stamps.{newest, readied, awake, unsuspended, is_by_itself, resume, advance_to, without_due_of, take_due, set_mode}
 use Rattle.apex_types.specs.Distinct.{IsStamped}
-use Rattle.apex_types.specs.Dues.{is_due_at, by_number, first_due}
-use Rattle.apex_types.proofs.Choice.{place_within}
+use Rattle.apex_types.specs.Dues.{first_due}
+use Rattle.apex_types.proofs.Dues.{first_due_within}
 use Rattle.apex_types.proofs.Places.{length-map_places, get_or-map_places}
 use Rattle.apex_types.proofs.Rosters.{changes_record, changes_newest, at_record, at_newest}
 
@@ -123,7 +123,7 @@ stamped_due_of roster stamped (Some p) known = stamped_record roster p (known p 
 
 pub stamped_take_due : (roster : Roster) → IsStamped roster → IsStamped (take_due roster)
 stamped_take_due roster stamped =
-    stamped_due_of roster stamped (first_due roster) (place_within (is_due_at roster.now) by_number roster.records)
+    stamped_due_of roster stamped (first_due roster) (first_due_within roster)
 
 opening_since : (table : Table) (p : ℕ) → p < length table.processes → (record_at (opening_roster table) p).since ≡ pos (p + 1)
 opening_since table p within =

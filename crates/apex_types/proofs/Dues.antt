@@ -1,15 +1,16 @@
 -- Laws of the dues: the next instant is the least of them, who is due first has the lowest number, and
 -- no due is passed over by time that goes no further than the next instant.
-use Rattle.std.proofs.Common.{◌≡◌, ◌≢◌, ℕ, zero, suc, ◌+◌, ◌≤◌, ◌<◌, ◌⊎◌, inl, inr, true, false, min, List, [], ◌∷◌, length, get_or, Option, None, Some, refl, sym, ◌∙◌, ap, arith}
-use Rattle.std.proofs.lemmas.Bool.{eqb-true, eq-eqb, cases_lt, both_ways}
+use Rattle.std.proofs.Common.{◌≡◌, ◌≢◌, ℕ, zero, suc, ◌+◌, ◌≤◌, ◌<◌, ◌⊎◌, inl, inr, Bool, true, false, not, min, List, [], ◌∷◌, length, get_or, position, Option, None, Some, refl, sym, ◌∙◌, ap, arith}
+use Rattle.std.specs.List.{position_or_len}
+use Rattle.std.proofs.lemmas.Bool.{eqb-true, eq-eqb, cases_lt, both_ways, lt-ltb, not-true}
+use Rattle.std.proofs.lemmas.List.Quantifiers.{position-Some}
+use Rattle.std.proofs.lemmas.List.Sums.{prefix_len_passes}
 use Rattle.std.proofs.lemmas.Option.{none-some, same_Some}
 use Rattle.apex_types.specs.Terms.{Record, Timeout}
 use Rattle.apex_types.specs.Roster.{Roster, nobody, record_at}
 use Rattle.apex_types.specs.declared.calls.Timeout.TheVariants.{Poll, Ticks, Infinite}
-use Rattle.apex_types.specs.Dues.{sooner, earliest_due, next_instant, is_instant, is_due_at, by_number, first_due, due_after, IsFrom, HasNoDueBelow, HasNoPastDue}
+use Rattle.apex_types.specs.Dues.{sooner, earliest_due, next_instant, is_instant, is_due_at, first_due, due_after, IsFrom, HasNoDueBelow, HasNoPastDue}
 use Rattle.apex_types.specs.Ticks.{not_beyond, tick_goal}
-use Rattle.apex_types.proofs.Choice.{place_first, place_none, place_passes, place_within}
-use Rattle.apex_types.proofs.Orders.{number_strict}
 
 -- the sooner of two is no later than the one
 sooner_than_one : (one other : Option ℕ) (u : ℕ) → one ≡ Some u → (t : ℕ) × (sooner one other ≡ Some t) × (t ≤ u)
@@ -129,23 +130,37 @@ due_within [] p u e = absurd (none-some u e)
 due_within (r ∷ rs) zero u e = omega arith
 due_within (r ∷ rs) (suc p) u e = omega (arith, due_within rs p u e)
 
+-- where no first place passes, no record does
+position_none : (passes : Record → Bool) (rs : List Record) → position passes rs ≡ None
+    → (q : ℕ) → q < length rs → passes (get_or rs q nobody) ≡ false
+position_none passes rs e q within =
+    elim (cases_lt (position_or_len passes rs) (length rs)) [
+      | inl below ↦ absurd (none-some _ (sym (rw (lt-ltb _ _ below) at e)))
+      | inr beyond ↦ not-true _ (prefix_len_passes (λ r. not (passes r)) rs q nobody (omega (arith, within, beyond)))
+    ]
+
+-- who is due first is one of the processes, its due is now, and whoever is before it is not due now
+due_first : (roster : Roster) (p : ℕ) → first_due roster ≡ Some p → (p < length roster.records)
+    × (is_due_at roster.now (record_at roster p) ≡ true)
+    × ((q : ℕ) → q < p → is_due_at roster.now (record_at roster q) ≡ false)
+due_first roster p e = position-Some (is_due_at roster.now) roster.records p nobody e
+
 -- who is due first is due now
 pub first_due_now : (roster : Roster) (p : ℕ) → first_due roster ≡ Some p → (record_at roster p).due ≡ Some roster.now
 unfolding is_due_at
-first_due_now roster p e =
-    due_of_test roster.now (record_at roster p).due (place_passes (is_due_at roster.now) by_number roster.records p nobody e)
+first_due_now roster p e = due_of_test roster.now (record_at roster p).due (due_first roster p e).1
 
 -- who is due first is one of the processes
 pub first_due_within : (roster : Roster) (p : ℕ) → first_due roster ≡ Some p → p < length roster.records
-first_due_within roster p e = place_within (is_due_at roster.now) by_number roster.records p e
+first_due_within roster p e = (due_first roster p e).0
 
 -- whoever is due now has no lower number than who is due first
 pub first_due_lowest : (roster : Roster) (p q : ℕ) → first_due roster ≡ Some p → (record_at roster q).due ≡ Some roster.now → p ≤ q
 unfolding is_due_at
 first_due_lowest roster p q e due =
-    let is = place_first (is_due_at roster.now) by_number roster.records number_strict p e in
     elim (cases_lt q p) [
-      | inl below ↦ absurd (both_ways false refl (is.first q below (test_of_due roster.now (record_at roster q).due due)))
+      | inl below ↦
+          absurd (both_ways _ ((due_first roster p e).2 q below) (test_of_due roster.now (record_at roster q).due due))
       | inr above ↦ above
     ]
 
@@ -153,6 +168,5 @@ first_due_lowest roster p q e due =
 pub first_due_none : (roster : Roster) → first_due roster ≡ None → (q : ℕ) → (record_at roster q).due ≢ Some roster.now
 unfolding is_due_at
 first_due_none roster e q due =
-    let nobody_is = place_none (is_due_at roster.now) by_number roster.records number_strict e in
-    both_ways _ (nobody_is.none q (due_within roster.records q roster.now due))
+    both_ways _ (position_none (is_due_at roster.now) roster.records e q (due_within roster.records q roster.now due))
     (test_of_due roster.now (record_at roster q).due due)

@@ -1,5 +1,5 @@
 -- Changes of several processes, one after the other.
-use Rattle.std.proofs.Common.{◌≡◌, ℕ, zero, suc, List, [], ◌++◌, Option, None, Some, refl, sym, ap, append-nil, append_assoc}
+use Rattle.std.proofs.Common.{◌≡◌, ℕ, zero, suc, List, ◌++◌, Option, None, Some, refl, append-nil, append_assoc}
 use Rattle.apex_types.specs.Terms.{Notice}
 use Rattle.apex_types.specs.Roster.{Roster}
 use Rattle.apex_types.specs.InTurn.{Changed, unchanged, behind, next_and, in_turn}

@@ -1,6 +1,6 @@
 -- The orders of records are strict weak ones: they rank records. Where no two stamps are the same, the two
 -- by stamps are total.
-use Rattle.std.proofs.Common.{◌≡◌, ◌≢◌, true, false, refl, arith}
+use Rattle.std.proofs.Common.{◌≡◌, ◌≢◌, true, false, arith}
 use Rattle.std.specs.Cmp.{IsStrictWeakOrder}
 use Rattle.std.proofs.lemmas.Bool.Decides.{nat_tests}
 use Rattle.std.proofs.lemmas.Int.{ints}
@@ -8,7 +8,6 @@ use Rattle.apex_types.specs.Terms.{Discipline, Record}
 use Rattle.apex_types.specs.declared.records.Discipline.TheVariants.{Fifo, Priority}
 use Rattle.apex_types.specs.Waiters.{waits_before}
 use Rattle.apex_types.specs.Running.{is_before, is_older}
-use Rattle.apex_types.specs.Dues.{by_number}
 
 pub older_strict : IsStrictWeakOrder is_older
 older_strict = record {
@@ -32,10 +31,3 @@ before_total r s apart e = grind (arith, ints, nat_tests)
 pub waits_strict : (discipline : Discipline) → IsStrictWeakOrder (waits_before discipline)
 waits_strict Fifo = older_strict
 waits_strict Priority = before_strict
-
--- so is the order in which none comes before another
-pub number_strict : IsStrictWeakOrder by_number
-number_strict = record {
-  one_way = λ r s e. refl;
-  chain = λ r s t e f. refl;
-}

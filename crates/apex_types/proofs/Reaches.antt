@@ -1,10 +1,10 @@
 -- From one roster to another by changes of single processes at one instant: what such changes keep.
-use Rattle.std.proofs.Common.{◌≡◌, ℕ, zero, suc, ◌+◌, ◌<◌, ◌≤◌, ◌≤ℤ◌, pos, ◌+ℤ◌, ◌==◌, ◌||◌, Bool, true, false, List, [], ◌∷◌, ◌++◌, map, get_or, length, Option, None, Some, refl, sym, ◌∙◌, ap, subst, inl, inr, arith, if◌then◌else◌}
+use Rattle.std.proofs.Common.{◌≡◌, ℕ, zero, suc, ◌+◌, ◌<◌, ◌≤◌, ◌≤ℤ◌, pos, ◌+ℤ◌, ◌==◌, ◌||◌, true, false, List, [], ◌∷◌, map, get_or, length, Option, None, Some, refl, sym, ◌∙◌, ap, subst, inl, inr, arith}
 use Rattle.std.proofs.lemmas.Bool.{both_ways, cases_eq, cond_both}
 use Rattle.std.proofs.lemmas.Int.{ints}
 use Rattle.std.proofs.lemmas.List.{length-map, set-set}
-use Rattle.std.proofs.lemmas.Option.{none-some, same_Some}
-use Rattle.apex_types.specs.Terms.{Mode, Notice, Record, Suspender, Wait}
+use Rattle.std.proofs.lemmas.Option.{none-some}
+use Rattle.apex_types.specs.Terms.{Mode, Record, Suspender, Wait}
 use Rattle.apex_types.specs.declared.records.Suspender.TheVariants.{Itself, Other}
 use Rattle.apex_types.specs.declared.records.Wait.TheVariants.{Normal, Start}
 use Rattle.apex_types.specs.Roster.{Roster, nobody, record_at, with_record, is_normal}

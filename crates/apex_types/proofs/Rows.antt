@@ -1,6 +1,6 @@
 -- What holds of a row of the services: of each refusal, by which nothing changes, and of the effect where
 -- no guard holds.
-use Rattle.std.proofs.Common.{◌≡◌, ℕ, Bool, true, false, cond, refl}
+use Rattle.std.proofs.Common.{◌≡◌, ℕ, Bool, false, cond, refl}
 use Rattle.std.proofs.lemmas.Bool.{cond_both}
 use Rattle.apex_types.specs.Terms.{Caller, ReturnCode}
 use Rattle.apex_types.specs.declared.entries.Caller.TheVariants.{Process, Init, Nobody}

@@ -1,6 +1,6 @@
 -- What changes of single processes keep of the order of starts.
-use Rattle.std.proofs.Common.{◌≡◌, ℕ, zero, suc, ◌<◌, ◌≤◌, arith, ◌&&◌, Bool, true, false, Option, None, Some, is_none, length, refl, sym, ◌∙◌, ap, inl, inr}
-use Rattle.std.proofs.lemmas.Bool.{and_parts, both_ways, cases_eq, eqb-true, eq-eqb}
+use Rattle.std.proofs.Common.{◌≡◌, ℕ, zero, suc, ◌<◌, ◌≤◌, arith, ◌&&◌, Bool, true, false, Option, None, Some, is_none, length, refl, sym, ◌∙◌, ap}
+use Rattle.std.proofs.lemmas.Bool.{and_parts, both_ways, eqb-true, eq-eqb}
 use Rattle.std.proofs.lemmas.Option.{none-some}
 use Rattle.apex_types.specs.Terms.{Mode, Queue, Record, Wait}
 use Rattle.apex_types.specs.declared.records.Queue.TheVariants as queues
@@ -11,7 +11,7 @@ use Rattle.apex_types.specs.Stamps.{HasOrderlyStarts, ReadiesNobody, is_free, ma
 use Rattle.apex_types.specs.Callers.{IsReady}
 use Rattle.apex_types.proofs.Rosters.{at_record}
 use Rattle.std.proofs.lemmas.List.{get_or_past, length-set}
-use Rattle.apex_types.specs.Waiters.{is_queue, is_same_queue, queue_of, queue_in, waits_in, waits_before, discipline_of, first_waiter}
+use Rattle.apex_types.specs.Waiters.{is_queue, is_same_queue, queue_in, waits_in, waits_before, discipline_of, first_waiter}
 use Rattle.apex_types.proofs.Choice.{place_passes, place_within}
 
 -- the order of starts, of one record

@@ -1,7 +1,7 @@
 -- What a call names, and what it creates.
 use Rattle.std.specs.Prelude.{ℕ, Bool, true, false, Option, None, Some, ◌==◌}
-use Rattle.apex_types.specs.Terms.{Call, Named, ObjectCall}
-use Rattle.apex_types.specs.declared.calls.Call.TheVariants.{Process, Semaphore}
+use Rattle.apex_types.specs.Terms.{Call, Named, ObjectCall, Origin}
+use Rattle.apex_types.specs.declared.calls.Call.TheVariants.{Partition, Process, Caller, Time, Semaphore}
 use Rattle.apex_types.specs.declared.calls.Named.TheVariants.{Known, Unknown}
 use Rattle.apex_types.specs.declared.calls.ObjectCall.TheVariants.{Create, GetId, GetStatus, Own}
 use Rattle.apex_types.specs.declared.calls.SemaphoreService.TheVariants.{Wait, Signal}
@@ -9,7 +9,7 @@ use Rattle.apex_types.specs.declared.calls.SemaphoreService.TheVariants.{Wait, S
 -- the thing of a name, where an entry has it
 abbrev pub known : {I : Type 0} → Named I → Option I
 known (Known i) = Some i
-known (Unknown name) = None
+known (Unknown origin) = None
 
 -- the thing that the call names, where it is an entry's
 abbrev pub object_of : {I W : Type 0} → ObjectCall I W → Option I
@@ -22,6 +22,26 @@ object_of (Own i service) = Some i
 abbrev pub creation_of : {I W : Type 0} → ObjectCall I W → Option I
 creation_of (Create named) = known named
 creation_of _ = None
+
+-- the origin of the name, where no entry has it
+abbrev pub unknown : {I : Type 0} → Named I → Option Origin
+unknown (Known i) = None
+unknown (Unknown origin) = Some origin
+
+-- the origin of the name that the call gives, where no entry has it
+abbrev pub object_origin : {I W : Type 0} → ObjectCall I W → Option Origin
+object_origin (Create named) = unknown named
+object_origin (GetId named) = unknown named
+object_origin (GetStatus i) = None
+object_origin (Own i service) = None
+
+-- the origin of the literal that the call names, if it names one
+abbrev pub origin_of : Call → Option Origin
+origin_of (Partition call) = None
+origin_of (Process call) = object_origin call
+origin_of (Caller call) = None
+origin_of (Time call) = None
+origin_of (Semaphore call) = object_origin call
 
 -- there is such a place, and it is this one
 abbrev pub is_place : ℕ → Option ℕ → Bool

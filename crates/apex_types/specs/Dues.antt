@@ -1,11 +1,10 @@
 -- When waits end by themselves: the dues of the processes, and the instant at which the next one falls
 -- (this profile).
-use Rattle.std.specs.Prelude.{ℕ, ◌≤◌, ◌+◌, Bool, false, List, [], ◌∷◌, Option, None, Some, ◌==◌, min, ◌^◌, ◌≡◌}
+use Rattle.std.specs.Prelude.{ℕ, ◌≤◌, ◌+◌, Bool, false, List, [], ◌∷◌, Option, None, Some, ◌==◌, min, ◌≡◌, position}
 use Rattle.apex_types.specs.Limits.{latest}
 use Rattle.apex_types.specs.Terms.{Record, Timeout}
 use Rattle.apex_types.specs.declared.calls.Timeout.TheVariants.{Poll, Ticks, Infinite}
 use Rattle.apex_types.specs.Roster.{Roster, record_at}
-use Rattle.apex_types.specs.Choice.{place_of_least}
 
 -- the sooner of two instants
 abbrev pub sooner : Option ℕ → Option ℕ → Option ℕ
@@ -31,13 +30,9 @@ is_instant t (Some u) = t == u
 unfoldable pub is_due_at : ℕ → Record → Bool
 is_due_at t r = is_instant t r.due
 
--- no record comes before another one: of those that pass a test the one of the lowest number is first
-abbrev pub by_number : Record → Record → Bool
-by_number r s = false
-
 -- the process of the lowest number whose due is now
 abbrev pub first_due : Roster → Option ℕ
-first_due roster = place_of_least (is_due_at roster.now) by_number roster.records
+first_due roster = position (is_due_at roster.now) roster.records
 
 -- when a wait that begins now ends by itself
 abbrev pub due_after : Roster → Timeout → Option ℕ

@@ -1,12 +1,12 @@
 -- What a history says: what it created, and how far the init list is.
-use Rattle.std.specs.Prelude.{ℕ, Bool, List, Option, ◌&&◌, count_by, slice_get}
+use Rattle.std.specs.Prelude.{ℕ, Bool, List, Option, ◌&&◌, count_by}
 use Rattle.std.specs.List.{list_any}
 use Rattle.std.specs.Option.{option_and_then}
 use Rattle.apex_types.specs.Terms.{Call, Entry}
 use Rattle.apex_types.specs.Callers.{is_by_init}
 use Rattle.apex_types.specs.Calls.{is_place}
 use Rattle.apex_types.specs.Satisfied.{is_accepted}
-use Rattle.apex_types.specs.Table.{Table}
+use Rattle.apex_types.specs.Table.{Table, call_in}
 
 -- the entry created the i-th of those that this says which calls create
 abbrev pub creates : (Call → Option ℕ) → ℕ → Entry → Bool
@@ -22,4 +22,4 @@ init_count history = count_by (λ (e : Entry). is_by_init e.process) history
 
 -- the next init step: the one after as many as there are entries of the init list
 abbrev pub next_init_call : Table → List Entry → Option Call
-next_init_call table history = slice_get table.init (init_count history)
+next_init_call table history = call_in table.init (init_count history)

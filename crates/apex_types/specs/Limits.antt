@@ -21,6 +21,10 @@ most_steps = 64
 abbrev pub most_init_steps : ℕ
 most_init_steps = 512
 
+-- the bytes of a step's literal
+abbrev pub most_literal : ℕ
+most_literal = 64
+
 -- the entries of a history
 abbrev pub most_entries : ℕ
 most_entries = 65536

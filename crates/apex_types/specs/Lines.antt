@@ -1,6 +1,6 @@
 -- The lines of a history: what is printed of each entry (this profile).
 use Rattle.std.specs.Prelude.{ℕ, ◌+◌, List, ◌++◌, flat_map, Option, None, Some, IfSome, codes, decimal}
-use Rattle.apex_types.specs.Terms.{Call, Caller, CallerCall, Entry, Named, Notice, ObjectCall, PartitionCall, ProcessService, Reply, RequestedMode, ReturnCode, SemaphoreService, TimeCall, Timeout, Who}
+use Rattle.apex_types.specs.Terms.{Call, Caller, CallerCall, Entry, Named, Notice, ObjectCall, Origin, PartitionCall, ProcessService, Reply, RequestedMode, ReturnCode, SemaphoreService, TimeCall, Timeout, Who}
 use Rattle.apex_types.specs.declared.calls.Call.TheVariants.{Partition, Process, Caller as ToCaller, Time, Semaphore}
 use Rattle.apex_types.specs.declared.calls.CallerCall.TheVariants.{StopSelf, SuspendSelf, GetMyId, GetMyProcessorCoreId}
 use Rattle.apex_types.specs.declared.calls.Named.TheVariants.{Known, Unknown}
@@ -16,7 +16,7 @@ use Rattle.apex_types.specs.declared.entries.Notice.TheVariants.{Woken, Released
 use Rattle.apex_types.specs.declared.entries.Reply.TheVariants.{Code, Value, Status, Blocked, Gone, Idle as IdleTurn, Advanced}
 use Rattle.apex_types.specs.declared.entries.ReturnCode.TheVariants.{NoError, NoAction, NotAvailable, InvalidParam, InvalidConfig, InvalidMode, TimedOut}
 use Rattle.apex_types.specs.declared.entries.Who.TheVariants.{Core, Ticker}
-use Rattle.apex_types.specs.Table.{Table, process_config, semaphore_config, IsKnown}
+use Rattle.apex_types.specs.Table.{Table, process_config, semaphore_config, literal_text, IsKnown}
 
 -- the id of a process as users see it: its place in the table, counted from 1
 abbrev pub id_text : ℕ → List ℕ
@@ -56,17 +56,19 @@ abbrev pub partition_call_text : PartitionCall → List ℕ
 partition_call_text (SetPartitionMode mode) = codes "SET_PARTITION_MODE " ++ mode_text mode
 partition_call_text GetPartitionStatus = codes "GET_PARTITION_STATUS"
 
--- the name that a step gives; names are those that the table gives
-abbrev pub named_text : (ℕ → List ℕ) → Named ℕ → List ℕ
-named_text names (Known i) = names i
-named_text names (Unknown name) = name
+-- the name that a step gives; names are those that the table gives, literals those of its steps
+abbrev pub named_text : (ℕ → List ℕ) → (Origin → List ℕ) → Named ℕ → List ℕ
+named_text names literals (Known i) = names i
+named_text names literals (Unknown origin) = literals origin
 
 -- a step about one thing of a kind, which has this word; own is the text of the kind's own services
-abbrev pub object_call_text : {W : Type 0} → List ℕ → (ℕ → List ℕ) → (List ℕ → W → List ℕ) → ObjectCall ℕ W → List ℕ
-object_call_text word names own (Create named) = codes "CREATE_" ++ word ++ codes " " ++ named_text names named
-object_call_text word names own (GetId named) = codes "GET_" ++ word ++ codes "_ID " ++ named_text names named
-object_call_text word names own (GetStatus i) = codes "GET_" ++ word ++ codes "_STATUS " ++ names i
-object_call_text word names own (Own i service) = own (names i) service
+abbrev pub object_call_text : {W : Type 0} → List ℕ → (ℕ → List ℕ) → (Origin → List ℕ) → (List ℕ → W → List ℕ) → ObjectCall ℕ W → List ℕ
+object_call_text word names literals own (Create named) =
+    codes "CREATE_" ++ word ++ codes " " ++ named_text names literals named
+object_call_text word names literals own (GetId named) =
+    codes "GET_" ++ word ++ codes "_ID " ++ named_text names literals named
+object_call_text word names literals own (GetStatus i) = codes "GET_" ++ word ++ codes "_STATUS " ++ names i
+object_call_text word names literals own (Own i service) = own (names i) service
 
 -- a service for the process of this name
 abbrev pub process_service_text : List ℕ → ProcessService → List ℕ
@@ -100,11 +102,11 @@ semaphore_service_text name Signal = codes "SIGNAL_SEMAPHORE " ++ name
 abbrev pub call_text : Table → Call → List ℕ
 call_text table (Partition call) = partition_call_text call
 call_text table (Process call) =
-    object_call_text (codes "PROCESS") (process_name table) process_service_text call
+    object_call_text (codes "PROCESS") (process_name table) (literal_text table) process_service_text call
 call_text table (ToCaller call) = caller_call_text call
 call_text table (Time call) = time_call_text call
 call_text table (Semaphore call) =
-    object_call_text (codes "SEMAPHORE") (semaphore_name table) semaphore_service_text call
+    object_call_text (codes "SEMAPHORE") (semaphore_name table) (literal_text table) semaphore_service_text call
 
 -- what stands in the place of a step: how many ticks were asked for, or nothing at an idle turn
 abbrev pub no_call_text : Reply → List ℕ

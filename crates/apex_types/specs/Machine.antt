@@ -1,6 +1,6 @@
 -- The machine: what each event does to a partition. It has records, a history, and the records after
 -- each entry.
-use Rattle.std.specs.Prelude.{ℕ, ◌+◌, ◌-◌, List, [], ◌∷◌, ◌++◌, length, map, Option, None, Some, ◌==◌, nat_lt, ◌&&◌, slice_get, if◌then◌else◌}
+use Rattle.std.specs.Prelude.{ℕ, ◌+◌, ◌-◌, List, [], ◌∷◌, ◌++◌, length, map, Option, None, Some, ◌==◌, nat_lt, ◌&&◌, if◌then◌else◌}
 use Rattle.apex_types.specs.Terms.{Call, Caller, Entry, Event, Reply, Who}
 use Rattle.apex_types.specs.declared.calls.Call.TheVariants.{Partition, Process as ToProcess, Caller as ToCaller, Time, Semaphore}
 use Rattle.apex_types.specs.declared.calls.CallerCall.TheVariants.{StopSelf}
@@ -8,7 +8,7 @@ use Rattle.apex_types.specs.declared.entries.Caller.TheVariants.{Process, Init, 
 use Rattle.apex_types.specs.declared.entries.Event.TheVariants.{Turn, Tick}
 use Rattle.apex_types.specs.declared.entries.Reply.TheVariants.{Idle, Advanced}
 use Rattle.apex_types.specs.declared.entries.Who.TheVariants.{Core, Ticker}
-use Rattle.apex_types.specs.Table.{Table, ProcessConfig, process_config}
+use Rattle.apex_types.specs.Table.{Table, ProcessConfig, process_config, call_in}
 use Rattle.apex_types.specs.Roster.{Roster, record_at, is_cold_start, opening_roster}
 use Rattle.apex_types.specs.Running.{chosen}
 use Rattle.apex_types.specs.Stamps.{set_step}
@@ -79,9 +79,9 @@ script_deed table roster objects p (Some call) =
     let next = next_place (process_config table p) (record_at roster p).step in
     served (set_step roster p next) objects (Process p) call
 
--- the step of process p
+-- the call of the step of process p
 abbrev pub step_of : Table → Roster → ℕ → Option Call
-step_of table roster p = slice_get (process_config table p).script (record_at roster p).step
+step_of table roster p = call_in (process_config table p).script (record_at roster p).step
 
 -- the chosen process carries out its step; where there is none the turn is idle
 abbrev pub chosen_deed : Table → Roster → Objects → Option ℕ → Deed

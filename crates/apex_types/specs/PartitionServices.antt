@@ -1,11 +1,11 @@
 -- The services of partition management, row by row (ARINC 653 Part 1, partition management; the
 -- order of releases is this profile's).
-use Rattle.std.specs.Prelude.{ℕ, List, [], ◌∷◌, length, map, Option, Some, if◌then◌else◌}
-use Rattle.apex_types.specs.Terms.{Mode, Notice, PartitionCall, Reply, RequestedMode, Wait}
+use Rattle.std.specs.Prelude.{ℕ, [], ◌∷◌, length, map, Option, Some}
+use Rattle.apex_types.specs.Terms.{Mode, PartitionCall, RequestedMode, Wait}
 use Rattle.apex_types.specs.declared.calls.PartitionCall.TheVariants.{SetPartitionMode, GetPartitionStatus}
 use Rattle.apex_types.specs.declared.calls.RequestedMode.TheVariants as requested
-use Rattle.apex_types.specs.declared.entries.Reply.TheVariants.{Code, Status, Gone}
-use Rattle.apex_types.specs.declared.entries.ReturnCode.TheVariants.{NoError, NoAction}
+use Rattle.apex_types.specs.declared.entries.Reply.TheVariants.{Status, Gone}
+use Rattle.apex_types.specs.declared.entries.ReturnCode.TheVariants.{NoAction}
 use Rattle.apex_types.specs.declared.records.Mode.TheVariants as mode
 use Rattle.apex_types.specs.declared.records.Queue.TheVariants as queues
 use Rattle.apex_types.specs.declared.records.Wait.TheVariants as wait

@@ -1,7 +1,7 @@
 -- The services of process management for a process that is named, row by row: the first guard that
 -- holds answers and changes nothing (ARINC 653 Part 1, process management; the guards are this
 -- profile's).
-use Rattle.std.specs.Prelude.{ℕ, Bool, true, false, List, [], ◌∷◌, ◌++◌, nat_le, nat_lt, is_none, is_some, not, ◌&&◌, if◌then◌else◌}
+use Rattle.std.specs.Prelude.{ℕ, Bool, true, false, List, [], ◌∷◌, nat_le, nat_lt, is_none, is_some, not, ◌&&◌, if◌then◌else◌}
 use Rattle.apex_types.specs.Terms.{Caller, Entry, Notice, ProcessService, Reply, State, Timeout}
 use Rattle.apex_types.specs.declared.calls.ProcessService.TheVariants.{InitializeCoreAffinity, SetPriority, Start, DelayedStart, Stop, Suspend, Resume}
 use Rattle.apex_types.specs.declared.calls.Timeout.TheVariants.{Poll, Ticks, Infinite}

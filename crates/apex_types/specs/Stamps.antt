@@ -1,5 +1,5 @@
 -- How records change and when a process takes a new stamp (this profile).
-use Rattle.std.specs.Prelude.{◌≡◌, ℕ, ◌+◌, Bool, true, false, Option, None, Some, pos, ◌+ℤ◌, ◌<ℤ◌, ◌^◌, ◌==◌, ◌&&◌, ◌||◌, slice_set, if◌then◌else◌}
+use Rattle.std.specs.Prelude.{◌≡◌, ℕ, ◌+◌, Bool, true, false, Option, None, Some, pos, ◌+ℤ◌, ◌<ℤ◌, ◌==◌, ◌&&◌, ◌||◌, slice_set, if◌then◌else◌}
 use Rattle.apex_types.specs.Limits.{most_stamps}
 use Rattle.apex_types.specs.Terms.{Mode, Record, Suspender, Wait}
 use Rattle.apex_types.specs.declared.records.Queue.TheVariants as queues

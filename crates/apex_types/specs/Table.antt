@@ -1,15 +1,22 @@
 -- A partition table as every contract sees it, and what holds of each accepted one.
-use Rattle.std.specs.Prelude.{◌≡◌, ℕ, ◌<◌, ◌≤◌, Bool, true, false, List, [], length, slice_index_or, map, IsTrue}
+use Rattle.std.specs.Prelude.{◌≡◌, ℕ, ◌<◌, ◌≤◌, Bool, true, false, List, [], length, slice_index_or, slice_get, map, Option, None, Some, option_map, IsTrue}
 use Rattle.apex_types.specs.Limits.{most_cores, most_entries, most_init_steps, most_objects, most_priority, most_processes, most_steps, most_value}
 use Rattle.std.specs.List.{IsDistinct}
 use Rattle.std.specs.Str.{bytes_eq}
-use Rattle.apex_types.specs.Terms.{Call, Discipline, Named, ObjectCall}
+use Rattle.apex_types.specs.Terms.{Call, Discipline, Named, ObjectCall, Origin}
 use Rattle.apex_types.specs.declared.calls.Call.TheVariants.{Partition, Process, Caller, Time, Semaphore}
 use Rattle.apex_types.specs.declared.calls.CallerCall.TheVariants.{StopSelf}
 use Rattle.apex_types.specs.declared.calls.Named.TheVariants.{Known, Unknown}
 use Rattle.apex_types.specs.declared.calls.ObjectCall.TheVariants.{Create, GetId, GetStatus, Own}
+use Rattle.apex_types.specs.declared.calls.Origin.TheVariants.{Init, Script}
 use Rattle.apex_types.specs.declared.records.Discipline.TheVariants.{Fifo}
+use Rattle.apex_types.specs.Calls.{origin_of}
 use Rattle.apex_types.specs.Name.{is_name}
+
+-- a step as the table gives it; the literal is what its call names by the step's origin
+pub record Step : Type 0 where
+  pub call : Call
+  pub literal : List ℕ
 
 -- a process as the table gives it
 pub record ProcessConfig : Type 0 where
@@ -18,7 +25,7 @@ pub record ProcessConfig : Type 0 where
   pub core : ℕ
   pub loops : Bool
   pub start : Bool
-  pub script : List Call
+  pub script : List Step
 
 -- a semaphore as the table gives it
 pub record SemaphoreConfig : Type 0 where
@@ -33,7 +40,7 @@ pub record Table : Type 0 where
   pub limit : ℕ
   pub processes : List ProcessConfig
   pub semaphores : List SemaphoreConfig
-  pub init : List Call
+  pub init : List Step
 
 -- an entry that no table has, for a place past the end
 abbrev pub no_process : ProcessConfig
@@ -49,15 +56,27 @@ process_config table p = slice_index_or table.processes p no_process
 abbrev pub semaphore_config : Table → ℕ → SemaphoreConfig
 semaphore_config table s = slice_index_or table.semaphores s no_semaphore
 
--- the step at a place of a script or of an init list, counted from 0; past the end STOP_SELF, the
--- end of every script
-abbrev pub call_at : List Call → ℕ → Call
-call_at steps k = slice_index_or steps k (Caller StopSelf)
+-- what stands past the end of every script: STOP_SELF
+abbrev pub no_step : Step
+no_step = record { call = Caller StopSelf; literal = [] }
+
+-- the step at a place of a script or of an init list, counted from 0
+abbrev pub step_at : List Step → ℕ → Step
+step_at steps k = slice_index_or steps k no_step
+
+-- its call, where there is such a step
+abbrev pub call_in : List Step → ℕ → Option Call
+call_in steps k = option_map (λ (s : Step). s.call) (slice_get steps k)
+
+-- the literal of the step of this origin, which is empty where no step stands there
+abbrev pub literal_text : Table → Origin → List ℕ
+literal_text table (Init k) = (step_at table.init k).literal
+literal_text table (Script p k) = (step_at (process_config table p).script k).literal
 
 -- a name that is an entry's is one of so many
 abbrev pub IsKnownName : ℕ → Named ℕ → Type 0
 IsKnownName many (Known i) = i < many
-IsKnownName many (Unknown name) = Unit {0}
+IsKnownName many (Unknown origin) = Unit {0}
 
 -- the thing that the call names is one of so many
 abbrev pub IsKnownObject : {W : Type 0} → ℕ → ObjectCall ℕ W → Type 0
@@ -74,14 +93,25 @@ IsKnown table (Caller call) = Unit {0}
 IsKnown table (Time call) = Unit {0}
 IsKnown table (Semaphore call) = IsKnownObject (length table.semaphores) call
 
--- what holds of a process of an accepted table
-pub record IsLawfulProcess (table : Table) (entry : ProcessConfig) : Type 0 where
+-- the literal of the step of this origin: a name, where the call names a literal, and then it is this
+-- step's; else nothing
+abbrev pub IsLiteral : Origin → List ℕ → Option Origin → Type 0
+IsLiteral origin literal None = literal ≡ []
+IsLiteral origin literal (Some named) = (named ≡ origin) × IsTrue (is_name literal)
+
+-- what holds of the step of this origin of an accepted table
+pub record IsLawfulStep (table : Table) (origin : Origin) (step : Step) : Type 0 where
+  pub known : IsKnown table step.call
+  pub literal : IsLiteral origin step.literal (origin_of step.call)
+
+-- what holds of the process at place p of an accepted table
+pub record IsLawfulProcess (table : Table) (p : ℕ) (entry : ProcessConfig) : Type 0 where
   pub name : IsTrue (is_name entry.name)
   pub priority : (1 ≤ entry.priority) × (entry.priority ≤ most_priority)
   pub core : entry.core < table.cores
   pub steps : length entry.script ≤ most_steps
   pub looping : entry.loops ≡ true → 1 ≤ length entry.script
-  pub known : (k : ℕ) → k < length entry.script → IsKnown table (call_at entry.script k)
+  pub script : (k : ℕ) → k < length entry.script → IsLawfulStep table (Script p k) (step_at entry.script k)
 
 -- what holds of a semaphore of an accepted table
 pub record IsLawfulSemaphore (entry : SemaphoreConfig) : Type 0 where
@@ -96,8 +126,8 @@ pub record IsLawful (table : Table) : Type 0 where
   pub process_count : (1 ≤ length table.processes) × (length table.processes ≤ most_processes)
   pub semaphore_count : length table.semaphores ≤ most_objects
   pub init_count : length table.init ≤ most_init_steps
-  pub processes : (p : ℕ) → p < length table.processes → IsLawfulProcess table (process_config table p)
+  pub processes : (p : ℕ) → p < length table.processes → IsLawfulProcess table p (process_config table p)
   pub semaphores : (s : ℕ) → s < length table.semaphores → IsLawfulSemaphore (semaphore_config table s)
-  pub init : (k : ℕ) → k < length table.init → IsKnown table (call_at table.init k)
+  pub init : (k : ℕ) → k < length table.init → IsLawfulStep table (Init k) (step_at table.init k)
   pub process_names : IsDistinct bytes_eq (map (λ (e : ProcessConfig). e.name) table.processes)
   pub semaphore_names : IsDistinct bytes_eq (map (λ (e : SemaphoreConfig). e.name) table.semaphores)

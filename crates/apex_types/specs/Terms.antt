@@ -3,6 +3,7 @@ pub use Rattle.apex_types.specs.declared.calls.Call.{Call}
 pub use Rattle.apex_types.specs.declared.calls.CallerCall.{CallerCall}
 pub use Rattle.apex_types.specs.declared.calls.Named.{Named}
 pub use Rattle.apex_types.specs.declared.calls.ObjectCall.{ObjectCall}
+pub use Rattle.apex_types.specs.declared.calls.Origin.{Origin}
 pub use Rattle.apex_types.specs.declared.calls.PartitionCall.{PartitionCall}
 pub use Rattle.apex_types.specs.declared.calls.ProcessService.{ProcessService}
 pub use Rattle.apex_types.specs.declared.calls.RequestedMode.{RequestedMode}

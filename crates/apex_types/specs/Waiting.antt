@@ -1,5 +1,5 @@
 -- How a process that calls begins to wait.
-use Rattle.std.specs.Prelude.{ℕ, []}
+use Rattle.std.specs.Prelude.{ℕ}
 use Rattle.apex_types.specs.Terms.{Timeout, Wait}
 use Rattle.apex_types.specs.declared.calls.Timeout.TheVariants.{Poll, Ticks, Infinite}
 use Rattle.apex_types.specs.declared.entries.Reply.TheVariants.{Blocked}

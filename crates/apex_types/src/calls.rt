@@ -1,8 +1,7 @@
 ghost use Rattle.std.specs.Prelude.{◌≡◌};
-ghost use Rattle.apex_types.specs.Calls.{known, object_of};
+ghost use Rattle.apex_types.specs.Calls.{known, object_of, unknown, object_origin, origin_of};
 
 use crate::identifiers::{ProcessId, SemaphoreId};
-use crate::names::Name;
 
 /// How long a call may wait.
 #[derive(Clone, Copy, Debug, PartialEq, Eq)]
@@ -29,11 +28,21 @@ pub enum PartitionCall {
     GetPartitionStatus,
 }
 
+/// Where a step stands, by its place in its list, counted from 0.
+#[derive(Clone, Copy, Debug, PartialEq, Eq)]
+pub enum Origin {
+    /// In the init list.
+    Init(u16),
+    /// In the script of a process.
+    Script(ProcessId, u8),
+}
+
 /// A thing by the name that a step gives, which need not be an entry's.
 #[derive(Clone, Copy, Debug, PartialEq, Eq)]
 pub enum Named<I> {
     Known(I),
-    Unknown(Name),
+    /// No entry has the name. It is the literal of the step that stands there.
+    Unknown(Origin),
 }
 
 /// A call about one thing of a kind: the three services that each kind has, and those of its own.
@@ -56,6 +65,16 @@ impl<I: Copy> Named<I> {
             Named::Unknown(_) => None,
         }
     }
+
+    /// The origin of the name, where no entry has it.
+    pub fn origin(&self) -> Option<Origin>
+        ensures { result ≡ unknown self.now }
+    {
+        match self {
+            Named::Known(_) => None,
+            Named::Unknown(origin) => Some(*origin),
+        }
+    }
 }
 
 impl<I: Copy, W> ObjectCall<I, W> {
@@ -66,6 +85,16 @@ impl<I: Copy, W> ObjectCall<I, W> {
         match self {
             ObjectCall::Create(named) | ObjectCall::GetId(named) => named.known(),
             ObjectCall::GetStatus(id) | ObjectCall::Own(id, _) => Some(*id),
+        }
+    }
+
+    /// The origin of the name that the call gives, where no entry has it.
+    pub fn origin(&self) -> Option<Origin>
+        ensures { result ≡ object_origin self.now }
+    {
+        match self {
+            ObjectCall::Create(named) | ObjectCall::GetId(named) => named.origin(),
+            ObjectCall::GetStatus(_) | ObjectCall::Own(_, _) => None,
         }
     }
 }
@@ -122,4 +151,17 @@ pub enum Call {
     Caller(CallerCall),
     Time(TimeCall),
     Semaphore(SemaphoreCall),
+}
+
+impl Call {
+    /// The origin of the literal that the call names, if it names one.
+    pub fn origin(&self) -> Option<Origin>
+        ensures { result ≡ origin_of self.now }
+    {
+        match self {
+            Call::Process(call) => call.origin(),
+            Call::Semaphore(call) => call.origin(),
+            Call::Partition(_) | Call::Caller(_) | Call::Time(_) => None,
+        }
+    }
 }

@@ -52,7 +52,7 @@ pub enum Reply {
     /// What the caller asked for: a time in ticks, an id or a core.
     Value(u64),
     /// The two numbers of a status.
-    Status(u64, u64),
+    Status(u32, u32),
     /// The caller waits, or suspended itself; a later `woken` notice has its code.
     Blocked,
     /// The caller is stopped, or the mode is IDLE from now on.

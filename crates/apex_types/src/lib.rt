@@ -11,15 +11,15 @@ mod identifiers;
 mod names;
 mod numbers;
 mod records;
+mod steps;
 
 pub use calls::{
-    Call, CallerCall, Named, ObjectCall, PartitionCall, ProcessCall, ProcessService, RequestedMode,
-    SemaphoreCall, SemaphoreService, TimeCall, Timeout,
+    Call, CallerCall, Named, ObjectCall, Origin, PartitionCall, ProcessCall, ProcessService,
+    RequestedMode, SemaphoreCall, SemaphoreService, TimeCall, Timeout,
 };
-pub use entries::{
-    Caller, Entry, Event, Full, LentEntry, Notice, Notices, Reply, ReturnCode, Who,
-};
+pub use entries::{Caller, Entry, Event, Full, LentEntry, Notice, Notices, Reply, ReturnCode, Who};
 pub use identifiers::{CoreId, Id, ProcessId, ProcessKind, SemaphoreId, SemaphoreKind};
 pub use names::Name;
 pub use numbers::{number, number_at_most};
 pub use records::{Attributes, Discipline, Mode, Queue, Record, State, Suspender, Wait};
+pub use steps::{Literal, Step};

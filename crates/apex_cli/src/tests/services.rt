@@ -1,25 +1,84 @@
-// The services, row by row: the guards from left to right, and then the effect. The name of a case
-// tells its guard. Where two guards hold, the left one answers.
+// The services: `rows` tells for each its guards from left to right and its effects, and which case
+// shows them; the cases stand in a file for each kind. Where two guards hold, the left one answers.
 mod partition;
 mod process;
+mod rows;
 mod semaphore;
 mod time;
 
 use super::outlines::check_outline;
+use rows::ROWS;
 use std::test::Fail;
+
+const CASES: [&[&str]; 4] = [
+    partition::CASES,
+    process::CASES,
+    time::CASES,
+    semaphore::CASES,
+];
 
 #[test]
 fn each_guard_and_each_effect_has_its_reply(rt: HostRuntime) -> Result<(), Fail> {
-    for cases in [
-        partition::CASES,
-        process::CASES,
-        time::CASES,
-        semaphore::CASES,
-    ] {
+    for cases in CASES {
         for text in cases {
             for case in text.split("\ncase ").skip(1) {
                 let (name, outline) = case.split_once('\n').ok_or("a case has no lines")?;
                 check_outline(&rt, rt.alloc(), name, outline)?;
+            }
+        }
+    }
+    Ok(())
+}
+
+/// The name of a case, which stands in its first line: the service, and its guard or its effect.
+fn name_of(case: &str) -> Option<(&str, &str)> {
+    case.lines().next()?.split_once(": ")
+}
+
+fn has_case(service: &str, told: &str) -> bool {
+    for cases in CASES {
+        for text in cases {
+            for case in text.split("\ncase ").skip(1) {
+                if name_of(case) == Some((service, told)) {
+                    return true;
+                }
+            }
+        }
+    }
+    false
+}
+
+fn stands_in_a_row(case: &str) -> bool {
+    let Some((service, told)) = name_of(case) else {
+        return false;
+    };
+    for row in ROWS {
+        if row.service == service && (row.guards.contains(&told) || row.effects.contains(&told)) {
+            return true;
+        }
+    }
+    false
+}
+
+#[test]
+fn each_guard_and_each_effect_has_its_case(rt: HostRuntime) -> Result<(), Fail> {
+    for row in ROWS {
+        for told in row.guards {
+            assert!(rt; has_case(row.service, told), "{}: {told}", row.service);
+        }
+        for told in row.effects {
+            assert!(rt; has_case(row.service, told), "{}: {told}", row.service);
+        }
+    }
+    Ok(())
+}
+
+#[test]
+fn each_case_stands_in_its_row(rt: HostRuntime) -> Result<(), Fail> {
+    for cases in CASES {
+        for text in cases {
+            for case in text.split("\ncase ").skip(1) {
+                assert!(rt; stands_in_a_row(case), "{case}");
             }
         }
     }

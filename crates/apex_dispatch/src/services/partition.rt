@@ -119,7 +119,7 @@ fn set_partition_mode<S: Store>(
 }
 
 /// The number of a mode (ARINC 653 Part 1).
-fn mode_number(mode: Mode) -> u64
+fn mode_number(mode: Mode) -> u32
     ensures { result ≡ services.mode_number mode }
 {
     match mode {
@@ -149,7 +149,7 @@ pub(crate) fn serve<S: Store>(
             set_partition_mode(store, objects, *requested, notices)
         }
         PartitionCall::GetPartitionStatus => {
-            Reply::Status(mode_number(store.mode()), u64::from(store.cores()))
+            Reply::Status(mode_number(store.mode()), u32::from(store.cores()))
         }
     }
 }

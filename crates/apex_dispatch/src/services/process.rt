@@ -43,7 +43,7 @@ fn is_by_process(process: ProcessId, caller: &Caller) -> bool
 }
 
 /// The number of a state (ARINC 653 Part 1).
-fn state_number(state: State) -> u64
+fn state_number(state: State) -> u32
     ensures { result ≡ services.state_number state }
 {
     match state {
@@ -235,7 +235,7 @@ impl Object for ProcessObject {
         ensures { result ≡ services.process_status (S.roster store.now) self.now id }
     {
         let state = state_number(store.state(id));
-        Reply::Status(state, u64::from(store.record(id).current_priority()))
+        Reply::Status(state, u32::from(store.record(id).current_priority()))
     }
 
     fn serve<S: Store>(

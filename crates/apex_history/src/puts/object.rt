@@ -1,9 +1,9 @@
 ghost use Rattle.std.specs.Prelude.{◌≡◌, ◌+◌, ◌<◌, ◌≤◌, ◌++◌, ℕ, List, length, codes};
 ghost use Rattle.arrayvec.specs.ArrayVec.{array_vec_len};
-ghost use Rattle.apex_types.specs.Table.{IsKnownName, IsKnownObject};
+ghost use Rattle.apex_types.specs.Table.{IsKnownName, IsKnownObject, literal_text};
 ghost use Rattle.apex_types.specs.Lines.{named_text, object_call_text};
 
-use super::{Line, put, put_name};
+use super::{Line, put, put_bytes, put_name};
 use apex_table::Table;
 use apex_types::{Id, Name, Named, ObjectCall};
 
@@ -42,13 +42,13 @@ pub(super) trait Kind: Copy {
 // The name that a step gives.
 fn put_named<K: Kind>(line: &mut Line, table: &Table, named: &Named<Id<K>>)
     requires known { IsKnownName (K.count table.now) named.now }
-    requires room { array_vec_len line.old + 30 ≤ 4096 }
-    ensures text { line.new.items ≡ line.old.items ++ named_text (K.names table.now) named.now }
-    ensures short { array_vec_len line.new ≤ array_vec_len line.old + 30 }
+    requires room { array_vec_len line.old + 64 ≤ 4096 }
+    ensures text { line.new.items ≡ line.old.items ++ named_text (K.names table.now) (literal_text table.now) named.now }
+    ensures short { array_vec_len line.new ≤ array_vec_len line.old + 64 }
 {
     match named {
         Named::Known(id) => put_name(line, K::name(table, *id)),
-        Named::Unknown(name) => put_name(line, name),
+        Named::Unknown(origin) => put_bytes(line, table.literal(*origin)),
     }
 }
 
@@ -60,9 +60,9 @@ pub(super) fn put_object_call<K: Kind>(
     call: &ObjectCall<Id<K>, K::Service>,
 )
     requires known { IsKnownObject (K.count table.now) call.now }
-    requires room { array_vec_len line.old + 80 ≤ 4096 }
-    ensures text { line.new.items ≡ line.old.items ++ object_call_text K.word (K.names table.now) K.own call.now }
-    ensures short { array_vec_len line.new ≤ array_vec_len line.old + 80 }
+    requires room { array_vec_len line.old + 128 ≤ 4096 }
+    ensures text { line.new.items ≡ line.old.items ++ object_call_text K.word (K.names table.now) (literal_text table.now) K.own call.now }
+    ensures short { array_vec_len line.new ≤ array_vec_len line.old + 128 }
 {
     match call {
         ObjectCall::Create(named) => {

@@ -2,7 +2,7 @@ use super::{called, of_process, paper, print};
 use crate::Counted;
 use apex_table::read_table;
 use apex_types::{
-    Call, CallerCall, CoreId, Name, Named, Notice, PartitionCall, ProcessCall, ProcessId,
+    Call, CallerCall, CoreId, Named, Notice, Origin, PartitionCall, ProcessCall, ProcessId,
     ProcessService, Reply, RequestedMode, ReturnCode, SemaphoreCall, SemaphoreId, Timeout, Who,
 };
 use std::test::Fail;
@@ -13,7 +13,7 @@ cores = 2
 [[process]]
 name = "P1"
 priority = 10
-script = []
+script = ["CREATE_PROCESS ->", "GET_SEMAPHORE_ID P1~~~~~~~~~~~~~~~~~~~~~~~~~~!!"]
 
 [[process]]
 name = "P2"
@@ -65,12 +65,9 @@ const SEMAPHORE_NAMES: &str = "\
 12 0 core0 1 GET_SEMAPHORE_ID P1~~~~~~~~~~~~~~~~~~~~~~~~~~!! -> INVALID_CONFIG
 ";
 
-// A name that no entry of the table has.
-fn unknown(text: &str) -> Result<Name, Fail> {
-    let Some(name) = Name::from_bytes(text.as_bytes()) else {
-        return Err(Fail::from("the text is a name"));
-    };
-    Ok(name)
+// Where this step of P1 stands, which gives a name that no entry of the table has.
+fn of_p1(place: u8) -> Origin {
+    Origin::Script(ProcessId::at(0), place)
 }
 
 #[test]
@@ -159,20 +156,18 @@ fn statuses_and_the_idle_mode(rt: HostRuntime) -> Result<(), Fail> {
 fn names_of_processes(rt: HostRuntime) -> Result<(), Fail> {
     let table = read_table(rt.alloc(), TABLE.as_bytes())?;
     assert_eq!(rt; table.process_count(), 2);
-    let p1 = ProcessId::at(0);
-    let p2 = Named::Known(ProcessId::at(1));
-    let nobody = Named::Unknown(unknown("->")?);
+    let (p1, p2) = (ProcessId::at(0), ProcessId::at(1));
     let refused = Reply::Code(ReturnCode::InvalidMode);
     let mut paper = paper(rt, 1024, 0)?;
     let mut writer = Counted::new(&mut paper);
 
-    let create = Call::Process(ProcessCall::Create(p2));
+    let create = Call::Process(ProcessCall::Create(Named::Known(p2)));
     print(&table, &called(9, 0, p1, create, refused), &mut writer)?;
-    let create = Call::Process(ProcessCall::Create(nobody));
+    let create = Call::Process(ProcessCall::Create(Named::Unknown(of_p1(0))));
     print(&table, &called(10, 0, p1, create, refused), &mut writer)?;
-    let id = Call::Process(ProcessCall::GetId(p2));
+    let id = Call::Process(ProcessCall::GetId(Named::Known(p2)));
     print(&table, &called(11, 0, p1, id, Reply::Value(2)), &mut writer)?;
-    let id = Call::Process(ProcessCall::GetId(nobody));
+    let id = Call::Process(ProcessCall::GetId(Named::Unknown(of_p1(0))));
     let absent = Reply::Code(ReturnCode::InvalidConfig);
     print(&table, &called(12, 0, p1, id, absent), &mut writer)?;
 
@@ -185,19 +180,18 @@ fn names_of_semaphores(rt: HostRuntime) -> Result<(), Fail> {
     let table = read_table(rt.alloc(), TABLE.as_bytes())?;
     assert_eq!(rt; table.semaphore_count(), 1);
     let p1 = ProcessId::at(0);
-    let s = Named::Known(SemaphoreId::at(0));
-    let none = Named::Unknown(unknown("P1~~~~~~~~~~~~~~~~~~~~~~~~~~!!")?);
+    let s = SemaphoreId::at(0);
     let refused = Reply::Code(ReturnCode::InvalidMode);
     let mut paper = paper(rt, 1024, 0)?;
     let mut writer = Counted::new(&mut paper);
 
-    let create = Call::Semaphore(SemaphoreCall::Create(s));
+    let create = Call::Semaphore(SemaphoreCall::Create(Named::Known(s)));
     print(&table, &called(9, 0, p1, create, refused), &mut writer)?;
-    let create = Call::Semaphore(SemaphoreCall::Create(none));
+    let create = Call::Semaphore(SemaphoreCall::Create(Named::Unknown(of_p1(1))));
     print(&table, &called(10, 0, p1, create, refused), &mut writer)?;
-    let id = Call::Semaphore(SemaphoreCall::GetId(s));
+    let id = Call::Semaphore(SemaphoreCall::GetId(Named::Known(s)));
     print(&table, &called(11, 0, p1, id, Reply::Value(1)), &mut writer)?;
-    let id = Call::Semaphore(SemaphoreCall::GetId(none));
+    let id = Call::Semaphore(SemaphoreCall::GetId(Named::Unknown(of_p1(1))));
     let absent = Reply::Code(ReturnCode::InvalidConfig);
     print(&table, &called(12, 0, p1, id, absent), &mut writer)?;
 

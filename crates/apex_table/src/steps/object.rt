@@ -11,7 +11,7 @@ use crate::fault::{Place, TableFault};
 use crate::keys::well_formed;
 use crate::named::{Named, place_of};
 use crate::steps::words::entry_of;
-use apex_types::{Id, ObjectCall};
+use apex_types::{Id, ObjectCall, Origin};
 
 /// The services of a kind of things, as steps ask for them.
 pub trait Services {
@@ -49,19 +49,20 @@ fn is_service(service: &str, before: &str, word: &str, after: &str) -> bool
     }
 }
 
-/// A thing by any name.
+/// A thing by any name, in the step of this origin.
 fn named<T: Named, K>(
     at: Place,
+    origin: Origin,
     entries: &[T],
     name: &str,
 ) -> Result<apex_types::Named<Id<K>>, TableFault>
     requires { length entries.now ≤ most_processes }
-    ensures { Gives (λ n. n) result (named at (map T.name_of entries.now) name.now) }
+    ensures { Gives (λ n. n) result (named at origin (map T.name_of entries.now) name.now) }
 {
     let name = well_formed(at, name)?;
     match place_of(entries, name.as_bytes()) {
         Some(place) => Ok(apex_types::Named::Known(Id::at(place as u8))),
-        None => Ok(apex_types::Named::Unknown(name)),
+        None => Ok(apex_types::Named::Unknown(origin)),
     }
 }
 
@@ -77,22 +78,23 @@ fn thing<T: Named, K>(at: Place, entries: &[T], name: &str) -> Result<Id<K>, Tab
 #[tactic(auto, unfolding(crate::specs::ObjectSteps::common_call))]
 fn common_call<T: Named, K: Services>(
     at: Place,
+    origin: Origin,
     entries: &[T],
     service: &str,
     name: &str,
     words: &[&str],
 ) -> Result<Option<ObjectCall<Id<K>, K::Own>>, TableFault>
     requires { length entries.now ≤ most_processes }
-    ensures { Gives (λ c. c) result (common_call at K.word (map T.name_of entries.now) service.now name.now (map (λ w. w.now) words.now)) }
+    ensures { Gives (λ c. c) result (common_call at origin K.word (map T.name_of entries.now) service.now name.now (map (λ w. w.now) words.now)) }
 {
     if !words.is_empty() {
         return Ok(None);
     }
     if is_service(service, "CREATE_", K::word(), "") {
-        return Ok(Some(ObjectCall::Create(named(at, entries, name)?)));
+        return Ok(Some(ObjectCall::Create(named(at, origin, entries, name)?)));
     }
     if is_service(service, "GET_", K::word(), "_ID") {
-        return Ok(Some(ObjectCall::GetId(named(at, entries, name)?)));
+        return Ok(Some(ObjectCall::GetId(named(at, origin, entries, name)?)));
     }
     if is_service(service, "GET_", K::word(), "_STATUS") {
         return Ok(Some(ObjectCall::GetStatus(thing(at, entries, name)?)));
@@ -123,16 +125,17 @@ fn own_call<T: Named, K, W: Copy>(
 /// The call of a step's words, none where they are no step of the kind.
 pub fn object_call<T: Named, K: Services>(
     at: Place,
+    origin: Origin,
     entries: &[T],
     words: &[&str],
 ) -> Result<Option<ObjectCall<Id<K>, K::Own>>, TableFault>
     requires { length entries.now ≤ most_processes }
-    ensures { Gives (λ c. c) result (object_call at K.word (map T.name_of entries.now) (K.own at) (map (λ w. w.now) words.now)) }
+    ensures { Gives (λ c. c) result (object_call at origin K.word (map T.name_of entries.now) (K.own at) (map (λ w. w.now) words.now)) }
 {
     let [service, name, words @ ..] = words else {
         return Ok(None);
     };
-    match common_call(at, entries, service, name, words)? {
+    match common_call(at, origin, entries, service, name, words)? {
         Some(call) => Ok(Some(call)),
         None => own_call(at, entries, name, K::own_service(at, service, words)),
     }

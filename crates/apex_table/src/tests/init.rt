@@ -1,8 +1,7 @@
 use crate::reading::read_table;
-use crate::tests::steps::name;
 use crate::tests::{SIGNAL_WAKES_WAITER, fault_of, repeated};
 use apex_types::{
-    Call, Named, PartitionCall, ProcessCall, ProcessId, ProcessService, RequestedMode,
+    Call, Named, Origin, PartitionCall, ProcessCall, ProcessId, ProcessService, RequestedMode,
     SemaphoreCall, SemaphoreId, SemaphoreService, TimeCall, Timeout,
 };
 use std::alloc::{AllocError, Global};
@@ -172,7 +171,7 @@ fn an_init_step_of_a_process_is_read_as_its_call(rt: HostRuntime) -> Result<(), 
         ("CREATE_PROCESS P2", ProcessCall::Create(Named::Known(p2))),
         (
             "CREATE_PROCESS Q",
-            ProcessCall::Create(Named::Unknown(name(b"Q"))),
+            ProcessCall::Create(Named::Unknown(Origin::Init(1))),
         ),
         (
             "INITIALIZE_PROCESS_CORE_AFFINITY P2 255",
@@ -242,5 +241,20 @@ fn an_empty_init_list_is_no_default_one(rt: HostRuntime) -> Result<(), Fail> {
     let text = with_init(rt.alloc(), "[]")?;
     let table = read_table(rt.alloc(), text.as_bytes())?;
     assert_eq!(rt; table.init_call(0), None);
+    Ok(())
+}
+
+#[test]
+fn a_name_that_no_entry_has_is_the_literal_of_its_init_step(rt: HostRuntime) -> Result<(), Fail> {
+    let list = "[\"GET_TIME\", \"CREATE_PROCESS Q\", \"GET_SEMAPHORE_ID P1\"]";
+    let text = with_init(rt.alloc(), list)?;
+    let table = read_table(rt.alloc(), text.as_bytes())?;
+    for (place, literal) in [(0, ""), (1, "Q"), (2, "P1"), (3, "")] {
+        assert_eq!(rt;
+            table.literal(Origin::Init(place)),
+            literal.as_bytes(),
+            "of {place}"
+        );
+    }
     Ok(())
 }

@@ -1,10 +1,7 @@
-ghost use Rattle.std.specs.Prelude.{◌≡◌, true};
-ghost use Rattle.apex_types.specs.Name.{is_name};
-
 use crate::reading::read_table;
 use crate::tests::{SIGNAL_WAKES_WAITER, fault_of};
 use apex_types::{
-    Call, CallerCall, Name, Named, PartitionCall, ProcessCall, ProcessId, ProcessService,
+    Call, CallerCall, Named, Origin, PartitionCall, ProcessCall, ProcessId, ProcessService,
     RequestedMode, SemaphoreCall, SemaphoreId, SemaphoreService, TimeCall, Timeout,
 };
 use std::alloc::{AllocError, Global};
@@ -143,17 +140,16 @@ fn a_step_has_its_fault(rt: HostRuntime) -> Result<(), Fail> {
     Ok(())
 }
 
+/// Where this step of P1 stands.
+fn of_p1(place: u8) -> Origin {
+    Origin::Script(ProcessId::at(0), place)
+}
+
 /// The call that this step of P1 is read as.
 fn call_of(alloc: Global, step: &str) -> Result<Option<Call>, Fail> {
     let text = with_step(alloc, step)?;
     let table = read_table(alloc, text.as_bytes())?;
-    Ok(table.process(ProcessId::at(0)).step(0))
-}
-
-pub(super) fn name(text: &[u8]) -> Name
-    requires { is_name text.now ≡ true }
-{
-    Name::from_bytes(text).unwrap()
+    Ok(table.process(ProcessId::at(0)).call(0))
 }
 
 /// This step of P1 is read as this call.
@@ -170,7 +166,7 @@ fn a_step_with_a_process_is_read_as_its_call(rt: HostRuntime) -> Result<(), Fail
         ("CREATE_PROCESS P2", ProcessCall::Create(Named::Known(p2))),
         (
             "CREATE_PROCESS S",
-            ProcessCall::Create(Named::Unknown(name(b"S"))),
+            ProcessCall::Create(Named::Unknown(of_p1(0))),
         ),
         ("START P2", ProcessCall::Own(p2, ProcessService::Start)),
         ("STOP P2", ProcessCall::Own(p2, ProcessService::Stop)),
@@ -179,7 +175,7 @@ fn a_step_with_a_process_is_read_as_its_call(rt: HostRuntime) -> Result<(), Fail
         ("GET_PROCESS_ID P2", ProcessCall::GetId(Named::Known(p2))),
         (
             "GET_PROCESS_ID ->",
-            ProcessCall::GetId(Named::Unknown(name(b"->"))),
+            ProcessCall::GetId(Named::Unknown(of_p1(0))),
         ),
         ("GET_PROCESS_STATUS P2", ProcessCall::GetStatus(p2)),
     ] {
@@ -297,11 +293,39 @@ fn a_step_of_a_semaphore_is_read_as_its_call(rt: HostRuntime) -> Result<(), Fail
         ("GET_SEMAPHORE_ID S", SemaphoreCall::GetId(Named::Known(s))),
         (
             "GET_SEMAPHORE_ID P1",
-            SemaphoreCall::GetId(Named::Unknown(name(b"P1"))),
+            SemaphoreCall::GetId(Named::Unknown(of_p1(0))),
         ),
         ("GET_SEMAPHORE_STATUS S", SemaphoreCall::GetStatus(s)),
     ] {
         is_read(&rt, rt.alloc(), step, Call::Semaphore(call))?;
+    }
+    Ok(())
+}
+
+#[test]
+fn a_name_that_no_entry_has_is_the_literal_of_its_step(rt: HostRuntime) -> Result<(), Fail> {
+    for (step, literal) in [
+        ("CREATE_PROCESS S", "S"),
+        ("GET_PROCESS_ID ->", "->"),
+        (
+            "CREATE_SEMAPHORE abcdefghijklmnopqrstuvwxyz0123",
+            "abcdefghijklmnopqrstuvwxyz0123",
+        ),
+        ("GET_SEMAPHORE_ID P1", "P1"),
+        ("GET_SEMAPHORE_ID S", ""),
+        ("STOP_SELF", ""),
+    ] {
+        let steps = format!(in rt.alloc(); "GET_TIME\", \"{step}")?;
+        let text = with_step(rt.alloc(), steps.as_str())?;
+        let table = read_table(rt.alloc(), text.as_bytes())?;
+        assert_eq!(rt; table.literal(of_p1(1)), literal.as_bytes(), "of {step}");
+        assert!(rt; table.literal(of_p1(0)).is_empty());
+        assert!(rt; table.literal(of_p1(2)).is_empty());
+        assert!(rt;
+            table
+                .literal(Origin::Script(ProcessId::at(2), 0))
+                .is_empty()
+        );
     }
     Ok(())
 }

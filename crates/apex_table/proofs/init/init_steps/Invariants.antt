@@ -7,7 +7,7 @@ use Rattle.apex_table.proofs.init.init_steps.Given as goal
 abbrev pub invariant-loop-text : goal.invariant-loop-text
 invariant-loop-text l = record {
   read :
-      each (next_init_step (entry_names l.processes) (semaphore_names l.semaphores)) l.calls.items (map (λ t. t.now) (drop l.text-index l.texts))
+      each (next_init_step (entry_names l.processes) (semaphore_names l.semaphores)) l.steps.items (map (λ t. t.now) (drop l.text-index l.texts))
       ≡ init_steps (entry_names l.processes) (semaphore_names l.semaphores) (map (λ t. t.now) l.texts);
-  count : length l.calls.items ≡ l.text-index;
+  count : length l.steps.items ≡ l.text-index;
 }

@@ -1,10 +1,14 @@
-use Rattle.std.proofs.Common.{◌≡◌, map, drop}
+use Rattle.std.proofs.Common.{◌≡◌, map, drop, length}
+use Rattle.apex_types.specs.declared.calls.Origin.TheVariants.{Script}
 use Rattle.apex_table.specs.Outcome.{each}
 use Rattle.apex_table.specs.Steps.{step}
 use Rattle.apex_table.specs.Scripts.{script}
 use Rattle.apex_table.proofs.scripts.script.Given as goal
 
 abbrev pub invariant-loop-text : goal.invariant-loop-text
-invariant-loop-text g l =
-    each (λ _ t. step l.at (map g.P.Named.name_of l.processes) (map g.S.Named.name_of l.semaphores) t) l.calls.items (map (λ t. t.now) (drop l.text-index l.steps))
-    ≡ script l.at (map g.P.Named.name_of l.processes) (map g.S.Named.name_of l.semaphores) (map (λ t. t.now) l.steps)
+invariant-loop-text g l = record {
+  read :
+      each (λ before t. step l.at (Script l.process (length before)) (map g.P.Named.name_of l.processes) (map g.S.Named.name_of l.semaphores) t) l.steps.items (map (λ t. t.now) (drop l.text-index l.texts))
+      ≡ script l.at l.process (map g.P.Named.name_of l.processes) (map g.S.Named.name_of l.semaphores) (map (λ t. t.now) l.texts);
+  count : length l.steps.items ≡ l.text-index;
+}
