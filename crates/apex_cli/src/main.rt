@@ -16,14 +16,16 @@ ghost use Rattle.apex_cli.specs.Faults.{IsUsageOrMemory};
 use apex_history::Counted;
 use faults::CliFault;
 use program::serve;
+use std::alloc::Global;
+use std::env::Env;
 use std::process::ExitCode;
 use std::{env, io};
 
-fn given_words(rt: &HostRuntime) -> Result<Vec<String>, CliFault>
+fn given_words<E: Env>(alloc: Global, env: &E) -> Result<Vec<String>, CliFault>
     ensures { IfErr result IsUsageOrMemory }
 {
-    match env::args(rt) {
-        Ok(args) => Ok(args.collect::<Vec<String>>(rt.alloc())?),
+    match env::args(&(env, alloc)) {
+        Ok(args) => Ok(args.collect::<Vec<String>>(alloc)?),
         Err(error) if error.kind() == io::ErrorKind::OutOfMemory => Err(CliFault::Memory),
         // A word is no text.
         Err(_) => Err(CliFault::Usage),
@@ -36,7 +38,7 @@ fn main(rt: HostRuntime) -> ExitCode {
     let mut error_writer = Counted::new(rt.stderr());
     let status = serve(
         rt.alloc(),
-        given_words(&rt),
+        given_words(rt.alloc(), &rt),
         &mut reader,
         &mut writer,
         &mut error_writer,

@@ -1,4 +1,5 @@
 mod faults;
+mod given;
 mod limits;
 mod outlines;
 mod processes;
