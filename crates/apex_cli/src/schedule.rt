@@ -32,7 +32,7 @@ impl Ticks {
     /// How many ticks, 1 to 1,048,576.
     pub fn count(self) -> u32
         ensures value { result ≡ self }
-        ensures range { (1 ≤ result) × (result ≤ 1048576) }
+        ensures range { (1 ≤ result) × (result ≤ most_ticks) }
     {
         self.count
     }

@@ -38,7 +38,7 @@ fn ask<S: Store>(
     requires starts { HasOrderlyStarts (S.roster store.old) }
     requires stamps { HasManyStamps (S.roster store.old) }
     requires time { HasTime (S.roster store.old) }
-    requires room { length notices.old ≤ 32 }
+    requires room { length notices.old ≤ most_processes }
     ensures { Does (served (S.roster store.old) objects.old caller call)
         result.caller result.call result.reply (S.roster store.new) objects.new notices.old notices.new }
 {
@@ -77,7 +77,7 @@ fn carry_out_step<S: Store>(
     requires starts { HasOrderlyStarts (S.roster store.old) }
     requires stamps { HasManyStamps (S.roster store.old) }
     requires time { HasTime (S.roster store.old) }
-    requires room { length notices.old ≤ 32 }
+    requires room { length notices.old ≤ most_processes }
     ensures { Does (chosen_deed table.now (S.roster store.old) objects.old (Some process))
         result.caller result.call result.reply (S.roster store.new) objects.new notices.old notices.new }
 {
@@ -114,7 +114,7 @@ pub(crate) fn carry_out<S: Store>(
     requires starts { HasOrderlyStarts (S.roster store.old) }
     requires stamps { HasManyStamps (S.roster store.old) }
     requires time { HasTime (S.roster store.old) }
-    requires room { length notices.old ≤ 32 }
+    requires room { length notices.old ≤ most_processes }
     ensures { Does (turn_deed table.now (S.roster store.old) objects.old core due)
         result.caller result.call result.reply (S.roster store.new) objects.new notices.old notices.new }
 {

@@ -35,7 +35,7 @@ pub(crate) fn serve<S: Store>(
     requires starts { HasOrderlyStarts (S.roster store.old) }
     requires stamps { HasManyStamps (S.roster store.old) }
     requires time { HasTime (S.roster store.old) }
-    requires room { length notices.old ≤ 32 }
+    requires room { length notices.old ≤ most_processes }
     ensures { Leaves (service (S.roster store.old) objects.old caller.now call.now)
         (S.roster store.new) objects.new result notices.old notices.new }
 {

@@ -57,7 +57,7 @@ fn serve_dues<S: Store>(store: &mut S, notices: &mut Notices)
     requires few { length (S.roster store.old).records ≤ most_processes }
     requires starts { HasOrderlyStarts (S.roster store.old) }
     requires stamps { HasManyStamps (S.roster store.old) }
-    requires room { length notices.old ≤ 32 }
+    requires room { length notices.old ≤ most_processes }
     ensures { Makes (ticks.serve_dues (S.roster store.old))
         (S.roster store.new) notices.old notices.new }
 {
@@ -81,7 +81,7 @@ pub(crate) fn pass_time<S: Store>(store: &mut S, n: u32, notices: &mut Notices) 
     requires stamps { HasManyStamps (S.roster store.old) }
     requires near { (S.roster store.old).now + n ≤ latest }
     requires dues { HasNoPastDue (S.roster store.old) }
-    requires room { length notices.old ≤ 32 }
+    requires room { length notices.old ≤ most_processes }
     ensures changes { Makes (ticks.pass_time (S.roster store.old) n)
         (S.roster store.new) notices.old notices.new }
     ensures went { result ≡ ticks.tick_goal (S.roster store.old) n - (S.roster store.old).now }

@@ -2,6 +2,7 @@
 use Rattle.std.specs.Prelude.{ℕ, ◌+◌, ◌*◌, ◌≤◌, List, Option, length}
 use Rattle.std.specs.List.{AllByRecursion, slice_range}
 use Rattle.apex_history.specs.Terms.{Call, Caller, Entry, Notice, Reply, Who}
+use Rattle.apex_types.specs.Limits.{most_entries, most_notices}
 use Rattle.apex_types.specs.Places.{map_places}
 
 -- an entry without its number, which is its place, and with its notices as a part of a list
@@ -30,16 +31,16 @@ entry_of notices place row = record {
 abbrev pub entries_from : List Notice → ℕ → List RowEntry → List Entry
 entries_from notices place rows = map_places (entry_of notices) place rows
 
--- the row's notices are a part of so many, and 64 at the most
+-- the row's notices are a part of so many, and no more than an event's
 pub record IsWithin (many : ℕ) (row : RowEntry) : Type 0 where
   pub order : row.start ≤ row.end
-  pub few : row.end ≤ row.start + 64
+  pub few : row.end ≤ row.start + most_notices
   pub within : row.end ≤ many
 
--- what each log keeps: it has the room for its limit of rows, and for 64 notices of each
+-- what each log keeps: it has the room for its limit of rows, and for the notices of each
 pub record IsKept (limit row_room notice_room : ℕ) (rows : List RowEntry) (notices : List Notice) : Type 0 where
-  pub limits : (1 ≤ limit) × (limit ≤ 65536)
+  pub limits : (1 ≤ limit) × (limit ≤ most_entries)
   pub many : length rows ≤ limit
-  pub noted : length notices ≤ 64 * length rows
-  pub rooms : (limit ≤ row_room) × (64 * limit ≤ notice_room)
+  pub noted : length notices ≤ most_notices * length rows
+  pub rooms : (limit ≤ row_room) × (most_notices * limit ≤ notice_room)
   pub within : AllByRecursion (IsWithin (length notices)) rows

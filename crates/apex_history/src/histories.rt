@@ -118,7 +118,7 @@ impl Log {
     /// How many entries there may be: 1 to 65,536.
     pub fn limit(&self) -> u32
         ensures value { result ≡ self.now.limit }
-        ensures range { (1 ≤ result) × (result ≤ 65536) }
+        ensures range { (1 ≤ result) × (result ≤ most_entries) }
     {
         self.limit
     }

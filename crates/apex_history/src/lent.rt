@@ -1,4 +1,5 @@
 ghost use Rattle.std.specs.Prelude.{◌≡◌, ◌+◌, ◌≤◌, length};
+ghost use Rattle.apex_types.specs.Limits.{most_entries};
 ghost use Rattle.std.specs.Iterator.{YieldsFirst, item_count};
 ghost use Rattle.std.specs.List.{AllByRecursion};
 ghost use Rattle.apex_history.specs.RowEntries.{entries_from, IsWithin};
@@ -19,6 +20,7 @@ pub struct Entries<'a> {
 impl<'a> Model for Entries<'a> {
     ghost use Rattle.std.specs.Prelude.{◌+◌, ◌≤◌, List, length};
     ghost use Rattle.std.specs.List.{AllByRecursion};
+    ghost use Rattle.apex_types.specs.Limits.{most_entries};
     ghost use Rattle.apex_types.specs.declared.Entry.{Entry};
     ghost use Rattle.apex_history.specs.RowEntries.{entries_from, IsWithin};
 
@@ -27,14 +29,14 @@ impl<'a> Model for Entries<'a> {
     ghost view = { λ e. entries_from e.notices.now e.place e.rows.now };
 
     ghost invariant = { λ e. AllByRecursion (IsWithin (length e.notices.now)) e.rows.now
-        × (e.place + length e.rows.now ≤ 65536) };
+        × (e.place + length e.rows.now ≤ most_entries) };
 }
 
 impl<'a> Entries<'a> {
     /// The entries of these rows.
     pub(crate) fn new(rows: &'a [Row], notices: &'a [Notice]) -> Entries<'a>
         requires within { AllByRecursion (IsWithin (length notices.now)) rows.now }
-        requires many { length rows.now ≤ 65536 }
+        requires many { length rows.now ≤ most_entries }
         ensures { result ≡ entries_from notices.now 0 rows.now }
     {
         Entries {

@@ -1,4 +1,5 @@
 ghost use Rattle.std.specs.Prelude.{◌≡◌, ◌<◌, length};
+ghost use Rattle.apex_types.specs.Limits.{most_entries};
 ghost use Rattle.apex_history.specs.RowEntries.{entry_of, IsWithin};
 
 use apex_types::{Call, Caller, LentEntry, Notice, Reply, Who};
@@ -39,7 +40,7 @@ impl Row {
     /// The entry of this row, where it is at this place, counted from 0.
     pub(crate) fn lent<'a>(&self, place: u32, notices: &'a [Notice]) -> LentEntry<'a>
         requires within { IsWithin (length notices.now) self.now }
-        requires place { place < 65536 }
+        requires place { place < most_entries }
         ensures { result ≡ entry_of notices.now place self.entry.now }
     {
         LentEntry {

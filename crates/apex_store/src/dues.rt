@@ -1,5 +1,6 @@
 //! When waits end by themselves.
 ghost use Rattle.std.specs.Prelude.{◌≡◌, ◌<◌, ◌≤◌, length, position, IfSome};
+ghost use Rattle.apex_types.specs.Limits.{most_processes};
 ghost use Rattle.apex_types.specs.Dues.{HasTime, IsFrom, due_after, earliest_due, is_due_at, sooner};
 
 use crate::orders::is_due_at;
@@ -37,7 +38,7 @@ fn place_due(instant: u64, records: &[Record]) -> Option<usize>
 
 /// The process of the lowest number whose due is this instant.
 pub fn first_due(instant: u64, records: &[Record]) -> Option<ProcessId>
-    requires { length records.now ≤ 64 }
+    requires { length records.now ≤ most_processes }
     ensures value { result ≡ position (is_due_at instant) records.now }
     ensures known { IfSome result (λ p. p < length records.now) }
 {

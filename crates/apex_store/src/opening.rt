@@ -1,4 +1,5 @@
 ghost use Rattle.std.specs.Prelude.{◌≡◌, ◌+◌, ◌<◌, ◌≤◌, [], ◌∷◌, ◌++◌, length, map, vec_capacity, vec_len, IfOk};
+ghost use Rattle.apex_types.specs.Limits.{most_processes};
 ghost use Rattle.apex_types.specs.Places.{map_places};
 ghost use Rattle.apex_types.specs.Roster.{opening_record};
 ghost use Rattle.apex_types.specs.Table.{SemaphoreConfig};
@@ -9,7 +10,7 @@ use std::alloc::{AllocError, Global};
 
 /// Adds the record of a process before any event: dormant on core 0, and as old as its place says.
 fn push_opening(records: &mut Vec<Record>, place: usize, process: &ProcessConfig)
-    requires few { place < 64 }
+    requires few { place < most_processes }
     requires room { vec_len records.old < vec_capacity records.old }
     ensures records { records.new.items ≡ records.old.items ++ opening_record place process.now ∷ [] }
     ensures many { vec_len records.new ≡ vec_len records.old + 1 }
@@ -33,7 +34,7 @@ fn push_opening(records: &mut Vec<Record>, place: usize, process: &ProcessConfig
 pub fn opening_records(alloc: Global, table: &Table) -> Result<Vec<Record>, AllocError>
     ensures records { IfOk result (λ records. records.items ≡ map_places opening_record 0 table.now.processes) }
     ensures many { IfOk result (λ records. vec_len records ≡ length table.now.processes) }
-    ensures few { IfOk result (λ records. vec_len records ≤ 64) }
+    ensures few { IfOk result (λ records. vec_len records ≤ most_processes) }
 {
     let count = table.process_count();
     let mut records = Vec::with_capacity(alloc, count)?;

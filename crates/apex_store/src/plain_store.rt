@@ -1,4 +1,5 @@
 ghost use Rattle.std.specs.Prelude.{◌≡◌, ◌<◌, ◌≤◌, count_by, length, IfOk};
+ghost use Rattle.apex_types.specs.Limits.{most_processes};
 ghost use Rattle.apex_types.specs.Roster.{opening_roster, with_record};
 ghost use Rattle.apex_types.specs.Dues.{HasTime};
 ghost use Rattle.apex_types.specs.Running.{is_process};
@@ -30,14 +31,14 @@ pub struct PlainStore {
 
 impl Model for PlainStore {
     ghost use Rattle.std.specs.Prelude.{◌≤◌, length};
-    ghost use Rattle.apex_types.specs.Limits.{most_cores};
+    ghost use Rattle.apex_types.specs.Limits.{most_cores, most_processes};
     ghost use Rattle.apex_types.specs.Roster.{Roster};
 
     ghost Value = { Roster };
 
     ghost view = { λ a. record { cores = a.cores; mode = a.mode; now = a.time; records = a.records.items; young = a.next_young; old = a.next_old; disciplines = a.disciplines.items } };
 
-    ghost invariant = { λ a. (a.cores ≤ most_cores) × (length a.records.items ≤ 64) };
+    ghost invariant = { λ a. (a.cores ≤ most_cores) × (length a.records.items ≤ most_processes) };
 }
 
 /// The process is this one.
@@ -88,7 +89,7 @@ fn reset(row: Record) -> Record
 /// How many of the records wait in the queue.
 #[tactic(auto, using(crate::proofs::Queues::few_wait))]
 fn waiter_count(queue: Queue, records: &[Record]) -> u32
-    requires { length records.now ≤ 64 }
+    requires { length records.now ≤ most_processes }
     ensures { result ≡ count_by (waits_in queue) records.now }
 {
     records.iter().filter(|row| waits_in(queue, row)).count() as u32

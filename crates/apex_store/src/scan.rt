@@ -1,4 +1,5 @@
 ghost use Rattle.std.specs.Prelude.{◌≡◌, ◌<◌, ◌≤◌, Bool, length, IfSome};
+ghost use Rattle.apex_types.specs.Limits.{most_processes};
 ghost use Rattle.std.specs.Cmp.{IsStrictWeakOrder};
 ghost use Rattle.apex_types.specs.declared.records.Record.{Record};
 ghost use Rattle.apex_types.specs.Choice.{place_of_least};
@@ -96,7 +97,7 @@ impl Order for Behind {
 
 /// The first of those that the order looks at, by a scan of all records from the first one on.
 pub fn first_of<O: Order>(order: &O, records: &[Record]) -> Option<ProcessId>
-    requires { length records.now ≤ 64 }
+    requires { length records.now ≤ most_processes }
     ensures value { result ≡ place_of_least (O.passes order.now) (O.precedes order.now) records.now }
     ensures known { IfSome result (λ p. p < length records.now) }
 {

@@ -1,5 +1,5 @@
 ghost use Rattle.std.specs.Prelude.{◌≡◌, ◌<◌, ◌≤◌, ◌^◌, true, length, IfSome};
-ghost use Rattle.apex_types.specs.Limits.{latest};
+ghost use Rattle.apex_types.specs.Limits.{latest, most_cores};
 ghost use Rattle.apex_types.specs.Roster.{Roster, record_at};
 ghost use Rattle.apex_types.specs.Running.{chosen, process_state, IsEligible, IsIneligible};
 ghost use Rattle.apex_types.specs.Waiters.{first_waiter, next_waiter, waiter_count, waits_in};
@@ -20,7 +20,7 @@ pub trait Store: Drop {
     /// How many cores the partition has.
     fn cores(&self) -> u8
         ensures value { result ≡ (roster self.now).cores }
-        ensures range { result ≤ 8 };
+        ensures range { result ≤ most_cores };
 
     fn mode(&self) -> Mode
         ensures { result ≡ (roster self.now).mode };

@@ -1,6 +1,5 @@
 -- An init list, given or default, is short enough, and its steps are sound.
-use Rattle.std.proofs.Common.{ℕ, ◌+◌, ◌≤◌, List, [], length, Option, Some, None, IfSome, IfOk, arith, subst}
-use Rattle.std.proofs.lemmas.List.{length-map}
+use Rattle.std.proofs.Common.{◌≡◌, ℕ, ◌+◌, ◌≤◌, List, [], length, Option, Some, None, IfSome, IfOk, arith, subst}
 use Rattle.std.proofs.lemmas.Result.{IfOk-at_ok, IfOk-weaker}
 use Rattle.toml.specs.Data.{Data}
 use Rattle.apex_types.specs.Table.{ProcessConfig, SemaphoreConfig, Step}
@@ -11,8 +10,8 @@ use Rattle.apex_table.specs.declared.fault.TableFault.TheVariants.{BadInitStep}
 use Rattle.apex_table.specs.Outcome.{place}
 use Rattle.apex_table.specs.Keys.{array, at_most}
 use Rattle.apex_table.specs.Steps.{step}
-use Rattle.apex_table.specs.Semaphores.{semaphore_names}
-use Rattle.apex_table.specs.Init.{next_text, texts, given_texts, init_texts, is_init_call, init_step, next_init_step, init_steps, entry_names, init_list}
+use Rattle.apex_table.specs.Names.{Names}
+use Rattle.apex_table.specs.Init.{next_text, texts, given_texts, init_texts, is_init_call, init_step, next_init_step, init_steps, init_list}
 use Rattle.apex_table.proofs.Results.{ok_then, ok_if, both_ok, AllFrom, all_any, each_from, each_length}
 use Rattle.apex_table.proofs.KeyLaws.{at_most_law}
 use Rattle.apex_table.proofs.StepLaws.{IsSoundStep, step_law}
@@ -40,32 +39,32 @@ pub record IsInitList (ps ss : ℕ) (steps : List Step) : Type 0 where
   pub few : length steps ≤ 512
   pub sound : AllFrom (λ k step. IsSoundStep ps ss (origin.Init k) step) 0 steps
 
-module _ (ps ss : List (List ℕ)) where
+module _ (names : Names) where
   abbrev Sound : ℕ → Step → Type 0
-  Sound k step = IsSoundStep (length ps) (length ss) (origin.Init k) step
+  Sound k step = IsSoundStep (length names.processes) (length names.semaphores) (origin.Init k) step
 
-  init_step_law : (at : Place) (k : ℕ) (text : List ℕ) → IfOk (init_step at (origin.Init k) ps ss text) (Sound k)
+  init_step_law : (at : Place) (k : ℕ) (text : List ℕ) → IfOk (init_step at (origin.Init k) names text) (Sound k)
   unfolding init_step
   init_step_law at k text =
-      ok_then (step at (origin.Init k) ps ss text) _ (Sound k) (λ s e.
-      ok_if (is_init_call s.call) (BadInitStep at) s (Sound k) (λ _. IfOk-at_ok (Sound k) e (step_law at ps ss (origin.Init k) text)))
+      ok_then (step at (origin.Init k) names text) _ (Sound k) (λ s e.
+      ok_if (is_init_call s.call) (BadInitStep at) s (Sound k) (λ _. IfOk-at_ok (Sound k) e (step_law at names (origin.Init k) text)))
 
-  steps_sound : (ts : List (List ℕ)) → IfOk (init_steps ps ss ts) (AllFrom Sound 0)
+  steps_sound : (ts : List (List ℕ)) → IfOk (init_steps names ts) (AllFrom Sound 0)
   steps_sound ts =
-      each_from (next_init_step ps ss) Sound (λ t. Unit {0})
+      each_from (next_init_step names) Sound (λ t. Unit {0})
       (λ done t _. init_step_law (place Init (length done + 1)) (length done) t) [] ts tt (all_any ts)
 
-  steps_length : (ts : List (List ℕ)) → length ts ≤ 512 → IfOk (init_steps ps ss ts) (λ steps. length steps ≤ 512)
+  steps_length : (ts : List (List ℕ)) → length ts ≤ 512 → IfOk (init_steps names ts) (λ steps. length steps ≤ 512)
   steps_length ts few =
-      IfOk-weaker (init_steps ps ss ts) _ _ (λ steps h. omega arith) (each_length (next_init_step ps ss) [] ts)
+      IfOk-weaker (init_steps names ts) _ _ (λ steps h. omega arith) (each_length (next_init_step names) [] ts)
 
-  init_steps_law : (ts : List (List ℕ)) → length ts ≤ 512 → IfOk (init_steps ps ss ts) (IsInitList (length ps) (length ss))
-  init_steps_law ts few = both_ok (init_steps ps ss ts) _ _ (λ steps short sound. record { few = short; sound = sound }) (steps_length ts few) (steps_sound ts)
+  init_steps_law : (ts : List (List ℕ)) → length ts ≤ 512 → IfOk (init_steps names ts) (IsInitList (length names.processes) (length names.semaphores))
+  init_steps_law ts few = both_ok (init_steps names ts) _ _ (λ steps short sound. record { few = short; sound = sound }) (steps_length ts few) (steps_sound ts)
 
-pub init_list_law : (procs : List ProcessConfig) (sems : List SemaphoreConfig) (o : Option (List (List ℕ))) → length procs ≤ 32 → length sems ≤ 16 → AreFew o → IfOk (init_list procs sems o) (IsInitList (length procs) (length sems))
-init_list_law procs sems (Some ts) some few short =
-    subst (λ (n : ℕ). IfOk (init_steps (entry_names procs) (semaphore_names sems) ts) (IsInitList n (length sems))) (length-map procs (λ (e : ProcessConfig). e.name))
-    (subst (λ (m : ℕ). IfOk (init_steps (entry_names procs) (semaphore_names sems) ts) (IsInitList (length (entry_names procs)) m)) (length-map sems (λ (s : SemaphoreConfig). s.name))
-    (init_steps_law (entry_names procs) (semaphore_names sems) ts short))
-init_list_law procs sems None some few short =
+pub init_list_law : (names : Names) (procs : List ProcessConfig) (sems : List SemaphoreConfig) (o : Option (List (List ℕ))) → length names.processes ≡ length procs → length names.semaphores ≡ length sems → length procs ≤ 32 → length sems ≤ 16 → AreFew o → IfOk (init_list names procs sems o) (IsInitList (length procs) (length sems))
+init_list_law names procs sems (Some ts) ps ss some few short =
+    subst (λ (n : ℕ). IfOk (init_steps names ts) (IsInitList n (length sems))) ps
+    (subst (λ (m : ℕ). IfOk (init_steps names ts) (IsInitList (length names.processes) m)) ss
+    (init_steps_law names ts short))
+init_list_law names procs sems None ps ss some few short =
     record { few = omega (arith, default_init_length procs sems); sound = default_init_law procs sems }

@@ -11,6 +11,7 @@ use Rattle.apex_types.specs.declared.calls.Call.TheVariants.{Partition, Process,
 use Rattle.apex_types.specs.declared.calls.Origin.TheVariants.{Script}
 use Rattle.apex_table.specs.declared.fault.TableFault.TheVariants.{BadName, BadStep}
 use Rattle.apex_table.specs.Outcome.{some_or, as_call}
+use Rattle.apex_table.specs.Names.{Names}
 use Rattle.apex_table.specs.Words.{words, is_empty}
 use Rattle.apex_table.specs.PartitionSteps.{partition_call}
 use Rattle.apex_table.specs.ProcessSteps.{process_service}
@@ -46,25 +47,25 @@ literal_law at origin (Some named) (service ∷ []) own = tt
 literal_law at origin (Some named) (service ∷ name ∷ ws) own =
     ok_if (is_name name) (BadName at) name (λ literal. IsLiteral origin literal (Some named)) (λ good. (own, good))
 
-module _ (at : Place) (ps ss : List (List ℕ)) where
+module _ (at : Place) (names : Names) where
   module _ (origin : Origin) where
     abbrev Asked : Call → Type 0
-    Asked = IsAskedBy origin (length ps) (length ss)
+    Asked = IsAskedBy origin (length names.processes) (length names.semaphores)
 
     any_law : {A : Type 0} (kind : A → Call) (r : Result (Option A) TableFault) → ((c : A) → Asked (kind c)) → Reads Asked (as_call kind r)
     any_law kind r gives = reads_as_call kind r (λ c. Unit {0}) Asked (λ c h. gives c) (reads_any r)
 
-    readings_law : (ws : List (List ℕ)) → AllByRecursion (Reads Asked) (readings at origin ps ss ws)
+    readings_law : (ws : List (List ℕ)) → AllByRecursion (Reads Asked) (readings at origin names ws)
     readings_law ws = (
       any_law Partition (Ok (partition_call ws)) (λ c. (tt, tt)),
       (
-        reads_as_call Process _ (IsAsked origin (length ps)) Asked (λ c h. h) (object_call_law _ at origin (codes "PROCESS") ps (process_service at) ws),
+        reads_as_call Process _ (IsAsked origin (length names.processes)) Asked (λ c h. h) (object_call_law _ at origin (codes "PROCESS") names.processes (process_service at) ws),
         (
           any_law Caller (caller_call at ws) (λ c. (tt, tt)),
           (
             any_law Time (time_call at ws) (λ c. (tt, tt)),
             (
-              reads_as_call Semaphore _ (IsAsked origin (length ss)) Asked (λ c h. h) (object_call_law _ at origin (codes "SEMAPHORE") ss (semaphore_service at) ws),
+              reads_as_call Semaphore _ (IsAsked origin (length names.semaphores)) Asked (λ c h. h) (object_call_law _ at origin (codes "SEMAPHORE") names.semaphores (semaphore_service at) ws),
               tt,
             ),
           ),
@@ -72,17 +73,17 @@ module _ (at : Place) (ps ss : List (List ℕ)) where
       ),
     )
 
-    call_of_law : (ws : List (List ℕ)) → Reads Asked (call_of at origin ps ss ws)
-    call_of_law ws = reads_first_of Asked (readings at origin ps ss ws) (readings_law ws)
+    call_of_law : (ws : List (List ℕ)) → Reads Asked (call_of at origin names ws)
+    call_of_law ws = reads_first_of Asked (readings at origin names ws) (readings_law ws)
 
-    spaced_call_of_law : (ws : List (List ℕ)) → Reads Asked (spaced_call_of at origin ps ss ws)
+    spaced_call_of_law : (ws : List (List ℕ)) → Reads Asked (spaced_call_of at origin names ws)
     spaced_call_of_law ws = ok_branch (list_any is_empty ws) (Ok None) _ _ tt (call_of_law ws)
 
-    pub step_law : (text : List ℕ) → IfOk (step at origin ps ss text) (IsSoundStep (length ps) (length ss) origin)
+    pub step_law : (text : List ℕ) → IfOk (step at origin names text) (IsSoundStep (length names.processes) (length names.semaphores) origin)
     unfolding step
     step_law text =
-        let Sound : Step → Type 0 = IsSoundStep (length ps) (length ss) origin in
-        ok_then (spaced_call_of at origin ps ss (words text)) _ Sound (λ found ef.
+        let Sound : Step → Type 0 = IsSoundStep (length names.processes) (length names.semaphores) origin in
+        ok_then (spaced_call_of at origin names (words text)) _ Sound (λ found ef.
         ok_then (some_or (BadStep at) found) _ Sound (λ call ec.
         ok_then (literal_of at (origin_of call) (words text)) _ Sound (λ literal el.
         let some : IfSome found Asked = IfOk-at_ok (λ o. IfSome o Asked) ef (spaced_call_of_law (words text)) in
@@ -91,11 +92,11 @@ module _ (at : Place) (ps ss : List (List ℕ)) where
           literal = IfOk-at_ok (λ literal. IsLiteral origin literal (origin_of call)) el (literal_law at origin (origin_of call) (words text) asked.1);
         })))
 
-  pub script_law : (p : ℕ) (texts : List (List ℕ)) → IfOk (script at p ps ss texts) (AllFrom (λ k s. IsSoundStep (length ps) (length ss) (Script p k) s) 0)
+  pub script_law : (p : ℕ) (texts : List (List ℕ)) → IfOk (script at p names texts) (AllFrom (λ k s. IsSoundStep (length names.processes) (length names.semaphores) (Script p k) s) 0)
   script_law p texts =
-      each_from (λ before t. step at (Script p (length before)) ps ss t) (λ k s. IsSoundStep (length ps) (length ss) (Script p k) s) (λ t. Unit {0})
+      each_from (λ before t. step at (Script p (length before)) names t) (λ k s. IsSoundStep (length names.processes) (length names.semaphores) (Script p k) s) (λ t. Unit {0})
       (λ done t _. step_law (Script p (length done)) t) [] texts tt (all_any texts)
 
-  pub script_length : (p : ℕ) (texts : List (List ℕ)) → IfOk (script at p ps ss texts) (λ steps. length steps ≡ length texts)
+  pub script_length : (p : ℕ) (texts : List (List ℕ)) → IfOk (script at p names texts) (λ steps. length steps ≡ length texts)
   script_length p texts =
-      IfOk-weaker (script at p ps ss texts) _ _ (λ steps h. omega arith) (each_length (λ before t. step at (Script p (length before)) ps ss t) [] texts)
+      IfOk-weaker (script at p names texts) _ _ (λ steps h. omega arith) (each_length (λ before t. step at (Script p (length before)) names t) [] texts)

@@ -1,6 +1,7 @@
 -- The init list that a table gives: its texts, and their steps.
-use Rattle.std.specs.Prelude.{ℕ, ◌+◌, Bool, true, false, if◌then◌else◌, List, [], length, map, Option, Some, None, Result, Ok, Err}
+use Rattle.std.specs.Prelude.{ℕ, ◌+◌, Bool, true, false, if◌then◌else◌, List, [], length, Option, Some, None, Result, Ok, Err}
 use Rattle.toml.specs.Data.{Data}
+use Rattle.apex_types.specs.Limits.{most_init_steps}
 use Rattle.apex_types.specs.Table.{ProcessConfig, SemaphoreConfig, Step}
 use Rattle.apex_table.specs.Terms.{Call, ObjectCall, Origin, Place, ProcessService, SemaphoreService, TableFault, TimeCall}
 use Rattle.apex_types.specs.declared.calls.Call.TheVariants.{Partition, Process, Caller, Time, Semaphore}
@@ -14,7 +15,7 @@ use Rattle.apex_table.specs.declared.fault.TableFault.TheVariants.{BadInitStep}
 use Rattle.apex_table.specs.Outcome.{◌>>=◌, each, place}
 use Rattle.apex_table.specs.Keys.{text, array, at_most}
 use Rattle.apex_table.specs.Steps.{step}
-use Rattle.apex_table.specs.Semaphores.{semaphore_names}
+use Rattle.apex_table.specs.Names.{Names}
 use Rattle.apex_table.specs.DefaultInit.{default_init}
 
 -- the text of the step after those before
@@ -29,7 +30,7 @@ texts ds = each next_text [] ds
 unfoldable pub given_texts : Data → Result (List (List ℕ)) TableFault
 given_texts d = do
   ds ← array (place Init 0) d
-  few ← at_most (place Init 0) 512 ds
+  few ← at_most (place Init 0) most_init_steps ds
   texts few
 
 -- the texts of the init list, if the table gives one
@@ -76,24 +77,20 @@ is_init_call (Semaphore call) = is_init_object_call is_init_semaphore_service ca
 abbrev pub init_call : Place → Step → Result Step TableFault
 init_call at step = if is_init_call step.call then Ok step else Err (BadInitStep at)
 
--- the step of this origin by its text, by the names of the processes and of the semaphores; last, whether
--- it may stand in an init list
-unfoldable pub init_step : Place → Origin → List (List ℕ) → List (List ℕ) → List ℕ → Result Step TableFault
-init_step at origin ps ss text = step at origin ps ss text >>= init_call at
+-- the step of this origin by its text; last, whether it may stand in an init list
+unfoldable pub init_step : Place → Origin → Names → List ℕ → Result Step TableFault
+init_step at origin names text = step at origin names text >>= init_call at
 
 -- the step after those before
-abbrev pub next_init_step : List (List ℕ) → List (List ℕ) → List Step → List ℕ → Result Step TableFault
-next_init_step ps ss before text = init_step (place Init (length before + 1)) (origin.Init (length before)) ps ss text
+abbrev pub next_init_step : Names → List Step → List ℕ → Result Step TableFault
+next_init_step names before text =
+    init_step (place Init (length before + 1)) (origin.Init (length before)) names text
 
 -- the steps of an init list
-abbrev pub init_steps : List (List ℕ) → List (List ℕ) → List (List ℕ) → Result (List Step) TableFault
-init_steps ps ss ts = each (next_init_step ps ss) [] ts
-
--- the names of the processes
-abbrev pub entry_names : List ProcessConfig → List (List ℕ)
-entry_names processes = map (λ (p : ProcessConfig). p.name) processes
+abbrev pub init_steps : Names → List (List ℕ) → Result (List Step) TableFault
+init_steps names ts = each (next_init_step names) [] ts
 
 -- the init list that the table gives, or else the default one
-abbrev pub init_list : List ProcessConfig → List SemaphoreConfig → Option (List (List ℕ)) → Result (List Step) TableFault
-init_list processes semaphores (Some ts) = init_steps (entry_names processes) (semaphore_names semaphores) ts
-init_list processes semaphores None = Ok (default_init processes semaphores)
+abbrev pub init_list : Names → List ProcessConfig → List SemaphoreConfig → Option (List (List ℕ)) → Result (List Step) TableFault
+init_list names processes semaphores (Some ts) = init_steps names ts
+init_list names processes semaphores None = Ok (default_init processes semaphores)

@@ -4,6 +4,7 @@ pub mod Outcome
 pub mod Keys
 pub mod Sections
 pub mod Words
+pub mod Names
 pub mod ObjectSteps
 pub mod PartitionSteps
 pub mod ProcessSteps

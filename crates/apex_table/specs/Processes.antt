@@ -1,6 +1,7 @@
 -- The kind of processes, whose scripts are still texts.
 use Rattle.std.specs.Prelude.{codes, ℕ, ◌-◌, Bool, true, false, List, [], ◌∷◌, map, Result, Ok, Err}
 use Rattle.toml.specs.Data.{Data, Members}
+use Rattle.apex_types.specs.Limits.{most_priority, most_processes, most_steps}
 use Rattle.apex_table.specs.declared.fault.Section.TheVariants.{Process}
 use Rattle.apex_table.specs.Terms.{Place, TableFault}
 use Rattle.apex_table.specs.declared.fault.TableFault.TheVariants.{MissingKey, OutOfRange}
@@ -35,14 +36,14 @@ some_step at false ds = Ok ds
 unfoldable pub script_at : Place → Bool → Members → Result (List (List ℕ)) TableFault
 script_at at loops ms = do
   ds ← array_at at (codes "script") ms
-  few ← at_most at 64 ds
+  few ← at_most at most_steps ds
   some ← some_step at loops few
   texts at some
 
 -- a process of a name, on so many cores
 unfoldable pub process : ℕ → Place → List ℕ → Members → Result ProcessDraft TableFault
 process cores at name ms = do
-  priority ← number_at at 1 239 (codes "priority") ms
+  priority ← number_at at 1 most_priority (codes "priority") ms
   core ← number_or at 0 0 (cores - 1) (codes "core") ms
   loops ← truth_or at false (codes "loop") ms
   start ← truth_or at false (codes "start") ms
@@ -52,7 +53,7 @@ process cores at name ms = do
 -- the kind of processes
 abbrev pub processes : ℕ → KindOf ProcessDraft
 processes cores = record {
-  head = record { section = Process; most = 32; keys = codes "name" ∷ codes "priority" ∷ codes "core" ∷ codes "loop" ∷ codes "start" ∷ codes "script" ∷ [] };
+  head = record { section = Process; most = most_processes; keys = codes "name" ∷ codes "priority" ∷ codes "core" ∷ codes "loop" ∷ codes "start" ∷ codes "script" ∷ [] };
   name_of = λ p. p.name;
   read = process cores;
 }

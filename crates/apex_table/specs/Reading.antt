@@ -3,6 +3,7 @@ use Rattle.std.specs.Prelude.{codes, ℕ, if◌then◌else◌, List, [], ◌∷�
 use Rattle.std.specs.Str.{is_utf8}
 use Rattle.toml.specs.Data.{Members, get_member}
 use Rattle.toml.specs.Parse.{parse_document}
+use Rattle.apex_types.specs.Limits.{most_cores, most_entries}
 use Rattle.apex_types.specs.Table.{Table}
 use Rattle.apex_table.specs.declared.fault.Section.TheVariants.{Top}
 use Rattle.apex_table.specs.Terms.{TableFault}
@@ -12,6 +13,7 @@ use Rattle.apex_table.specs.Keys.{known, number_at, number_or}
 use Rattle.apex_table.specs.Sections.{section}
 use Rattle.apex_table.specs.Processes.{some_process, processes}
 use Rattle.apex_table.specs.Semaphores.{semaphores}
+use Rattle.apex_table.specs.Names.{names_of}
 use Rattle.apex_table.specs.Scripts.{with_scripts}
 use Rattle.apex_table.specs.Init.{init_texts, init_list}
 
@@ -23,14 +25,14 @@ top_keys = codes "cores" ∷ codes "history" ∷ codes "process" ∷ codes "sema
 unfoldable pub reading : Members → Result Table TableFault
 reading tree = do
   ms ← known (place Top 0) top_keys tree
-  cores ← number_at (place Top 0) 1 8 (codes "cores") ms
-  limit ← number_or (place Top 0) 4096 1 65536 (codes "history") ms
+  cores ← number_at (place Top 0) 1 most_cores (codes "cores") ms
+  limit ← number_or (place Top 0) 4096 1 most_entries (codes "history") ms
   drafts ← section (processes cores) ms
   some ← some_process drafts
   sems ← section semaphores ms
   texts ← init_texts (get_member (codes "init") ms)
-  procs ← with_scripts some sems
-  steps ← init_list procs sems texts
+  procs ← with_scripts (names_of some sems) some
+  steps ← init_list (names_of some sems) procs sems texts
   Ok (record { cores = cores; limit = limit; processes = procs; semaphores = sems; init = steps })
 
 -- TOML's tree of a text

@@ -2,6 +2,7 @@
 use Rattle.std.specs.Prelude.{codes, ℕ, if◌then◌else◌, List, [], ◌∷◌, map, Result, Ok, Err}
 use Rattle.std.specs.Str.{bytes_eq}
 use Rattle.toml.specs.Data.{Members}
+use Rattle.apex_types.specs.Limits.{most_objects, most_value}
 use Rattle.apex_types.specs.Table.{SemaphoreConfig}
 use Rattle.apex_table.specs.Terms.{Discipline, Place, TableFault}
 use Rattle.apex_types.specs.declared.records.Discipline.TheVariants.{Fifo, Priority}
@@ -24,7 +25,7 @@ discipline at t =
 -- a semaphore of a name
 unfoldable pub semaphore : Place → List ℕ → Members → Result SemaphoreConfig TableFault
 semaphore at name ms = do
-  maximum ← number_at at 1 32767 (codes "maximum") ms
+  maximum ← number_at at 1 most_value (codes "maximum") ms
   initial ← number_at at 0 maximum (codes "initial") ms
   word ← text_at at (codes "discipline") ms
   order ← discipline at word
@@ -33,7 +34,7 @@ semaphore at name ms = do
 -- the kind of semaphores
 abbrev pub semaphores : KindOf SemaphoreConfig
 semaphores = record {
-  head = record { section = Semaphore; most = 16; keys = codes "name" ∷ codes "maximum" ∷ codes "initial" ∷ codes "discipline" ∷ [] };
+  head = record { section = Semaphore; most = most_objects; keys = codes "name" ∷ codes "maximum" ∷ codes "initial" ∷ codes "discipline" ∷ [] };
   name_of = λ s. s.name;
   read = semaphore;
 }

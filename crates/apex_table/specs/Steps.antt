@@ -8,6 +8,7 @@ use Rattle.apex_types.specs.declared.calls.Call.TheVariants.{Partition, Process,
 use Rattle.apex_table.specs.declared.fault.TableFault.TheVariants.{BadStep}
 use Rattle.apex_table.specs.Outcome.{◌>>=◌, some_or, as_call, first_of}
 use Rattle.apex_table.specs.Keys.{well_formed}
+use Rattle.apex_table.specs.Names.{Names}
 use Rattle.apex_table.specs.Words.{words, is_empty}
 use Rattle.apex_table.specs.ObjectSteps.{object_call}
 use Rattle.apex_table.specs.PartitionSteps.{partition_call}
@@ -16,24 +17,23 @@ use Rattle.apex_table.specs.CallerSteps.{caller_call}
 use Rattle.apex_table.specs.TimeSteps.{time_call}
 use Rattle.apex_table.specs.SemaphoreSteps.{semaphore_service}
 
--- what each kind of service reads of the words of the step of this origin, by the names of the processes
--- and of the semaphores
-abbrev pub readings : Place → Origin → List (List ℕ) → List (List ℕ) → List (List ℕ) → List (Result (Option Call) TableFault)
-readings at origin ps ss ws =
+-- what each kind of service reads of the words of the step of this origin
+abbrev pub readings : Place → Origin → Names → List (List ℕ) → List (Result (Option Call) TableFault)
+readings at origin names ws =
     as_call Partition (Ok (partition_call ws))
-    ∷ as_call Process (object_call at origin (codes "PROCESS") ps (process_service at) ws)
+    ∷ as_call Process (object_call at origin (codes "PROCESS") names.processes (process_service at) ws)
     ∷ as_call Caller (caller_call at ws)
     ∷ as_call Time (time_call at ws)
-    ∷ as_call Semaphore (object_call at origin (codes "SEMAPHORE") ss (semaphore_service at) ws)
+    ∷ as_call Semaphore (object_call at origin (codes "SEMAPHORE") names.semaphores (semaphore_service at) ws)
     ∷ []
 
 -- the call of a step's words, none where they are no service's
-abbrev pub call_of : Place → Origin → List (List ℕ) → List (List ℕ) → List (List ℕ) → Result (Option Call) TableFault
-call_of at origin ps ss ws = first_of (readings at origin ps ss ws)
+abbrev pub call_of : Place → Origin → Names → List (List ℕ) → Result (Option Call) TableFault
+call_of at origin names ws = first_of (readings at origin names ws)
 
 -- another spacing than one space between words has an empty word
-abbrev pub spaced_call_of : Place → Origin → List (List ℕ) → List (List ℕ) → List (List ℕ) → Result (Option Call) TableFault
-spaced_call_of at origin ps ss ws = if list_any is_empty ws then Ok None else call_of at origin ps ss ws
+abbrev pub spaced_call_of : Place → Origin → Names → List (List ℕ) → Result (Option Call) TableFault
+spaced_call_of at origin names ws = if list_any is_empty ws then Ok None else call_of at origin names ws
 
 -- the literal of a step's words, where its call names one: the name behind the service, which such a
 -- call always has; else nothing
@@ -43,9 +43,9 @@ literal_of at (Some named) (service ∷ name ∷ ws) = well_formed at name
 literal_of at (Some named) _ = Err (BadStep at)
 
 -- the step of this origin, by its text
-unfoldable pub step : Place → Origin → List (List ℕ) → List (List ℕ) → List ℕ → Result Step TableFault
-step at origin ps ss text = do
-  found ← spaced_call_of at origin ps ss (words text)
+unfoldable pub step : Place → Origin → Names → List ℕ → Result Step TableFault
+step at origin names text = do
+  found ← spaced_call_of at origin names (words text)
   call ← some_or (BadStep at) found
   literal ← literal_of at (origin_of call) (words text)
   Ok (record { call = call; literal = literal })

@@ -1,4 +1,5 @@
 ghost use Rattle.std.specs.Prelude.{◌≡◌, ◌+◌, ◌<◌, ◌≤◌, ◌++◌, length, Some};
+ghost use Rattle.apex_types.specs.Limits.{most_init_steps};
 ghost use Rattle.apex_table.specs.Fault.{section_word, place_text, place_after, fault_text};
 ghost use Rattle.apex_table.specs.Outcome.{place};
 ghost use Rattle.apex_table.specs.declared.fault.TableFault.TheVariants.{Memory};
@@ -66,7 +67,7 @@ impl Place {
 
     /// The entry after so many of the section.
     pub(crate) fn next(section: Section, count: usize) -> Place
-        requires { count < 512 }
+        requires { count < most_init_steps }
         ensures { result ≡ place section (count + 1) }
     {
         Place {

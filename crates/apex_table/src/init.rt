@@ -2,31 +2,20 @@ ghost use Rattle.std.specs.Prelude.{◌≡◌, ◌<◌, ◌≤◌, map, length, 
 ghost use Rattle.apex_types.specs.Limits.{most_init_steps, most_objects, most_processes};
 ghost use Rattle.toml.specs.View.{view};
 ghost use Rattle.apex_table.specs.Outcome.{Gives};
-ghost use Rattle.apex_table.specs.Semaphores.{semaphore_names};
-ghost use Rattle.apex_table.specs.Init.{next_text, texts, given_texts, init_texts, is_init_process_service, is_init_semaphore_service, is_init_time_call, is_init_call, init_step, next_init_step, init_steps, entry_names, init_list};
+ghost use Rattle.apex_table.specs.Init.{next_text, texts, given_texts, init_texts, is_init_process_service, is_init_semaphore_service, is_init_time_call, is_init_call, init_step, next_init_step, init_steps, init_list};
 
 use crate::configs::{ProcessConfig, SemaphoreConfig};
 use crate::default_init::default_init;
 use crate::fault::{Place, Section, TableFault};
 use crate::keys;
-use crate::named::Named;
+use crate::names::Names;
 use crate::steps::step;
-use apex_types::{
-    Call, Name, ObjectCall, Origin, ProcessService, SemaphoreService, Step, TimeCall,
-};
+use apex_types::{Call, ObjectCall, Origin, ProcessService, SemaphoreService, Step, TimeCall};
 use std::alloc::Global;
 use toml::Value;
 
-impl Named for ProcessConfig {
-    ghost name_of = { λ p. p.name };
-
-    fn name(&self) -> &Name {
-        ProcessConfig::name(self)
-    }
-}
-
 fn next_text<'a>(before: &[&'a str], value: &'a Value) -> Result<&'a str, TableFault>
-    requires { length before.now < 512 }
+    requires { length before.now < most_init_steps }
     ensures { Gives (λ t. t.now) result (next_text (map (λ t. t.now) before.now) (view value.now)) }
 {
     let at = Place::next(Section::Init, before.len());
@@ -120,15 +109,12 @@ fn init_step(
     alloc: Global,
     at: Place,
     origin: Origin,
-    processes: &[ProcessConfig],
-    semaphores: &[SemaphoreConfig],
+    names: &Names,
     text: &str,
 ) -> Result<Step, TableFault>
-    requires processes { length processes.now ≤ most_processes }
-    requires semaphores { length semaphores.now ≤ most_objects }
-    ensures { Gives (λ s. s) result (init_step at origin (entry_names processes.now) (semaphore_names semaphores.now) text.now) }
+    ensures { Gives (λ s. s) result (init_step at origin names.now text.now) }
 {
-    let step = step(alloc, at, origin, processes, semaphores, text)?;
+    let step = step(alloc, at, origin, names, text)?;
     if is_init_call(&step.call()) {
         Ok(step)
     } else {
@@ -138,35 +124,25 @@ fn init_step(
 
 fn next_init_step(
     alloc: Global,
-    processes: &[ProcessConfig],
-    semaphores: &[SemaphoreConfig],
+    names: &Names,
     before: &[Step],
     text: &str,
 ) -> Result<Step, TableFault>
-    requires processes { length processes.now ≤ most_processes }
-    requires semaphores { length semaphores.now ≤ most_objects }
-    requires few { length before.now < 512 }
-    ensures { Gives (λ s. s) result (next_init_step (entry_names processes.now) (semaphore_names semaphores.now) before.now text.now) }
+    requires { length before.now < most_init_steps }
+    ensures { Gives (λ s. s) result (next_init_step names.now before.now text.now) }
 {
     let at = Place::next(Section::Init, before.len());
     let origin = Origin::Init(before.len() as u16);
-    init_step(alloc, at, origin, processes, semaphores, text)
+    init_step(alloc, at, origin, names, text)
 }
 
-fn init_steps(
-    alloc: Global,
-    processes: &[ProcessConfig],
-    semaphores: &[SemaphoreConfig],
-    texts: &[&str],
-) -> Result<Vec<Step>, TableFault>
-    requires processes { length processes.now ≤ most_processes }
-    requires semaphores { length semaphores.now ≤ most_objects }
-    requires texts { length texts.now ≤ most_init_steps }
-    ensures { Gives (λ v. v.items) result (init_steps (entry_names processes.now) (semaphore_names semaphores.now) (map (λ t. t.now) texts.now)) }
+fn init_steps(alloc: Global, names: &Names, texts: &[&str]) -> Result<Vec<Step>, TableFault>
+    requires { length texts.now ≤ most_init_steps }
+    ensures { Gives (λ v. v.items) result (init_steps names.now (map (λ t. t.now) texts.now)) }
 {
     let mut steps = Vec::new(alloc);
     for text in texts {
-        steps.push(next_init_step(alloc, processes, semaphores, &steps, text)?)?;
+        steps.push(next_init_step(alloc, names, &steps, text)?)?;
     }
     Ok(steps)
 }
@@ -174,6 +150,7 @@ fn init_steps(
 /// The init list that the table gives by these texts, or else the default one.
 pub fn init_list(
     alloc: Global,
+    names: &Names,
     processes: &[ProcessConfig],
     semaphores: &[SemaphoreConfig],
     texts: Option<Vec<&str>>,
@@ -181,10 +158,10 @@ pub fn init_list(
     requires processes { length processes.now ≤ most_processes }
     requires semaphores { length semaphores.now ≤ most_objects }
     requires texts { IfSome texts (λ v. length v.items ≤ most_init_steps) }
-    ensures { Gives (λ v. v.items) result (init_list processes.now semaphores.now (option_map (λ v. map (λ t. t.now) v.items) texts.entry)) }
+    ensures { Gives (λ v. v.items) result (init_list names.now processes.now semaphores.now (option_map (λ v. map (λ t. t.now) v.items) texts.entry)) }
 {
     match texts {
-        Some(texts) => init_steps(alloc, processes, semaphores, &texts),
+        Some(texts) => init_steps(alloc, names, &texts),
         None => Ok(default_init(alloc, processes, semaphores)?),
     }
 }

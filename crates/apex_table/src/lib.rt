@@ -8,6 +8,7 @@ mod init;
 mod keys;
 mod listed;
 mod named;
+mod names;
 mod processes;
 mod reading;
 mod scripts;

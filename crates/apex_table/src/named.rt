@@ -16,16 +16,21 @@ pub trait Named {
 pub fn has_name<T: Named>(entries: &[T], name: &[u8]) -> bool
     ensures { result ≡ list_any (bytes_eq name.now) (map T.name_of entries.now) }
 {
-    place_of(entries, name).is_some()
+    for entry in entries {
+        if name == entry.name().as_bytes() {
+            return true;
+        }
+    }
+    false
 }
 
-/// The place, counted from 0, of the first entry of this name.
-pub fn place_of<T: Named>(entries: &[T], name: &[u8]) -> Option<usize>
-    ensures found { result ≡ position_from (bytes_eq name.now) 0 (map T.name_of entries.now) }
-    ensures bound { IfSome result (λ i. i < length entries.now) }
+/// The place, counted from 0, of the first of these names that is this one.
+pub fn place_of(names: &[Name], name: &[u8]) -> Option<usize>
+    ensures found { result ≡ position_from (bytes_eq name.now) 0 names.now }
+    ensures bound { IfSome result (λ i. i < length names.now) }
 {
-    for (i, entry) in entries.iter().enumerate() {
-        if name == entry.name().as_bytes() {
+    for (i, other) in names.iter().enumerate() {
+        if name == other.as_bytes() {
             return Some(i);
         }
     }

@@ -1,5 +1,5 @@
 ghost use Rattle.std.specs.Prelude.{◌≡◌, ◌≤◌, map, length, IfOk};
-ghost use Rattle.apex_types.specs.Limits.{most_cores, most_steps};
+ghost use Rattle.apex_types.specs.Limits.{most_cores, most_init_steps, most_steps};
 ghost use Rattle.toml.specs.View.{view, table_view};
 ghost use Rattle.apex_table.specs.Outcome.{Gives};
 ghost use Rattle.apex_table.specs.Sections.{head_of};
@@ -27,6 +27,7 @@ pub struct Draft<'a> {
 
 impl<'a> Model for Draft<'a> {
     ghost use Rattle.std.specs.Prelude.{◌≤◌, map, length};
+    ghost use Rattle.apex_types.specs.Limits.{most_steps};
     ghost use Rattle.apex_table.specs.Sections.{head_of};
     ghost use Rattle.apex_table.specs.Processes.{ProcessDraft};
 
@@ -34,7 +35,7 @@ impl<'a> Model for Draft<'a> {
 
     ghost view = { λ d. record { name = d.name; priority = d.priority; core = d.core; loops = d.loops; start = d.starts; script = map (λ t. t.now) d.script.items } };
 
-    ghost invariant = { λ d. length d.script.items ≤ 64 };
+    ghost invariant = { λ d. length d.script.items ≤ most_steps };
 }
 
 impl<'a> Named for Draft<'a> {
@@ -98,7 +99,7 @@ impl<'a> Kind<'a> for Processes {
 
     fn head(&self) -> Head<'static>
         ensures head { head_of result ≡ (processes self.now.cores).head }
-        ensures few { result.most ≤ 512 }
+        ensures few { result.most ≤ most_init_steps }
     {
         Head {
             section: Section::Process,

@@ -5,6 +5,7 @@ ghost use Rattle.apex_table.specs.Reading.{reading, document, table_of};
 use crate::fault::{Place, Section, TableFault};
 use crate::init::{init_list, init_texts};
 use crate::keys;
+use crate::names::Names;
 use crate::processes::{Processes, some_process};
 use crate::scripts::with_scripts;
 use crate::sections::read_section;
@@ -26,8 +27,9 @@ fn read_tree(alloc: Global, tree: &toml::Table) -> Result<Table, TableFault>
     some_process(&drafts)?;
     let semaphores = read_section(alloc, &Semaphores, tree)?;
     let texts = init_texts(alloc, keys::key(tree, "init"))?;
-    let processes = with_scripts(alloc, &drafts, &semaphores)?;
-    let init = init_list(alloc, &processes, &semaphores, texts)?;
+    let names = Names::of(alloc, &drafts, &semaphores)?;
+    let processes = with_scripts(alloc, &names, &drafts)?;
+    let init = init_list(alloc, &names, &processes, &semaphores, texts)?;
     Ok(Table::new(cores as u8, limit, processes, semaphores, init))
 }
 

@@ -1,4 +1,5 @@
 ghost use Rattle.std.specs.Prelude.{◌≡◌, ◌<◌, ◌≤◌, ℕ, List, length, map, option_map, Result, IfOk};
+ghost use Rattle.apex_types.specs.Limits.{most_init_steps};
 ghost use Rattle.toml.specs.Data.{Members};
 ghost use Rattle.toml.specs.View.{view, table_view};
 ghost use Rattle.apex_table.specs.Outcome.{Gives};
@@ -32,7 +33,7 @@ pub trait Kind<'a> {
 
     fn head(&self) -> Head<'static>
         ensures head { head_of result ≡ head self.now }
-        ensures few { result.most ≤ 512 };
+        ensures few { result.most ≤ most_init_steps };
 
     /// Reads the entry of this name.
     fn entry(
@@ -68,7 +69,7 @@ fn next_entry<'a, K: Kind<'a>>(
     before: &[K::Entry],
     value: &'a Value,
 ) -> Result<K::Entry, TableFault>
-    requires { length before.now < 512 }
+    requires { length before.now < most_init_steps }
     ensures { Gives (λ e. e) result (next_entry (kind_of (head_of head.entry) K.Entry.name_of (K.read kind.now)) before.now (view value.now)) }
 {
     let at = Place::next(head.section, before.len());

@@ -1,5 +1,4 @@
-ghost use Rattle.std.specs.Prelude.{◌≤◌, map, length};
-ghost use Rattle.apex_types.specs.Limits.{most_objects, most_processes};
+ghost use Rattle.std.specs.Prelude.{map};
 ghost use Rattle.apex_table.specs.Outcome.{Gives};
 ghost use Rattle.apex_table.specs.Steps.{call_of, spaced_call_of, literal_of, step};
 
@@ -13,7 +12,7 @@ mod words;
 
 use crate::fault::{Place, TableFault};
 use crate::keys::well_formed;
-use crate::named::Named;
+use crate::names::Names;
 use apex_types::{Call, Literal, Origin, Step};
 use caller::caller_call;
 use object::object_call;
@@ -23,23 +22,20 @@ use time::time_call;
 use words::{has_empty, words};
 
 /// The call of a step's words, if they are a step.
-fn call_of<P: Named, S: Named>(
+fn call_of(
     at: Place,
     origin: Origin,
-    processes: &[P],
-    semaphores: &[S],
+    names: &Names,
     words: &[&str],
 ) -> Result<Option<Call>, TableFault>
-    requires processes { length processes.now ≤ most_processes }
-    requires semaphores { length semaphores.now ≤ most_objects }
-    ensures { Gives (λ c. c) result (call_of at origin (map P.name_of processes.now) (map S.name_of semaphores.now) (map (λ w. w.now) words.now)) }
+    ensures { Gives (λ c. c) result (call_of at origin names.now (map (λ w. w.now) words.now)) }
 {
     // The second reading takes a copy: the borrow checker lets an enum with an id be handed on once.
     let again = origin;
     if let Some(call) = partition_call(words) {
         return Ok(Some(Call::Partition(call)));
     }
-    if let Some(call) = object_call(at, origin, processes, words)? {
+    if let Some(call) = object_call(at, origin, names.processes(), words)? {
         return Ok(Some(Call::Process(call)));
     }
     if let Some(call) = caller_call(at, words)? {
@@ -48,27 +44,24 @@ fn call_of<P: Named, S: Named>(
     if let Some(call) = time_call(at, words)? {
         return Ok(Some(Call::Time(call)));
     }
-    if let Some(call) = object_call(at, again, semaphores, words)? {
+    if let Some(call) = object_call(at, again, names.semaphores(), words)? {
         return Ok(Some(Call::Semaphore(call)));
     }
     Ok(None)
 }
 
-fn spaced_call_of<P: Named, S: Named>(
+fn spaced_call_of(
     at: Place,
     origin: Origin,
-    processes: &[P],
-    semaphores: &[S],
+    names: &Names,
     words: &[&str],
 ) -> Result<Option<Call>, TableFault>
-    requires processes { length processes.now ≤ most_processes }
-    requires semaphores { length semaphores.now ≤ most_objects }
-    ensures { Gives (λ c. c) result (spaced_call_of at origin (map P.name_of processes.now) (map S.name_of semaphores.now) (map (λ w. w.now) words.now)) }
+    ensures { Gives (λ c. c) result (spaced_call_of at origin names.now (map (λ w. w.now) words.now)) }
 {
     if has_empty(words) {
         return Ok(None);
     }
-    call_of(at, origin, processes, semaphores, words)
+    call_of(at, origin, names, words)
 }
 
 /// The literal of a step's words, where its call names one: the name behind the service.
@@ -87,20 +80,17 @@ fn literal(at: Place, named: Option<Origin>, words: &[&str]) -> Result<Literal, 
 /// The step of this origin, by its text: first its form is tested, then its words from left to
 /// right.
 #[tactic(auto, unfolding(crate::specs::Steps::step))]
-pub fn step<P: Named, S: Named>(
+pub fn step(
     alloc: Global,
     at: Place,
     origin: Origin,
-    processes: &[P],
-    semaphores: &[S],
+    names: &Names,
     text: &str,
 ) -> Result<Step, TableFault>
-    requires processes { length processes.now ≤ most_processes }
-    requires semaphores { length semaphores.now ≤ most_objects }
-    ensures { Gives (λ s. s) result (step at origin (map P.name_of processes.now) (map S.name_of semaphores.now) text.now) }
+    ensures { Gives (λ s. s) result (step at origin names.now text.now) }
 {
     let words = words(alloc, text)?;
-    match spaced_call_of(at, origin, processes, semaphores, &words)? {
+    match spaced_call_of(at, origin, names, &words)? {
         Some(call) => Ok(Step::new(call, literal(at, call.origin(), &words)?)),
         None => Err(TableFault::BadStep(at)),
     }

@@ -1,5 +1,5 @@
 ghost use Rattle.std.specs.Prelude.{◌≡◌, ◌<◌, ◌≤◌, length, slice_get};
-ghost use Rattle.apex_types.specs.Limits.{most_literal};
+ghost use Rattle.apex_types.specs.Limits.{most_cores, most_entries, most_literal, most_objects, most_processes};
 ghost use Rattle.apex_types.specs.Table.{IsLawful, process_config, semaphore_config, call_in, literal_text};
 
 use crate::configs::{ProcessConfig, SemaphoreConfig};
@@ -50,7 +50,7 @@ impl Table {
     /// How many cores the partition has.
     pub fn cores(&self) -> u8
         ensures value { result ≡ self.now.cores }
-        ensures range { (1 ≤ result) × (result ≤ 8) }
+        ensures range { (1 ≤ result) × (result ≤ most_cores) }
     {
         self.cores
     }
@@ -58,14 +58,14 @@ impl Table {
     /// How many entries the history may have.
     pub fn limit(&self) -> u32
         ensures value { result ≡ self.now.limit }
-        ensures range { (1 ≤ result) × (result ≤ 65536) }
+        ensures range { (1 ≤ result) × (result ≤ most_entries) }
     {
         self.limit
     }
 
     pub fn process_count(&self) -> usize
         ensures value { result ≡ length self.now.processes }
-        ensures range { (1 ≤ result) × (result ≤ 32) }
+        ensures range { (1 ≤ result) × (result ≤ most_processes) }
     {
         self.processes.len()
     }
@@ -81,7 +81,7 @@ impl Table {
 
     pub fn semaphore_count(&self) -> usize
         ensures value { result ≡ length self.now.semaphores }
-        ensures range { result ≤ 16 }
+        ensures range { result ≤ most_objects }
     {
         self.semaphores.len()
     }

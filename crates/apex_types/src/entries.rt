@@ -104,7 +104,7 @@ impl Notices {
 
     /// The notices of this slice. Takes no memory.
     fn copied(notices: &[Notice]) -> Notices
-        requires { length notices.now ≤ 64 }
+        requires { length notices.now ≤ most_notices }
         ensures { result ≡ notices.now }
     {
         let mut copied = ArrayVec::new();
@@ -183,6 +183,7 @@ pub struct LentEntry<'a> {
 
 impl<'a> Model for LentEntry<'a> {
     ghost use Rattle.std.specs.Prelude.{◌≤◌, length};
+    ghost use Rattle.apex_types.specs.Limits.{most_notices};
     ghost use Rattle.apex_types.specs.declared.entries.Entry.{Entry};
 
     ghost Value = { Entry };
@@ -197,7 +198,7 @@ impl<'a> Model for LentEntry<'a> {
       notices = e.notices.now;
     } };
 
-    ghost invariant = { λ e. length e.notices.now ≤ 64 };
+    ghost invariant = { λ e. length e.notices.now ≤ most_notices };
 }
 
 impl<'a> LentEntry<'a> {

@@ -1,4 +1,5 @@
 ghost use Rattle.std.specs.Prelude.{◌≡◌, ◌+◌, ◌<◌};
+ghost use Rattle.apex_types.specs.Limits.{most_cores};
 
 use std::marker::{Model, PhantomData};
 
@@ -10,12 +11,13 @@ pub struct CoreId {
 
 impl Model for CoreId {
     ghost use Rattle.std.specs.Prelude.{ℕ, ◌<◌};
+    ghost use Rattle.apex_types.specs.Limits.{most_cores};
 
     ghost Value = { ℕ };
 
     ghost view = { λ c. c.number };
 
-    ghost invariant = { λ c. c.number < 8 };
+    ghost invariant = { λ c. c.number < most_cores };
 
     ghost inverse = { λ n. record { number = n } };
 }
@@ -23,7 +25,7 @@ impl Model for CoreId {
 impl CoreId {
     /// The core of this number.
     pub fn new(number: u8) -> CoreId
-        requires { number < 8 }
+        requires { number < most_cores }
         ensures { result ≡ number }
     {
         CoreId { number }
@@ -32,7 +34,7 @@ impl CoreId {
     /// The core's number, from 0 to 7.
     pub fn number(self) -> u8
         ensures value { result ≡ self }
-        ensures range { result < 8 }
+        ensures range { result < most_cores }
     {
         self.number
     }

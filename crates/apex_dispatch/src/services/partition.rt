@@ -64,7 +64,7 @@ fn enter_normal<S: Store>(store: &mut S, notices: &mut Notices)
     requires starts { HasOrderlyStarts (S.roster store.old) }
     requires stamps { HasManyStamps (S.roster store.old) }
     requires time { HasTime (S.roster store.old) }
-    requires room { length notices.old ≤ 32 }
+    requires room { length notices.old ≤ most_processes }
     ensures { Makes (services.enter_normal (S.roster store.old))
         (S.roster store.new) notices.old notices.new }
 {
@@ -99,7 +99,7 @@ fn set_partition_mode<S: Store>(
     requires starts { HasOrderlyStarts (S.roster store.old) }
     requires stamps { HasManyStamps (S.roster store.old) }
     requires time { HasTime (S.roster store.old) }
-    requires room { length notices.old ≤ 32 }
+    requires room { length notices.old ≤ most_processes }
     ensures { Leaves (services.set_partition_mode (S.roster store.old) objects.now requested)
         (S.roster store.new) objects.now result notices.old notices.new }
 {
@@ -140,7 +140,7 @@ pub(crate) fn serve<S: Store>(
     requires starts { HasOrderlyStarts (S.roster store.old) }
     requires stamps { HasManyStamps (S.roster store.old) }
     requires time { HasTime (S.roster store.old) }
-    requires room { length notices.old ≤ 32 }
+    requires room { length notices.old ≤ most_processes }
     ensures { Leaves (services.partition_service (S.roster store.old) objects.now call.now)
         (S.roster store.new) objects.now result notices.old notices.new }
 {

@@ -9,9 +9,9 @@ ghost use Rattle.apex_table.specs.Words.{entry_of};
 
 use crate::fault::{Place, TableFault};
 use crate::keys::well_formed;
-use crate::named::{Named, place_of};
+use crate::named::place_of;
 use crate::steps::words::entry_of;
-use apex_types::{Id, ObjectCall, Origin};
+use apex_types::{Id, Name, Named, ObjectCall, Origin};
 
 /// The services of a kind of things, as steps ask for them.
 pub trait Services {
@@ -50,72 +50,72 @@ fn is_service(service: &str, before: &str, word: &str, after: &str) -> bool
 }
 
 /// A thing by any name, in the step of this origin.
-fn named<T: Named, K>(
+fn named<K>(
     at: Place,
     origin: Origin,
-    entries: &[T],
+    names: &[Name],
     name: &str,
-) -> Result<apex_types::Named<Id<K>>, TableFault>
-    requires { length entries.now ≤ most_processes }
-    ensures { Gives (λ n. n) result (named at origin (map T.name_of entries.now) name.now) }
+) -> Result<Named<Id<K>>, TableFault>
+    requires { length names.now ≤ most_processes }
+    ensures { Gives (λ n. n) result (named at origin names.now name.now) }
 {
     let name = well_formed(at, name)?;
-    match place_of(entries, name.as_bytes()) {
-        Some(place) => Ok(apex_types::Named::Known(Id::at(place as u8))),
-        None => Ok(apex_types::Named::Unknown(origin)),
+    match place_of(names, name.as_bytes()) {
+        Some(place) => Ok(Named::Known(Id::at(place as u8))),
+        None => Ok(Named::Unknown(origin)),
     }
 }
 
 /// A thing by the name of an entry.
-fn thing<T: Named, K>(at: Place, entries: &[T], name: &str) -> Result<Id<K>, TableFault>
-    requires { length entries.now ≤ most_processes }
-    ensures { result ≡ entry_of at (map T.name_of entries.now) name.now }
+fn thing<K>(at: Place, names: &[Name], name: &str) -> Result<Id<K>, TableFault>
+    requires { length names.now ≤ most_processes }
+    ensures { result ≡ entry_of at names.now name.now }
 {
-    Ok(Id::at(entry_of(at, entries, name)?))
+    Ok(Id::at(entry_of(at, names, name)?))
 }
 
 /// The call of a service that each kind has.
 #[tactic(auto, unfolding(crate::specs::ObjectSteps::common_call))]
-fn common_call<T: Named, K: Services>(
+fn common_call<K: Services>(
     at: Place,
     origin: Origin,
-    entries: &[T],
+    names: &[Name],
     service: &str,
     name: &str,
     words: &[&str],
 ) -> Result<Option<ObjectCall<Id<K>, K::Own>>, TableFault>
-    requires { length entries.now ≤ most_processes }
-    ensures { Gives (λ c. c) result (common_call at origin K.word (map T.name_of entries.now) service.now name.now (map (λ w. w.now) words.now)) }
+    requires { length names.now ≤ most_processes }
+    ensures { Gives (λ c. c) result (common_call at origin K.word names.now service.now name.now (map (λ w. w.now) words.now)) }
 {
     if !words.is_empty() {
         return Ok(None);
     }
     if is_service(service, "CREATE_", K::word(), "") {
-        return Ok(Some(ObjectCall::Create(named(at, origin, entries, name)?)));
+        return Ok(Some(ObjectCall::Create(named(at, origin, names, name)?)));
     }
     if is_service(service, "GET_", K::word(), "_ID") {
-        return Ok(Some(ObjectCall::GetId(named(at, origin, entries, name)?)));
+        return Ok(Some(ObjectCall::GetId(named(at, origin, names, name)?)));
     }
     if is_service(service, "GET_", K::word(), "_STATUS") {
-        return Ok(Some(ObjectCall::GetStatus(thing(at, entries, name)?)));
+        return Ok(Some(ObjectCall::GetStatus(thing(at, names, name)?)));
     }
     Ok(None)
 }
 
 /// The call of a service that the kind alone has.
-fn own_call<T: Named, K, W: Copy>(
+fn own_call<K, W: Copy>(
     at: Place,
-    entries: &[T],
+    names: &[Name],
     name: &str,
     own: Result<Option<W>, TableFault>,
 ) -> Result<Option<ObjectCall<Id<K>, W>>, TableFault>
-    requires { length entries.now ≤ most_processes }
-    ensures { result ≡ own_call at (map T.name_of entries.now) name.now own }
+    requires { length names.now ≤ most_processes }
+    ensures { result ≡ own_call at names.now name.now own }
 {
     if let Ok(None) = own {
         return Ok(None);
     }
-    let id = thing(at, entries, name)?;
+    let id = thing(at, names, name)?;
     match own? {
         Some(service) => Ok(Some(ObjectCall::Own(id, service))),
         None => Ok(None),
@@ -123,20 +123,20 @@ fn own_call<T: Named, K, W: Copy>(
 }
 
 /// The call of a step's words, none where they are no step of the kind.
-pub fn object_call<T: Named, K: Services>(
+pub fn object_call<K: Services>(
     at: Place,
     origin: Origin,
-    entries: &[T],
+    names: &[Name],
     words: &[&str],
 ) -> Result<Option<ObjectCall<Id<K>, K::Own>>, TableFault>
-    requires { length entries.now ≤ most_processes }
-    ensures { Gives (λ c. c) result (object_call at origin K.word (map T.name_of entries.now) (K.own at) (map (λ w. w.now) words.now)) }
+    requires { length names.now ≤ most_processes }
+    ensures { Gives (λ c. c) result (object_call at origin K.word names.now (K.own at) (map (λ w. w.now) words.now)) }
 {
     let [service, name, words @ ..] = words else {
         return Ok(None);
     };
-    match common_call(at, origin, entries, service, name, words)? {
+    match common_call(at, origin, names, service, name, words)? {
         Some(call) => Ok(Some(call)),
-        None => own_call(at, entries, name, K::own_service(at, service, words)),
+        None => own_call(at, names, name, K::own_service(at, service, words)),
     }
 }

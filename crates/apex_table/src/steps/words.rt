@@ -4,8 +4,8 @@ ghost use Rattle.std.specs.List.{list_any};
 ghost use Rattle.apex_table.specs.Words.{words, is_empty, is_number, is_timeout, number, timeout, entry_of};
 
 use crate::fault::{Place, TableFault};
-use crate::named::{Named, place_of};
-use apex_types::{Timeout, number_at_most};
+use crate::named::place_of;
+use apex_types::{Name, Timeout, number_at_most};
 use std::alloc::{AllocError, Global};
 
 /// What stands between single spaces, which may be empty.
@@ -64,11 +64,11 @@ pub fn timeout(at: Place, word: &str) -> Result<Timeout, TableFault>
 }
 
 /// The place, counted from 0, of the entry of this name.
-pub fn entry_of<T: Named>(at: Place, entries: &[T], name: &str) -> Result<u8, TableFault>
-    requires { length entries.now ≤ most_processes }
-    ensures { result ≡ entry_of at (map T.name_of entries.now) name.now }
+pub fn entry_of(at: Place, names: &[Name], name: &str) -> Result<u8, TableFault>
+    requires { length names.now ≤ most_processes }
+    ensures { result ≡ entry_of at names.now name.now }
 {
-    match place_of(entries, name.as_bytes()) {
+    match place_of(names, name.as_bytes()) {
         Some(place) => Ok(place as u8),
         None => Err(TableFault::UnknownName(at)),
     }

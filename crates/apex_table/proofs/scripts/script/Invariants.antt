@@ -6,9 +6,9 @@ use Rattle.apex_table.specs.Scripts.{script}
 use Rattle.apex_table.proofs.scripts.script.Given as goal
 
 abbrev pub invariant-loop-text : goal.invariant-loop-text
-invariant-loop-text g l = record {
+invariant-loop-text l = record {
   read :
-      each (λ before t. step l.at (Script l.process (length before)) (map g.P.Named.name_of l.processes) (map g.S.Named.name_of l.semaphores) t) l.steps.items (map (λ t. t.now) (drop l.text-index l.texts))
-      ≡ script l.at l.process (map g.P.Named.name_of l.processes) (map g.S.Named.name_of l.semaphores) (map (λ t. t.now) l.texts);
+      each (λ before t. step l.at (Script l.process (length before)) l.names t) l.steps.items (map (λ t. t.now) (drop l.text-index l.texts))
+      ≡ script l.at l.process l.names (map (λ t. t.now) l.texts);
   count : length l.steps.items ≡ l.text-index;
 }
