@@ -364,8 +364,7 @@ impl Store for PlainStore {
 
     fn take_due(&mut self) -> Option<ProcessId> {
         let process = first_due(self.time, &self.records)?;
-        let row = self.record(process);
-        self.put(process, Record { due: None, ..row });
+        self.records[process.place()].due = None;
         Some(process)
     }
 
@@ -374,12 +373,10 @@ impl Store for PlainStore {
     }
 
     fn set_core(&mut self, process: ProcessId, core: CoreId) {
-        let row = self.record(process);
-        self.put(process, Record { core, ..row });
+        self.records[process.place()].core = core;
     }
 
     fn set_step(&mut self, process: ProcessId, step: u8) {
-        let row = self.record(process);
-        self.put(process, Record { step, ..row });
+        self.records[process.place()].step = step;
     }
 }
