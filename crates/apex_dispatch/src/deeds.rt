@@ -24,6 +24,8 @@ pub(crate) struct Deed {
 }
 
 /// Carries out the caller's call.
+// Inlined, as its callers are, so that no deed is copied on its way to the log.
+#[inline(always)]
 fn ask<S: Store>(
     store: &mut S,
     objects: &mut Objects,
@@ -63,6 +65,7 @@ fn next_place(process: &ProcessConfig, step: u8) -> u8
 }
 
 /// The process carries out its step; the end of its script is STOP_SELF.
+#[inline(always)]
 fn carry_out_step<S: Store>(
     table: &Table,
     store: &mut S,
@@ -100,6 +103,7 @@ fn carry_out_step<S: Store>(
 }
 
 /// Carries out the init step that is due, else the step of the core's chosen process, else nothing.
+#[inline(always)]
 pub(crate) fn carry_out<S: Store>(
     table: &Table,
     store: &mut S,

@@ -75,6 +75,7 @@ fn refuse_full(log: &Log) -> Result<(), Full>
 }
 
 /// Adds the entry that tells of a deed.
+#[inline(always)]
 fn append<S: Store>(log: &mut Log, store: &S, who: Who, deed: Deed, notices: &Notices)
     requires room { length log.old.entries < log.old.limit }
     requires few { log.old.limit ≤ most_entries }

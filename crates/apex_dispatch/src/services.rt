@@ -21,6 +21,8 @@ mod time;
 pub(crate) use process::ProcessObject;
 
 /// Carries out a call of any service.
+// Apart, so that its callers are small enough to be inlined.
+#[inline(never)]
 pub(crate) fn serve<S: Store>(
     store: &mut S,
     objects: &mut Objects,
