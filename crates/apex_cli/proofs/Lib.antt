@@ -1,5 +1,5 @@
 pub mod Endings
 pub mod Parts
-pub mod MadeEvents
+pub mod ItemRuns
 pub mod CommandLemmas
 pub mod Items

@@ -1,10 +1,13 @@
-ghost use Rattle.std.specs.Prelude.{◌≡◌, ℕ, true, replicate, take, All, IfOk};
+ghost use Rattle.std.specs.Prelude.{◌≡◌, ◌↔◌, ◌+◌, ◌<◌, ◌≤◌, ℕ, true, length, replicate, IfErr, IsOk};
+ghost use Rattle.apex_types.specs.Machine.{accept, run};
 ghost use Rattle.apex_dispatch.specs.Events.{IsWithin};
+ghost use Rattle.apex_dispatch.specs.Kernel.{kernel_in};
 ghost use Rattle.apex_cli.specs.Schedule.{is_core_below, are_cores_below, events_of_item, events_of_items};
 
 use crate::schedule::Item;
-use apex_types::Event;
-use std::alloc::{AllocError, Global};
+use apex_dispatch::Kernel;
+use apex_store::PlainStore;
+use apex_types::{Event, Full};
 
 /// The event of an item, and how often it comes.
 #[tactic(auto, unfolding(crate::specs::Schedule::is_core_below))]
@@ -18,19 +21,45 @@ fn repeated(item: &Item) -> (Event, u32)
     }
 }
 
-/// The events that the items ask for, and no more than the first `most` of them.
-///
-/// It takes the memory for `most` events at once, and fails only for want of memory.
-pub fn first_events(alloc: Global, items: &[Item], most: usize) -> Result<Vec<Event>, AllocError>
-    ensures events { IfOk result (λ events. events.items ≡ take most (events_of_items items.now)) }
-    ensures within { IfOk result (λ events. (cores : ℕ) → are_cores_below cores items.now ≡ true
-        → All (IsWithin cores) events.items) }
+/// Runs one event, where the history has room for it.
+fn run_one(kernel: &mut Kernel<PlainStore>, event: &Event) -> Result<(), Full>
+    requires { IsWithin kernel.old.table.cores event.now }
+    ensures done { kernel.new ≡ kernel_in kernel.old.table (accept kernel.old.table kernel.old.machine event.now) }
+    ensures accepted { IsOk result ↔ (length kernel.old.machine.history < kernel.old.table.limit) }
+    ensures full { IfErr result (λ e. e.entries ≡ kernel.old.table.limit) }
 {
-    let mut events = Vec::with_capacity(alloc, most)?;
+    kernel.holds();
+    kernel.run(&[*event])
+}
+
+/// Runs the event so many times, up to the first for which the history has no room.
+fn run_repeated(kernel: &mut Kernel<PlainStore>, event: &Event, times: u32) -> Result<(), Full>
+    requires { IsWithin kernel.old.table.cores event.now }
+    ensures done { kernel.new ≡ kernel_in kernel.old.table
+        (run kernel.old.table kernel.old.machine (replicate times event.now)) }
+    ensures accepted { IsOk result ↔ (length kernel.old.machine.history + times ≤ kernel.old.table.limit) }
+    ensures full { IfErr result (λ e. e.entries ≡ kernel.old.table.limit) }
+{
+    kernel.holds();
+    for turn in 0..times {
+        run_one(kernel, event)?;
+    }
+    Ok(())
+}
+
+/// Runs the events of the items, up to the first for which the history has no room. Takes no memory:
+/// there is no list of them.
+pub fn run_items(kernel: &mut Kernel<PlainStore>, items: &[Item]) -> Result<(), Full>
+    requires { are_cores_below kernel.old.table.cores items.now ≡ true }
+    ensures done { kernel.new ≡ kernel_in kernel.old.table
+        (run kernel.old.table kernel.old.machine (events_of_items items.now)) }
+    ensures accepted { IsOk result ↔ (length kernel.old.machine.history + length (events_of_items items.now) ≤ kernel.old.table.limit) }
+    ensures full { IfErr result (λ e. e.entries ≡ kernel.old.table.limit) }
+{
+    kernel.holds();
     for item in items {
         let (event, times) = repeated(item);
-        let room = most - events.len();
-        events.resize(events.len() + room.min(times as usize), event)?;
+        run_repeated(kernel, &event, times)?;
     }
-    Ok(events)
+    Ok(())
 }

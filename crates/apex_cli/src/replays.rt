@@ -3,7 +3,7 @@ ghost use Rattle.apex_types.specs.Lines.{lines_of, IsPrintable};
 ghost use Rattle.apex_cli.specs.Faults.{IsUsageOrMemory};
 ghost use Rattle.apex_cli.specs.Replay.{answer_of, writes, items_asked, Refuses};
 
-use crate::events::first_events;
+use crate::events::run_items;
 use crate::faults::CliFault;
 use crate::schedule::{Item, are_cores_below, read_schedule};
 use crate::words::schedule_in;
@@ -48,11 +48,10 @@ pub fn replayed(alloc: Global, items: &[Item], text: &[u8]) -> Result<Replay, Cl
     if !are_cores_below(table.cores(), items) {
         return Err(CliFault::Usage);
     }
-    let events = first_events(alloc, items, table.limit() as usize + 1)?;
     let store = PlainStore::new(alloc, &table)?;
     let mut kernel = Kernel::boot(alloc, table, store)?;
     let page = Page::new(alloc)?;
-    let fault = match kernel.run(events.as_slice()) {
+    let fault = match run_items(&mut kernel, items) {
         Ok(()) => None,
         Err(full) => Some(CliFault::HistoryFull(full.entries)),
     };
