@@ -1,6 +1,7 @@
 -- Texts that reach a writer by way of a page.
 use Rattle.std.proofs.Common.{◌≡◌, ℕ, List, ◌++◌, Option, sym, ap, subst, ◌∙◌, append_assoc}
 use Rattle.std.proofs.KnownBytes.{Appends-trans}
+use Rattle.std.specs.Io.KnownBytes.{Appends}
 use Rattle.apex_history.specs.Terms.{Entry}
 use Rattle.apex_types.specs.Table.{Table}
 use Rattle.apex_types.specs.Lines.{lines_of}
@@ -20,6 +21,18 @@ beginning_after a b c text held p h =
     let (front, whole, first) = p in
     let (done, rest, split, second) = h in
     (front ++ done, rest, whole ∙ ap (λ l. front ++ l) split ∙ sym (append_assoc front done rest), Appends-trans a b c front done first second)
+
+-- what comes behind the text stays behind what is held
+pub passes_with : (a b : Option (List ℕ)) (text held more : List ℕ) → Passes a b text held → Passes a b (text ++ more) (held ++ more)
+passes_with a b text held more p =
+    let (done, split, appended) = p in
+    (done, ap (λ l. l ++ more) split ∙ append_assoc done held more, appended)
+
+-- all that is held is handed on
+pub passes_all : (a b c : Option (List ℕ)) (text held : List ℕ) → Passes a b text held → Appends b c held → Appends a c text
+passes_all a b c text held p more =
+    let (done, split, first) = p in
+    subst (Appends a c) (sym split) (Appends-trans a b c done held first more)
 
 -- the page hands on a part of what it held, and takes a line
 pub passes_more : (a b c : Option (List ℕ)) (text held kept line : List ℕ) → Passes a b text held → Passes b c held kept → Passes a c (text ++ line) (kept ++ line)

@@ -1,9 +1,20 @@
 -- How a log keeps its entries: a row for each, and the notices of all of them in one list.
-use Rattle.std.specs.Prelude.{ℕ, ◌+◌, ◌*◌, ◌≤◌, List, Option, length}
+use Rattle.std.specs.Prelude.{ℕ, ◌+◌, ◌*◌, ◌≤◌, List, Option, Some, None, length}
 use Rattle.std.specs.List.{AllByRecursion, slice_range}
 use Rattle.apex_history.specs.Terms.{Call, Caller, Entry, Notice, Reply, Who}
+use Rattle.apex_history.specs.declared.rows.Asked.{Asked}
+use Rattle.apex_history.specs.declared.rows.Asked.TheVariants.{For, Nothing}
 use Rattle.apex_types.specs.Limits.{most_entries, most_notices}
 use Rattle.apex_types.specs.Places.{map_places}
+
+-- who asked, and for which call
+abbrev pub caller_in : Asked → Caller
+caller_in (For caller call) = caller
+caller_in (Nothing caller) = caller
+
+abbrev pub call_in : Asked → Option Call
+call_in (For caller call) = Some call
+call_in (Nothing caller) = None
 
 -- an entry without its number, which is its place, and with its notices as a part of a list
 pub record RowEntry : Type 0 where

@@ -2,7 +2,7 @@ ghost use Rattle.std.specs.Prelude.{◌≡◌, ◌+◌, ◌<◌, ◌≤◌, ◌�
 ghost use Rattle.apex_types.specs.Limits.{most_entries};
 
 use crate::lent::Entries;
-use crate::rows::Row;
+use crate::rows::{Asked, Row};
 use apex_types::{LentEntry, Notice};
 use std::alloc::{AllocError, Global};
 use std::marker::Model;
@@ -75,12 +75,11 @@ impl Log {
         put_notices(&mut self.notices, entry.notices);
         self.rows.push_reserved(Row {
             now: entry.now,
-            who: entry.who,
-            process: entry.process,
-            call: entry.call,
             reply: entry.reply,
+            asked: Asked::new(entry.process, entry.call),
             start,
-            end: self.notices.len() as u32,
+            who: entry.who,
+            count: entry.notices.len() as u8,
         });
     }
 

@@ -4,7 +4,7 @@ ghost use Rattle.apex_history.specs.Counted.{inner_of, failures_of, CountsFailur
 ghost use Rattle.apex_history.specs.Page.{Passes};
 
 use crate::counting::Counted;
-use crate::puts::LINE_ROOM;
+use crate::puts::LINES_ROOM;
 use crate::sources::Sink;
 use std::alloc::{AllocError, Global};
 use std::io;
@@ -48,26 +48,26 @@ impl Page {
         self.text.clear();
     }
 
-    /// Writes the text out where a line may not fit behind it.
+    /// Writes the text out where lines may not fit behind it.
     pub(crate) fn make_room<W: Sink>(&mut self, writer: &mut Counted<W>) -> io::Result<()>
         ensures ok { OnOk result (Passes (W.contents (inner_of writer.old)) (W.contents (inner_of writer.new)) self.old self.new) }
-        ensures room { length self.new + 4096 ≤ 65536 }
+        ensures room { length self.new + 8192 ≤ 65536 }
         ensures empty { OnErr result (self.new ≡ []) }
         ensures err { OnErr result (AppendsBeginning (W.contents (inner_of writer.old)) (W.contents (inner_of writer.new)) self.old) }
         ensures counted { CountsFailure result (failures_of writer.old) (failures_of writer.new) }
     {
-        if self.text.len() + LINE_ROOM <= PAGE_ROOM {
+        if self.text.len() + LINES_ROOM <= PAGE_ROOM {
             return Ok(());
         }
         self.hand_on(writer)
     }
 
-    /// Puts a line behind the text.
-    pub(crate) fn put(&mut self, line: &[u8])
-        requires { length self.old + length line.now ≤ 65536 }
-        ensures { self.new ≡ self.old ++ line.now }
+    /// Puts lines behind the text.
+    pub(crate) fn put(&mut self, lines: &[u8])
+        requires { length self.old + length lines.now ≤ 65536 }
+        ensures { self.new ≡ self.old ++ lines.now }
     {
-        let taken = self.text.extend_from_slice(line);
+        let taken = self.text.extend_from_slice(lines);
         let fits = taken.is_ok();
         prove!(fits);
     }

@@ -1,12 +1,14 @@
-ghost use Rattle.std.specs.Prelude.{◌≡◌, [], ◌++◌, All, OnOk, OnErr};
+ghost use Rattle.std.specs.Prelude.{◌≡◌, ◌+◌, ◌≤◌, [], ◌++◌, All, OnOk, OnErr};
+ghost use Rattle.arrayvec.specs.ArrayVec.{array_vec_len};
 ghost use Rattle.std.specs.Io.KnownBytes.{Appends};
 ghost use Rattle.apex_types.specs.Lines.{line_of, lines_of, IsPrintable};
 ghost use Rattle.apex_history.specs.Counted.{inner_of, failures_of, CountsFailure, AppendsBeginning};
+ghost use Rattle.apex_history.specs.Page.{Passes};
 
 use crate::counting::Counted;
 use crate::lent::Entries;
 use crate::pages::Page;
-use crate::puts::{Line, set_line};
+use crate::puts::{LINE_ROOM, LINES_ROOM, Lines, put_line};
 use crate::sources::Sink;
 use apex_table::Table;
 use apex_types::LentEntry;
@@ -25,9 +27,48 @@ pub fn print_entry<W: Sink>(
     ensures err { OnErr result (AppendsBeginning (W.contents (inner_of writer.old)) (W.contents (inner_of writer.new)) (line_of table.now entry.entry.now)) }
     ensures counted { CountsFailure result (failures_of writer.old) (failures_of writer.new) }
 {
-    let mut line = Line::new();
-    set_line(&mut line, table, entry);
+    let mut line = Lines::new();
+    put_line(&mut line, table, entry);
     writer.write_all(line.as_slice())
+}
+
+/// Moves the lines into the page, whose text goes out first where they may not fit behind it.
+fn pass_on<W: Sink>(lines: &mut Lines, page: &mut Page, writer: &mut Counted<W>) -> Result<()>
+    ensures ok { OnOk result (Passes (W.contents (inner_of writer.old)) (W.contents (inner_of writer.new)) (page.old ++ lines.old.items) page.new) }
+    ensures none { OnOk result (lines.new.items ≡ []) }
+    ensures empty { OnErr result (page.new ≡ []) }
+    ensures err { OnErr result (AppendsBeginning (W.contents (inner_of writer.old)) (W.contents (inner_of writer.new)) (page.old ++ lines.old.items)) }
+    ensures counted { CountsFailure result (failures_of writer.old) (failures_of writer.new) }
+{
+    page.make_room(writer)?;
+    page.put(lines.as_slice());
+    lines.clear();
+    Ok(())
+}
+
+/// Moves the lines into the page where one more may not fit behind them.
+fn make_room<W: Sink>(lines: &mut Lines, page: &mut Page, writer: &mut Counted<W>) -> Result<()>
+    ensures ok { OnOk result (Passes (W.contents (inner_of writer.old)) (W.contents (inner_of writer.new)) (page.old ++ lines.old.items) (page.new ++ lines.new.items)) }
+    ensures room { OnOk result (array_vec_len lines.new + 4096 ≤ 8192) }
+    ensures empty { OnErr result (page.new ≡ []) }
+    ensures err { OnErr result (AppendsBeginning (W.contents (inner_of writer.old)) (W.contents (inner_of writer.new)) (page.old ++ lines.old.items)) }
+    ensures counted { CountsFailure result (failures_of writer.old) (failures_of writer.new) }
+{
+    if lines.len() + LINE_ROOM <= LINES_ROOM {
+        return Ok(());
+    }
+    pass_on(lines, page, writer)
+}
+
+/// Writes out what the page holds, and then the lines.
+fn hand_on<W: Sink>(lines: &mut Lines, page: &mut Page, writer: &mut Counted<W>) -> Result<()>
+    ensures ok { OnOk result (Appends (W.contents (inner_of writer.old)) (W.contents (inner_of writer.new)) (page.old ++ lines.old.items)) }
+    ensures empty { page.new ≡ [] }
+    ensures err { OnErr result (AppendsBeginning (W.contents (inner_of writer.old)) (W.contents (inner_of writer.new)) (page.old ++ lines.old.items)) }
+    ensures counted { CountsFailure result (failures_of writer.old) (failures_of writer.new) }
+{
+    pass_on(lines, page, writer)?;
+    page.hand_on(writer)
 }
 
 /// Writes the lines of the entries, many of them with one write. Takes no memory: the lines are
@@ -46,12 +87,11 @@ pub fn print_history<W: Sink>(
     ensures empty { page.new ≡ [] }
     ensures counted { CountsFailure result (failures_of writer.old) (failures_of writer.new) }
 {
-    let mut line = Line::new();
+    let mut lines = Lines::new();
     page.clear();
     for entry in entries {
-        set_line(&mut line, table, &entry);
-        page.make_room(writer)?;
-        page.put(line.as_slice());
+        make_room(&mut lines, page, writer)?;
+        put_line(&mut lines, table, &entry);
     }
-    page.hand_on(writer)
+    hand_on(&mut lines, page, writer)
 }

@@ -25,19 +25,24 @@ use time::put_time_call;
 /// How many bytes a line of a history has at the most.
 pub(crate) const LINE_ROOM: usize = 4096;
 
-/// A line of a history.
-pub(crate) type Line = ArrayVec<u8, 4096>;
+/// How many bytes the lines have at the most that are put together before they go to a page.
+pub(crate) const LINES_ROOM: usize = 8192;
 
-fn put(line: &mut Line, text: &str)
-    requires { array_vec_len line.old + length text.now ≤ 4096 }
+/// Lines of a history, one behind the other.
+pub(crate) type Lines = ArrayVec<u8, 8192>;
+
+#[inline(always)]
+fn put(line: &mut Lines, text: &str)
+    requires { array_vec_len line.old + length text.now ≤ 8192 }
     ensures text { line.new.items ≡ line.old.items ++ text.now }
     ensures len { array_vec_len line.new ≡ array_vec_len line.old + length text.now }
 {
     put_bytes(line, text.as_bytes());
 }
 
-fn put_bytes(line: &mut Line, text: &[u8])
-    requires { array_vec_len line.old + length text.now ≤ 4096 }
+#[inline(always)]
+fn put_bytes(line: &mut Lines, text: &[u8])
+    requires { array_vec_len line.old + length text.now ≤ 8192 }
     ensures text { line.new.items ≡ line.old.items ++ text.now }
     ensures len { array_vec_len line.new ≡ array_vec_len line.old + length text.now }
 {
@@ -47,10 +52,11 @@ fn put_bytes(line: &mut Line, text: &[u8])
 }
 
 // A number of one digit, as most numbers of a line are.
+#[inline(always)]
 #[tactic(auto, using(std::proofs::lemmas::Fmt::decimal_digit))]
-fn put_digit(line: &mut Line, digit: u8)
+fn put_digit(line: &mut Lines, digit: u8)
     requires digit { digit < 10 }
-    requires room { array_vec_len line.old + 10 ≤ 4096 }
+    requires room { array_vec_len line.old + 10 ≤ 8192 }
     ensures text { line.new.items ≡ line.old.items ++ decimal digit }
     ensures short { array_vec_len line.new ≤ array_vec_len line.old + 10 }
 {
@@ -59,47 +65,67 @@ fn put_digit(line: &mut Line, digit: u8)
 
 // A number of two digits.
 #[tactic(auto, using(itoa::proofs::Decimal::decimal_two))]
-fn put_two_digits(line: &mut Line, number: u8)
+fn put_two_digits(line: &mut Lines, number: u8)
     requires digits { (10 ≤ number) × (number < 100) }
-    requires room { array_vec_len line.old + 10 ≤ 4096 }
+    requires room { array_vec_len line.old + 10 ≤ 8192 }
     ensures text { line.new.items ≡ line.old.items ++ decimal number }
     ensures short { array_vec_len line.new ≤ array_vec_len line.old + 10 }
 {
     put_bytes(line, &[b'0' + number / 10, b'0' + number % 10]);
 }
 
-fn put_number(line: &mut Line, number: u32)
-    requires { array_vec_len line.old + 10 ≤ 4096 }
+// A number of any length, apart so that what comes before it is inlined.
+#[inline(never)]
+fn put_digits(line: &mut Lines, number: u32)
+    requires { array_vec_len line.old + 10 ≤ 8192 }
+    ensures text { line.new.items ≡ line.old.items ++ decimal number }
+    ensures short { array_vec_len line.new ≤ array_vec_len line.old + 10 }
+{
+    let mut buffer = Buffer::new();
+    put(line, buffer.format(number));
+}
+
+#[inline(always)]
+fn put_number(line: &mut Lines, number: u32)
+    requires { array_vec_len line.old + 10 ≤ 8192 }
     ensures text { line.new.items ≡ line.old.items ++ decimal number }
     ensures short { array_vec_len line.new ≤ array_vec_len line.old + 10 }
 {
     if number < 10 {
         put_digit(line, number as u8);
-        return;
-    }
-    if number < 100 {
+    } else if number < 100 {
         put_two_digits(line, number as u8);
-        return;
+    } else {
+        put_digits(line, number);
     }
+}
+
+// As `put_digits`.
+#[inline(never)]
+fn put_long_digits(line: &mut Lines, number: u64)
+    requires { array_vec_len line.old + 20 ≤ 8192 }
+    ensures text { line.new.items ≡ line.old.items ++ decimal number }
+    ensures short { array_vec_len line.new ≤ array_vec_len line.old + 20 }
+{
     let mut buffer = Buffer::new();
     put(line, buffer.format(number));
 }
 
-fn put_long_number(line: &mut Line, number: u64)
-    requires { array_vec_len line.old + 20 ≤ 4096 }
+#[inline(always)]
+fn put_long_number(line: &mut Lines, number: u64)
+    requires { array_vec_len line.old + 20 ≤ 8192 }
     ensures text { line.new.items ≡ line.old.items ++ decimal number }
     ensures short { array_vec_len line.new ≤ array_vec_len line.old + 20 }
 {
     if number < 10 {
         put_digit(line, number as u8);
-        return;
+    } else {
+        put_long_digits(line, number);
     }
-    let mut buffer = Buffer::new();
-    put(line, buffer.format(number));
 }
 
-fn put_id(line: &mut Line, process: ProcessId)
-    requires { array_vec_len line.old + 10 ≤ 4096 }
+fn put_id(line: &mut Lines, process: ProcessId)
+    requires { array_vec_len line.old + 10 ≤ 8192 }
     ensures text { line.new.items ≡ line.old.items ++ id_text process }
     ensures short { array_vec_len line.new ≤ array_vec_len line.old + 10 }
 {
@@ -121,8 +147,8 @@ fn code_name(code: &ReturnCode) -> &'static str
     }
 }
 
-fn put_timeout(line: &mut Line, timeout: &Timeout)
-    requires { array_vec_len line.old + 10 ≤ 4096 }
+fn put_timeout(line: &mut Lines, timeout: &Timeout)
+    requires { array_vec_len line.old + 10 ≤ 8192 }
     ensures text { line.new.items ≡ line.old.items ++ timeout_text timeout.now }
     ensures short { array_vec_len line.new ≤ array_vec_len line.old + 10 }
 {
@@ -133,8 +159,8 @@ fn put_timeout(line: &mut Line, timeout: &Timeout)
     }
 }
 
-fn put_name(line: &mut Line, name: &Name)
-    requires { array_vec_len line.old + 30 ≤ 4096 }
+fn put_name(line: &mut Lines, name: &Name)
+    requires { array_vec_len line.old + 30 ≤ 8192 }
     ensures text { line.new.items ≡ line.old.items ++ name.now }
     ensures short { array_vec_len line.new ≤ array_vec_len line.old + 30 }
 {
@@ -143,8 +169,8 @@ fn put_name(line: &mut Line, name: &Name)
 
 // A service's word, with the space behind it, and a timeout.
 #[tactic(auto, using(std::proofs::Common::append_assoc))]
-fn put_with_timeout(line: &mut Line, word: &str, timeout: &Timeout)
-    requires { array_vec_len line.old + length word.now + 10 ≤ 4096 }
+fn put_with_timeout(line: &mut Lines, word: &str, timeout: &Timeout)
+    requires { array_vec_len line.old + length word.now + 10 ≤ 8192 }
     ensures text { line.new.items ≡ line.old.items ++ (word.now ++ timeout_text timeout.now) }
     ensures short { array_vec_len line.new ≤ array_vec_len line.old + length word.now + 10 }
 {
@@ -154,8 +180,8 @@ fn put_with_timeout(line: &mut Line, word: &str, timeout: &Timeout)
 
 // Such a word and a name.
 #[tactic(auto, using(std::proofs::Common::append_assoc))]
-fn put_with_name(line: &mut Line, word: &str, name: &Name)
-    requires { array_vec_len line.old + length word.now + 30 ≤ 4096 }
+fn put_with_name(line: &mut Lines, word: &str, name: &Name)
+    requires { array_vec_len line.old + length word.now + 30 ≤ 8192 }
     ensures text { line.new.items ≡ line.old.items ++ (word.now ++ name.now) }
     ensures short { array_vec_len line.new ≤ array_vec_len line.old + length word.now + 30 }
 {
@@ -165,8 +191,8 @@ fn put_with_name(line: &mut Line, word: &str, name: &Name)
 
 // Such a word, a name and a number.
 #[tactic(auto, using(std::proofs::Common::append_assoc))]
-fn put_with_name_and_number(line: &mut Line, word: &str, name: &Name, number: u32)
-    requires { array_vec_len line.old + length word.now + 41 ≤ 4096 }
+fn put_with_name_and_number(line: &mut Lines, word: &str, name: &Name, number: u32)
+    requires { array_vec_len line.old + length word.now + 41 ≤ 8192 }
     ensures text { line.new.items ≡ line.old.items ++ (word.now ++ name.now ++ codes " " ++ decimal number) }
     ensures short { array_vec_len line.new ≤ array_vec_len line.old + length word.now + 41 }
 {
@@ -177,8 +203,8 @@ fn put_with_name_and_number(line: &mut Line, word: &str, name: &Name, number: u3
 
 // Such a word, a name and a timeout.
 #[tactic(auto, using(std::proofs::Common::append_assoc))]
-fn put_with_name_and_timeout(line: &mut Line, word: &str, name: &Name, timeout: &Timeout)
-    requires { array_vec_len line.old + length word.now + 41 ≤ 4096 }
+fn put_with_name_and_timeout(line: &mut Lines, word: &str, name: &Name, timeout: &Timeout)
+    requires { array_vec_len line.old + length word.now + 41 ≤ 8192 }
     ensures text { line.new.items ≡ line.old.items ++ (word.now ++ name.now ++ codes " " ++ timeout_text timeout.now) }
     ensures short { array_vec_len line.new ≤ array_vec_len line.old + length word.now + 41 }
 {
@@ -187,9 +213,9 @@ fn put_with_name_and_timeout(line: &mut Line, word: &str, name: &Name, timeout: 
     put_timeout(line, timeout);
 }
 
-fn put_call(line: &mut Line, table: &Table, call: &Call)
+fn put_call(line: &mut Lines, table: &Table, call: &Call)
     requires known { IsKnown table.now call.now }
-    requires room { array_vec_len line.old + 128 ≤ 4096 }
+    requires room { array_vec_len line.old + 128 ≤ 8192 }
     ensures text { line.new.items ≡ line.old.items ++ call_text table.now call.now }
     ensures short { array_vec_len line.new ≤ array_vec_len line.old + 128 }
 {
@@ -203,8 +229,8 @@ fn put_call(line: &mut Line, table: &Table, call: &Call)
 }
 
 #[tactic(auto, using(std::proofs::Common::append_assoc))]
-fn put_no_call(line: &mut Line, reply: &Reply)
-    requires { array_vec_len line.old + 15 ≤ 4096 }
+fn put_no_call(line: &mut Lines, reply: &Reply)
+    requires { array_vec_len line.old + 15 ≤ 8192 }
     ensures text { line.new.items ≡ line.old.items ++ no_call_text reply.now }
     ensures short { array_vec_len line.new ≤ array_vec_len line.old + 15 }
 {
@@ -217,9 +243,9 @@ fn put_no_call(line: &mut Line, reply: &Reply)
     }
 }
 
-fn put_asked(line: &mut Line, table: &Table, asked: &Option<Call>, reply: &Reply)
+fn put_asked(line: &mut Lines, table: &Table, asked: &Option<Call>, reply: &Reply)
     requires known { IfSome asked.now (IsKnown table.now) }
-    requires room { array_vec_len line.old + 128 ≤ 4096 }
+    requires room { array_vec_len line.old + 128 ≤ 8192 }
     ensures text { line.new.items ≡ line.old.items ++ asked_text table.now asked.now reply.now }
     ensures short { array_vec_len line.new ≤ array_vec_len line.old + 128 }
 {
@@ -230,8 +256,8 @@ fn put_asked(line: &mut Line, table: &Table, asked: &Option<Call>, reply: &Reply
 }
 
 #[tactic(auto, using(std::proofs::Common::append_assoc))]
-fn put_who(line: &mut Line, who: &Who)
-    requires { array_vec_len line.old + 14 ≤ 4096 }
+fn put_who(line: &mut Lines, who: &Who)
+    requires { array_vec_len line.old + 14 ≤ 8192 }
     ensures text { line.new.items ≡ line.old.items ++ who_text who.now }
     ensures short { array_vec_len line.new ≤ array_vec_len line.old + 14 }
 {
@@ -244,8 +270,8 @@ fn put_who(line: &mut Line, who: &Who)
     }
 }
 
-fn put_caller(line: &mut Line, caller: &Caller)
-    requires { array_vec_len line.old + 10 ≤ 4096 }
+fn put_caller(line: &mut Lines, caller: &Caller)
+    requires { array_vec_len line.old + 10 ≤ 8192 }
     ensures text { line.new.items ≡ line.old.items ++ caller_text caller.now }
     ensures short { array_vec_len line.new ≤ array_vec_len line.old + 10 }
 {
@@ -257,8 +283,8 @@ fn put_caller(line: &mut Line, caller: &Caller)
 }
 
 #[tactic(auto, using(std::proofs::Common::append_assoc))]
-fn put_reply(line: &mut Line, reply: &Reply)
-    requires { array_vec_len line.old + 48 ≤ 4096 }
+fn put_reply(line: &mut Lines, reply: &Reply)
+    requires { array_vec_len line.old + 48 ≤ 8192 }
     ensures text { line.new.items ≡ line.old.items ++ reply_text reply.now }
     ensures short { array_vec_len line.new ≤ array_vec_len line.old + 48 }
 {
@@ -285,8 +311,8 @@ fn put_reply(line: &mut Line, reply: &Reply)
 }
 
 #[tactic(auto, using(std::proofs::Common::append_assoc))]
-fn put_notice(line: &mut Line, notice: &Notice)
-    requires { array_vec_len line.old + 34 ≤ 4096 }
+fn put_notice(line: &mut Lines, notice: &Notice)
+    requires { array_vec_len line.old + 34 ≤ 8192 }
     ensures text { line.new.items ≡ line.old.items ++ notice_text notice.now }
     ensures short { array_vec_len line.new ≤ array_vec_len line.old + 34 }
 {
@@ -305,8 +331,8 @@ fn put_notice(line: &mut Line, notice: &Notice)
 }
 
 #[tactic(auto, using(std::proofs::Common::append_assoc))]
-fn put_noticed(line: &mut Line, notice: &Notice)
-    requires { array_vec_len line.old + 40 ≤ 4096 }
+fn put_noticed(line: &mut Lines, notice: &Notice)
+    requires { array_vec_len line.old + 40 ≤ 8192 }
     ensures text { line.new.items ≡ line.old.items ++ noticed_text notice.now }
     ensures short { array_vec_len line.new ≤ array_vec_len line.old + 40 }
 {
@@ -314,9 +340,9 @@ fn put_noticed(line: &mut Line, notice: &Notice)
     put_notice(line, notice);
 }
 
-fn put_notices(line: &mut Line, notices: &[Notice])
+fn put_notices(line: &mut Lines, notices: &[Notice])
     requires few { length notices.now ≤ most_notices }
-    requires room { array_vec_len line.old + 2560 ≤ 4096 }
+    requires room { array_vec_len line.old + 2560 ≤ 8192 }
     ensures text { line.new.items ≡ line.old.items ++ flat_map noticed_text notices.now }
     ensures short { array_vec_len line.new ≤ array_vec_len line.old + 2560 }
 {
@@ -325,23 +351,24 @@ fn put_notices(line: &mut Line, notices: &[Notice])
     }
 }
 
-/// Makes the line that of the entry.
-pub(crate) fn set_line(line: &mut Line, table: &Table, entry: &LentEntry<'_>)
-    requires { IsPrintable table.now entry.now }
-    ensures { line.new.items ≡ line_of table.now entry.entry.now }
+/// Puts the line of the entry behind the others.
+#[tactic(auto, using(std::proofs::Common::append_assoc))]
+pub(crate) fn put_line(lines: &mut Lines, table: &Table, entry: &LentEntry<'_>)
+    requires printable { IsPrintable table.now entry.now }
+    requires room { array_vec_len lines.old + 4096 ≤ 8192 }
+    ensures { lines.new.items ≡ lines.old.items ++ line_of table.now entry.entry.now }
 {
-    line.clear();
-    put_number(line, entry.number);
-    put(line, " ");
-    put_long_number(line, entry.now);
-    put(line, " ");
-    put_who(line, &entry.who);
-    put(line, " ");
-    put_caller(line, &entry.process);
-    put(line, " ");
-    put_asked(line, table, &entry.call, &entry.reply);
-    put(line, " -> ");
-    put_reply(line, &entry.reply);
-    put_notices(line, entry.notices);
-    put(line, "\n");
+    put_number(lines, entry.number);
+    put(lines, " ");
+    put_long_number(lines, entry.now);
+    put(lines, " ");
+    put_who(lines, &entry.who);
+    put(lines, " ");
+    put_caller(lines, &entry.process);
+    put(lines, " ");
+    put_asked(lines, table, &entry.call, &entry.reply);
+    put(lines, " -> ");
+    put_reply(lines, &entry.reply);
+    put_notices(lines, entry.notices);
+    put(lines, "\n");
 }

@@ -1,38 +1,77 @@
 ghost use Rattle.std.specs.Prelude.{◌≡◌, ◌<◌, length};
 ghost use Rattle.apex_types.specs.Limits.{most_entries};
-ghost use Rattle.apex_history.specs.RowEntries.{entry_of, IsWithin};
+ghost use Rattle.apex_history.specs.RowEntries.{caller_in, call_in, entry_of, IsWithin};
 
 use apex_types::{Call, Caller, LentEntry, Notice, Reply, Who};
 use std::marker::Model;
 
+/// Who asked for the call of an entry, and the call, where there is one. One enum for both takes no
+/// more room than an `Option` of the call alone.
+#[derive(Clone, Copy)]
+pub(crate) enum Asked {
+    For(Caller, Call),
+    Nothing(Caller),
+}
+
+impl Asked {
+    pub(crate) fn new(process: Caller, call: Option<Call>) -> Asked
+        ensures caller { caller_in result ≡ process }
+        ensures call { call_in result ≡ call }
+    {
+        match call {
+            Some(call) => Asked::For(process, call),
+            None => Asked::Nothing(process),
+        }
+    }
+
+    fn caller(&self) -> Caller
+        ensures { result ≡ caller_in self.now }
+    {
+        match self {
+            Asked::For(caller, _) | Asked::Nothing(caller) => *caller,
+        }
+    }
+
+    fn call(&self) -> Option<Call>
+        ensures { result ≡ call_in self.now }
+    {
+        match self {
+            Asked::For(_, call) => Some(*call),
+            Asked::Nothing(_) => None,
+        }
+    }
+}
+
 /// An entry as a log keeps it: the row's place is its number, and its notices are a part of those
-/// of all rows.
+/// of all rows. The fields stand in the order that leaves no gaps.
 #[derive(Drop)]
 pub(crate) struct Row {
     pub(crate) now: u64,
-    pub(crate) who: Who,
-    pub(crate) process: Caller,
-    pub(crate) call: Option<Call>,
     pub(crate) reply: Reply,
+    pub(crate) asked: Asked,
+    /// The place of its first notice.
     pub(crate) start: u32,
-    pub(crate) end: u32,
+    pub(crate) who: Who,
+    /// How many notices it has.
+    pub(crate) count: u8,
 }
 
-const _: () = prove!(size_of::<Row>() <= 64);
+const _: () = prove!(size_of::<Row>() == 56);
 
 impl Model for Row {
-    ghost use Rattle.apex_history.specs.RowEntries.{RowEntry};
+    ghost use Rattle.std.specs.Prelude.{◌+◌};
+    ghost use Rattle.apex_history.specs.RowEntries.{RowEntry, caller_in, call_in};
 
     ghost Value = { RowEntry };
 
     ghost view = { λ r. record {
       now = r.now;
       who = r.who;
-      process = r.process;
-      call = r.call;
+      process = caller_in r.asked;
+      call = call_in r.asked;
       reply = r.reply;
       start = r.start;
-      end = r.end;
+      end = r.start + r.count;
     } };
 }
 
@@ -43,14 +82,15 @@ impl Row {
         requires place { place < most_entries }
         ensures { result ≡ entry_of notices.now place self.entry.now }
     {
+        let start = self.start as usize;
         LentEntry {
             number: place + 1,
             now: self.now,
             who: self.who,
-            process: self.process,
-            call: self.call,
+            process: self.asked.caller(),
+            call: self.asked.call(),
             reply: self.reply,
-            notices: &notices[self.start as usize..self.end as usize],
+            notices: &notices[start..start + usize::from(self.count)],
         }
     }
 }

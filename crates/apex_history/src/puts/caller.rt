@@ -2,11 +2,11 @@ ghost use Rattle.std.specs.Prelude.{◌≡◌, ◌+◌, ◌≤◌, ◌++◌};
 ghost use Rattle.arrayvec.specs.ArrayVec.{array_vec_len};
 ghost use Rattle.apex_types.specs.Lines.{caller_call_text};
 
-use super::{Line, put, put_with_timeout};
+use super::{Lines, put, put_with_timeout};
 use apex_types::CallerCall;
 
-pub(super) fn put_caller_call(line: &mut Line, call: &CallerCall)
-    requires { array_vec_len line.old + 80 ≤ 4096 }
+pub(super) fn put_caller_call(line: &mut Lines, call: &CallerCall)
+    requires { array_vec_len line.old + 80 ≤ 8192 }
     ensures text { line.new.items ≡ line.old.items ++ caller_call_text call.now }
     ensures short { array_vec_len line.new ≤ array_vec_len line.old + 80 }
 {

@@ -3,7 +3,7 @@ ghost use Rattle.arrayvec.specs.ArrayVec.{array_vec_len};
 ghost use Rattle.apex_types.specs.Table.{IsKnownName, IsKnownObject, literal_text};
 ghost use Rattle.apex_types.specs.Lines.{named_text, object_call_text};
 
-use super::{Line, put, put_bytes, put_name};
+use super::{Lines, put, put_bytes, put_name};
 use apex_table::Table;
 use apex_types::{Id, Name, Named, ObjectCall};
 
@@ -33,16 +33,16 @@ pub(super) trait Kind: Copy {
         requires { id < count table.now }
         ensures { result.now ≡ names table.now id };
 
-    fn put_service(line: &mut Line, name: &Name, service: &Self::Service)
-        requires { array_vec_len line.old + 80 ≤ 4096 }
+    fn put_service(line: &mut Lines, name: &Name, service: &Self::Service)
+        requires { array_vec_len line.old + 80 ≤ 8192 }
         ensures text { line.new.items ≡ line.old.items ++ own name.now service.now }
         ensures short { array_vec_len line.new ≤ array_vec_len line.old + 80 };
 }
 
 // The name that a step gives.
-fn put_named<K: Kind>(line: &mut Line, table: &Table, named: &Named<Id<K>>)
+fn put_named<K: Kind>(line: &mut Lines, table: &Table, named: &Named<Id<K>>)
     requires known { IsKnownName (K.count table.now) named.now }
-    requires room { array_vec_len line.old + 64 ≤ 4096 }
+    requires room { array_vec_len line.old + 64 ≤ 8192 }
     ensures text { line.new.items ≡ line.old.items ++ named_text (K.names table.now) (literal_text table.now) named.now }
     ensures short { array_vec_len line.new ≤ array_vec_len line.old + 64 }
 {
@@ -55,12 +55,12 @@ fn put_named<K: Kind>(line: &mut Line, table: &Table, named: &Named<Id<K>>)
 /// A step about an object of any kind.
 #[tactic(auto, using(std::proofs::Common::append_assoc))]
 pub(super) fn put_object_call<K: Kind>(
-    line: &mut Line,
+    line: &mut Lines,
     table: &Table,
     call: &ObjectCall<Id<K>, K::Service>,
 )
     requires known { IsKnownObject (K.count table.now) call.now }
-    requires room { array_vec_len line.old + 128 ≤ 4096 }
+    requires room { array_vec_len line.old + 128 ≤ 8192 }
     ensures text { line.new.items ≡ line.old.items ++ object_call_text K.word (K.names table.now) (literal_text table.now) K.own call.now }
     ensures short { array_vec_len line.new ≤ array_vec_len line.old + 128 }
 {

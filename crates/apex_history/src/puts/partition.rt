@@ -2,7 +2,7 @@ ghost use Rattle.std.specs.Prelude.{◌≡◌, ◌+◌, ◌≤◌, ◌++◌, len
 ghost use Rattle.arrayvec.specs.ArrayVec.{array_vec_len};
 ghost use Rattle.apex_types.specs.Lines.{mode_text, partition_call_text};
 
-use super::{Line, put};
+use super::{Lines, put};
 use apex_types::{PartitionCall, RequestedMode};
 
 fn mode_word(mode: &RequestedMode) -> &'static str
@@ -16,8 +16,8 @@ fn mode_word(mode: &RequestedMode) -> &'static str
 }
 
 #[tactic(auto, using(std::proofs::Common::append_assoc))]
-pub(super) fn put_partition_call(line: &mut Line, call: &PartitionCall)
-    requires { array_vec_len line.old + 80 ≤ 4096 }
+pub(super) fn put_partition_call(line: &mut Lines, call: &PartitionCall)
+    requires { array_vec_len line.old + 80 ≤ 8192 }
     ensures text { line.new.items ≡ line.old.items ++ partition_call_text call.now }
     ensures short { array_vec_len line.new ≤ array_vec_len line.old + 80 }
 {

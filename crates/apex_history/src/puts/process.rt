@@ -3,7 +3,7 @@ ghost use Rattle.arrayvec.specs.ArrayVec.{array_vec_len};
 ghost use Rattle.apex_types.specs.Lines.{process_name, process_service_text};
 
 use super::object::Kind;
-use super::{Line, put_with_name, put_with_name_and_number, put_with_name_and_timeout};
+use super::{Lines, put_with_name, put_with_name_and_number, put_with_name_and_timeout};
 use apex_table::Table;
 use apex_types::{Name, ProcessId, ProcessKind, ProcessService};
 
@@ -29,7 +29,7 @@ impl Kind for ProcessKind {
         table.process(id).name()
     }
 
-    fn put_service(line: &mut Line, name: &Name, service: &ProcessService) {
+    fn put_service(line: &mut Lines, name: &Name, service: &ProcessService) {
         use ProcessService::*;
         match service {
             InitializeCoreAffinity(core) => {

@@ -3,7 +3,7 @@ ghost use Rattle.arrayvec.specs.ArrayVec.{array_vec_len};
 ghost use Rattle.apex_types.specs.Lines.{semaphore_name, semaphore_service_text};
 
 use super::object::Kind;
-use super::{Line, put_with_name, put_with_name_and_timeout};
+use super::{Lines, put_with_name, put_with_name_and_timeout};
 use apex_table::Table;
 use apex_types::{Name, SemaphoreId, SemaphoreKind, SemaphoreService};
 
@@ -29,7 +29,7 @@ impl Kind for SemaphoreKind {
         table.semaphore(id).name()
     }
 
-    fn put_service(line: &mut Line, name: &Name, service: &SemaphoreService) {
+    fn put_service(line: &mut Lines, name: &Name, service: &SemaphoreService) {
         match service {
             SemaphoreService::Wait(timeout) => {
                 put_with_name_and_timeout(line, "WAIT_SEMAPHORE ", name, timeout);

@@ -1,4 +1,5 @@
--- No write failed so far; of the lines so far the writer has a beginning, and the page the rest.
+-- No write failed so far; of the lines so far the writer has a beginning, the page what comes then, and
+-- `lines` the rest.
 use Rattle.std.proofs.Common.{◌≡◌, ◌++◌}
 use Rattle.std.specs.Prelude.{All}
 use Rattle.apex_types.specs.Lines.{lines_of, IsPrintable}
@@ -10,6 +11,6 @@ abbrev pub invariant-loop-entry : goal.invariant-loop-entry
 invariant-loop-entry g l = record {
   split : l.fn.entries ≡ l.yielded ++ l.entry-iterator;
   printable : All (IsPrintable l.table) l.entry-iterator;
-  lines : Passes (g.W.Sink.contents (inner_of l.fn.writer)) (g.W.Sink.contents (inner_of l.writer)) (lines_of l.table l.yielded) l.page;
+  lines : Passes (g.W.Sink.contents (inner_of l.fn.writer)) (g.W.Sink.contents (inner_of l.writer)) (lines_of l.table l.yielded) (l.page ++ l.lines.items);
   failures : failures_of l.writer ≡ failures_of l.fn.writer;
 }

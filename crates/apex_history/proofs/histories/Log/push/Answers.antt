@@ -1,5 +1,5 @@
 -- The row is that of the entry, and its notices come last.
-use Rattle.std.proofs.Common.{rules, ◌≡◌, ◌+◌, ◌<◌, ◌≤◌, [], ◌∷◌, ◌++◌, length, refl, ap, ◌∙◌, length-append}
+use Rattle.std.proofs.Common.{rules, ◌≡◌, ◌+◌, ◌<◌, ◌≤◌, [], ◌∷◌, ◌++◌, length, refl}
 use Rattle.apex_history.proofs.EntriesOf.{row_of, entries_put, kept_put, length_entries}
 use Rattle.apex_history.proofs.histories.Log.push.Goals.{After-push_reserved}
 use Rattle.apex_history.proofs.histories.Log.push.Goals as goal
@@ -10,10 +10,7 @@ noted c = rw (← c.entry.view_is) c.put_notices.ensures.items
 placed : (c : After-push_reserved) → c.push_reserved.new.self.items ≡ c.self.inside.rows.items ++ row_of c.self.inside.notices.items c.args.entry.now ∷ []
 placed c =
     let start : c.len-start.result ≡ length c.self.inside.notices.items = search rules in
-    let end : c.len.result ≡ length c.put_notices.new.all.items = search rules in
-    let longer : c.len.result ≡ length c.self.inside.notices.items + length c.entry.inside.notices.now =
-    end ∙ ap length c.put_notices.ensures.items ∙ length-append _ _ in
-    rw (← c.entry.view_is) (rw (start, longer) at c.push_reserved.ensures.items)
+    rw (← c.entry.view_is) (rw (start, c.new.ensures.caller, c.new.ensures.call) at c.push_reserved.ensures.items)
 
 pub invariant_of-self : goal.invariant_of-self
 invariant_of-self c =
