@@ -160,6 +160,8 @@ impl PlainStore {
     }
 
     /// The process has this record, and is the newest where that makes it eligible.
+    // Inlined, so that the record is put together where it goes.
+    #[inline(always)]
     fn put_readied(&mut self, process: ProcessId, row: Record)
         requires known { process < length self.old.records }
         requires stamps { stamps.HasStamps self.old }
