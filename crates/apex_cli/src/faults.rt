@@ -89,7 +89,7 @@ pub fn line_told(fault: Option<CliFault>) -> Line
 fn put_table_fault(text: &mut Line, fault: TableFault)
     requires { array_string_len text.old ≤ 30 }
     ensures text { text.new.bytes ≡ text.old.bytes ++ tables.fault_text fault }
-    ensures short { array_string_len text.new ≤ array_string_len text.old + 35 }
+    ensures short { array_string_len text.new ≤ array_string_len text.old + 36 }
 {
     let (word, place) = fault.parts();
     text.push_str(word);

@@ -1,6 +1,7 @@
 mod faults;
 mod given;
 mod limits;
+mod messages;
 mod outlines;
 mod processes;
 mod services;

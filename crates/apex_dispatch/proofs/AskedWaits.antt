@@ -1,22 +1,29 @@
 -- What each change of records does to who waits for what it asked for.
-use Rattle.std.proofs.Common.{◌≡◌, ℕ, ◌<◌, Bool, List, length, Option, None, Some, nat_lt, ◌⊎◌, refl, sym, ◌∙◌, ap, arith, inl, inr, set, get_or}
+use Rattle.std.proofs.Common.{◌≡◌, ℕ, ◌<◌, ◌==◌, ◌&&◌, Bool, true, false, List, [], ◌++◌, length, Option, None, Some, nat_lt, ◌⊎◌, refl, sym, ◌∙◌, ap, arith, inl, inr, set, get_or}
 use Rattle.std.specs.Option.{option_and_then}
 use Rattle.std.proofs.lemmas.List.{get_or-set_other, get_or_past, length-set}
-use Rattle.std.proofs.lemmas.Option.{none-some}
+use Rattle.std.proofs.lemmas.Option.{none-some, same_Some}
 use Rattle.std.proofs.lemmas.Grind.{get_or-set_at}
-use Rattle.std.proofs.lemmas.Bool.{cond_both, cases_eq, cases_Bool, eq-eqb, ltb-true, ltb-false}
-use Rattle.apex_dispatch.specs.Terms.{Call, Caller, Record, Suspender, Wait}
+use Rattle.std.proofs.lemmas.Bool.{both_ways, cond_both, cases_eq, cases_Bool, eq-eqb, eqb-true, ltb-true, ltb-false}
+use Rattle.std.proofs.lemmas.List.Folds.{list_any-append}
+use Rattle.apex_dispatch.specs.Terms.{Call, Caller, Message, Queue, Record, Suspender, Wait}
 use Rattle.apex_types.specs.declared.Caller.TheVariants.{Process}
 use Rattle.apex_types.specs.declared.Suspender.TheVariants.{Itself, Other}
 use Rattle.apex_types.specs.declared.Queue.TheVariants as queues
-use Rattle.apex_types.specs.declared.Wait.TheVariants.{Normal, Start, Time, Semaphore}
+use Rattle.apex_types.specs.declared.Wait.TheVariants.{Normal, Start, Time, Semaphore, Receive, Send, Blackboard, Event}
 use Rattle.apex_types.specs.Roster.{Roster, nobody, record_at, with_record}
-use Rattle.apex_types.specs.Stamps.{is_by_itself, suspension_awake, awake, waiting, block, unblock, newest, readied}
-use Rattle.apex_types.specs.Waiters.{queue_of, first_waiter}
+use Rattle.apex_types.specs.Stamps.{is_by_itself, suspension_awake, awake, waiting, block, unblock, newest, readied, receive}
+use Rattle.apex_types.specs.Waking.{first_in, granted, grant_all}
+use Rattle.apex_types.specs.Calls.{queue_named}
+use Rattle.apex_types.specs.Queues.{queue_of, is_same_queue, is_queue}
+use Rattle.apex_types.specs.Waiters.{first_waiter, waits_in}
 use Rattle.apex_types.specs.Running.{is_eligible}
-use Rattle.apex_types.proofs.Starts.{first_stands}
-use Rattle.apex_dispatch.specs.AskedWaits.{begins, asked_of, or_suspended, awaited}
-use Rattle.apex_dispatch.proofs.Satisfied.{Asks}
+use Rattle.apex_types.proofs.InTurn.{holds_in_turn}
+use Rattle.apex_types.proofs.Starts.{first_stands, queue_itself, waits_there}
+use Rattle.apex_dispatch.specs.AskedWaits.{begins, asked_of, or_suspended, awaited, AreHeldBack}
+use Rattle.apex_dispatch.specs.Terms.{Notice}
+use Rattle.apex_dispatch.proofs.Satisfied.{Asks, AwaitsAt, begins_named, is_waking, wakes}
+use Rattle.apex_dispatch.proofs.Truths.{and_true, or_false}
 
 -- what a process waits for after a change of the record of process p
 wait_after : (records : List Record) (p q : ℕ) (r : Record) (w : Wait)
@@ -36,21 +43,55 @@ wait_after records p q r w h = elim (cases_eq q p) [
   | inr differs ↦ inr (ap awaited (sym (get_or-set_other records p q r nobody differs)) ∙ h)
 ]
 
--- a process that is in the queue of a semaphore asked for it
-awaits_semaphore : (s : ℕ) (wait : Option Wait) (by_itself : Bool)
-    → option_and_then queue_of wait ≡ Some (queues.Semaphore s)
-    → or_suspended (asked_of wait) by_itself ≡ Some (Semaphore s)
-awaits_semaphore s None by_itself h = cc
-awaits_semaphore s (Some (Normal delay)) by_itself h = cc
-awaits_semaphore s (Some Start) by_itself h = cc
-awaits_semaphore s (Some Time) by_itself h = cc
-awaits_semaphore s (Some (Semaphore t)) by_itself h = let same : t ≡ s = cc in ap (λ (u : ℕ). Some (Semaphore u)) same
+-- what a process asked for that stands in the queue of an object
+pub record StandsFor (queue : Queue) (r : Record) (w : Wait) : Type 0 where
+  pub waits : r.wait ≡ Some w
+  pub asked : awaited r ≡ Some w
+  pub queued : queue_of w ≡ Some queue
 
--- the first waiter for a semaphore waits for it
-pub first_waits : (roster : Roster) (s p : ℕ) → first_waiter roster (queues.Semaphore s) ≡ Some p
-    → awaited (record_at roster p) ≡ Some (Semaphore s)
-first_waits roster s p e =
-    awaits_semaphore s (record_at roster p).wait _ (first_stands roster (queues.Semaphore s) p e)
+stands_for : (queue : Queue) (r : Record) (w : Wait) → asked_of (Some w) ≡ Some w → r.wait ≡ Some w → queue_of w ≡ Some queue
+    → (v : Wait) × StandsFor queue r v
+stands_for queue r w plain is queued =
+    (w, record { waits = is; asked = rw is (ap (λ asked. or_suspended asked (is_by_itself r.suspended)) plain); queued = queued })
+
+stands_by : (queue : Queue) → is_same_queue queues.Normal queue ≡ false → (r : Record) (wait : Option Wait) → r.wait ≡ wait
+    → option_and_then queue_of wait ≡ Some queue → (w : Wait) × StandsFor queue r w
+stands_by queue apart r None is h = absurd (none-some queue h)
+stands_by queue apart r (Some (Normal delay)) is h =
+    absurd (both_ways _ apart (ap (is_same_queue queues.Normal) (sym (same_Some queues.Normal queue h))))
+stands_by queue apart r (Some Start) is h = absurd (none-some queue h)
+stands_by queue apart r (Some Time) is h = absurd (none-some queue h)
+stands_by queue apart r (Some (Semaphore s)) is h = stands_for queue r (Semaphore s) refl is h
+stands_by queue apart r (Some (Receive b)) is h = stands_for queue r (Receive b) refl is h
+stands_by queue apart r (Some (Send b message)) is h = stands_for queue r (Send b message) refl is h
+stands_by queue apart r (Some (Blackboard b)) is h = stands_for queue r (Blackboard b) refl is h
+stands_by queue apart r (Some (Event e)) is h = stands_for queue r (Event e) refl is h
+
+-- the first waiter for an object waits for it
+pub first_awaits : (roster : Roster) (queue : Queue) (p : ℕ) → is_same_queue queues.Normal queue ≡ false
+    → first_waiter roster queue ≡ Some p → (w : Wait) × StandsFor queue (record_at roster p) w
+first_awaits roster queue p apart e =
+    stands_by queue apart (record_at roster p) (record_at roster p).wait refl (first_stands roster queue p e)
+
+pub awaits_at : {queue : Queue} {r : Record} {w : Wait} → StandsFor queue r w → AwaitsAt (Some queue) r
+awaits_at {queue} {r} {w} stands = (w, stands.asked, stands.queued)
+
+-- who waits in a queue by its own asking stands there
+stands_suspended : (by_itself : Bool) (w : Wait) (queue : Queue) → or_suspended None by_itself ≡ Some w → queue_of w ≡ Some queue → ⊥
+stands_suspended true w queue h is = none-some queue (ap queue_of (same_Some Time w h) ∙ is)
+stands_suspended false w queue h is = none-some w h
+
+awaited_stands : (wait : Option Wait) (by_itself : Bool) (w : Wait) (queue : Queue) → or_suspended (asked_of wait) by_itself ≡ Some w
+    → queue_of w ≡ Some queue → option_and_then queue_of wait ≡ Some queue
+awaited_stands None by_itself w queue h is = absurd (stands_suspended by_itself w queue h is)
+awaited_stands (Some (Normal delay)) by_itself w queue h is = absurd (stands_suspended by_itself w queue h is)
+awaited_stands (Some Start) by_itself w queue h is = absurd (stands_suspended by_itself w queue h is)
+awaited_stands (Some Time) by_itself w queue h is = absurd (none-some queue (ap queue_of (same_Some Time w h) ∙ is))
+awaited_stands (Some (Semaphore s)) by_itself w queue h is = ap queue_of (same_Some (Semaphore s) w h) ∙ is
+awaited_stands (Some (Receive b)) by_itself w queue h is = ap queue_of (same_Some (Receive b) w h) ∙ is
+awaited_stands (Some (Send b message)) by_itself w queue h is = ap queue_of (same_Some (Send b message) w h) ∙ is
+awaited_stands (Some (Blackboard b)) by_itself w queue h is = ap queue_of (same_Some (Blackboard b) w h) ∙ is
+awaited_stands (Some (Event e)) by_itself w queue h is = ap queue_of (same_Some (Event e) w h) ∙ is
 
 -- who waits for what it asked for afterwards waited for it before
 pub record Frees (old new : Roster) : Type 0 where
@@ -123,3 +164,89 @@ asks_blocked p call wait due roster plain begun =
     asks_waiting p call wait (record (waiting (record_at roster p) wait due) { since = roster.young }) roster
     (block roster p wait due) refl
     (ap (λ a. or_suspended a (is_by_itself suspended)) plain) begun
+
+pub waits_in_queue : (queue : Queue) (r : Record) (w : Wait) → awaited r ≡ Some w → queue_of w ≡ Some queue → waits_in queue r ≡ true
+waits_in_queue queue r w waits is =
+    waits_there queue r (awaited_stands r.wait (is_by_itself r.suspended) w queue waits is)
+
+-- who waits in this queue afterwards waited there before
+abbrev pub IsStill : Queue → Roster → Roster → Type 0
+IsStill queue old new = (p : ℕ) (w : Wait) → awaited (record_at new p) ≡ Some w → queue_of w ≡ Some queue
+    → awaited (record_at old p) ≡ Some w
+
+-- the call names another object than that of this queue
+abbrev pub IsElsewhere : Queue → Call → Type 0
+IsElsewhere queue call = is_queue queue (queue_named call) ≡ false
+
+-- a call that names another object leaves the queue as it is
+pub still_elsewhere : (queue : Queue) (caller : Caller) (call : Call) (old new : Roster) → IsElsewhere queue call
+    → Asks caller (Some call) old new → IsStill queue old new
+still_elsewhere queue caller call old new elsewhere asks p w waits is = elim (asks.still p w waits) [
+  | inl before ↦ before
+  | inr own ↦
+      let named : queue_named call ≡ Some queue = begins_named call w own.1 ∙ is in
+      absurd (both_ways _ elsewhere (rw named (queue_itself queue)))
+]
+
+pub still_freed : (queue : Queue) (old new : Roster) → Frees old new → IsStill queue old new
+still_freed queue old new frees p w waits is = frees.still p w waits
+
+-- who is held back stays so while the object lacks what it waits for
+module _ (Lacks : Wait → Type 0) (queue : Queue) where
+  pub held_still : (old new : Roster) → AreHeldBack Lacks queue old → IsStill queue old new → AreHeldBack Lacks queue new
+  held_still old new held still p w waits is = held p w (still p w waits is) is
+
+  -- so is a caller that begins to wait
+  pub held_asking : (caller : Caller) (call : Call) (old new : Roster) → AreHeldBack Lacks queue old → Asks caller (Some call) old new
+      → ((w : Wait) → begins call ≡ Some w → Lacks w) → AreHeldBack Lacks queue new
+  held_asking caller call old new held asks lacks p w waits is = elim (asks.still p w waits) [
+    | inl before ↦ held p w before is
+    | inr own ↦ lacks w own.1
+  ]
+
+  -- and nobody is where nobody waits there
+  pub held_nobody : (roster : Roster) → ((p : ℕ) → waits_in queue (record_at roster p) ≡ false) → AreHeldBack Lacks queue roster
+  held_nobody roster none p w waits is =
+      absurd (both_ways _ (none p) (waits_in_queue queue (record_at roster p) w waits is))
+
+-- who has what it waited for waits no more
+pub frees_granted : (message : Option Message) (roster : Roster) (p : ℕ) → Frees roster (granted message roster p).roster
+frees_granted None roster p = frees_unblock roster p
+frees_granted (Some message) roster p =
+    let r : Record = record (record_at roster p) { inbox = Some message } in
+    frees_then (frees_moved roster (receive roster p message) p r refl (λ w h. h)) (frees_unblock (receive roster p message) p)
+
+-- all who have what they waited for had waited in their queue, and nobody waits who did not wait before
+pub record AreGranted (queue : Queue) (old new : Roster) (notices : List Notice) : Type 0 where
+  pub frees : Frees old new
+  pub waited : (q : ℕ) → wakes q notices ≡ true → AwaitsAt (Some queue) (record_at old q)
+
+module _ (queue : Queue) (message : Option Message) (apart : is_same_queue queues.Normal queue ≡ false) where
+  one_wakes : (roster : Roster) (p q : ℕ) → wakes q (granted message roster p).notices ≡ true → q ≡ p
+  one_wakes roster p q = by_message message where
+    by_message : (message : Option Message) → wakes q (granted message roster p).notices ≡ true → q ≡ p
+    by_message None h = eqb-true q p (rw (or_false (q == p && true), and_true (q == p)) at h)
+    by_message (Some m) h = eqb-true q p (rw (or_false (q == p && true), and_true (q == p)) at h)
+
+  one_granted : (old roster : Roster) (notices : List Notice) (p : ℕ) → first_in queue roster ≡ Some p → AreGranted queue old roster notices
+      → AreGranted queue old (granted message roster p).roster (notices ++ (granted message roster p).notices)
+  one_granted old roster notices p is before =
+      let waits = first_awaits roster queue p apart is in
+      record {
+        frees = frees_then before.frees (frees_granted message roster p);
+        waited = λ q h. elim (cases_Bool (wakes q notices)) [
+          | inl earlier ↦ before.waited q earlier
+          | inr not_earlier ↦
+              let told = list_any-append (is_waking q) notices (granted message roster p).notices in
+              let here = one_wakes roster p q (rw (told, not_earlier) at h) in
+              (waits.0, before.frees.still q waits.0 (ap (λ (k : ℕ). awaited (record_at roster k)) here ∙ waits.1.asked), waits.1.queued)
+        ];
+      }
+
+  pub all_granted : (roster : Roster) → AreGranted queue roster (grant_all queue message roster).roster (grant_all queue message roster).notices
+  unfolding grant_all
+  all_granted roster =
+      holds_in_turn (first_in queue) (granted message) (AreGranted queue roster)
+      (λ r notices p is before. one_granted roster r notices p is before)
+      (length roster.records) roster []
+      (record { frees = frees_none roster; waited = λ q h. absurd (both_ways false refl h) })

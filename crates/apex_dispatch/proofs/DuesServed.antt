@@ -1,5 +1,5 @@
 -- The dues at a tick: the waits that they end.
-use Rattle.std.proofs.Common.{◌≡◌, ℕ, ◌<◌, false, length, Option, None, Some, refl, sym, ◌∙◌}
+use Rattle.std.proofs.Common.{◌≡◌, ℕ, ◌<◌, false, length, Option, Some, refl, sym, ◌∙◌}
 use Rattle.std.proofs.lemmas.Option.{none-some}
 use Rattle.apex_dispatch.specs.Terms.{Wait}
 use Rattle.apex_types.specs.declared.Wait.TheVariants as wait
@@ -16,9 +16,7 @@ reach_wait_over : (roster : Roster) (p : ℕ) → p < length roster.records
     → Reaches 1 roster (wait_over roster p w).roster
 reach_wait_over roster p known normal (Some wait.Time) = reaches_unblock roster p known normal
 reach_wait_over roster p known normal (Some wait.Start) = reaches_release roster p known normal
-reach_wait_over roster p known normal (Some (wait.Normal delay)) = reaches_unblock roster p known normal
-reach_wait_over roster p known normal (Some (wait.Semaphore s)) = reaches_unblock roster p known normal
-reach_wait_over roster p known normal None = reaches_unblock roster p known normal
+reach_wait_over roster p known normal _ = reaches_unblock roster p known normal
 
 -- before NORMAL nobody has a due
 due_normal : (roster : Roster) → HasOrderlyStarts roster → (p : ℕ) → first_due roster ≡ Some p
@@ -40,9 +38,7 @@ one_due roster p = one_by (record_at roster p).wait where
   one_by : (w : Option Wait) → length (wait_over (without_due roster p) p w).notices ≡ 1
   one_by (Some wait.Time) = refl
   one_by (Some wait.Start) = refl
-  one_by (Some (wait.Normal delay)) = refl
-  one_by (Some (wait.Semaphore s)) = refl
-  one_by None = refl
+  one_by _ = refl
 
 pub reach_serve_dues : (roster : Roster) → HasOrderlyStarts roster
     → Reaches (length roster.records) roster (serve_dues roster).roster

@@ -2,13 +2,16 @@ pub mod Truths
 pub mod Known
 pub mod Satisfied
 pub mod AskedWaits
-pub mod Loops
 pub mod Begun
 pub mod DuesServed
 pub mod Serving
 pub mod ObjectsServe
 pub mod Values
 pub mod SemaphoresServe
+pub mod EventsServe
+pub mod BlackboardsServe
+pub mod Delivered
+pub mod BuffersServe
 pub mod ProcessesServe
 pub mod OthersServe
 pub mod CallsServe
@@ -16,5 +19,6 @@ pub mod Turns
 pub mod TickTold
 pub mod Runs
 pub mod Sound
+pub mod InVain
 pub mod States
 pub mod Replays

@@ -1,25 +1,26 @@
 -- Objects of any kind: what an entry does to them, and the services that each kind has.
-use Rattle.std.proofs.Common.{◌≡◌, ◌≢◌, ℕ, ◌+◌, ◌<◌, Bool, true, false, not, if◌then◌else◌, List, [], ◌∷◌, ◌++◌, Option, None, Some, All, length, set, get_or, flat_map, refl, sym, arith, inl, inr}
+use Rattle.std.proofs.Common.{◌≡◌, ◌≢◌, ℕ, ◌+◌, ◌<◌, ◌==◌, Bool, true, false, not, if◌then◌else◌, List, [], ◌∷◌, ◌++◌, Option, None, Some, option_and_then, option_map, All, length, set, get_or, flat_map, refl, sym, ◌∙◌, arith, inl, inr}
 use Rattle.std.proofs.lemmas.Bool.{cases_eq, eq-eqb}
 use Rattle.std.proofs.lemmas.List.Elements.{All-nil, All-cons, All-append, All-weaker}
 use Rattle.std.proofs.lemmas.Option.{none-some, same_Some}
-use Rattle.apex_dispatch.specs.Terms.{Call, Caller, Entry, Notice, ObjectCall, Reply, ReturnCode, Wait, Who}
+use Rattle.apex_dispatch.specs.Terms.{Call, Caller, Entry, Notice, ObjectCall, Queue, Reply, ReturnCode, Who}
 use Rattle.apex_types.specs.declared.Named.TheVariants.{Known, Unknown}
 use Rattle.apex_types.specs.declared.ObjectCall.TheVariants.{Create, GetId, GetStatus, Own}
-use Rattle.apex_types.specs.declared.Reply.TheVariants.{Code, Value}
+use Rattle.apex_types.specs.declared.Reply.TheVariants.{Code, Value, Message as Gets}
 use Rattle.apex_types.specs.declared.ReturnCode.TheVariants.{NoError, InvalidConfig}
-use Rattle.apex_types.specs.declared.Wait.TheVariants.{Time}
 use Rattle.apex_types.specs.Calls.{object_of, creation_of, is_place}
 use Rattle.apex_types.specs.History.{creates}
 use Rattle.apex_types.specs.Objects.{KindOf, objects_of, object_service, create, no_entry, deed_at}
+use Rattle.apex_types.specs.Queues.{is_queue, is_same_queue}
 use Rattle.apex_types.specs.Roster.{Roster, record_at, is_normal}
 use Rattle.apex_types.specs.Rows.{Outcome, refused, told}
-use Rattle.apex_types.specs.Satisfied.{is_accepted, is_no_error, own_call, answered_by, satisfied_by}
+use Rattle.apex_types.specs.Satisfied.{is_accepted, is_satisfied, is_no_error, own_call, answered_by, satisfied_by}
 use Rattle.apex_types.specs.Table.{IsKnownObject}
 use Rattle.apex_types.proofs.Places.{get_or-map_places, map_places_same, set-map_places}
 use Rattle.apex_types.proofs.Rows.{by_guard}
-use Rattle.apex_dispatch.specs.AskedWaits.{begins, awaited, AreAsked}
-use Rattle.apex_dispatch.proofs.Satisfied.{wakes, handed}
+use Rattle.apex_dispatch.specs.AskedWaits.{AreAsked}
+use Rattle.apex_dispatch.proofs.AskedWaits.{Frees, IsElsewhere, IsStill, still_elsewhere, still_freed}
+use Rattle.apex_dispatch.proofs.Satisfied.{Asks, AwaitsAt, BeginsAt, wakes, handed}
 use Rattle.apex_dispatch.proofs.Serving.{Scene, Serves, ServesBy, serves_same}
 use Rattle.apex_dispatch.proofs.Truths.{and_false, other}
 
@@ -40,65 +41,96 @@ pub record IsQuiet (names : ℕ → Call → Bool) (created : Call → Option �
   pub calls : All (λ c. names i c ≡ false) (satisfied_by history e)
   pub create : creates created i e ≡ false
 
--- after one entry more the i-th object is this one, and what the history keeps of it stays
-pub record IsRead {C X : Type 0} (after : List Entry → ℕ → C → X) (Keeps : List Entry → ℕ → C → Type 0)
-    (history : List Entry) (e : Entry) (i : ℕ) (c : C) (x : X) : Type 0 where
+-- after one entry more, which leaves this roster, the i-th object is this one, and what is kept of it stays
+pub record IsRead {C X : Type 0} (after : List Entry → ℕ → C → X) (Keeps : Roster → List Entry → ℕ → C → Type 0)
+    (new : Roster) (history : List Entry) (e : Entry) (i : ℕ) (c : C) (x : X) : Type 0 where
   pub is : after (history ++ e ∷ []) i c ≡ x
-  pub kept : Keeps (history ++ e ∷ []) i c
+  pub kept : Keeps new (history ++ e ∷ []) i c
 
 -- what a service on the i-th object keeps: of the processes, and of the object as the history has it
-pub record ServesOne {C X : Type 0} (after : List Entry → ℕ → C → X) (Keeps : List Entry → ℕ → C → Type 0)
-    (history : List Entry) (roster : Roster) (caller : Caller) (call : Call) (w : Wait) (i : ℕ) (c : C) (o : Outcome X) : Type 0 where
-  pub serves : ServesBy roster caller call w o
+pub record ServesOne {C X : Type 0} (after : List Entry → ℕ → C → X) (Keeps : Roster → List Entry → ℕ → C → Type 0)
+    (history : List Entry) (roster : Roster) (caller : Caller) (call : Call) (at : Option Queue) (i : ℕ) (c : C) (o : Outcome X) : Type 0 where
+  pub serves : ServesBy roster caller call at o
   pub read : (number now : ℕ) (who : Who)
-      → IsRead after Keeps history (entry_with number now who caller call o.reply o.notices) i c o.object
+      → IsRead after Keeps o.roster history (entry_with number now who caller call o.reply o.notices) i c o.object
 
--- what the proofs know of a kind: how its calls stand among all calls, what its waiters wait for, and
--- what its objects are after an entry
+-- the queue of a kind's object, where the kind has one: who waits there afterwards waited there before
+abbrev pub IsStillAt : Option Queue → Roster → Roster → Type 0
+IsStillAt None old new = Unit {0}
+IsStillAt (Some queue) old new = IsStill queue old new
+
+abbrev pub IsElsewhereAt : Option Queue → Call → Type 0
+IsElsewhereAt None call = Unit {0}
+IsElsewhereAt (Some queue) call = IsElsewhere queue call
+
+still_same : (at : Option Queue) (roster : Roster) → IsStillAt at roster roster
+still_same None roster = tt
+still_same (Some queue) roster = λ p w waits is. waits
+
+still_at : (at : Option Queue) (caller : Caller) (call : Call) (old new : Roster) → IsElsewhereAt at call
+    → Asks caller (Some call) old new → IsStillAt at old new
+still_at None caller call old new elsewhere asks = tt
+still_at (Some queue) caller call old new elsewhere asks = still_elsewhere queue caller call old new elsewhere asks
+
+pub still_freed_at : (at : Option Queue) (old new : Roster) → Frees old new → IsStillAt at old new
+still_freed_at None old new frees = tt
+still_freed_at (Some queue) old new frees = still_freed queue old new frees
+
+-- what the proofs know of a kind: how its calls stand among all calls, where its waiters wait, and what
+-- its objects are after an entry
 pub record LawsOf {C X W : Type 0} (kind : KindOf C X W) : Type 1 where
   pub to : ObjectCall ℕ W → Call
   pub names : ℕ → Call → Bool
   pub creation : Call → Option ℕ
   -- a configuration past the end of the table
   pub nothing : C
-  pub wait : ℕ → Wait
-  -- what a history keeps of an object
-  pub Keeps : List Entry → ℕ → C → Type 0
+  -- the queue in which processes wait for an object, if the kind has such queues
+  pub at : ℕ → Option Queue
+  -- what is kept of an object, and of those who wait for it
+  pub Keeps : Roster → List Entry → ℕ → C → Type 0
   -- what its own services need of the processes
   pub Stands : Roster → ℕ → Type 0
   pub created : (call : ObjectCall ℕ W) → creation (to call) ≡ creation_of call
   pub named : (call : ObjectCall ℕ W) (j : ℕ) → is_place j (object_of call) ≡ false → names j (to call) ≡ false
-  pub awaited : (c : Call) (i j : ℕ) → begins c ≡ Some (wait i) → j ≢ i → names j c ≡ false
-  pub status : (roster : Roster) (x : X) (i : ℕ) → is_accepted (kind.status roster x i) ≡ false
-  pub stays : (history : List Entry) (e : Entry) (i : ℕ) (c : C) → Keeps history i c
-      → IsQuiet names creation i history e → IsRead kind.after Keeps history e i c (kind.after history i c)
-  pub makes : (history : List Entry) (e : Entry) (i : ℕ) (c : C) → Keeps history i c
+  pub apart : (call : ObjectCall ℕ W) (j : ℕ) → is_place j (object_of call) ≡ false → IsElsewhereAt (at j) (to call)
+  pub awaited : (c : Call) (i j : ℕ) → BeginsAt (at i) c → j ≢ i → names j c ≡ false
+  pub status : (roster : Roster) (x : X) (i : ℕ) → is_satisfied (kind.status roster x i) ≡ false
+  pub stays : (old new : Roster) (history : List Entry) (e : Entry) (i : ℕ) (c : C) → Keeps old history i c
+      → IsQuiet names creation i history e → IsStillAt (at i) old new
+      → IsRead kind.after Keeps new history e i c (kind.after history i c)
+  pub makes : (roster : Roster) (history : List Entry) (e : Entry) (i : ℕ) (c : C) → Keeps roster history i c
       → satisfied_by history e ≡ to (Create (Known i)) ∷ [] → creates creation i e ≡ true
-      → IsRead kind.after Keeps history e i c (kind.made (kind.after history i c))
+      → IsRead kind.after Keeps roster history e i c (kind.made (kind.after history i c))
   pub own : (history : List Entry) (roster : Roster) (caller : Caller) (i : ℕ) (c : C) (service : W)
-      → Keeps history i c → AreAsked roster history → Scene roster caller → Stands roster i
-      → ServesOne kind.after Keeps history roster caller (to (Own i service)) (wait i) i c
+      → Keeps roster history i c → AreAsked roster history → Scene roster caller → Stands roster i
+      → ServesOne kind.after Keeps history roster caller (to (Own i service)) (at i) i c
       (kind.own roster (kind.after history i c) i caller service)
 
--- an entry that isn't accepted and wakes nobody says nothing of anything
+-- what isn't satisfied isn't accepted
+unaccepted : (reply : Reply) → is_satisfied reply ≡ false → is_accepted reply ≡ false
+unaccepted (Gets message) plain = refl
+unaccepted (Code code) plain = plain
+unaccepted _ plain = refl
+
+-- an entry that isn't satisfied and wakes nobody says nothing of anything
 pub quiet_told : (names : ℕ → Call → Bool) (created : Call → Option ℕ) (i : ℕ) (history : List Entry)
-    (number now : ℕ) (who : Who) (caller : Caller) (call : Call) (reply : Reply) → is_accepted reply ≡ false
+    (number now : ℕ) (who : Who) (caller : Caller) (call : Call) (reply : Reply) → is_satisfied reply ≡ false
     → IsQuiet names created i history (entry_with number now who caller call reply [])
 quiet_told names created i history number now who caller call reply plain = record {
   calls = rw plain (All-nil (λ c. names i c ≡ false));
-  create = rw plain (and_false (is_place i (created call)));
+  create = rw (unaccepted reply plain) (and_false (is_place i (created call)));
 }
 
 -- an entry whose call names another thing, and which wakes with NO_ERROR only who waited for another
 -- one, says nothing of it
 pub quiet_elsewhere : (names : ℕ → Call → Bool) (created : Call → Option ℕ) (i : ℕ) (history : List Entry) (roster : Roster)
-    (w : Wait) (number now : ℕ) (who : Who) (caller : Caller) (call : Call) (reply : Reply) (notices : List Notice)
-    → AreAsked roster history → ((q : ℕ) → wakes q notices ≡ true → awaited (record_at roster q) ≡ Some w)
-    → names i call ≡ false → is_place i (created call) ≡ false → ((c : Call) → begins c ≡ Some w → names i c ≡ false)
+    (at : Option Queue) (number now : ℕ) (who : Who) (caller : Caller) (call : Call) (reply : Reply) (notices : List Notice)
+    → AreAsked roster history → ((q : ℕ) → wakes q notices ≡ true → AwaitsAt at (record_at roster q))
+    → names i call ≡ false → is_place i (created call) ≡ false → ((c : Call) → BeginsAt at c → names i c ≡ false)
     → IsQuiet names created i history (entry_with number now who caller call reply notices)
-quiet_elsewhere names created i history roster w number now who caller call reply notices asked woken unnamed uncreated far = record {
-  calls = All-append P (own_call (entry_with number now who caller call reply notices)) (flat_map (answered_by history) notices) (here (is_accepted reply))
-      (All-weaker (λ c. begins c ≡ Some w) P far (flat_map (answered_by history) notices) (handed roster history notices w asked woken));
+quiet_elsewhere names created i history roster at number now who caller call reply notices asked woken unnamed uncreated far = record {
+  calls = All-append P (own_call (entry_with number now who caller call reply notices)) (flat_map (answered_by history) notices) (here (is_satisfied reply))
+      (All-weaker (BeginsAt at) P far (flat_map (answered_by history) notices) (handed roster history notices at asked woken));
   create = rw uncreated refl;
 } where
   P : Call → Type 0
@@ -111,11 +143,11 @@ quiet_elsewhere names created i history roster w number now who caller call repl
 -- an event that asks for no call says nothing of it, where whom it wakes with NO_ERROR waited for time
 pub quiet_uncalled : (names : ℕ → Call → Bool) (created : Call → Option ℕ) (i : ℕ) (history : List Entry) (roster : Roster)
     (e : Entry) → AreAsked roster history → e.call ≡ None
-    → ((q : ℕ) → wakes q e.notices ≡ true → awaited (record_at roster q) ≡ Some Time)
-    → ((c : Call) → begins c ≡ Some Time → names i c ≡ false) → IsQuiet names created i history e
+    → ((q : ℕ) → wakes q e.notices ≡ true → AwaitsAt None (record_at roster q))
+    → ((c : Call) → BeginsAt None c → names i c ≡ false) → IsQuiet names created i history e
 quiet_uncalled names created i history roster e asked uncalled woken far = record {
-  calls = All-append P (own_call e) (flat_map (answered_by history) e.notices) (rw uncalled (nothing (is_accepted e.reply)))
-      (All-weaker (λ c. begins c ≡ Some Time) P far (flat_map (answered_by history) e.notices) (handed roster history e.notices Time asked woken));
+  calls = All-append P (own_call e) (flat_map (answered_by history) e.notices) (rw uncalled (nothing (is_satisfied e.reply)))
+      (All-weaker (BeginsAt None) P far (flat_map (answered_by history) e.notices) (handed roster history e.notices None asked woken));
   create = rw uncalled refl;
 } where
   P : Call → Type 0
@@ -144,18 +176,19 @@ known_at many (Own j service) i is known = rw (same_Some j i is) at known
 module _ {C X W : Type 0} (kind : KindOf C X W) (laws : LawsOf kind) (history : List Entry) (roster : Roster) (caller : Caller)
     (asked : AreAsked roster history) where
   abbrev Served : ObjectCall ℕ W → ℕ → C → Outcome X → Type 0
-  Served call i c o = ServesOne kind.after laws.Keeps history roster caller (laws.to call) (laws.wait i) i c o
+  Served call i c o = ServesOne kind.after laws.Keeps history roster caller (laws.to call) (laws.at i) i c o
 
-  module _ (i : ℕ) (c : C) (keeps : laws.Keeps history i c) where
+  module _ (i : ℕ) (c : C) (keeps : laws.Keeps roster history i c) where
     abbrev x : X
     x = kind.after history i c
 
     -- answered without being accepted
-    served_told : (call : ObjectCall ℕ W) (reply : Reply) → is_accepted reply ≡ false → Served call i c (told roster x reply)
+    served_told : (call : ObjectCall ℕ W) (reply : Reply) → is_satisfied reply ≡ false → Served call i c (told roster x reply)
     served_told call reply plain = record {
-      serves = serves_same roster caller (laws.to call) (laws.wait i);
-      read = λ number now who. laws.stays history _ i c keeps
-          (quiet_told laws.names laws.creation i history number now who caller (laws.to call) reply plain);
+      serves = serves_same roster caller (laws.to call) (laws.at i);
+      read = λ number now who. laws.stays roster roster history _ i c keeps
+          (quiet_told laws.names laws.creation i history number now who caller (laws.to call) reply plain)
+          (still_same (laws.at i) roster);
     }
 
     served_refused : (call : ObjectCall ℕ W) (code : ReturnCode) → is_no_error code ≡ false → Served call i c (refused roster x code)
@@ -165,8 +198,8 @@ module _ {C X W : Type 0} (kind : KindOf C X W) (laws : LawsOf kind) (history : 
     served_create =
         by_guard roster x (Served (Create (Known i)) i c) (served_refused (Create (Known i))) (is_normal roster.mode) _ _ refl (λ _.
         by_guard roster x (Served (Create (Known i)) i c) (served_refused (Create (Known i))) (kind.created x) _ _ refl (λ _. record {
-          serves = serves_same roster caller (laws.to (Create (Known i))) (laws.wait i);
-          read = λ number now who. laws.makes history (entry_with number now who caller (laws.to (Create (Known i))) (Code NoError) []) i c keeps refl
+          serves = serves_same roster caller (laws.to (Create (Known i))) (laws.at i);
+          read = λ number now who. laws.makes roster history (entry_with number now who caller (laws.to (Create (Known i))) (Code NoError) []) i c keeps refl
               (rw (laws.created (Create (Known i)), eq-eqb i i refl) refl);
         }))
 
@@ -183,38 +216,46 @@ module _ {C X W : Type 0} (kind : KindOf C X W) (laws : LawsOf kind) (history : 
     served_object (Own j service) is scene stands =
         rw (same_Some j i is) (laws.own history roster caller i c service keeps asked scene stands)
 
--- what those wait for whom a call on this object may wake
-abbrev pub wait_at : {C X W : Type 0} {kind : KindOf C X W} → LawsOf kind → Option ℕ → Wait
-wait_at laws None = laws.wait 0
-wait_at laws (Some i) = laws.wait i
+-- a call that names another object of the kind than the j-th
+pub elsewhere : (queue : ℕ → Queue) → ((j i : ℕ) → is_same_queue (queue j) (queue i) ≡ (j == i)) → (object : Option ℕ) (j : ℕ)
+    → is_place j object ≡ false → is_queue (queue j) (option_map queue object) ≡ false
+elsewhere queue same None j e = refl
+elsewhere queue same (Some i) j e = same j i ∙ e
+
+-- where those wait whom a call on this object may wake
+abbrev pub queue_at : {C X W : Type 0} {kind : KindOf C X W} → LawsOf kind → Option ℕ → Option Queue
+queue_at laws target = option_and_then laws.at target
 
 -- all objects of a kind, read off a history that keeps what it keeps of each
-module _ {C X W : Type 0} (kind : KindOf C X W) (laws : LawsOf kind) (history : List Entry) (configs : List C)
-    (keeps : (i : ℕ) → i < length configs → laws.Keeps history i (get_or configs i laws.nothing)) where
+module _ {C X W : Type 0} (kind : KindOf C X W) (laws : LawsOf kind) (history : List Entry) (roster : Roster) (configs : List C)
+    (keeps : (i : ℕ) → i < length configs → laws.Keeps roster history i (get_or configs i laws.nothing)) where
   abbrev config : ℕ → C
   config i = get_or configs i laws.nothing
 
   abbrev objects : List X
   objects = objects_of kind history configs
 
-  -- after one entry more the objects are these
-  pub record AreRead (e : Entry) (all : List X) : Type 0 where
+  -- after one entry more, which leaves this roster, the objects are these
+  pub record AreRead (new : Roster) (e : Entry) (all : List X) : Type 0 where
     pub are : objects_of kind (history ++ e ∷ []) configs ≡ all
-    pub kept : (i : ℕ) → i < length configs → laws.Keeps (history ++ e ∷ []) i (config i)
+    pub kept : (i : ℕ) → i < length configs → laws.Keeps new (history ++ e ∷ []) i (config i)
 
   -- an entry that says nothing of any of them leaves them
-  pub all_stay : (e : Entry) → ((i : ℕ) → IsQuiet laws.names laws.creation i history e) → AreRead e objects
-  all_stay e quiet = record {
+  pub all_stay : (new : Roster) (e : Entry) → ((i : ℕ) → IsQuiet laws.names laws.creation i history e)
+      → ((i : ℕ) → IsStillAt (laws.at i) roster new) → AreRead new e objects
+  all_stay new e quiet still = record {
     are = map_places_same (kind.after (history ++ e ∷ [])) (kind.after history) configs laws.nothing kind.absent
-        (λ i inside. (laws.stays history e i (config i) (keeps i inside) (quiet i)).is);
-    kept = λ i inside. (laws.stays history e i (config i) (keeps i inside) (quiet i)).kept;
+        (λ i inside. (laws.stays roster new history e i (config i) (keeps i inside) (quiet i) (still i)).is);
+    kept = λ i inside. (laws.stays roster new history e i (config i) (keeps i inside) (quiet i) (still i)).kept;
   }
 
   -- the i-th changes, and the entry says nothing of the others
-  one_changes : (e : Entry) (i : ℕ) (x : X) → i < length configs → IsRead kind.after laws.Keeps history e i (config i) x
-      → ((j : ℕ) → j ≢ i → IsQuiet laws.names laws.creation j history e) → AreRead e (set objects i x)
-  one_changes e i x here read quiet =
-      let stays = λ (j : ℕ) (inside : j < length configs) (apart : j ≢ i). laws.stays history e j (config j) (keeps j inside) (quiet j apart) in
+  one_changes : (new : Roster) (e : Entry) (i : ℕ) (x : X) → i < length configs → IsRead kind.after laws.Keeps new history e i (config i) x
+      → ((j : ℕ) → j ≢ i → IsQuiet laws.names laws.creation j history e)
+      → ((j : ℕ) → j ≢ i → IsStillAt (laws.at j) roster new) → AreRead new e (set objects i x)
+  one_changes new e i x here read quiet still =
+      let stays = λ (j : ℕ) (inside : j < length configs) (apart : j ≢ i).
+      laws.stays roster new history e j (config j) (keeps j inside) (quiet j apart) (still j apart) in
       record {
         are = sym (set-map_places (kind.after history) (kind.after (history ++ e ∷ [])) configs i x laws.nothing kind.absent here
             (sym read.is) (λ j inside apart. sym (stays j inside apart).is));
@@ -224,55 +265,61 @@ module _ {C X W : Type 0} (kind : KindOf C X W) (laws : LawsOf kind) (history : 
         ];
       }
 
-  module _ (roster : Roster) (caller : Caller) (asked : AreAsked roster history) where
+  module _ (caller : Caller) (asked : AreAsked roster history) where
     -- a call of another kind leaves them
-    pub all_elsewhere : (call : Call) (w : Wait) (new : Roster) (reply : Reply) (notices : List Notice)
-        → Serves roster caller call w new notices
+    pub all_elsewhere : (call : Call) (at : Option Queue) (new : Roster) (reply : Reply) (notices : List Notice)
+        → Serves roster caller call at new notices
         → ((j : ℕ) → laws.names j call ≡ false) → laws.creation call ≡ None
-        → ((c : Call) (j : ℕ) → begins c ≡ Some w → laws.names j c ≡ false)
-        → (number now : ℕ) (who : Who) → AreRead (entry_with number now who caller call reply notices) objects
-    all_elsewhere call w new reply notices serves unnamed uncreated far number now who =
-        all_stay (entry_with number now who caller call reply notices) (λ j.
-        quiet_elsewhere laws.names laws.creation j history roster w number now who caller call reply notices asked serves.woken
+        → ((j : ℕ) → IsElsewhereAt (laws.at j) call)
+        → ((c : Call) (j : ℕ) → BeginsAt at c → laws.names j c ≡ false)
+        → (number now : ℕ) (who : Who) → AreRead new (entry_with number now who caller call reply notices) objects
+    all_elsewhere call at new reply notices serves unnamed uncreated elsewhere far number now who =
+        all_stay new (entry_with number now who caller call reply notices)
+        (λ j. quiet_elsewhere laws.names laws.creation j history roster at number now who caller call reply notices asked serves.woken
         (unnamed j) (rw uncreated refl) (λ c begun. far c j begun))
+        (λ j. still_at (laws.at j) caller call roster new (elsewhere j) serves.asks)
 
     -- what a service on these objects keeps: of the processes, and of the objects
-    pub record ServesAll (call : ObjectCall ℕ W) (w : Wait) (o : Outcome (List X)) : Type 0 where
-      pub serves : ServesBy roster caller (laws.to call) w o
-      pub read : (number now : ℕ) (who : Who) → AreRead (entry_with number now who caller (laws.to call) o.reply o.notices) o.object
+    pub record ServesAll (call : ObjectCall ℕ W) (at : Option Queue) (o : Outcome (List X)) : Type 0 where
+      pub serves : ServesBy roster caller (laws.to call) at o
+      pub read : (number now : ℕ) (who : Who) → AreRead o.roster (entry_with number now who caller (laws.to call) o.reply o.notices) o.object
 
-    all_refused : (call : ObjectCall ℕ W) (w : Wait) (code : ReturnCode) → is_no_error code ≡ false
-        → ServesAll call w (refused roster objects code)
-    all_refused call w code bad = record {
-      serves = serves_same roster caller (laws.to call) w;
-      read = λ number now who. all_stay _ (λ j.
-          quiet_told laws.names laws.creation j history number now who caller (laws.to call) (Code code) bad);
+    all_refused : (call : ObjectCall ℕ W) (at : Option Queue) (code : ReturnCode) → is_no_error code ≡ false
+        → ServesAll call at (refused roster objects code)
+    all_refused call at code bad = record {
+      serves = serves_same roster caller (laws.to call) at;
+      read = λ number now who. all_stay roster _
+          (λ j. quiet_told laws.names laws.creation j history number now who caller (laws.to call) (Code code) bad)
+          (λ j. still_same (laws.at j) roster);
     }
 
     -- a call of a name that is no entry's
-    all_unknown : (call : ObjectCall ℕ W) (w : Wait) → ServesAll call w (no_entry roster objects call)
-    all_unknown (Create named) w =
-        by_guard roster objects (ServesAll (Create named) w) (all_refused (Create named) w) (is_normal roster.mode) _ _ refl
-        (λ _. all_refused (Create named) w InvalidConfig refl)
-    all_unknown (GetId named) w = all_refused (GetId named) w InvalidConfig refl
-    all_unknown (GetStatus i) w = all_refused (GetStatus i) w InvalidConfig refl
-    all_unknown (Own i service) w = all_refused (Own i service) w InvalidConfig refl
+    all_unknown : (call : ObjectCall ℕ W) (at : Option Queue) → ServesAll call at (no_entry roster objects call)
+    all_unknown (Create named) at =
+        by_guard roster objects (ServesAll (Create named) at) (all_refused (Create named) at) (is_normal roster.mode) _ _ refl
+        (λ _. all_refused (Create named) at InvalidConfig refl)
+    all_unknown (GetId named) at = all_refused (GetId named) at InvalidConfig refl
+    all_unknown (GetStatus i) at = all_refused (GetStatus i) at InvalidConfig refl
+    all_unknown (Own i service) at = all_refused (Own i service) at InvalidConfig refl
 
     module _ (scene : Scene roster caller) (stands : (i : ℕ) → i < length configs → laws.Stands roster i) where
       pub all_served : (call : ObjectCall ℕ W) (target : Option ℕ) → object_of call ≡ target → IsKnownObject (length configs) call
-          → ServesAll call (wait_at laws target) (deed_at kind roster objects caller call target)
-      all_served call None is known = all_unknown call (laws.wait 0)
+          → ServesAll call (queue_at laws target) (deed_at kind roster objects caller call target)
+      all_served call None is known = all_unknown call None
       all_served call (Some i) is known =
           let here = known_at (length configs) call i is known in
           let z : 0 + i ≡ i = omega arith in
           let object : get_or objects i kind.absent ≡ kind.after history i (config i) =
           rw (get_or-map_places (kind.after history) 0 configs i laws.nothing kind.absent here, z) refl in
           let one = served_object kind laws history roster caller asked i (config i) (keeps i here) call is scene (stands i here) in
+          let elsewhere = λ (j : ℕ) (apart : j ≢ i). the_other call is j apart in
           rw object (record {
             serves = one.serves;
-            read = λ number now who. one_changes _ i _ here (one.read number now who) (λ j apart.
-                let elsewhere : is_place j (object_of call) ≡ false = rw is (other j i apart) in
-                quiet_elsewhere laws.names laws.creation j history roster (laws.wait i) number now who caller (laws.to call) _ _ asked
-                one.serves.woken (laws.named call j elsewhere) (rw (laws.created call) (created_named call j elsewhere))
-                (λ c begun. laws.awaited c i j begun apart));
-          })
+            read = λ number now who. one_changes _ _ i _ here (one.read number now who)
+                (λ j apart. quiet_elsewhere laws.names laws.creation j history roster (laws.at i) number now who caller (laws.to call) _ _ asked
+                one.serves.woken (laws.named call j (elsewhere j apart)) (rw (laws.created call) (created_named call j (elsewhere j apart)))
+                (λ c begun. laws.awaited c i j begun apart))
+                (λ j apart. still_at (laws.at j) caller (laws.to call) roster _ (laws.apart call j (elsewhere j apart)) one.serves.asks);
+          }) where
+            the_other : (call : ObjectCall ℕ W) → object_of call ≡ Some i → (j : ℕ) → j ≢ i → is_place j (object_of call) ≡ false
+            the_other call is j apart = rw is (other j i apart)

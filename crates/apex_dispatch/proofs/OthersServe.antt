@@ -62,26 +62,26 @@ stopped_free (r ∷ rs) (suc p) = stopped_free rs p
 
 -- what a service of no object keeps: whom it wakes with NO_ERROR had waited for time, and all objects stay
 pub record ServesNone {X : Type 0} (roster : Roster) (objects : X) (caller : Caller) (call : Call) (o : Outcome X) : Type 0 where
-  pub serves : ServesBy roster caller call Time o
+  pub serves : ServesBy roster caller call None o
   pub stays : o.object ≡ objects
 
 module _ {X : Type 0} (roster : Roster) (objects : X) (caller : Caller) (scene : Scene roster caller) where
   abbrev Served : Call → Outcome X → Type 0
   Served = ServesNone roster objects caller
 
-  served : (call : Call) (new : Roster) (reply : Reply) (notices : List Notice) → Serves roster caller call Time new notices
+  served : (call : Call) (new : Roster) (reply : Reply) (notices : List Notice) → Serves roster caller call None new notices
       → Served call (record { roster = new; object = objects; reply = reply; notices = notices })
   served call new reply notices serves = record { serves = serves; stays = refl }
 
   same : (call : Call) (reply : Reply) → Served call (told roster objects reply)
-  same call reply = served call roster reply [] (serves_same roster caller call Time)
+  same call reply = served call roster reply [] (serves_same roster caller call None)
 
   served_refused : (call : Call) (code : ReturnCode) → is_no_error code ≡ false → Served call (refused roster objects code)
   served_refused call code bad = same call (Code code)
 
   pub served_partition : (asked : PartitionCall) → Served (call.Partition asked) (partitions.partition_service roster objects asked)
   served_partition (SetPartitionMode requested.Idle) =
-      served _ _ _ _ (serves_freed roster caller (call.Partition (SetPartitionMode requested.Idle)) Time (partitions.enter_idle roster) []
+      served _ _ _ _ (serves_freed roster caller (call.Partition (SetPartitionMode requested.Idle)) None (partitions.enter_idle roster) []
       (reaches_more 0 64 (lit≤ tt) (reaches_enter_idle roster))
       (record { still = λ q w h. absurd (none-some w (sym (stopped_free roster.records q) ∙ h)) }) (λ q. refl))
   served_partition (SetPartitionMode requested.Normal) =
@@ -89,7 +89,7 @@ module _ {X : Type 0} (roster : Roster) (objects : X) (caller : Caller) (scene :
       let entered = partitions.enter_normal roster in
       let spares = enter_spares roster in
       by_guard roster objects (Served asked) (served_refused asked) (is_normal roster.mode) _ _ refl (λ _.
-      served _ _ _ _ (serves_freed roster caller asked Time entered.roster entered.notices
+      served _ _ _ _ (serves_freed roster caller asked None entered.roster entered.notices
       (reach_enter_normal roster scene.starts scene.few) spares.frees spares.quiet))
   served_partition GetPartitionStatus = same (call.Partition GetPartitionStatus) _
 
@@ -109,7 +109,7 @@ module _ {X : Type 0} (roster : Roster) (objects : X) (caller : Caller) (scene :
 
     served_itself : (asked : CallerCall) → Served (call.Caller asked) (callers.service_by roster objects asked p)
     served_itself StopSelf =
-        served _ _ _ _ (serves_freed roster caller (call.Caller StopSelf) Time (stamps.stop roster p) []
+        served _ _ _ _ (serves_freed roster caller (call.Caller StopSelf) None (stamps.stop roster p) []
         (few (reaches_stop roster p ready.known)) (stop_frees roster p) (λ q. refl))
     served_itself (SuspendSelf Poll) = same (call.Caller (SuspendSelf Poll)) _
     served_itself (SuspendSelf (Ticks n)) = served_suspended (Ticks n)
@@ -120,11 +120,11 @@ module _ {X : Type 0} (roster : Roster) (objects : X) (caller : Caller) (scene :
     served_timed_wait : (timeout : Timeout) → Served (call.Time (TimedWait timeout)) (times.timed_wait roster objects timeout p)
     served_timed_wait Poll =
         let r : Record = record (record_at roster p) { since = roster.young } in
-        served _ _ _ _ (serves_freed roster caller (call.Time (TimedWait Poll)) Time (stamps.place_newest roster p) []
+        served _ _ _ _ (serves_freed roster caller (call.Time (TimedWait Poll)) None (stamps.place_newest roster p) []
         (few (reaches_place_newest roster p ready.known))
         (frees_moved roster (stamps.place_newest roster p) p r refl (λ w h. h)) (λ q. refl))
     served_timed_wait (Ticks n) =
-        served _ _ _ _ (rw by (serves_blocked roster p ready (call.Time (TimedWait (Ticks n))) Time Time (Ticks n) refl refl))
+        served _ _ _ _ (rw by (serves_blocked roster p ready (call.Time (TimedWait (Ticks n))) None Time (Ticks n) refl refl))
     served_timed_wait Infinite = same (call.Time (TimedWait Infinite)) _
 
   pub served_caller : (asked : CallerCall) → Served (call.Caller asked) (callers.caller_service roster objects caller asked)

@@ -32,7 +32,7 @@ use Rattle.apex_types.proofs.Rows.{by_guard}
 use Rattle.apex_types.proofs.Starts.{waitless_queue}
 use Rattle.apex_dispatch.specs.AskedWaits.{asked_of, awaited, or_suspended}
 use Rattle.apex_dispatch.proofs.AskedWaits.{Frees, frees_then, frees_moved, frees_changed, frees_lessened, frees_unblock, asks_freed, awake_free}
-use Rattle.apex_dispatch.proofs.Satisfied.{wakes, woken_alone}
+use Rattle.apex_dispatch.proofs.Satisfied.{AwaitsAt, wakes, woken_alone}
 use Rattle.apex_dispatch.proofs.Serving.{Scene, Serves, AreQuiet, few, serves_same, serves_freed}
 use Rattle.apex_dispatch.proofs.ObjectsServe.{LawsOf, ServesOne, IsRead}
 use Rattle.apex_dispatch.proofs.Truths.{or_false, or_true}
@@ -43,16 +43,16 @@ abbrev pub unnamed : ℕ → Call → Bool
 unnamed p c = false
 
 -- a history keeps nothing of a process but that it is created
-abbrev pub KeepsProcess : List Entry → ℕ → ProcessConfig → Type 0
-KeepsProcess history p entry = Unit {0}
+abbrev pub KeepsProcess : Roster → List Entry → ℕ → ProcessConfig → Type 0
+KeepsProcess roster history p entry = Unit {0}
 
 all_unnamed : (p : ℕ) (calls : List Call) → All (λ c. unnamed p c ≡ false) calls
 all_unnamed p [] = All-nil (λ c. unnamed p c ≡ false)
 all_unnamed p (c ∷ calls) = All-cons (λ c. unnamed p c ≡ false) c calls refl (all_unnamed p calls)
 
-pub process_stays : (history : List Entry) (e : Entry) (p : ℕ) (entry : ProcessConfig) → creates created_process p e ≡ false
-    → IsRead process_after KeepsProcess history e p entry (process_after history p entry)
-process_stays history e p entry none = record {
+pub process_stays : (new : Roster) (history : List Entry) (e : Entry) (p : ℕ) (entry : ProcessConfig) → creates created_process p e ≡ false
+    → IsRead process_after KeepsProcess new history e p entry (process_after history p entry)
+process_stays new history e p entry none = record {
   is = rw (created-push created_process p history e, none, or_false (is_created created_process p history)) refl;
   kept = tt;
 }
@@ -128,13 +128,13 @@ module _ (roster : Roster) (p : ℕ) where
     resume_asks false is = frees_lessened roster p (stamps.unsuspended r) (λ w h. rw is h)
 
     resume_woken : (by_itself : Bool) → stamps.is_by_itself r.suspended ≡ by_itself → (q : ℕ)
-        → wakes q (cond by_itself (Woken p NoError ∷ []) []) ≡ true → awaited (record_at roster q) ≡ Some Time
+        → wakes q (cond by_itself (Woken p NoError ∷ []) []) ≡ true → AwaitsAt None (record_at roster q)
     resume_woken true is q woken =
         let free = scene.one p is in
-        ap (λ (k : ℕ). awaited (record_at roster k)) (woken_alone q p woken) ∙ rw (free, is) refl
+        (Time, ap (λ (k : ℕ). awaited (record_at roster k)) (woken_alone q p woken) ∙ rw (free, is) refl, refl)
     resume_woken false is q woken = absurd (both_ways false refl woken)
 
-    serves_resume : Serves roster caller call Time (stamps.resume roster p) (services.resume_notices roster p)
+    serves_resume : Serves roster caller call None (stamps.resume roster p) (services.resume_notices roster p)
     serves_resume = record {
       reaches = few (reaches_resume roster p known itself_normal);
       asks = asks_freed caller (Some call) roster (stamps.resume roster p) (resume_asks (stamps.is_by_itself r.suspended) refl);
@@ -150,25 +150,25 @@ module _ (history : List Entry) (roster : Roster) (caller : Caller) (p : ℕ) (e
   asks_for service = call.Process (Own p service)
 
   abbrev Served : ProcessService → Outcome ProcessObject → Type 0
-  Served service o = ServesOne process_after KeepsProcess history roster caller (asks_for service) Time p entry o
+  Served service o = ServesOne process_after KeepsProcess history roster caller (asks_for service) None p entry o
 
   -- the process's object stays
   served : (service : ProcessService) (new : Roster) (reply : Reply) (notices : List Notice)
-      → Serves roster caller (asks_for service) Time new notices
+      → Serves roster caller (asks_for service) None new notices
       → Served service (record { roster = new; object = process; reply = reply; notices = notices })
   served service new reply notices serves = record {
     serves = serves;
-    read = λ number now who. process_stays history _ p entry refl;
+    read = λ number now who. process_stays new history _ p entry refl;
   }
 
   -- nobody is woken, and nobody waits who did not wait before
   served_freed : (service : ProcessService) (new : Roster) (notices : List Notice) → Reaches 64 roster new → Frees roster new
       → AreQuiet notices → Served service (accepted new process notices)
   served_freed service new notices reaches frees quiet =
-      served service new (Code NoError) notices (serves_freed roster caller (asks_for service) Time new notices reaches frees quiet)
+      served service new (Code NoError) notices (serves_freed roster caller (asks_for service) None new notices reaches frees quiet)
 
   served_refused : (service : ProcessService) (code : ReturnCode) → is_no_error code ≡ false → Served service (refused roster process code)
-  served_refused service code bad = served service roster (Code code) [] (serves_same roster caller (asks_for service) Time)
+  served_refused service code bad = served service roster (Code code) [] (serves_same roster caller (asks_for service) None)
 
   -- one guard of a row
   guard : (service : ProcessService) (holds : Bool) (code : ReturnCode) (rest : Outcome ProcessObject) → is_no_error code ≡ false
@@ -230,15 +230,16 @@ process_laws = record {
   names = unnamed;
   creation = created_process;
   nothing = no_process;
-  wait = λ p. Time;
+  at = λ p. None;
   Keeps = KeepsProcess;
   Stands = λ roster p. p < length roster.records;
   created = λ call. refl;
   named = λ call j e. refl;
-  awaited = λ c i j is apart. refl;
+  apart = λ call j e. tt;
+  awaited = λ c i j begun apart. refl;
   status = λ roster x i. refl;
-  stays = λ history e p entry keeps quiet. process_stays history e p entry quiet.create;
-  makes = λ history e p entry keeps alone made. record {
+  stays = λ old new history e p entry keeps quiet still. process_stays new history e p entry quiet.create;
+  makes = λ roster history e p entry keeps alone made. record {
     is = rw (created-push created_process p history e, made, or_true (is_created created_process p history)) refl;
     kept = tt;
   };

@@ -14,7 +14,7 @@ use Rattle.apex_types.specs.Table.{Table, IsLawful}
 use Rattle.apex_dispatch.specs.Deeds.{Does}
 use Rattle.apex_dispatch.specs.Events.{IsWithin}
 use Rattle.apex_dispatch.specs.Kernel.{KernelState, IsKept, kernel_in, kernel_with}
-use Rattle.apex_dispatch.specs.Premises.{HasManyStamps}
+use Rattle.apex_types.specs.Stamps.{HasManyStamps}
 use Rattle.apex_dispatch.proofs.Sound.{IsSound, who_of, deed_at, happened, happens, objects_happen, sound_run, sound_happen, told}
 
 -- the init list asked for the call exactly where an init step was due

@@ -2,23 +2,27 @@
 use Rattle.std.proofs.Common.{◌≡◌, ℕ, Bool, true, false, ◌&&◌, ◌||◌, ◌==◌, List, [], ◌∷◌, ◌++◌, Option, None, Some, option_and_then, option_to_list, filter, flat_map, All, if◌then◌else◌, ◌⊎◌, inl, inr, refl, sym, ◌∙◌, ap, append_assoc, append-nil}
 use Rattle.std.specs.List.{list_any}
 use Rattle.std.proofs.lemmas.Bool.{eq-eqb, eqb-true, cases_Bool}
-use Rattle.std.proofs.lemmas.List.Elements.{All-nil, All-cons, All-head, All-tail, All-append, filter-append}
+use Rattle.std.proofs.lemmas.List.Elements.{All-nil, All-cons, All-head, All-tail, All-append, All-weaker, filter-append}
 use Rattle.std.proofs.lemmas.List.Sums.{fold-append}
 use Rattle.std.proofs.lemmas.Option.{none-some, same_Some}
-use Rattle.apex_dispatch.specs.Terms.{Call, Caller, Entry, Notice, Wait}
+use Rattle.apex_dispatch.specs.Terms.{Call, Caller, Entry, Message, Notice, Queue, Record, Timeout, Wait}
+use Rattle.apex_types.specs.declared.BlackboardService.TheVariants as blackboard
+use Rattle.apex_types.specs.declared.BufferService.TheVariants as buffer
 use Rattle.apex_types.specs.declared.Call.TheVariants as call
+use Rattle.apex_types.specs.declared.EventService.TheVariants as event
 use Rattle.apex_types.specs.declared.Notice.TheVariants.{Woken, Released}
 use Rattle.apex_types.specs.declared.CallerCall.TheVariants.{SuspendSelf}
 use Rattle.apex_types.specs.declared.ObjectCall.TheVariants.{Own}
 use Rattle.apex_types.specs.declared.SemaphoreService.TheVariants as semaphore
 use Rattle.apex_types.specs.declared.ReturnCode.TheVariants.{NoError}
 use Rattle.apex_types.specs.declared.TimeCall.TheVariants.{TimedWait}
-use Rattle.apex_types.specs.declared.Wait.TheVariants.{Time, Semaphore}
+use Rattle.apex_types.specs.declared.Wait.TheVariants.{Time, Semaphore, Receive, Send, Blackboard, Event}
+use Rattle.apex_types.specs.Queues.{queue_of, is_queue}
 use Rattle.apex_types.specs.Callers.{is_by_process}
-use Rattle.apex_types.specs.Calls.{names_semaphore, is_wait, is_signal}
+use Rattle.apex_types.specs.Calls.{names, queue_named, is_wait, is_signal, is_receive, sent_message}
 use Rattle.apex_types.specs.Roster.{Roster, record_at}
 use Rattle.apex_types.specs.Satisfied.{is_no_error, latest_after, latest_call, answered_by, satisfied_by, satisfied_from, calls_where}
-use Rattle.apex_types.specs.Waiters.{is_same_wait}
+use Rattle.apex_types.proofs.Starts.{queue_itself}
 use Rattle.apex_dispatch.specs.AskedWaits.{begins, awaited, AreAsked}
 use Rattle.apex_dispatch.proofs.Truths.{or_true}
 
@@ -89,15 +93,22 @@ answered_all P history (Woken p code ∷ notices) holds =
       here true None holds = All-nil P
       here true (Some c) holds = All-cons P c [] (holds c refl refl) (All-nil P)
 
--- where all whom an entry wakes with NO_ERROR waited for w, each call that it answers begins that
--- wait
-pub handed : (roster : Roster) (history : List Entry) (notices : List Notice) (w : Wait)
+-- process p waits by its own asking in this queue, or for time where there is none
+abbrev pub AwaitsAt : Option Queue → Record → Type 0
+AwaitsAt at r = (w : Wait) × (awaited r ≡ Some w) × (queue_of w ≡ at)
+
+-- the call begins a wait in this queue, or for time
+abbrev pub BeginsAt : Option Queue → Call → Type 0
+BeginsAt at c = (w : Wait) × (begins c ≡ Some w) × (queue_of w ≡ at)
+
+-- where all whom an entry wakes with NO_ERROR waited there, each call that it answers begins a wait there
+pub handed : (roster : Roster) (history : List Entry) (notices : List Notice) (at : Option Queue)
     → AreAsked roster history
-    → ((p : ℕ) → wakes p notices ≡ true → awaited (record_at roster p) ≡ Some w)
-    → All (λ c. begins c ≡ Some w) (flat_map (answered_by history) notices)
-handed roster history notices w asked waited =
-    answered_all (λ c. begins c ≡ Some w) history notices
-    (λ p c woken is. rw is at (asked p w (waited p woken)))
+    → ((p : ℕ) → wakes p notices ≡ true → AwaitsAt at (record_at roster p))
+    → All (BeginsAt at) (flat_map (answered_by history) notices)
+handed roster history notices at asked waited =
+    answered_all (BeginsAt at) history notices
+    (λ p c woken is. let waits = waited p woken in (waits.0, rw is at (asked p waits.0 waits.1), waits.2))
 
 -- the call that one process has answered, where no other is woken
 pub handed_one : (roster : Roster) (history : List Entry) (p : ℕ) (w : Wait)
@@ -110,30 +121,70 @@ handed_one roster history p w asked waited = found (latest_call p history) (aske
   found None h = absurd (none-some w h)
   found (Some c) h = (c, refl, h)
 
--- a call that begins a wait names what is waited for
-pub begins_names : (c : Call) (w : Wait) → begins c ≡ Some w → (s : ℕ)
-    → names_semaphore s c ≡ is_same_wait (Semaphore s) w
-begins_names (call.Semaphore (Own t (semaphore.Wait timeout))) w h s =
-    rw (sym (same_Some (Semaphore t) w h)) refl
-begins_names (call.Semaphore _) w h s = absurd (none-some w h)
-begins_names (call.Time (TimedWait timeout)) w h s = rw (sym (same_Some Time w h)) refl
-begins_names (call.Time _) w h s = absurd (none-some w h)
-begins_names (call.Caller (SuspendSelf timeout)) w h s = rw (sym (same_Some Time w h)) refl
-begins_names (call.Caller _) w h s = absurd (none-some w h)
-begins_names (call.Process c) w h s = absurd (none-some w h)
-begins_names (call.Partition c) w h s = absurd (none-some w h)
+-- a call that begins a wait names the object of the wait's queue
+pub begins_named : (c : Call) (w : Wait) → begins c ≡ Some w → queue_named c ≡ queue_of w
+begins_named (call.Semaphore (Own t (semaphore.Wait timeout))) w h = ap queue_of (same_Some (Semaphore t) w h)
+begins_named (call.Buffer (Own b (buffer.Send message timeout))) w h = ap queue_of (same_Some (Send b message) w h)
+begins_named (call.Buffer (Own b (buffer.Receive timeout))) w h = ap queue_of (same_Some (Receive b) w h)
+begins_named (call.Blackboard (Own b (blackboard.Read timeout))) w h = ap queue_of (same_Some (Blackboard b) w h)
+begins_named (call.Event (Own e (event.Wait timeout))) w h = ap queue_of (same_Some (Event e) w h)
+begins_named (call.Time (TimedWait timeout)) w h = ap queue_of (same_Some Time w h)
+begins_named (call.Caller (SuspendSelf timeout)) w h = ap queue_of (same_Some Time w h)
+begins_named _ w h = cc
+
+pub names_begun : (queue : Queue) (at : Option Queue) (c : Call) → BeginsAt at c → names queue c ≡ is_queue queue at
+names_begun queue at c begun =
+    ap (is_queue queue) (begins_named c begun.0 begun.1 ∙ begun.2)
+
+-- so calls that begin a wait for an object all name it
+pub all_named : (queue : Queue) (calls : List Call) → All (BeginsAt (Some queue)) calls → All (λ c. names queue c ≡ true) calls
+all_named queue calls begun =
+    All-weaker (BeginsAt (Some queue)) (λ c. names queue c ≡ true) (λ c at. names_begun queue (Some queue) c at ∙ queue_itself queue) calls begun
+
+-- the call that begins this wait for an object
+asking : Wait → Timeout → Call
+asking (Semaphore s) timeout = call.Semaphore (Own s (semaphore.Wait timeout))
+asking (Receive b) timeout = call.Buffer (Own b (buffer.Receive timeout))
+asking (Send b message) timeout = call.Buffer (Own b (buffer.Send message timeout))
+asking (Blackboard b) timeout = call.Blackboard (Own b (blackboard.Read timeout))
+asking (Event e) timeout = call.Event (Own e (event.Wait timeout))
+asking _ timeout = call.Time (TimedWait timeout)
+
+begun_by : (c : Call) (w : Wait) → begins c ≡ Some w → (w ≡ Time) ⊎ ((timeout : Timeout) × (c ≡ asking w timeout))
+unfolding asking
+begun_by (call.Semaphore (Own s (semaphore.Wait timeout))) w h = inr (timeout, ap (λ v. asking v timeout) (same_Some (Semaphore s) w h))
+begun_by (call.Buffer (Own b (buffer.Receive timeout))) w h = inr (timeout, ap (λ v. asking v timeout) (same_Some (Receive b) w h))
+begun_by (call.Buffer (Own b (buffer.Send message timeout))) w h = inr (timeout, ap (λ v. asking v timeout) (same_Some (Send b message) w h))
+begun_by (call.Blackboard (Own b (blackboard.Read timeout))) w h = inr (timeout, ap (λ v. asking v timeout) (same_Some (Blackboard b) w h))
+begun_by (call.Event (Own e (event.Wait timeout))) w h = inr (timeout, ap (λ v. asking v timeout) (same_Some (Event e) w h))
+begun_by (call.Time (TimedWait timeout)) w h = inl (sym (same_Some Time w h))
+begun_by (call.Caller (SuspendSelf timeout)) w h = inl (sym (same_Some Time w h))
+begun_by _ w h = absurd (none-some w h)
 
 -- one that begins a wait for a semaphore is a wait and no signal
-pub begins_wait : (c : Call) (s : ℕ) → begins c ≡ Some (Semaphore s)
-    → (is_wait c ≡ true) × (is_signal c ≡ false)
-begins_wait (call.Semaphore (Own t (semaphore.Wait timeout))) s h = (refl, refl)
-begins_wait (call.Semaphore _) s h = absurd (none-some (Semaphore s) h)
-begins_wait (call.Time (TimedWait timeout)) s h = cc
-begins_wait (call.Time _) s h = absurd (none-some (Semaphore s) h)
-begins_wait (call.Caller (SuspendSelf timeout)) s h = cc
-begins_wait (call.Caller _) s h = absurd (none-some (Semaphore s) h)
-begins_wait (call.Process c) s h = absurd (none-some (Semaphore s) h)
-begins_wait (call.Partition c) s h = absurd (none-some (Semaphore s) h)
+pub begins_wait : (c : Call) (s : ℕ) → begins c ≡ Some (Semaphore s) → (is_wait c ≡ true) × (is_signal c ≡ false)
+unfolding asking
+begins_wait c s h = elim (begun_by c (Semaphore s) h) [
+  | inl clash ↦ cc
+  | inr found ↦ (rw found.1 refl, rw found.1 refl)
+]
+
+-- one for a message of a buffer is a receive, and sends none
+pub begins_receive : (c : Call) (b : ℕ) → begins c ≡ Some (Receive b) → (is_receive c ≡ true) × (sent_message c ≡ None)
+unfolding asking
+begins_receive c b h = elim (begun_by c (Receive b) h) [
+  | inl clash ↦ cc
+  | inr found ↦ (rw found.1 refl, rw found.1 refl)
+]
+
+-- one for room in a buffer sends the message
+pub begins_send : (c : Call) (b : ℕ) (message : Message) → begins c ≡ Some (Send b message)
+    → (is_receive c ≡ false) × (sent_message c ≡ Some message)
+unfolding asking
+begins_send c b message h = elim (begun_by c (Send b message) h) [
+  | inl clash ↦ cc
+  | inr found ↦ (rw found.1 refl, rw found.1 refl)
+]
 
 -- who waits afterwards for what it asked for waited for it before, or is the caller, and the call
 -- begins that wait

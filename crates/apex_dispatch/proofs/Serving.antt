@@ -1,8 +1,8 @@
 -- What each service keeps of the processes: it reaches the roster that it leaves, who waits afterwards
 -- asked for it, and whom it wakes with NO_ERROR had waited for one thing.
-use Rattle.std.proofs.Common.{◌≡◌, ℕ, ◌≤◌, true, false, List, [], length, Some, lit≤, refl}
+use Rattle.std.proofs.Common.{◌≡◌, ℕ, ◌≤◌, true, false, List, [], length, Option, Some, lit≤, refl}
 use Rattle.std.proofs.lemmas.Bool.{both_ways}
-use Rattle.apex_dispatch.specs.Terms.{Call, Caller, Notice, Timeout, Wait}
+use Rattle.apex_dispatch.specs.Terms.{Call, Caller, Notice, Queue, Timeout, Wait}
 use Rattle.apex_types.specs.declared.Caller.TheVariants.{Process}
 use Rattle.apex_types.specs.Callers.{IsReady, IsReadyCaller}
 use Rattle.apex_types.specs.Dues.{due_after}
@@ -12,8 +12,8 @@ use Rattle.apex_types.specs.Stamps.{HasOrderlyStarts, WaitsForOne, block}
 use Rattle.apex_types.proofs.Dues.{due_later}
 use Rattle.apex_types.proofs.Reaches.{Reaches, reaches_none, reaches_more, reaches_block}
 use Rattle.apex_types.proofs.Starts.{runnable}
-use Rattle.apex_dispatch.specs.AskedWaits.{begins, asked_of, awaited}
-use Rattle.apex_dispatch.proofs.Satisfied.{Asks, wakes}
+use Rattle.apex_dispatch.specs.AskedWaits.{begins, asked_of}
+use Rattle.apex_dispatch.proofs.Satisfied.{Asks, AwaitsAt, wakes}
 use Rattle.apex_dispatch.proofs.AskedWaits.{Frees, frees_none, asks_freed, asks_blocked}
 
 -- what a service may rely on
@@ -23,16 +23,16 @@ pub record Scene (roster : Roster) (caller : Caller) : Type 0 where
   pub few : length roster.records ≤ 64
   pub ready : IsReadyCaller roster caller
 
--- what a service keeps that leaves this roster and tells these notices; w is what those had waited for
--- whom it wakes with NO_ERROR
-pub record Serves (roster : Roster) (caller : Caller) (call : Call) (w : Wait) (new : Roster) (notices : List Notice) : Type 0 where
+-- what a service keeps that leaves this roster and tells these notices; whom it wakes with NO_ERROR had
+-- waited in this queue, or for time where there is none
+pub record Serves (roster : Roster) (caller : Caller) (call : Call) (at : Option Queue) (new : Roster) (notices : List Notice) : Type 0 where
   pub reaches : Reaches 64 roster new
   pub asks : Asks caller (Some call) roster new
-  pub woken : (q : ℕ) → wakes q notices ≡ true → awaited (record_at roster q) ≡ Some w
+  pub woken : (q : ℕ) → wakes q notices ≡ true → AwaitsAt at (record_at roster q)
 
 -- the same, of an outcome
-abbrev pub ServesBy : {X : Type 0} → Roster → Caller → Call → Wait → Outcome X → Type 0
-ServesBy roster caller call w o = Serves roster caller call w o.roster o.notices
+abbrev pub ServesBy : {X : Type 0} → Roster → Caller → Call → Option Queue → Outcome X → Type 0
+ServesBy roster caller call at o = Serves roster caller call at o.roster o.notices
 
 -- nobody is woken by these notices
 abbrev pub AreQuiet : List Notice → Type 0
@@ -49,10 +49,10 @@ ready_started roster p ready = (runnable roster.mode (record_at roster p) ready.
 pub ready_normal : (roster : Roster) (p : ℕ) → IsReady roster p → is_normal roster.mode ≡ false → ⊥
 ready_normal roster p ready e = both_ways _ e (runnable roster.mode (record_at roster p) ready.eligible).normal
 
-module _ (roster : Roster) (caller : Caller) (call : Call) (w : Wait) where
+module _ (roster : Roster) (caller : Caller) (call : Call) (at : Option Queue) where
   -- nobody waits who did not wait before, and nobody is woken
   pub serves_freed : (new : Roster) (notices : List Notice) → Reaches 64 roster new → Frees roster new
-      → AreQuiet notices → Serves roster caller call w new notices
+      → AreQuiet notices → Serves roster caller call at new notices
   serves_freed new notices reaches frees quiet = record {
     reaches = reaches;
     asks = asks_freed caller (Some call) roster new frees;
@@ -60,14 +60,14 @@ module _ (roster : Roster) (caller : Caller) (call : Call) (w : Wait) where
   }
 
   -- nothing changes
-  pub serves_same : Serves roster caller call w roster []
+  pub serves_same : Serves roster caller call at roster []
   serves_same = serves_freed roster [] (reaches_none 64 roster) (frees_none roster) (λ q. refl)
 
 -- the caller blocks, on what its call waits for
-pub serves_blocked : (roster : Roster) (p : ℕ) → IsReady roster p → (call : Call) (w v : Wait) (timeout : Timeout)
+pub serves_blocked : (roster : Roster) (p : ℕ) → IsReady roster p → (call : Call) (at : Option Queue) (v : Wait) (timeout : Timeout)
     → asked_of (Some v) ≡ Some v → begins call ≡ Some v
-    → Serves roster (Process p) call w (block roster p v (due_after roster timeout)) []
-serves_blocked roster p ready call w v timeout asked begun =
+    → Serves roster (Process p) call at (block roster p v (due_after roster timeout)) []
+serves_blocked roster p ready call at v timeout asked begun =
     let due = due_after roster timeout in
     record {
       reaches = few (reaches_block roster p ready.known v due (due_later roster timeout)

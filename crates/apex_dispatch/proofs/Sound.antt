@@ -6,7 +6,7 @@ use Rattle.std.proofs.lemmas.List.{map-append}
 use Rattle.std.proofs.lemmas.List.Elements.{All-nil, All-pop, All-push}
 use Rattle.std.proofs.lemmas.Int.{ints}
 use Rattle.std.proofs.lemmas.Option.{none-some}
-use Rattle.apex_dispatch.specs.Terms.{Event, Record, Who}
+use Rattle.apex_dispatch.specs.Terms.{Event, Record, Wait, Who}
 use Rattle.apex_types.specs.declared.Event.TheVariants.{Turn, Tick}
 use Rattle.apex_types.specs.declared.Who.TheVariants.{Core, Ticker}
 use Rattle.apex_types.specs.Distinct.{IsStamped}
@@ -15,13 +15,14 @@ use Rattle.apex_types.specs.History.{init_count}
 use Rattle.apex_types.specs.Lines.{IsPrintable}
 use Rattle.apex_types.specs.Machine.{Machine, Deed, Objects, objects_after, tick_deed, turn_deed, due_init_call, opening, after_deed, turn, tick, happen, accept, run, replay, events_of, event_of, entry_of}
 use Rattle.apex_types.specs.Places.{map_places}
-use Rattle.apex_types.specs.Roster.{Roster, nobody, opening_record, is_cold_start}
+use Rattle.apex_types.specs.Roster.{Roster, nobody, opening_record, opening_roster, record_at, is_cold_start}
 use Rattle.apex_types.specs.Stamps.{advance_to}
 use Rattle.apex_types.specs.Table.{Table, ProcessConfig, IsLawful}
 use Rattle.apex_types.specs.Ticks.{tick_goal}
 use Rattle.apex_types.proofs.DistinctStamps.{stamped_opening, stamped_advance_to}
 use Rattle.apex_types.proofs.Dues.{goal_forward, goal_near, goal_not_past}
 use Rattle.apex_types.proofs.Places.{length-map_places}
+use Rattle.apex_dispatch.specs.AskedWaits.{awaited}
 use Rattle.apex_dispatch.specs.Events.{IsWithin}
 use Rattle.apex_dispatch.proofs.Known.{known_due}
 use Rattle.apex_dispatch.proofs.Runs.{length-happen, accept-room, run-append}
@@ -212,6 +213,8 @@ sound_opening : (table : Table) → IsLawful table → IsSound table (opening ta
 sound_opening table lawful =
     let count = lawful.process_count in
     let dormant = opening_dormant table.processes 0 in
+    let nobody_asked : (p : ℕ) (w : Wait) → awaited (record_at (opening_roster table) p) ≡ Some w → ⊥ =
+    λ p w h. none-some w (rw ((dormant p).wait, (dormant p).suspended) at h) in
     record {
       orderly = record {
         many = length-map_places opening_record 0 table.processes;
@@ -222,9 +225,15 @@ sound_opening table lawful =
           undue = λ e p. (dormant p).due;
         };
         kept = record {
-          enough = λ s h. omega arith;
-          bounded = λ s h. omega (arith, (lawful.semaphores s h).initial);
-          asked = λ p w h. absurd (none-some w (rw ((dormant p).wait, (dormant p).suspended) at h));
+          semaphores = λ s h. record { enough = omega arith; bounded = omega (arith, (lawful.semaphores s h).initial) };
+          buffers = λ b h. record {
+            delivered = record { taken = []; many = refl; split = refl };
+            fits = omega arith;
+            held = λ p w h is. absurd (nobody_asked p w h);
+          };
+          blackboards = λ b h. record { held = λ p w h is. refl };
+          events = λ e h. record { held = λ p w h is. refl };
+          asked = λ p w h. absurd (nobody_asked p w h);
         };
       };
       stamps = omega (arith, ints, count);

@@ -4,7 +4,7 @@ use Rattle.std.proofs.Common.{◌≡◌, ℕ, ◌≤◌, Bool, true, false, ◌&
 use Rattle.std.proofs.lemmas.Bool.{cases_Bool, and_parts, eqb-true, both_ways}
 use Rattle.std.proofs.lemmas.List.Folds.{list_any-append}
 use Rattle.apex_dispatch.specs.Terms.{Entry, Notice, Record, Wait}
-use Rattle.apex_types.specs.declared.Wait.TheVariants.{Normal, Start, Time, Semaphore}
+use Rattle.apex_types.specs.declared.Wait.TheVariants.{Start, Time}
 use Rattle.apex_types.specs.declared.Who.TheVariants.{Ticker}
 use Rattle.apex_types.specs.Roster.{Roster, record_at}
 use Rattle.apex_types.specs.Dues.{first_due}
@@ -14,11 +14,11 @@ use Rattle.apex_types.specs.Ticks.{wait_over, serve_due, serve_dues, tick_goal, 
 use Rattle.apex_types.specs.Machine.{objects_after, tick_deed}
 use Rattle.apex_types.proofs.InTurn.{holds_in_turn}
 use Rattle.apex_types.proofs.Reaches.{reaches_more}
-use Rattle.apex_dispatch.specs.AskedWaits.{asked_of, or_suspended, awaited}
+use Rattle.apex_dispatch.specs.AskedWaits.{asked_of, or_suspended}
 use Rattle.apex_dispatch.proofs.DuesServed.{reach_serve_dues}
 use Rattle.apex_dispatch.proofs.AskedWaits.{Frees, frees_none, frees_then, frees_moved, frees_unblock}
 use Rattle.apex_dispatch.proofs.CallsServe.{exact_uncalled}
-use Rattle.apex_dispatch.proofs.Satisfied.{is_waking, wakes}
+use Rattle.apex_dispatch.proofs.Satisfied.{AwaitsAt, is_waking, wakes}
 use Rattle.apex_dispatch.proofs.Truths.{or_false, and_false}
 use Rattle.apex_dispatch.proofs.Turns.{IsOrderly, Owes}
 
@@ -31,32 +31,25 @@ for_time : (wait : Option Wait) (by_itself : Bool) → is_for_time wait ≡ true
     → or_suspended (asked_of wait) by_itself ≡ Some Time
 unfolding is_for_time
 for_time (Some Time) by_itself h = refl
-for_time (Some (Normal delay)) by_itself h = cc
-for_time (Some Start) by_itself h = cc
-for_time (Some (Semaphore s)) by_itself h = cc
-for_time None by_itself h = cc
+for_time _ by_itself h = cc
 
 -- whatever process p waited for, its wait ends in the same way, and only one for time ends with NO_ERROR
 over_roster : (roster : Roster) (p : ℕ) (wait : Option Wait) → (wait_over roster p wait).roster ≡ unblock roster p
 over_roster roster p (Some Time) = refl
 over_roster roster p (Some Start) = refl
-over_roster roster p (Some (Normal delay)) = refl
-over_roster roster p (Some (Semaphore s)) = refl
-over_roster roster p None = refl
+over_roster roster p _ = refl
 
 over_waking : (roster : Roster) (p q : ℕ) (wait : Option Wait)
     → wakes q (wait_over roster p wait).notices ≡ (q == p && is_for_time wait)
 unfolding is_for_time
 over_waking roster p q (Some Time) = or_false (q == p && true)
 over_waking roster p q (Some Start) = sym (and_false (q == p))
-over_waking roster p q (Some (Normal delay)) = or_false (q == p && false)
-over_waking roster p q (Some (Semaphore s)) = or_false (q == p && false)
-over_waking roster p q None = or_false (q == p && false)
+over_waking roster p q _ = or_false (q == p && false)
 
 -- nobody waits who did not wait before, and who was woken with NO_ERROR had waited for time
 record IsServed (old new : Roster) (notices : List Notice) : Type 0 where
   frees : Frees old new
-  timed : (q : ℕ) → wakes q notices ≡ true → awaited (record_at old q) ≡ Some Time
+  timed : (q : ℕ) → wakes q notices ≡ true → AwaitsAt None (record_at old q)
 
 -- one due more is served
 one_served : (old roster : Roster) (notices : List Notice) (p : ℕ) → IsServed old roster notices
@@ -76,7 +69,7 @@ one_served old roster notices p served =
             let waking = over_waking free p q wait in
             let here = and_parts (q == p) (is_for_time wait) (rw (told, not_before, waking) at h) in
             let waited = served.frees.still p Time (for_time wait _ here.1) in
-            rw (← eqb-true q p here.0) at waited
+            (Time, rw (← eqb-true q p here.0) at waited, refl)
       ];
     }
 
@@ -103,6 +96,6 @@ tick_owes table history roster orderly few n =
     record {
       reaches = reaches_more (length roster.records) 64 few (reach_serve_dues advanced later);
       known = tt;
-      exact = exact_uncalled table history roster _ orderly.kept _ refl refl served.timed
+      exact = exact_uncalled table history roster orderly.kept _ _ refl refl served.timed
           (record { still = served.frees.still });
     }

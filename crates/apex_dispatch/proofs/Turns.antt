@@ -17,7 +17,7 @@ use Rattle.apex_types.proofs.Reaches.{Reaches, reaches_none, reaches_then, reach
 use Rattle.apex_types.proofs.Starts.{chosen_ready, ready_step}
 use Rattle.apex_dispatch.specs.AskedWaits.{asked_of, or_suspended, awaited}
 use Rattle.apex_dispatch.proofs.AskedWaits.{frees_moved, frees_none}
-use Rattle.apex_dispatch.proofs.CallsServe.{AreKept, IsExact, serves_call, exact_uncalled}
+use Rattle.apex_dispatch.proofs.CallsServe.{AreKept, IsExact, serves_call, exact_uncalled, kept_freed}
 use Rattle.apex_dispatch.proofs.Known.{known_script_step}
 use Rattle.apex_dispatch.proofs.Satisfied.{IsIdle}
 use Rattle.apex_dispatch.proofs.Serving.{Scene}
@@ -89,11 +89,7 @@ module _ (table : Table) (lawful : IsLawful table) (history : List Entry) (who :
           many = moves.many ∙ orderly.many;
           one = moves.one orderly.one;
           starts = moves.starts orderly.starts;
-          kept = record {
-            enough = orderly.kept.enough;
-            bounded = orderly.kept.bounded;
-            asked = λ q w h. orderly.kept.asked q w (frees.still q w h);
-          };
+          kept = kept_freed table history roster moved frees orderly.kept;
         })
         (Process p) (ready_step roster p next ready) call (known_script_step table p r.step call lawful is) in
         record { reaches = reaches_then 0 64 moves owes.reaches; known = owes.known; exact = owes.exact }
@@ -103,7 +99,7 @@ module _ (table : Table) (lawful : IsLawful table) (history : List Entry) (who :
     chosen_owes core None is = record {
       reaches = reaches_none 64 roster;
       known = tt;
-      exact = exact_uncalled table history roster roster orderly.kept _ refl refl
+      exact = exact_uncalled table history roster orderly.kept roster _ refl refl
           (λ p woken. absurd (both_ways false refl woken)) (frees_none roster);
     }
     chosen_owes core (Some p) is = script_owes p (chosen_ready roster core p is) (step_of table roster p) refl

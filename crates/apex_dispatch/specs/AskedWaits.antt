@@ -1,16 +1,21 @@
--- What a kernel keeps of waits and values: who waits asked for it last, and no value is too great.
-use Rattle.std.specs.Prelude.{◌≡◌, ℕ, ◌+◌, ◌≤◌, ◌<◌, Bool, List, Option, None, Some, length, count_by, option_and_then, if◌then◌else◌}
-use Rattle.apex_dispatch.specs.Terms.{Call, Entry, Record, Wait}
+-- What a kernel keeps of waits and values: who waits asked for it last and waits for what is not there,
+-- and no value is too great.
+use Rattle.std.specs.Prelude.{◌≡◌, ℕ, ◌+◌, Bool, List, [], Option, None, Some, length, count_by, option_and_then, if◌then◌else◌}
+use Rattle.apex_dispatch.specs.Terms.{Call, Entry, Message, Queue, Record, Wait}
+use Rattle.apex_types.specs.declared.BlackboardService.TheVariants as blackboard
+use Rattle.apex_types.specs.declared.BufferService.TheVariants as buffer
 use Rattle.apex_types.specs.declared.Call.TheVariants as call
 use Rattle.apex_types.specs.declared.CallerCall.TheVariants.{SuspendSelf}
+use Rattle.apex_types.specs.declared.EventService.TheVariants as event
 use Rattle.apex_types.specs.declared.ObjectCall.TheVariants.{Own}
+use Rattle.apex_types.specs.declared.Queue.TheVariants as queues
 use Rattle.apex_types.specs.declared.SemaphoreService.TheVariants as semaphore
 use Rattle.apex_types.specs.declared.TimeCall.TheVariants.{TimedWait}
-use Rattle.apex_types.specs.declared.Wait.TheVariants.{Time, Semaphore}
+use Rattle.apex_types.specs.declared.Wait.TheVariants.{Time, Semaphore, Receive, Send, Blackboard, Event}
+use Rattle.apex_types.specs.Queues.{queue_of}
 use Rattle.apex_types.specs.Roster.{Roster, record_at}
 use Rattle.apex_types.specs.Stamps.{is_by_itself}
-use Rattle.apex_types.specs.Table.{Table, semaphore_config}
-use Rattle.apex_types.specs.Calls.{names_semaphore, is_wait, is_signal}
+use Rattle.apex_types.specs.Calls.{names, is_wait, is_signal}
 use Rattle.apex_types.specs.Satisfied.{latest_call, calls_where, semaphore_value}
 
 -- value v accounts for these calls: v and the waits are together the initial value and the signals
@@ -21,21 +26,15 @@ Accounts initial calls v = v + count_by is_wait calls ≡ initial + count_by is_
 -- its start and its signals allow
 abbrev pub IsAccounted : ℕ → ℕ → List Entry → Type 0
 IsAccounted initial s history =
-    Accounts initial (calls_where (names_semaphore s) history) (semaphore_value initial s history)
-
--- that holds of each semaphore
-abbrev pub AreEnough : Table → List Entry → Type 0
-AreEnough table history = (s : ℕ) → s < length table.semaphores
-    → IsAccounted (semaphore_config table s).initial s history
-
--- no semaphore's value is above its maximum
-abbrev pub AreBounded : Table → List Entry → Type 0
-AreBounded table history = (s : ℕ) → s < length table.semaphores →
-    let entry = semaphore_config table s in semaphore_value entry.initial s history ≤ entry.maximum
+    Accounts initial (calls_where (names (queues.Semaphore s)) history) (semaphore_value initial s history)
 
 -- the wait that a call begins where it is not answered at once
 abbrev pub begins : Call → Option Wait
 begins (call.Semaphore (Own s (semaphore.Wait timeout))) = Some (Semaphore s)
+begins (call.Buffer (Own b (buffer.Send message timeout))) = Some (Send b message)
+begins (call.Buffer (Own b (buffer.Receive timeout))) = Some (Receive b)
+begins (call.Blackboard (Own b (blackboard.Read timeout))) = Some (Blackboard b)
+begins (call.Event (Own e (event.Wait timeout))) = Some (Event e)
 begins (call.Time (TimedWait timeout)) = Some Time
 begins (call.Caller (SuspendSelf timeout)) = Some Time
 begins _ = None
@@ -44,6 +43,10 @@ begins _ = None
 abbrev pub asked_of : Option Wait → Option Wait
 asked_of (Some Time) = Some Time
 asked_of (Some (Semaphore s)) = Some (Semaphore s)
+asked_of (Some (Receive b)) = Some (Receive b)
+asked_of (Some (Send b message)) = Some (Send b message)
+asked_of (Some (Blackboard b)) = Some (Blackboard b)
+asked_of (Some (Event e)) = Some (Event e)
 asked_of _ = None
 
 -- else, where the process suspended itself, it waits for time
@@ -51,7 +54,7 @@ abbrev pub or_suspended : Option Wait → Bool → Option Wait
 or_suspended (Some w) by_itself = Some w
 or_suspended None by_itself = if by_itself then Some Time else None
 
--- what the process waits for by its own asking: a semaphore, or time
+-- what the process waits for by its own asking: an object, or time
 abbrev pub awaited : Record → Option Wait
 awaited r = or_suspended (asked_of r.wait) (is_by_itself r.suspended)
 
@@ -59,3 +62,15 @@ awaited r = or_suspended (asked_of r.wait) (is_by_itself r.suspended)
 abbrev pub AreAsked : Roster → List Entry → Type 0
 AreAsked roster history = (p : ℕ) (w : Wait) → awaited (record_at roster p) ≡ Some w
     → option_and_then begins (latest_call p history) ≡ Some w
+
+-- who waits in the queue by its own asking waits for what is not there
+abbrev pub AreHeldBack : (Wait → Type 0) → Queue → Roster → Type 0
+AreHeldBack Lacks queue roster = (p : ℕ) (w : Wait) → awaited (record_at roster p) ≡ Some w
+    → queue_of w ≡ Some queue → Lacks w
+
+-- what a buffer of this capacity lacks that holds these messages: a receiver waits where it is empty, a
+-- sender where it is full
+abbrev pub LacksMessage : ℕ → List Message → Wait → Type 0
+LacksMessage capacity messages (Receive b) = messages ≡ []
+LacksMessage capacity messages (Send b message) = length messages ≡ capacity
+LacksMessage capacity messages _ = Unit {0}

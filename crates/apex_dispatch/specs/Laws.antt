@@ -1,10 +1,15 @@
 -- Laws of whole runs, in the subject's own words.
-use Rattle.std.specs.Prelude.{◌≡◌, ℕ, ◌≤◌, ◌<◌, List, ◌++◌, length}
-use Rattle.apex_dispatch.specs.Terms.{Entry, Event}
+use Rattle.std.specs.Prelude.{◌≡◌, ℕ, ◌≤◌, ◌<◌, false, List, [], ◌++◌, None, Some, count_by, length}
+use Rattle.std.specs.List.{filter_map}
+use Rattle.apex_dispatch.specs.Terms.{Entry, Event as Happening, Message}
+use Rattle.apex_types.specs.declared.Queue.TheVariants as queues
+use Rattle.apex_types.specs.declared.Wait.TheVariants.{Receive, Send, Blackboard, Event}
+use Rattle.apex_types.specs.Calls.{names, is_receive, sent_message}
 use Rattle.apex_types.specs.Dues.{HasNoPastDue}
+use Rattle.apex_types.specs.Roster.{record_at}
 use Rattle.apex_types.specs.SemaphoreServices.{SemaphoreObject}
-use Rattle.apex_types.specs.Table.{Table, semaphore_config}
-use Rattle.apex_types.specs.Satisfied.{semaphore_value}
+use Rattle.apex_types.specs.Table.{Table, semaphore_config, buffer_config}
+use Rattle.apex_types.specs.Satisfied.{calls_where, semaphore_value, buffer_content, blackboard_message, is_up}
 use Rattle.apex_types.specs.Machine.{Machine, run, opening, events_of}
 use Rattle.apex_dispatch.specs.AskedWaits.{IsAccounted}
 
@@ -18,32 +23,62 @@ pub record IsInRange (table : Table) (history : List Entry) (s : ℕ) : Type 0 w
 abbrev pub AreInRange : Table → List Entry → Type 0
 AreInRange table history = (s : ℕ) → s < length table.semaphores → IsInRange table history s
 
+-- the messages that buffer b delivered: as many as receives of it were satisfied, those that were sent
+-- first
+pub record IsInOrder (history : List Entry) (b : ℕ) : Type 0 where
+  pub delivered : List Message
+  pub many : length delivered ≡ count_by is_receive (calls_where (names (queues.Buffer b)) history)
+  pub sent : filter_map sent_message (calls_where (names (queues.Buffer b)) history) ≡ delivered ++ buffer_content b history
+
+-- each message that was sent to buffer b comes out once and in order, and no more are held than it has
+-- room for; a receiver waits only where it is empty, and a sender only where it is full
+pub record BufferIsInOrder (table : Table) (machine : Machine) (b : ℕ) : Type 0 where
+  pub order : IsInOrder machine.history b
+  pub room : length (buffer_content b machine.history) ≤ (buffer_config table b).capacity
+  pub receivers : (p : ℕ) → (record_at machine.roster p).wait ≡ Some (Receive b) → buffer_content b machine.history ≡ []
+  pub senders : (p : ℕ) (message : Message) → (record_at machine.roster p).wait ≡ Some (Send b message)
+      → length (buffer_content b machine.history) ≡ (buffer_config table b).capacity
+
+-- who waits for blackboard b or for event e waits where the blackboard is empty or the event is down
+abbrev pub ReadersWaitForMessages : Machine → ℕ → Type 0
+ReadersWaitForMessages machine b = (p : ℕ) → (record_at machine.roster p).wait ≡ Some (Blackboard b)
+    → blackboard_message b machine.history ≡ None
+
+abbrev pub WaitersWaitForEvents : Machine → ℕ → Type 0
+WaitersWaitForEvents machine e = (p : ℕ) → (record_at machine.roster p).wait ≡ Some (Event e) → is_up e machine.history ≡ false
+
+-- in every run nobody waits for what is there, and buffers deliver in order
+pub record NobodyWaitsInVain (table : Table) (machine : Machine) : Type 0 where
+  pub buffers : (b : ℕ) → b < length table.buffers → BufferIsInOrder table machine b
+  pub blackboards : (b : ℕ) → b < length table.blackboards → ReadersWaitForMessages machine b
+  pub events : (e : ℕ) → e < length table.events → WaitersWaitForEvents machine e
+
 -- in every run each semaphore's value stays from 0 to its maximum
 abbrev pub ValuesStayInRange : Table → Type 0
-ValuesStayInRange table = (events : List Event) → AreInRange table (run table (opening table) events).history
+ValuesStayInRange table = (events : List Happening) → AreInRange table (run table (opening table) events).history
 
 -- a run over some events and then others is a run over the first, and then over the others
 abbrev pub RunsCompose : Table → Machine → Type 0
-RunsCompose table machine = (first rest : List Event)
+RunsCompose table machine = (first rest : List Happening)
     → run table machine (first ++ rest) ≡ run table (run table machine first) rest
 
 -- the history never grows past its limit
 abbrev pub RunsStayWithin : Table → Type 0
-RunsStayWithin table = (events : List Event) → length (run table (opening table) events).history ≤ table.limit
+RunsStayWithin table = (events : List Happening) → length (run table (opening table) events).history ≤ table.limit
 
 -- the events that the history of a run tells, run anew, give the same state and the same history
 abbrev pub HistoriesReplay : Table → Type 0
-HistoriesReplay table = (events : List Event) →
+HistoriesReplay table = (events : List Happening) →
     let machine = run table (opening table) events in run table (opening table) (events_of machine.history) ≡ machine
 
 -- in every run time never goes back, and no due that stands is below now
 pub record TimeGoesForward (table : Table) : Type 0 where
-  pub forward : (first rest : List Event) → (run table (opening table) first).roster.now ≤ (run table (opening table) (first ++ rest)).roster.now
-  pub dues : (events : List Event) → HasNoPastDue (run table (opening table) events).roster
+  pub forward : (first rest : List Happening) → (run table (opening table) first).roster.now ≤ (run table (opening table) (first ++ rest)).roster.now
+  pub dues : (events : List Happening) → HasNoPastDue (run table (opening table) events).roster
 
 -- at no moment of the machine's history was time later than it is now
 abbrev pub WasNeverLater : Table → Machine → Type 0
-WasNeverLater table machine = (first rest : List Event) → events_of machine.history ≡ first ++ rest
+WasNeverLater table machine = (first rest : List Happening) → events_of machine.history ≡ first ++ rest
     → (run table (opening table) first).roster.now ≤ machine.roster.now
 
 -- the semaphore's running value is at most its maximum

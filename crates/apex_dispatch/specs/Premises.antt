@@ -1,10 +1,8 @@
--- What a service may rely on: what is named is there, and stamps are left.
-use Rattle.std.specs.Prelude.{◌≡◌, length, pos, ◌<ℤ◌, ◌+ℤ◌}
-use Rattle.apex_types.specs.Limits.{most_stamps}
+-- What a service may rely on: what is named is there.
+use Rattle.std.specs.Prelude.{◌≡◌, length}
 use Rattle.apex_dispatch.specs.Terms.{Call}
-use Rattle.apex_types.specs.declared.Call.TheVariants.{Partition, Process as ToProcess, Caller as ToCaller, Time, Semaphore}
+use Rattle.apex_types.specs.declared.Call.TheVariants.{Partition, Process as ToProcess, Caller as ToCaller, Time, Semaphore, Buffer, Blackboard, Event}
 use Rattle.apex_types.specs.Machine.{Objects}
-use Rattle.apex_types.specs.Roster.{Roster}
 use Rattle.apex_types.specs.Table.{Table, IsKnownObject}
 
 -- what the call names is one of these objects
@@ -14,13 +12,14 @@ IsKnownTo objects (ToProcess call) = IsKnownObject (length objects.processes) ca
 IsKnownTo objects (ToCaller call) = Unit {0}
 IsKnownTo objects (Time call) = Unit {0}
 IsKnownTo objects (Semaphore call) = IsKnownObject (length objects.semaphores) call
+IsKnownTo objects (Buffer call) = IsKnownObject (length objects.buffers) call
+IsKnownTo objects (Blackboard call) = IsKnownObject (length objects.blackboards) call
+IsKnownTo objects (Event call) = IsKnownObject (length objects.events) call
 
 -- there is an object for each entry of the table
 pub record AreOf (table : Table) (objects : Objects) : Type 0 where
   pub processes : length objects.processes ≡ length table.processes
   pub semaphores : length objects.semaphores ≡ length table.semaphores
-
--- there are stamps left, upwards and downwards, for all that one event may stamp
-pub record HasManyStamps (roster : Roster) : Type 0 where
-  pub young : (roster.young +ℤ pos 256) <ℤ pos most_stamps
-  pub old : pos 256 <ℤ (roster.old +ℤ pos most_stamps)
+  pub buffers : length objects.buffers ≡ length table.buffers
+  pub blackboards : length objects.blackboards ≡ length table.blackboards
+  pub events : length objects.events ≡ length table.events

@@ -1,15 +1,20 @@
 -- The terms in which the definitions and proofs of this crate speak: the values of a partition.
+pub use Rattle.apex_types.specs.declared.BlackboardService.{BlackboardService}
+pub use Rattle.apex_types.specs.declared.BufferService.{BufferService}
 pub use Rattle.apex_types.specs.declared.Call.{Call}
 pub use Rattle.apex_types.specs.declared.Caller.{Caller}
 pub use Rattle.apex_types.specs.declared.CallerCall.{CallerCall}
 pub use Rattle.apex_types.specs.declared.Entry.{Entry}
 pub use Rattle.apex_types.specs.declared.Event.{Event}
+pub use Rattle.apex_types.specs.declared.EventService.{EventService}
+pub use Rattle.apex_types.specs.declared.Message.{Message}
 pub use Rattle.apex_types.specs.declared.Mode.{Mode}
 pub use Rattle.apex_types.specs.declared.Notice.{Notice}
 pub use Rattle.apex_types.specs.declared.ObjectCall.{ObjectCall}
 pub use Rattle.apex_types.specs.declared.Origin.{Origin}
 pub use Rattle.apex_types.specs.declared.PartitionCall.{PartitionCall}
 pub use Rattle.apex_types.specs.declared.ProcessService.{ProcessService}
+pub use Rattle.apex_types.specs.declared.Queue.{Queue}
 pub use Rattle.apex_types.specs.declared.Record.{Record}
 pub use Rattle.apex_types.specs.declared.Reply.{Reply}
 pub use Rattle.apex_types.specs.declared.ReturnCode.{ReturnCode}

@@ -37,6 +37,9 @@ waiter_and_signaller = record {
       starts (codes "P1") 10 0 (Semaphore (Own 0 (Wait Infinite)) ∷ [])
       ∷ starts (codes "P2") 10 1 (Semaphore (Own 0 Signal) ∷ []) ∷ [];
   semaphores = (record { name = codes "S"; maximum = 1; initial = 0; discipline = Fifo }) ∷ [];
+  buffers = [];
+  blackboards = [];
+  events = [];
   init = bares (
       Semaphore (Create (Known 0))
       ∷ Process (Create (Known 0)) ∷ Process (Own 0 (InitializeCoreAffinity 0))
@@ -52,6 +55,9 @@ empty_script = record {
   limit = 4096;
   processes = starts (codes "P") 10 0 [] ∷ [];
   semaphores = [];
+  buffers = [];
+  blackboards = [];
+  events = [];
   init = bares (
       Process (Create (Known 0)) ∷ Process (Own 0 (InitializeCoreAffinity 0)) ∷ Process (Own 0 Start)
       ∷ Partition (SetPartitionMode Normal) ∷ []);
@@ -114,6 +120,9 @@ timed_waiter = record {
       starts (codes "P1") 10 0 (Semaphore (Own 0 (Wait (Ticks 5))) ∷ [])
       ∷ starts (codes "P2") 10 1 (Semaphore (Own 0 Signal) ∷ Semaphore (GetStatus 0) ∷ []) ∷ [];
   semaphores = (record { name = codes "S"; maximum = 1; initial = 0; discipline = Fifo }) ∷ [];
+  buffers = [];
+  blackboards = [];
+  events = [];
   init = waiter_and_signaller.init;
 }
 
@@ -137,6 +146,9 @@ three_timers = record {
       ∷ starts (codes "B") 10 0 (Time (TimedWait (Ticks 9)) ∷ [])
       ∷ starts (codes "C") 5 0 (Time (TimedWait (Ticks 4)) ∷ []) ∷ [];
   semaphores = [];
+  buffers = [];
+  blackboards = [];
+  events = [];
   init = bares (
       Process (Create (Known 0)) ∷ Process (Own 0 (InitializeCoreAffinity 0))
       ∷ Process (Create (Known 1)) ∷ Process (Own 1 (InitializeCoreAffinity 0))
@@ -176,6 +188,9 @@ delayed_starter = record {
       starts (codes "A") 10 0 (Process (Own 1 (DelayedStart (Ticks 3))) ∷ [])
       ∷ (record { name = codes "B"; priority = 20; core = 0; loops = false; start = false; script = bares (Time GetTime ∷ []) }) ∷ [];
   semaphores = [];
+  buffers = [];
+  blackboards = [];
+  events = [];
   init = bares (
       Process (Create (Known 0)) ∷ Process (Own 0 (InitializeCoreAffinity 0))
       ∷ Process (Create (Known 1)) ∷ Process (Own 1 (InitializeCoreAffinity 0))
@@ -208,6 +223,9 @@ ranked_waiters = record {
       ∷ starts (codes "B") 20 1 (Semaphore (Own 0 (Wait Infinite)) ∷ [])
       ∷ starts (codes "D") 5 0 (Process (Own 0 (SetPriority 20)) ∷ Semaphore (Own 0 Signal) ∷ []) ∷ [];
   semaphores = (record { name = codes "Q"; maximum = 1; initial = 0; discipline = Priority }) ∷ [];
+  buffers = [];
+  blackboards = [];
+  events = [];
   init = bares (
       Semaphore (Create (Known 0))
       ∷ Process (Create (Known 0)) ∷ Process (Own 0 (InitializeCoreAffinity 0))
@@ -247,6 +265,9 @@ suspended_waiter = record {
       starts (codes "P1") 10 0 (Semaphore (Own 0 (Wait Infinite)) ∷ [])
       ∷ starts (codes "P2") 10 1 (Process (Own 0 Suspend) ∷ Semaphore (Own 0 Signal) ∷ Process (GetStatus 0) ∷ Process (Own 0 Resume) ∷ Process (GetStatus 0) ∷ []) ∷ [];
   semaphores = (record { name = codes "S"; maximum = 1; initial = 0; discipline = Fifo }) ∷ [];
+  buffers = [];
+  blackboards = [];
+  events = [];
   init = waiter_and_signaller.init;
 }
 
@@ -270,6 +291,9 @@ self_suspender = record {
   processes =
       starts (codes "A") 10 0 (Caller (SuspendSelf (Ticks 3)) ∷ Caller (SuspendSelf Poll) ∷ []) ∷ [];
   semaphores = [];
+  buffers = [];
+  blackboards = [];
+  events = [];
   init = empty_script.init;
 }
 
@@ -294,6 +318,9 @@ own_init_list = record {
   processes =
       starts (codes "P") 10 0 (Process (Create (Known 0)) ∷ Partition (SetPartitionMode Idle) ∷ []) ∷ [];
   semaphores = [];
+  buffers = [];
+  blackboards = [];
+  events = [];
   init =
       bares (Process (Create (Known 0)) ∷ Process (Create (Known 0)) ∷ [])
       ++ (record { call = Process (Create (Unknown (Init 2))); literal = codes "Q" })

@@ -4,10 +4,10 @@ ghost use Rattle.std.specs.Option.{ForSome};
 ghost use Rattle.apex_types.specs.Callers.{IsReady, IsReadyCaller};
 ghost use Rattle.apex_types.specs.Dues.{HasTime};
 ghost use Rattle.apex_types.specs.Machine.{chosen_deed, next_place, served, turn_deed};
-ghost use Rattle.apex_types.specs.Stamps.{HasOrderlyStarts};
+ghost use Rattle.apex_types.specs.Stamps.{HasManyStamps, HasOrderlyStarts};
 ghost use Rattle.apex_types.specs.Table.{IsKnown};
 ghost use Rattle.apex_dispatch.specs.Deeds.{Does};
-ghost use Rattle.apex_dispatch.specs.Premises.{AreOf, HasManyStamps, IsKnownTo};
+ghost use Rattle.apex_dispatch.specs.Premises.{AreOf, IsKnownTo};
 
 use crate::objects::Objects;
 use crate::services::serve;

@@ -4,7 +4,7 @@
 ghost use Rattle.std.specs.Prelude.{All};
 ghost use Rattle.apex_types.specs.Dues.{HasNoPastDue};
 ghost use Rattle.apex_store.specs.Laws.{RunsMostUrgent, FirstWaiterIsFirst};
-ghost use Rattle.apex_dispatch.specs.Laws.{AreInRange, IsWithinItsMaximum, ValuesStayInRange, RunsCompose, RunsStayWithin, HistoriesReplay, TimeGoesForward, WasNeverLater};
+ghost use Rattle.apex_dispatch.specs.Laws.{AreInRange, IsWithinItsMaximum, ValuesStayInRange, RunsCompose, RunsStayWithin, HistoriesReplay, TimeGoesForward, WasNeverLater, NobodyWaitsInVain};
 ghost use Rattle.apex_dispatch.specs.States.{EachHasOneState};
 ghost use Rattle.apex_dispatch.specs.Worked.{SignalWakesWaiter, SignalBeforeWait, EmptyScriptStopsItself, TimedOutWaiterGetsNoSignal, TickHaltsAtTheNextInstant, DelayedStartReleasesAtItsTime, PriorityChangeMovesPriorityWaiter, SuspendedWaiterIsWokenAndStaysWaiting, SuspensionOfItselfEnds, InitListOfTheTable};
 
@@ -87,6 +87,14 @@ pub fn values_and_dues_are_in_range<S: Store>(kernel: &Kernel<S>)
     kernel.holds();
     values_stay_in_range(kernel.table());
     time_goes_forward(kernel.table());
+}
+
+/// In every kernel each message that was sent to a buffer comes out once and in order, no buffer holds
+/// more than it has room for, and nobody waits for an object that has what it waits for.
+pub fn nobody_waits_in_vain<S: Store>(kernel: &Kernel<S>)
+    ensures { NobodyWaitsInVain kernel.now.table kernel.now.machine }
+{
+    kernel.holds();
 }
 
 /// The definitions compute the worked histories.

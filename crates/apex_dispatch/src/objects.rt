@@ -2,9 +2,11 @@ ghost use Rattle.std.specs.Prelude.{◌≡◌, [], IfOk, false};
 ghost use Rattle.apex_types.specs.Machine.{objects_after};
 
 use crate::services::ProcessObject;
+use apex_buffer::Buffer;
+use apex_flags::{Blackboard, Event};
 use apex_semaphore::Semaphore;
 use apex_table::Table;
-use apex_types::SemaphoreId;
+use apex_types::{BlackboardId, BufferId, SemaphoreId};
 use std::alloc::{AllocError, Global};
 use std::marker::Model;
 
@@ -13,6 +15,9 @@ use std::marker::Model;
 pub(crate) struct Objects {
     pub(crate) processes: Vec<ProcessObject>,
     pub(crate) semaphores: Vec<Semaphore>,
+    pub(crate) buffers: Vec<Buffer>,
+    pub(crate) blackboards: Vec<Blackboard>,
+    pub(crate) events: Vec<Event>,
 }
 
 impl Model for Objects {
@@ -20,7 +25,13 @@ impl Model for Objects {
 
     ghost Value = { Objects };
 
-    ghost view = { λ o. record { processes = o.processes.items; semaphores = o.semaphores.items } };
+    ghost view = { λ o. record {
+      processes = o.processes.items;
+      semaphores = o.semaphores.items;
+      buffers = o.buffers.items;
+      blackboards = o.blackboards.items;
+      events = o.events.items;
+    } };
 }
 
 fn processes_before(alloc: Global, table: &Table) -> Result<Vec<ProcessObject>, AllocError>
@@ -44,6 +55,39 @@ fn semaphores_before(alloc: Global, table: &Table) -> Result<Vec<Semaphore>, All
     Ok(semaphores)
 }
 
+fn buffers_before(alloc: Global, table: &Table) -> Result<Vec<Buffer>, AllocError>
+    ensures { IfOk result (λ v. v.items ≡ (objects_after table.now []).buffers) }
+{
+    table.lawful();
+    let mut buffers = Vec::with_capacity(alloc, table.buffer_count())?;
+    for place in 0..table.buffer_count() {
+        let entry = table.buffer(BufferId::at(place as u8));
+        buffers.push(Buffer::new(entry.length(), entry.capacity()))?;
+    }
+    Ok(buffers)
+}
+
+fn blackboards_before(alloc: Global, table: &Table) -> Result<Vec<Blackboard>, AllocError>
+    ensures { IfOk result (λ v. v.items ≡ (objects_after table.now []).blackboards) }
+{
+    let mut blackboards = Vec::with_capacity(alloc, table.blackboard_count())?;
+    for place in 0..table.blackboard_count() {
+        let entry = table.blackboard(BlackboardId::at(place as u8));
+        blackboards.push(Blackboard::new(entry.length()))?;
+    }
+    Ok(blackboards)
+}
+
+fn events_before(alloc: Global, table: &Table) -> Result<Vec<Event>, AllocError>
+    ensures { IfOk result (λ v. v.items ≡ (objects_after table.now []).events) }
+{
+    let mut events = Vec::with_capacity(alloc, table.event_count())?;
+    for place in 0..table.event_count() {
+        events.push(Event::new())?;
+    }
+    Ok(events)
+}
+
 impl Objects {
     /// The objects of a partition with an empty history.
     pub(crate) fn new(alloc: Global, table: &Table) -> Result<Objects, AllocError>
@@ -51,9 +95,15 @@ impl Objects {
     {
         let processes = processes_before(alloc, table)?;
         let semaphores = semaphores_before(alloc, table)?;
+        let buffers = buffers_before(alloc, table)?;
+        let blackboards = blackboards_before(alloc, table)?;
+        let events = events_before(alloc, table)?;
         Ok(Objects {
             processes,
             semaphores,
+            buffers,
+            blackboards,
+            events,
         })
     }
 }

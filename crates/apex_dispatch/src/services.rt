@@ -6,8 +6,8 @@ ghost use Rattle.apex_types.specs.Callers.{IsReadyCaller};
 ghost use Rattle.apex_types.specs.Dues.{HasTime};
 ghost use Rattle.apex_types.specs.Machine.{service};
 ghost use Rattle.apex_types.specs.Rows.{Leaves};
-ghost use Rattle.apex_types.specs.Stamps.{HasOrderlyStarts};
-ghost use Rattle.apex_dispatch.specs.Premises.{IsKnownTo, HasManyStamps};
+ghost use Rattle.apex_types.specs.Stamps.{HasManyStamps, HasOrderlyStarts};
+ghost use Rattle.apex_dispatch.specs.Premises.{IsKnownTo};
 
 use crate::objects::Objects;
 use apex_store::{Store, serve_object};
@@ -46,12 +46,13 @@ pub(crate) fn serve<S: Store>(
         Call::Process(call) => serve_object(store, &mut objects.processes, caller, call, notices),
         Call::Caller(call) => caller::serve(store, objects, caller, call),
         Call::Time(call) => time::serve(store, objects, caller, call),
-        Call::Semaphore(call) => serve_object(
-            store,
-            &mut objects.semaphores,
-            caller,
-            call,
-            notices,
-        ),
+        Call::Semaphore(call) => {
+            serve_object(store, &mut objects.semaphores, caller, call, notices)
+        }
+        Call::Buffer(call) => serve_object(store, &mut objects.buffers, caller, call, notices),
+        Call::Blackboard(call) => {
+            serve_object(store, &mut objects.blackboards, caller, call, notices)
+        }
+        Call::Event(call) => serve_object(store, &mut objects.events, caller, call, notices),
     }
 }

@@ -2,9 +2,8 @@ ghost use Rattle.std.specs.Prelude.{◌≡◌, ◌+◌, ◌-◌, ◌<◌, ◌≤
 ghost use Rattle.apex_types.specs.Limits.{latest, most_notices, most_processes};
 ghost use Rattle.apex_types.specs.Dues.{HasNoPastDue, HasTime};
 ghost use Rattle.apex_types.specs.InTurn.{Makes};
-ghost use Rattle.apex_types.specs.Stamps.{HasOrderlyStarts, HasStamps};
+ghost use Rattle.apex_types.specs.Stamps.{HasManyStamps, HasOrderlyStarts, HasStamps};
 ghost use Rattle.apex_types.specs.Ticks as ticks;
-ghost use Rattle.apex_dispatch.specs.Premises.{HasManyStamps};
 
 use apex_store::Store;
 use apex_types::{Notice, Notices, ProcessId, ReturnCode, Wait};
@@ -45,7 +44,7 @@ fn wait_over<S: Store>(store: &mut S, process: ProcessId, wait: Option<Wait>, no
             store.release(process);
             notices.push(Notice::Released(process));
         }
-        Some(Wait::Normal(_)) | Some(Wait::Semaphore(_)) | None => {
+        _ => {
             store.unblock(process);
             notices.push(Notice::Woken(process, ReturnCode::TimedOut));
         }

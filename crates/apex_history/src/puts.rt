@@ -4,7 +4,11 @@ ghost use Rattle.arrayvec.specs.ArrayVec.{array_vec_len};
 ghost use Rattle.apex_types.specs.Table.{IsKnown};
 ghost use Rattle.apex_types.specs.Lines.{id_text, code_text, timeout_text, call_text, no_call_text, asked_text, who_text, caller_text, reply_text, notice_text, noticed_text, line_of, IsPrintable};
 
+mod blackboard;
+mod buffer;
 mod caller;
+mod event;
+mod message;
 mod object;
 mod partition;
 mod process;
@@ -18,6 +22,7 @@ use apex_types::{
 use arrayvec::ArrayVec;
 use caller::put_caller_call;
 use itoa::Buffer;
+use message::put_message;
 use object::put_object_call;
 use partition::put_partition_call;
 use time::put_time_call;
@@ -215,9 +220,9 @@ fn put_with_name_and_timeout(line: &mut Lines, word: &str, name: &Name, timeout:
 
 fn put_call(line: &mut Lines, table: &Table, call: &Call)
     requires known { IsKnown table.now call.now }
-    requires room { array_vec_len line.old + 128 ≤ 8192 }
+    requires room { array_vec_len line.old + 192 ≤ 8192 }
     ensures text { line.new.items ≡ line.old.items ++ call_text table.now call.now }
-    ensures short { array_vec_len line.new ≤ array_vec_len line.old + 128 }
+    ensures short { array_vec_len line.new ≤ array_vec_len line.old + 192 }
 {
     match call {
         Call::Partition(call) => put_partition_call(line, call),
@@ -225,6 +230,9 @@ fn put_call(line: &mut Lines, table: &Table, call: &Call)
         Call::Caller(call) => put_caller_call(line, call),
         Call::Time(call) => put_time_call(line, call),
         Call::Semaphore(call) => put_object_call(line, table, call),
+        Call::Buffer(call) => put_object_call(line, table, call),
+        Call::Blackboard(call) => put_object_call(line, table, call),
+        Call::Event(call) => put_object_call(line, table, call),
     }
 }
 
@@ -245,9 +253,9 @@ fn put_no_call(line: &mut Lines, reply: &Reply)
 
 fn put_asked(line: &mut Lines, table: &Table, asked: &Option<Call>, reply: &Reply)
     requires known { IfSome asked.now (IsKnown table.now) }
-    requires room { array_vec_len line.old + 128 ≤ 8192 }
+    requires room { array_vec_len line.old + 192 ≤ 8192 }
     ensures text { line.new.items ≡ line.old.items ++ asked_text table.now asked.now reply.now }
-    ensures short { array_vec_len line.new ≤ array_vec_len line.old + 128 }
+    ensures short { array_vec_len line.new ≤ array_vec_len line.old + 192 }
 {
     match asked {
         Some(call) => put_call(line, table, call),
@@ -283,10 +291,10 @@ fn put_caller(line: &mut Lines, caller: &Caller)
 }
 
 #[tactic(auto, using(std::proofs::Common::append_assoc))]
-fn put_reply(line: &mut Lines, reply: &Reply)
-    requires { array_vec_len line.old + 48 ≤ 8192 }
-    ensures text { line.new.items ≡ line.old.items ++ reply_text reply.now }
-    ensures short { array_vec_len line.new ≤ array_vec_len line.old + 48 }
+fn put_reply(line: &mut Lines, table: &Table, reply: &Reply)
+    requires { array_vec_len line.old + 144 ≤ 8192 }
+    ensures text { line.new.items ≡ line.old.items ++ reply_text table.now reply.now }
+    ensures short { array_vec_len line.new ≤ array_vec_len line.old + 144 }
 {
     match reply {
         Reply::Code(code) => put(line, code_name(code)),
@@ -299,6 +307,10 @@ fn put_reply(line: &mut Lines, reply: &Reply)
             put_number(line, *first);
             put(line, " ");
             put_number(line, *second);
+        }
+        Reply::Message(message) => {
+            put(line, "MESSAGE ");
+            put_message(line, table, message);
         }
         Reply::Blocked => put(line, "BLOCKED"),
         Reply::Gone => put(line, "GONE"),
@@ -368,7 +380,7 @@ pub(crate) fn put_line(lines: &mut Lines, table: &Table, entry: &LentEntry<'_>)
     put(lines, " ");
     put_asked(lines, table, &entry.call, &entry.reply);
     put(lines, " -> ");
-    put_reply(lines, &entry.reply);
+    put_reply(lines, table, &entry.reply);
     put_notices(lines, entry.notices);
     put(lines, "\n");
 }

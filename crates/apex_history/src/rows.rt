@@ -56,7 +56,7 @@ pub(crate) struct Row {
     pub(crate) count: u8,
 }
 
-const _: () = prove!(size_of::<Row>() == 56);
+const _: () = prove!(size_of::<Row>() == 64);
 
 impl Model for Row {
     ghost use Rattle.std.specs.Prelude.{◌+◌};

@@ -1,9 +1,11 @@
+mod events;
 mod lines;
+mod messages;
 mod steps;
 mod ticks;
 
 ghost use Rattle.std.specs.Prelude.{◌≡◌, ◌<◌, ◌↔◌, [], None, Some, IsErr};
-ghost use Rattle.apex_types.specs.declared.Call.TheVariants.{Process, Semaphore};
+ghost use Rattle.apex_types.specs.declared.Call.TheVariants.{Process, Semaphore, Buffer, Blackboard, Event};
 ghost use Rattle.apex_types.specs.declared.ObjectCall.TheVariants.{Own};
 ghost use Rattle.apex_types.specs.Lines.{IsPrintable};
 ghost use Rattle.apex_history.specs.Counted.{inner_of, reads_left_of};
@@ -11,8 +13,9 @@ ghost use Rattle.apex_history.specs.Counted.{inner_of, reads_left_of};
 use crate::{Counted, FailAt, Log, Page, ReadFault, Sink, Source, print_entry, read_all};
 use apex_table::Table;
 use apex_types::{
-    Call, Caller, CoreId, Entry, Notices, ProcessCall, ProcessId, ProcessService, Reply,
-    SemaphoreCall, SemaphoreId, SemaphoreService, Who,
+    BlackboardCall, BlackboardId, BlackboardService, BufferCall, BufferId, BufferService, Call,
+    Caller, CoreId, Entry, EventCall, EventId, EventService, Notices, ProcessCall, ProcessId,
+    ProcessService, Reply, ReturnCode, SemaphoreCall, SemaphoreId, SemaphoreService, Who,
 };
 use std::io;
 use std::io::{ErrorKind, Read, Write};
@@ -79,6 +82,28 @@ fn of_semaphore(semaphore: SemaphoreId, service: SemaphoreService) -> Call
     ensures { result ≡ Semaphore (Own semaphore service) }
 {
     Call::Semaphore(SemaphoreCall::Own(semaphore, service))
+}
+
+fn of_buffer(buffer: BufferId, service: BufferService) -> Call
+    ensures { result ≡ Buffer (Own buffer service) }
+{
+    Call::Buffer(BufferCall::Own(buffer, service))
+}
+
+fn of_blackboard(blackboard: BlackboardId, service: BlackboardService) -> Call
+    ensures { result ≡ Blackboard (Own blackboard service) }
+{
+    Call::Blackboard(BlackboardCall::Own(blackboard, service))
+}
+
+fn of_event(event: EventId, service: EventService) -> Call
+    ensures { result ≡ Event (Own event service) }
+{
+    Call::Event(EventCall::Own(event, service))
+}
+
+fn code(code: ReturnCode) -> Reply {
+    Reply::Code(code)
 }
 
 #[test]

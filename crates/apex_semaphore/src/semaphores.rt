@@ -1,16 +1,16 @@
-ghost use Rattle.std.specs.Prelude.{◌≡◌, ◌<◌, [], length, false};
-ghost use Rattle.apex_types.specs.Limits.{most_notices};
+ghost use Rattle.std.specs.Prelude.{◌≡◌, ◌≤◌, [], length, false};
+ghost use Rattle.apex_types.specs.Limits.{most_processes};
 ghost use Rattle.apex_types.specs.Callers.{IsReadyCaller};
 ghost use Rattle.apex_types.specs.Dues.{HasTime};
 ghost use Rattle.apex_types.specs.Roster.{Roster};
 ghost use Rattle.apex_types.specs.Rows.{Leaves};
 ghost use Rattle.apex_types.specs.SemaphoreServices as services;
-ghost use Rattle.apex_types.specs.Stamps.{HasStamps};
+ghost use Rattle.apex_types.specs.Stamps.{HasManyStamps};
 
-use apex_store::{Object, Store, wait_for};
+use apex_store::{Object, Store, grant, wait_for};
 use apex_types::{
-    Caller, Notice, Notices, Queue, Reply, ReturnCode, SemaphoreId, SemaphoreKind,
-    SemaphoreService, Timeout, Wait,
+    Caller, Notices, Queue, Reply, ReturnCode, SemaphoreId, SemaphoreKind, SemaphoreService,
+    Timeout, Wait,
 };
 use std::marker::Model;
 
@@ -55,7 +55,7 @@ impl Semaphore {
         timeout: Timeout,
     ) -> Reply
         requires caller { IsReadyCaller (S.roster store.old) caller.now }
-        requires stamps { HasStamps (S.roster store.old) }
+        requires stamps { HasManyStamps (S.roster store.old) }
         requires time { HasTime (S.roster store.old) }
         ensures { Leaves (services.wait_semaphore (S.roster store.old) self.old id caller.now timeout)
             (S.roster store.new) self.new result [] [] }
@@ -83,8 +83,8 @@ impl Semaphore {
         id: SemaphoreId,
         notices: &mut Notices,
     ) -> Reply
-        requires stamps { HasStamps (S.roster store.old) }
-        requires room { length notices.old < most_notices }
+        requires stamps { HasManyStamps (S.roster store.old) }
+        requires room { length notices.old ≤ most_processes }
         ensures { Leaves (services.signal_semaphore (S.roster store.old) self.old id)
             (S.roster store.new) self.new result notices.old notices.new }
     {
@@ -93,8 +93,7 @@ impl Semaphore {
         }
         match store.first(Queue::Semaphore(id)) {
             Some(waiter) => {
-                store.unblock(waiter);
-                notices.push(Notice::Woken(waiter, ReturnCode::NoError));
+                grant(store, waiter, &None, notices);
                 Reply::Code(ReturnCode::NoError)
             }
             None if self.value < self.maximum => {
@@ -146,10 +145,11 @@ impl Object for Semaphore {
         notices: &mut Notices,
     ) -> Reply
         requires stands { Unit {0} }
+        requires few { length (S.roster store.old).records ≤ most_processes }
         requires caller { IsReadyCaller (S.roster store.old) caller.now }
-        requires stamps { HasStamps (S.roster store.old) }
+        requires stamps { HasManyStamps (S.roster store.old) }
         requires time { HasTime (S.roster store.old) }
-        requires room { length notices.old < most_notices }
+        requires room { length notices.old ≤ most_processes }
         ensures { Leaves (services.semaphore_own (S.roster store.old) self.old id caller.now service.now)
             (S.roster store.new) self.new result notices.old notices.new }
     {

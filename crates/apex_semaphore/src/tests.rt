@@ -201,6 +201,7 @@ fn signal_wakes_the_most_urgent<S: Store>(rt: &impl Abort, store: &mut S)
 
 /// A semaphore is found by its place, and its id and its status are told once it is created.
 fn a_created_semaphore_is_told_of<S: Store>(rt: &impl Abort, store: &mut S)
+    requires records { length (S.roster store.old).records ≡ 2 }
     requires stamps { (S.roster store.old).young ≡ pos 3 }
     requires mode { is_normal (S.roster store.old).mode ≡ false }
     requires old { (S.roster store.old).old ≡ pos 0 }

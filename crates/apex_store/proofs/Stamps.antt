@@ -4,7 +4,7 @@ use Rattle.apex_types.specs.Roster.{Roster, record_at}
 use Rattle.apex_types.specs.Distinct.{IsStamped}
 use Rattle.apex_types.specs.Stamps.{awake, waiting, self_suspended}
 use Rattle.apex_types.proofs.DistinctStamps.{stamped_newest, stamped_readied, stamped_resume, stamped_set_mode, stamped_advance_to, stamped_take_due}
-use Rattle.apex_types.proofs.Reaches.{reaches_start, reaches_stop, reaches_suspend, reaches_set_priority, reaches_place_newest, reaches_set_core, reaches_set_step}
+use Rattle.apex_types.proofs.Reaches.{reaches_start, reaches_stop, reaches_suspend, reaches_set_priority, reaches_place_newest, reaches_set_core, reaches_set_step, reaches_receive}
 use Rattle.apex_store.specs.Laws.{StampsStayDistinct}
 
 pub stay_distinct : (roster : Roster) → IsStamped roster → StampsStayDistinct roster
@@ -23,5 +23,6 @@ stay_distinct roster stamped = record {
   take_due = stamped_take_due roster stamped;
   set_mode = λ mode. stamped_set_mode roster stamped mode;
   set_core = λ p core known. (reaches_set_core roster p known core).stamped stamped;
+  receive = λ p message known. (reaches_receive roster p known message).stamped stamped;
   set_step = λ p step known. (reaches_set_step roster p known step).stamped stamped;
 }

@@ -1,6 +1,6 @@
 -- What the choices of a store mean, in the standard's own words.
 use Rattle.std.specs.Prelude.{◌≡◌, ◌≢◌, ℕ, ◌<◌, ◌≤◌, ◌<ℤ◌, ◌⊎◌, Bool, true, false, List, length, Option, None, Some, slice_get}
-use Rattle.apex_store.specs.Terms.{Mode, Queue, Record, Wait}
+use Rattle.apex_store.specs.Terms.{Message, Mode, Queue, Record, Wait}
 use Rattle.apex_types.specs.declared.records.State.TheVariants.{Running}
 use Rattle.apex_types.specs.Roster.{Roster, record_at}
 use Rattle.apex_types.specs.Choice.{IsLeast}
@@ -98,4 +98,5 @@ pub record StampsStayDistinct (roster : Roster) : Type 0 where
   pub take_due : IsStamped (stamps.take_due roster)
   pub set_mode : (mode : Mode) → IsStamped (stamps.set_mode roster mode)
   pub set_core : (p core : ℕ) → p < length roster.records → IsStamped (stamps.set_core roster p core)
+  pub receive : (p : ℕ) (message : Message) → p < length roster.records → IsStamped (stamps.receive roster p message)
   pub set_step : (p step : ℕ) → p < length roster.records → IsStamped (stamps.set_step roster p step)

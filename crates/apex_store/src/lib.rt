@@ -13,6 +13,7 @@ mod store;
 #[cfg(test)]
 mod tests;
 mod waiting;
+mod waking;
 
 pub use dues::due_after;
 pub use laws::{
@@ -24,3 +25,4 @@ pub use objects::{Object, serve_object};
 pub use plain_store::PlainStore;
 pub use store::Store;
 pub use waiting::wait_for;
+pub use waking::{grant, grant_all, is_unfit};

@@ -1,7 +1,7 @@
 //! Objects of any kind: the three services that each kind has, and how a call finds its object.
 
-ghost use Rattle.std.specs.Prelude.{◌≡◌, ℕ, ◌<◌, [], length};
-ghost use Rattle.apex_types.specs.Limits.{most_notices};
+ghost use Rattle.std.specs.Prelude.{◌≡◌, ℕ, ◌<◌, ◌≤◌, [], length};
+ghost use Rattle.apex_types.specs.Limits.{most_processes};
 ghost use Rattle.apex_types.specs.declared.calls.ObjectCall.{ObjectCall};
 ghost use Rattle.apex_types.specs.Callers.{IsReadyCaller};
 ghost use Rattle.apex_types.specs.Dues.{HasTime};
@@ -9,7 +9,7 @@ ghost use Rattle.apex_types.specs.Objects as objects;
 ghost use Rattle.apex_types.specs.Objects.{KindOf};
 ghost use Rattle.apex_types.specs.Roster.{Roster};
 ghost use Rattle.apex_types.specs.Rows.{Leaves};
-ghost use Rattle.apex_types.specs.Stamps.{HasStamps};
+ghost use Rattle.apex_types.specs.Stamps.{HasManyStamps};
 ghost use Rattle.apex_types.specs.Table.{IsKnownObject};
 
 use crate::store::Store;
@@ -53,10 +53,11 @@ pub trait Object: Drop {
         notices: &mut Notices,
     ) -> Reply
         requires stands { Stands (S.roster store.old) id }
+        requires few { length (S.roster store.old).records ≤ most_processes }
         requires caller { IsReadyCaller (S.roster store.old) caller.now }
-        requires stamps { HasStamps (S.roster store.old) }
+        requires stamps { HasManyStamps (S.roster store.old) }
         requires time { HasTime (S.roster store.old) }
-        requires room { length notices.old < most_notices }
+        requires room { length notices.old ≤ most_processes }
         ensures { Leaves (kind.own (S.roster store.old) self.old id caller.now service.now)
             (S.roster store.new) self.new result notices.old notices.new };
 }
@@ -111,10 +112,11 @@ fn serve_one<S: Store, O: Object>(
     notices: &mut Notices,
 ) -> Reply
     requires stands { O.Stands (S.roster store.old) id }
+    requires few { length (S.roster store.old).records ≤ most_processes }
     requires caller { IsReadyCaller (S.roster store.old) caller.now }
-    requires stamps { HasStamps (S.roster store.old) }
+    requires stamps { HasManyStamps (S.roster store.old) }
     requires time { HasTime (S.roster store.old) }
-    requires room { length notices.old < most_notices }
+    requires room { length notices.old ≤ most_processes }
     ensures { Leaves (objects.object_service O.kind (S.roster store.old) object.old id caller.now call.now)
         (S.roster store.new) object.new result notices.old notices.new }
 {
@@ -151,10 +153,11 @@ pub fn serve_object<S: Store, O: Object>(
 ) -> Reply
     requires known { IsKnownObject (length all.old) call.now }
     requires stands { (i : ℕ) → i < length all.old → O.Stands (S.roster store.old) i }
+    requires few { length (S.roster store.old).records ≤ most_processes }
     requires caller { IsReadyCaller (S.roster store.old) caller.now }
-    requires stamps { HasStamps (S.roster store.old) }
+    requires stamps { HasManyStamps (S.roster store.old) }
     requires time { HasTime (S.roster store.old) }
-    requires room { length notices.old < most_notices }
+    requires room { length notices.old ≤ most_processes }
     ensures { Leaves (objects.object_deed O.kind (S.roster store.old) all.old caller.now call.now)
         (S.roster store.new) all.new result notices.old notices.new }
 {

@@ -2,10 +2,10 @@ ghost use Rattle.std.specs.Prelude.{◌≡◌, ◌+◌, ◌<◌, ◌≤◌, [], 
 ghost use Rattle.apex_types.specs.Limits.{most_processes};
 ghost use Rattle.apex_types.specs.Places.{map_places};
 ghost use Rattle.apex_types.specs.Roster.{opening_record};
-ghost use Rattle.apex_types.specs.Table.{SemaphoreConfig};
+ghost use Rattle.apex_types.specs.Table.{BufferConfig, SemaphoreConfig};
 
 use apex_table::{ProcessConfig, Table};
-use apex_types::{Attributes, CoreId, Discipline, ProcessId, Record, SemaphoreId};
+use apex_types::{Attributes, BufferId, CoreId, Discipline, ProcessId, Record, SemaphoreId};
 use std::alloc::{AllocError, Global};
 
 /// Adds the record of a process before any event: dormant on core 0, and as old as its place says.
@@ -27,6 +27,7 @@ fn push_opening(records: &mut Vec<Record>, place: usize, process: &ProcessConfig
         since: place as i64 + 1,
         due: None,
         step: 0,
+        inbox: None,
     });
 }
 
@@ -45,8 +46,20 @@ pub fn opening_records(alloc: Global, table: &Table) -> Result<Vec<Record>, Allo
     Ok(records)
 }
 
+/// The discipline of each buffer's queue.
+pub fn buffer_disciplines(alloc: Global, table: &Table) -> Result<Vec<Discipline>, AllocError>
+    ensures { IfOk result (λ disciplines. disciplines.items ≡ map (λ (b : BufferConfig). b.discipline) table.now.buffers) }
+{
+    let count = table.buffer_count();
+    let mut disciplines = Vec::with_capacity(alloc, count)?;
+    for place in 0..count {
+        disciplines.push(table.buffer(BufferId::at(place as u8)).discipline())?;
+    }
+    Ok(disciplines)
+}
+
 /// The discipline of each semaphore's queue.
-pub fn disciplines_of(alloc: Global, table: &Table) -> Result<Vec<Discipline>, AllocError>
+pub fn semaphore_disciplines(alloc: Global, table: &Table) -> Result<Vec<Discipline>, AllocError>
     ensures { IfOk result (λ disciplines. disciplines.items ≡ map (λ (s : SemaphoreConfig). s.discipline) table.now.semaphores) }
 {
     let count = table.semaphore_count();

@@ -1,7 +1,8 @@
 ghost use Rattle.std.specs.Prelude.{◌≡◌};
 ghost use Rattle.apex_types.specs.Running.{is_before, is_older, runs_on};
 ghost use Rattle.apex_types.specs.Dues.{is_due_at};
-ghost use Rattle.apex_types.specs.Waiters.{is_queue, is_same_queue, waits_before, waits_behind, waits_in};
+ghost use Rattle.apex_types.specs.Queues.{is_queue, is_same_queue};
+ghost use Rattle.apex_types.specs.Waiters.{waits_before, waits_behind, waits_in};
 
 use apex_types::{CoreId, Discipline, Mode, Queue, Record};
 

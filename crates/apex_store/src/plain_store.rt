@@ -1,18 +1,21 @@
-ghost use Rattle.std.specs.Prelude.{◌≡◌, ◌<◌, ◌≤◌, count_by, length, IfOk};
+ghost use Rattle.std.specs.Prelude.{◌≡◌, ◌<◌, ◌≤◌, count_by, length, slice_index_or, IfOk};
 ghost use Rattle.apex_types.specs.Limits.{most_processes};
 ghost use Rattle.apex_types.specs.Roster.{opening_roster, with_record};
 ghost use Rattle.apex_types.specs.Dues.{HasTime};
+ghost use Rattle.apex_types.specs.declared.records.Discipline.TheVariants.{Fifo};
 ghost use Rattle.apex_types.specs.Running.{is_process};
 ghost use Rattle.apex_types.specs.Stamps as stamps;
 ghost use Rattle.apex_types.specs.Waiters.{discipline_of, goes_by_priority, waits_in};
 
 use crate::dues::{earliest_due, first_due};
-use crate::opening::{disciplines_of, opening_records};
+use crate::opening::{buffer_disciplines, opening_records, semaphore_disciplines};
 use crate::orders::waits_in;
 use crate::scan::{Behind, Runnable, Waiting, first_of};
 use crate::store::Store;
 use apex_table::Table;
-use apex_types::{CoreId, Discipline, Mode, ProcessId, Queue, Record, State, Suspender, Wait};
+use apex_types::{
+    CoreId, Discipline, Message, Mode, ProcessId, Queue, Record, State, Suspender, Wait,
+};
 use std::alloc::{AllocError, Global};
 use std::marker::Model;
 
@@ -25,8 +28,9 @@ pub struct PlainStore {
     records: Vec<Record>,
     next_young: i64,
     next_old: i64,
-    /// The discipline of each semaphore's queue.
-    disciplines: Vec<Discipline>,
+    /// The discipline of each semaphore's queue, and of each buffer's.
+    semaphores: Vec<Discipline>,
+    buffers: Vec<Discipline>,
 }
 
 impl Model for PlainStore {
@@ -36,7 +40,7 @@ impl Model for PlainStore {
 
     ghost Value = { Roster };
 
-    ghost view = { λ a. record { cores = a.cores; mode = a.mode; now = a.time; records = a.records.items; young = a.next_young; old = a.next_old; disciplines = a.disciplines.items } };
+    ghost view = { λ a. record { cores = a.cores; mode = a.mode; now = a.time; records = a.records.items; young = a.next_young; old = a.next_old; disciplines = record { semaphores = a.semaphores.items; buffers = a.buffers.items } } };
 
     ghost invariant = { λ a. (a.cores ≤ most_cores) × (length a.records.items ≤ most_processes) };
 }
@@ -73,7 +77,8 @@ fn awake(row: Record) -> Record
     }
 }
 
-/// The record of a process at its start: not suspended, at the table's priority and first step.
+/// The record of a process at its start: not suspended, at the table's priority and first step, with
+/// an empty inbox.
 fn reset(row: Record) -> Record
     ensures { result ≡ stamps.reset row }
 {
@@ -82,7 +87,18 @@ fn reset(row: Record) -> Record
         started: true,
         suspended: None,
         step: 0,
+        inbox: None,
         ..row
+    }
+}
+
+/// The discipline at this place, and FIFO past the end.
+fn discipline_at(disciplines: &[Discipline], place: usize) -> Discipline
+    ensures { result ≡ slice_index_or disciplines.now place Fifo }
+{
+    match disciplines.get(place) {
+        Some(discipline) => *discipline,
+        None => Discipline::Fifo,
     }
 }
 
@@ -101,7 +117,8 @@ impl PlainStore {
         ensures { IfOk result (λ store. store ≡ opening_roster table.now) }
     {
         let records = opening_records(alloc, table)?;
-        let disciplines = disciplines_of(alloc, table)?;
+        let semaphores = semaphore_disciplines(alloc, table)?;
+        let buffers = buffer_disciplines(alloc, table)?;
         let next_young = records.len() as i64 + 1;
         Ok(PlainStore {
             cores: table.cores(),
@@ -110,20 +127,19 @@ impl PlainStore {
             records,
             next_young,
             next_old: 0,
-            disciplines,
+            semaphores,
+            buffers,
         })
     }
 
-    /// The discipline of the queue: a semaphore's is the table's.
+    /// The discipline of the queue: a semaphore's and a buffer's is the table's.
     fn discipline(&self, queue: &Queue) -> Discipline
         ensures { result ≡ discipline_of self.now queue.now }
     {
         match queue {
-            Queue::Semaphore(semaphore) => match self.disciplines.get(semaphore.place()) {
-                Some(discipline) => *discipline,
-                None => Discipline::Fifo,
-            },
-            Queue::Normal => Discipline::Fifo,
+            Queue::Semaphore(semaphore) => discipline_at(&self.semaphores, semaphore.place()),
+            Queue::Buffer(buffer) => discipline_at(&self.buffers, buffer.place()),
+            Queue::Normal | Queue::Blackboard(_) | Queue::Event(_) => Discipline::Fifo,
         }
     }
 
@@ -293,6 +309,7 @@ impl Store for PlainStore {
             wait: None,
             due: None,
             step: 0,
+            inbox: None,
             ..row
         };
         self.put(process, stopped);
@@ -376,6 +393,10 @@ impl Store for PlainStore {
 
     fn set_core(&mut self, process: ProcessId, core: CoreId) {
         self.records[process.place()].core = core;
+    }
+
+    fn receive(&mut self, process: ProcessId, message: Message) {
+        self.records[process.place()].inbox = Some(message);
     }
 
     fn set_step(&mut self, process: ProcessId, step: u8) {

@@ -6,7 +6,7 @@ ghost use Rattle.apex_types.specs.Waiters.{first_waiter, next_waiter, waiter_cou
 ghost use Rattle.apex_types.specs.Dues.{next_instant, first_due, HasNoDueBelow, HasTime, IsFrom};
 ghost use Rattle.apex_types.specs.Stamps as stamps;
 
-use apex_types::{CoreId, Mode, ProcessId, Queue, Record, State, Wait};
+use apex_types::{CoreId, Message, Mode, ProcessId, Queue, Record, State, Wait};
 
 /// The processes of a partition: their records, the mode and the time.
 ///
@@ -154,6 +154,11 @@ pub trait Store: Drop {
         requires known { process < length (roster self.old).records }
         requires out { IsIneligible (roster self.old) process }
         ensures { roster self.new ≡ stamps.set_core (roster self.old) process core };
+
+    /// The process receives this message.
+    fn receive(&mut self, process: ProcessId, message: Message)
+        requires known { process < length (roster self.old).records }
+        ensures { roster self.new ≡ stamps.receive (roster self.old) process message };
 
     /// Sets the process's place in its script, counted from 0.
     fn set_step(&mut self, process: ProcessId, step: u8)

@@ -2,7 +2,7 @@ ghost use Rattle.std.specs.Prelude.{◌≡◌, [], length};
 ghost use Rattle.apex_types.specs.Callers.{IsReady};
 ghost use Rattle.apex_types.specs.Dues.{HasTime};
 ghost use Rattle.apex_types.specs.Rows.{Leaves};
-ghost use Rattle.apex_types.specs.Stamps.{HasStamps};
+ghost use Rattle.apex_types.specs.Stamps.{HasManyStamps};
 ghost use Rattle.apex_types.specs.Waiting.{wait_for};
 
 use crate::dues::due_after;
@@ -20,7 +20,7 @@ pub fn wait_for<S: Store, O>(
     timeout: Timeout,
 ) -> Reply
     requires ready { IsReady (S.roster store.old) process }
-    requires stamps { HasStamps (S.roster store.old) }
+    requires stamps { HasManyStamps (S.roster store.old) }
     requires time { HasTime (S.roster store.old) }
     ensures { Leaves (wait_for (S.roster store.old) object.now process wait timeout)
         (S.roster store.new) object.now result [] [] }

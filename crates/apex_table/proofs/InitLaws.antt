@@ -1,8 +1,8 @@
--- An init list, given or default, is short enough, and its steps are sound.
-use Rattle.std.proofs.Common.{◌≡◌, ℕ, ◌+◌, ◌≤◌, List, [], length, Option, Some, None, IfSome, IfOk, arith, subst}
+-- An init list, given or default, is short enough, and its steps are lawful.
+use Rattle.std.proofs.Common.{ℕ, ◌+◌, ◌≤◌, List, [], length, Option, Some, None, IfSome, IfOk, arith}
 use Rattle.std.proofs.lemmas.Result.{IfOk-at_ok, IfOk-weaker}
 use Rattle.toml.specs.Data.{Data}
-use Rattle.apex_types.specs.Table.{ProcessConfig, SemaphoreConfig, Step}
+use Rattle.apex_types.specs.Table.{ProcessConfig, Step, Table, IsLawfulStep}
 use Rattle.apex_types.specs.declared.calls.Origin.TheVariants as origin
 use Rattle.apex_table.specs.declared.fault.Section.TheVariants.{Init}
 use Rattle.apex_table.specs.Terms.{Place}
@@ -10,12 +10,15 @@ use Rattle.apex_table.specs.declared.fault.TableFault.TheVariants.{BadInitStep}
 use Rattle.apex_table.specs.Outcome.{place}
 use Rattle.apex_table.specs.Keys.{array, at_most}
 use Rattle.apex_table.specs.Steps.{step}
+use Rattle.apex_table.specs.Objects.{Objects}
 use Rattle.apex_table.specs.Names.{Names}
+use Rattle.apex_table.specs.Reading.{table_with}
 use Rattle.apex_table.specs.Init.{next_text, texts, given_texts, init_texts, is_init_call, init_step, next_init_step, init_steps, init_list}
 use Rattle.apex_table.proofs.Results.{ok_then, ok_if, both_ok, AllFrom, all_any, each_from, each_length}
 use Rattle.apex_table.proofs.KeyLaws.{at_most_law}
-use Rattle.apex_table.proofs.StepLaws.{IsSoundStep, step_law}
+use Rattle.apex_table.proofs.StepLaws.{AreNamesOf, step_law}
 use Rattle.apex_table.proofs.DefaultInitLaws.{default_init_law, default_init_length}
+use Rattle.apex_table.proofs.ObjectLaws.{AreLawful}
 
 -- an init list that is given has at most 512 texts
 abbrev pub AreFew : Option (List (List ℕ)) → Type 0
@@ -34,37 +37,39 @@ init_texts_law None = tt
 init_texts_law (Some d) =
     ok_then (given_texts d) _ AreFew (λ ts e. IfOk-at_ok (λ ts. length ts ≤ 512) e (given_texts_law d))
 
--- what holds of an init list, where there are so many processes and semaphores
-pub record IsInitList (ps ss : ℕ) (steps : List Step) : Type 0 where
+-- what holds of an init list of the table
+pub record IsInitList (table : Table) (steps : List Step) : Type 0 where
   pub few : length steps ≤ 512
-  pub sound : AllFrom (λ k step. IsSoundStep ps ss (origin.Init k) step) 0 steps
+  pub lawful : AllFrom (λ k step. IsLawfulStep table (origin.Init k) step) 0 steps
 
-module _ (names : Names) where
-  abbrev Sound : ℕ → Step → Type 0
-  Sound k step = IsSoundStep (length names.processes) (length names.semaphores) (origin.Init k) step
+module _ (table : Table) (names : Names) (same : AreNamesOf table names) where
+  abbrev Lawful : ℕ → Step → Type 0
+  Lawful k step = IsLawfulStep table (origin.Init k) step
 
-  init_step_law : (at : Place) (k : ℕ) (text : List ℕ) → IfOk (init_step at (origin.Init k) names text) (Sound k)
+  init_step_law : (at : Place) (k : ℕ) (text : List ℕ) → IfOk (init_step at (origin.Init k) names text) (Lawful k)
   unfolding init_step
   init_step_law at k text =
-      ok_then (step at (origin.Init k) names text) _ (Sound k) (λ s e.
-      ok_if (is_init_call s.call) (BadInitStep at) s (Sound k) (λ _. IfOk-at_ok (Sound k) e (step_law at names (origin.Init k) text)))
+      ok_then (step at (origin.Init k) names text) _ (Lawful k) (λ s e.
+      ok_if (is_init_call s.call) (BadInitStep at) s (Lawful k) (λ _. IfOk-at_ok (Lawful k) e (step_law table names same at (origin.Init k) text)))
 
-  steps_sound : (ts : List (List ℕ)) → IfOk (init_steps names ts) (AllFrom Sound 0)
-  steps_sound ts =
-      each_from (next_init_step names) Sound (λ t. Unit {0})
+  steps_lawful : (ts : List (List ℕ)) → IfOk (init_steps names ts) (AllFrom Lawful 0)
+  steps_lawful ts =
+      each_from (next_init_step names) Lawful (λ t. Unit {0})
       (λ done t _. init_step_law (place Init (length done + 1)) (length done) t) [] ts tt (all_any ts)
 
   steps_length : (ts : List (List ℕ)) → length ts ≤ 512 → IfOk (init_steps names ts) (λ steps. length steps ≤ 512)
   steps_length ts few =
       IfOk-weaker (init_steps names ts) _ _ (λ steps h. omega arith) (each_length (next_init_step names) [] ts)
 
-  init_steps_law : (ts : List (List ℕ)) → length ts ≤ 512 → IfOk (init_steps names ts) (IsInitList (length names.processes) (length names.semaphores))
-  init_steps_law ts few = both_ok (init_steps names ts) _ _ (λ steps short sound. record { few = short; sound = sound }) (steps_length ts few) (steps_sound ts)
+  init_steps_law : (ts : List (List ℕ)) → length ts ≤ 512 → IfOk (init_steps names ts) (IsInitList table)
+  init_steps_law ts few = both_ok (init_steps names ts) _ _ (λ steps short lawful. record { few = short; lawful = lawful }) (steps_length ts few) (steps_lawful ts)
 
-pub init_list_law : (names : Names) (procs : List ProcessConfig) (sems : List SemaphoreConfig) (o : Option (List (List ℕ))) → length names.processes ≡ length procs → length names.semaphores ≡ length sems → length procs ≤ 32 → length sems ≤ 16 → AreFew o → IfOk (init_list names procs sems o) (IsInitList (length procs) (length sems))
-init_list_law names procs sems (Some ts) ps ss some few short =
-    subst (λ (n : ℕ). IfOk (init_steps names ts) (IsInitList n (length sems))) ps
-    (subst (λ (m : ℕ). IfOk (init_steps names ts) (IsInitList (length names.processes) m)) ss
-    (init_steps_law names ts short))
-init_list_law names procs sems None ps ss some few short =
-    record { few = omega (arith, default_init_length procs sems); sound = default_init_law procs sems }
+pub init_list_law : (cores limit : ℕ) (procs : List ProcessConfig) (objects : Objects) (init : List Step) (names : Names) → AreNamesOf (table_with cores limit procs objects init) names → length procs ≤ 32 → AreLawful objects → (o : Option (List (List ℕ))) → AreFew o → IfOk (init_list names procs objects o) (IsInitList (table_with cores limit procs objects init))
+init_list_law cores limit procs objects init names same some lawful (Some ts) few =
+    init_steps_law (table_with cores limit procs objects init) names same ts few
+init_list_law cores limit procs objects init names same some lawful None few =
+    let semaphores : length objects.semaphores ≤ 16 = lawful.semaphores.few in
+    let buffers : length objects.buffers ≤ 16 = lawful.buffers.few in
+    let blackboards : length objects.blackboards ≤ 16 = lawful.blackboards.few in
+    let events : length objects.events ≤ 16 = lawful.events.few in
+    record { few = omega (arith, default_init_length procs objects); lawful = default_init_law cores limit procs objects init }

@@ -54,6 +54,10 @@ reads_any (Ok None) = tt
 reads_any (Ok (Some x)) = tt
 reads_any (Err e) = tt
 
+pub ok_any : {A : Type 0} (r : Result A TableFault) → IfOk r (λ x. Unit {0})
+ok_any (Ok x) = tt
+ok_any (Err e) = tt
+
 pub some_or_law : {A : Type 0} (fault : TableFault) (o : Option A) (P : A → Type 0) → IfSome o P → IfOk (some_or fault o) P
 some_or_law fault None P h = tt
 some_or_law fault (Some x) P h = h

@@ -13,7 +13,7 @@ use Rattle.apex_table.specs.Fault.{section_word}
 use Rattle.apex_table.specs.Outcome.{each, place}
 use Rattle.apex_table.specs.Keys.{known, table, array, name_at}
 use Rattle.apex_table.specs.Sections.{SectionHead, KindOf, tables, entry, next_entry, section}
-use Rattle.apex_table.proofs.Results.{ok_then, each_keeps, each_length, all_push}
+use Rattle.apex_table.proofs.Results.{ok_then, both_ok, each_keeps, each_length, all_push}
 use Rattle.apex_table.proofs.KeyLaws.{optional_law, at_most_law, IsNew, name_law}
 
 tables_law : (head : SectionHead) (o : Option Data) → IfOk (tables head o) (λ ds. length ds ≤ head.most)
@@ -21,7 +21,7 @@ tables_law head =
     optional_law [] _ (λ ds. length ds ≤ head.most) (omega arith) (λ d.
     ok_then (array (place head.section 0) d) _ (λ ds. length ds ≤ head.most) (λ ds _. at_most_law (place head.section 0) head.most ds))
 
-pub section_few : {A : Type 0} (kind : KindOf A) (top : Members) → IfOk (section kind top) (λ xs. length xs ≤ kind.head.most)
+section_few : {A : Type 0} (kind : KindOf A) (top : Members) → IfOk (section kind top) (λ xs. length xs ≤ kind.head.most)
 unfolding section
 section_few kind top =
     let given : Option Data = get_member (section_word kind.head.section) top in
@@ -42,6 +42,11 @@ ReadsSound kind IsSound = (at : Place) (name : List ℕ) (ms : Members) → IsTr
 pub record AreSound {A : Type 0} (kind : KindOf A) (IsSound : A → Type 0) (xs : List A) : Type 0 where
   pub each : AllByRecursion IsSound xs
   pub distinct : IsDistinct bytes_eq (map kind.name_of xs)
+
+-- what holds of a section that is read
+pub record IsSection {A : Type 0} (kind : KindOf A) (IsSound : A → Type 0) (xs : List A) : Type 0 where
+  pub few : length xs ≤ kind.head.most
+  pub all : AreSound kind IsSound xs
 
 no_entry : {A : Type 0} (kind : KindOf A) (IsSound : A → Type 0) → AreSound kind IsSound []
 unfolding IsDistinct
@@ -64,8 +69,12 @@ module _ {A : Type 0} (kind : KindOf A) (IsSound : A → Type 0) (reads : ReadsS
             (IsDistinct-push nat_list_eq_equiv taken (kind.name_of x) all.distinct (rw h.named new.new));
       }) (reads at name ms new.good))))
 
-  pub section_law : (top : Members) → IfOk (section kind top) (AreSound kind IsSound)
+  section_sound : (top : Members) → IfOk (section kind top) (AreSound kind IsSound)
   unfolding section
-  section_law top =
+  section_sound top =
       ok_then (tables kind.head (get_member (section_word kind.head.section) top)) _ (AreSound kind IsSound) (λ ds e.
       each_keeps (next_entry kind) (AreSound kind IsSound) next_entry_law [] ds (no_entry kind IsSound))
+
+  pub section_law : (top : Members) → IfOk (section kind top) (IsSection kind IsSound)
+  section_law top =
+      both_ok (section kind top) _ _ (λ xs few all. record { few = few; all = all }) (section_few kind top) (section_sound top)

@@ -3,8 +3,8 @@ use Rattle.std.proofs.Common.{◌≤◌, refl}
 use Rattle.std.specs.Prelude.{codes}
 use Rattle.std.proofs.lemmas.Result.{IfOk-at_ok}
 use Rattle.apex_types.specs.Table.{IsLawfulSemaphore}
-use Rattle.apex_table.specs.Keys.{number_at, text_at}
-use Rattle.apex_table.specs.Semaphores.{discipline, semaphore, semaphores}
+use Rattle.apex_table.specs.Keys.{number_at, discipline_at}
+use Rattle.apex_table.specs.Semaphores.{semaphore, semaphores}
 use Rattle.apex_table.proofs.Results.{ok_then}
 use Rattle.apex_table.proofs.KeyLaws.{number_at_law}
 use Rattle.apex_table.proofs.SectionLaws.{IsRead, ReadsSound}
@@ -14,8 +14,7 @@ unfolding semaphore
 semaphore_law at name ms good =
     ok_then (number_at at 1 32767 (codes "maximum") ms) _ (IsRead semaphores IsLawfulSemaphore name) (λ maximum em.
     ok_then (number_at at 0 maximum (codes "initial") ms) _ (IsRead semaphores IsLawfulSemaphore name) (λ initial ei.
-    ok_then (text_at at (codes "discipline") ms) _ (IsRead semaphores IsLawfulSemaphore name) (λ word _.
-    ok_then (discipline at word) _ (IsRead semaphores IsLawfulSemaphore name) (λ order _.
+    ok_then (discipline_at at ms) _ (IsRead semaphores IsLawfulSemaphore name) (λ discipline _.
     let below : (0 ≤ initial) × (initial ≤ maximum) = IfOk-at_ok (λ n. (0 ≤ n) × (n ≤ maximum)) ei (number_at_law at 0 maximum (codes "initial") ms) in
     record {
       sound = record {
@@ -24,4 +23,4 @@ semaphore_law at name ms good =
         initial = below.1;
       };
       named = refl;
-    }))))
+    })))

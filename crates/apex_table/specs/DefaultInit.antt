@@ -2,9 +2,10 @@
 use Rattle.std.specs.Prelude.{ℕ, if◌then◌else◌, List, [], ◌∷◌, ◌++◌}
 use Rattle.std.specs.List.{flat_map}
 use Rattle.apex_types.specs.Places.{map_places}
-use Rattle.apex_types.specs.Table.{ProcessConfig, SemaphoreConfig, Step}
+use Rattle.apex_types.specs.Table.{ProcessConfig, Step}
 use Rattle.apex_table.specs.Terms.{Call, ObjectCall}
-use Rattle.apex_types.specs.declared.calls.Call.TheVariants.{Partition, Process, Semaphore}
+use Rattle.apex_table.specs.Objects.{Objects}
+use Rattle.apex_types.specs.declared.calls.Call.TheVariants.{Partition, Process, Semaphore, Buffer, Blackboard, Event}
 use Rattle.apex_types.specs.declared.calls.RequestedMode.TheVariants.{Normal}
 use Rattle.apex_types.specs.declared.calls.PartitionCall.TheVariants.{SetPartitionMode}
 use Rattle.apex_types.specs.declared.calls.Named.TheVariants.{Known}
@@ -31,10 +32,18 @@ starts_process p entry = if entry.start then bare (Process (Own p Start)) ∷ []
 abbrev pub joined : List (List Step) → List Step
 joined steps = flat_map (λ ss. ss) steps
 
+-- for every object its CREATE, kind by kind
+abbrev pub creates_objects : Objects → List Step
+creates_objects objects =
+    map_places (creates Semaphore) 0 objects.semaphores
+    ++ map_places (creates Buffer) 0 objects.buffers
+    ++ map_places (creates Blackboard) 0 objects.blackboards
+    ++ map_places (creates Event) 0 objects.events
+
 -- creates everything, starts what starts, and enters NORMAL
-abbrev pub default_init : List ProcessConfig → List SemaphoreConfig → List Step
-default_init processes semaphores =
-    map_places (creates Semaphore) 0 semaphores
+abbrev pub default_init : List ProcessConfig → Objects → List Step
+default_init processes objects =
+    creates_objects objects
     ++ joined (map_places creates_process 0 processes)
     ++ joined (map_places starts_process 0 processes)
     ++ bare (Partition (SetPartitionMode Normal)) ∷ []

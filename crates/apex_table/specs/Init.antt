@@ -2,19 +2,22 @@
 use Rattle.std.specs.Prelude.{ℕ, ◌+◌, Bool, true, false, if◌then◌else◌, List, [], length, Option, Some, None, Result, Ok, Err}
 use Rattle.toml.specs.Data.{Data}
 use Rattle.apex_types.specs.Limits.{most_init_steps}
-use Rattle.apex_types.specs.Table.{ProcessConfig, SemaphoreConfig, Step}
-use Rattle.apex_table.specs.Terms.{Call, ObjectCall, Origin, Place, ProcessService, SemaphoreService, TableFault, TimeCall}
-use Rattle.apex_types.specs.declared.calls.Call.TheVariants.{Partition, Process, Caller, Time, Semaphore}
+use Rattle.apex_types.specs.Table.{ProcessConfig, Step}
+use Rattle.apex_table.specs.Terms.{BlackboardService, BufferService, Call, EventService, ObjectCall, Origin, Place, ProcessService, SemaphoreService, TableFault, TimeCall}
+use Rattle.apex_types.specs.declared.calls.Call.TheVariants.{Partition, Process, Caller, Time, Semaphore, Buffer, Blackboard, Event}
 use Rattle.apex_types.specs.declared.calls.ObjectCall.TheVariants.{Create, GetId, GetStatus, Own}
 use Rattle.apex_types.specs.declared.calls.Origin.TheVariants as origin
 use Rattle.apex_types.specs.declared.calls.ProcessService.TheVariants.{InitializeCoreAffinity, SetPriority, Start, DelayedStart, Stop, Suspend, Resume}
 use Rattle.apex_types.specs.declared.calls.SemaphoreService.TheVariants.{Wait, Signal}
+use Rattle.apex_types.specs.declared.calls.BlackboardService.TheVariants.{Display, Read, Clear}
+use Rattle.apex_types.specs.declared.calls.EventService.TheVariants.{Set, Reset, Wait as WaitFor}
 use Rattle.apex_types.specs.declared.calls.TimeCall.TheVariants.{TimedWait, GetTime}
 use Rattle.apex_table.specs.declared.fault.Section.TheVariants.{Init}
 use Rattle.apex_table.specs.declared.fault.TableFault.TheVariants.{BadInitStep}
 use Rattle.apex_table.specs.Outcome.{◌>>=◌, each, place}
 use Rattle.apex_table.specs.Keys.{text, array, at_most}
 use Rattle.apex_table.specs.Steps.{step}
+use Rattle.apex_table.specs.Objects.{Objects}
 use Rattle.apex_table.specs.Names.{Names}
 use Rattle.apex_table.specs.DefaultInit.{default_init}
 
@@ -53,6 +56,22 @@ abbrev pub is_init_semaphore_service : SemaphoreService → Bool
 is_init_semaphore_service (Wait timeout) = false
 is_init_semaphore_service Signal = true
 
+-- no service of buffers alone
+abbrev pub is_init_buffer_service : BufferService → Bool
+is_init_buffer_service service = false
+
+-- the services of blackboards alone that an init list may have
+abbrev pub is_init_blackboard_service : BlackboardService → Bool
+is_init_blackboard_service (Display message) = true
+is_init_blackboard_service (Read timeout) = false
+is_init_blackboard_service Clear = true
+
+-- the services of events alone that an init list may have
+abbrev pub is_init_event_service : EventService → Bool
+is_init_event_service Set = true
+is_init_event_service Reset = true
+is_init_event_service (WaitFor timeout) = false
+
 -- an init list may have the services that each kind has, and of the kind's own these
 abbrev pub is_init_object_call : {W : Type 0} → (W → Bool) → ObjectCall ℕ W → Bool
 is_init_object_call own (Create named) = true
@@ -72,6 +91,9 @@ is_init_call (Process call) = is_init_object_call is_init_process_service call
 is_init_call (Caller call) = false
 is_init_call (Time call) = is_init_time_call call
 is_init_call (Semaphore call) = is_init_object_call is_init_semaphore_service call
+is_init_call (Buffer call) = is_init_object_call is_init_buffer_service call
+is_init_call (Blackboard call) = is_init_object_call is_init_blackboard_service call
+is_init_call (Event call) = is_init_object_call is_init_event_service call
 
 -- a step that an init list may have
 abbrev pub init_call : Place → Step → Result Step TableFault
@@ -91,6 +113,6 @@ abbrev pub init_steps : Names → List (List ℕ) → Result (List Step) TableFa
 init_steps names ts = each (next_init_step names) [] ts
 
 -- the init list that the table gives, or else the default one
-abbrev pub init_list : Names → List ProcessConfig → List SemaphoreConfig → Option (List (List ℕ)) → Result (List Step) TableFault
-init_list names processes semaphores (Some ts) = init_steps names ts
-init_list names processes semaphores None = Ok (default_init processes semaphores)
+abbrev pub init_list : Names → List ProcessConfig → Objects → Option (List (List ℕ)) → Result (List Step) TableFault
+init_list names processes objects (Some ts) = init_steps names ts
+init_list names processes objects None = Ok (default_init processes objects)

@@ -4,7 +4,8 @@ use Rattle.std.specs.List.{list_any}
 use Rattle.std.specs.Str.{bytes_eq}
 use Rattle.toml.specs.Data.{Data, Items, no_items, item, Members, no_members, member, get_member, as_str, as_integer, as_bool, as_array, as_table}
 use Rattle.apex_types.specs.Name.{is_name}
-use Rattle.apex_table.specs.Terms.{Place, TableFault}
+use Rattle.apex_table.specs.Terms.{Discipline, Place, TableFault}
+use Rattle.apex_types.specs.declared.records.Discipline.TheVariants.{Fifo, Priority}
 use Rattle.apex_table.specs.declared.fault.TableFault.TheVariants.{MissingKey, WrongType, OutOfRange, BadName, DoubleName, UnknownKey, TooMany}
 use Rattle.apex_table.specs.Outcome.{◌>>=◌, some_or}
 
@@ -79,6 +80,16 @@ truth_or at default key ms = optional default (truth at) (get_member key ms)
 -- the text at a key without a default
 abbrev pub text_at : Place → List ℕ → Members → Result (List ℕ) TableFault
 text_at at key ms = required at key ms >>= text at
+
+-- the discipline of a queue by its word
+abbrev pub discipline : Place → List ℕ → Result Discipline TableFault
+discipline at t =
+    if bytes_eq t (codes "FIFO") then Ok Fifo else
+    if bytes_eq t (codes "PRIORITY") then Ok Priority else Err (OutOfRange at)
+
+-- the discipline of a queue, at its key
+abbrev pub discipline_at : Place → Members → Result Discipline TableFault
+discipline_at at ms = text_at at (codes "discipline") ms >>= discipline at
 
 -- a text that a name may be
 abbrev pub well_formed : Place → List ℕ → Result (List ℕ) TableFault

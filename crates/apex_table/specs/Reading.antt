@@ -4,7 +4,7 @@ use Rattle.std.specs.Str.{is_utf8}
 use Rattle.toml.specs.Data.{Members, get_member}
 use Rattle.toml.specs.Parse.{parse_document}
 use Rattle.apex_types.specs.Limits.{most_cores, most_entries}
-use Rattle.apex_types.specs.Table.{Table}
+use Rattle.apex_types.specs.Table.{ProcessConfig, Step, Table}
 use Rattle.apex_table.specs.declared.fault.Section.TheVariants.{Top}
 use Rattle.apex_table.specs.Terms.{TableFault}
 use Rattle.apex_table.specs.declared.fault.TableFault.TheVariants.{NotToml}
@@ -12,14 +12,30 @@ use Rattle.apex_table.specs.Outcome.{◌>>=◌, some_or, place}
 use Rattle.apex_table.specs.Keys.{known, number_at, number_or}
 use Rattle.apex_table.specs.Sections.{section}
 use Rattle.apex_table.specs.Processes.{some_process, processes}
-use Rattle.apex_table.specs.Semaphores.{semaphores}
+use Rattle.apex_table.specs.Objects.{Objects, objects}
 use Rattle.apex_table.specs.Names.{names_of}
 use Rattle.apex_table.specs.Scripts.{with_scripts}
 use Rattle.apex_table.specs.Init.{init_texts, init_list}
 
 -- the keys of the table's top
 abbrev pub top_keys : List (List ℕ)
-top_keys = codes "cores" ∷ codes "history" ∷ codes "process" ∷ codes "semaphore" ∷ codes "init" ∷ []
+top_keys =
+    codes "cores" ∷ codes "history" ∷ codes "process"
+    ∷ codes "semaphore" ∷ codes "buffer" ∷ codes "blackboard" ∷ codes "event"
+    ∷ codes "init" ∷ []
+
+-- the table of these parts
+abbrev pub table_with : ℕ → ℕ → List ProcessConfig → Objects → List Step → Table
+table_with cores limit processes objects init = record {
+  cores = cores;
+  limit = limit;
+  processes = processes;
+  semaphores = objects.semaphores;
+  buffers = objects.buffers;
+  blackboards = objects.blackboards;
+  events = objects.events;
+  init = init;
+}
 
 -- the table of TOML's tree
 unfoldable pub reading : Members → Result Table TableFault
@@ -29,11 +45,11 @@ reading tree = do
   limit ← number_or (place Top 0) 4096 1 most_entries (codes "history") ms
   drafts ← section (processes cores) ms
   some ← some_process drafts
-  sems ← section semaphores ms
+  things ← objects ms
   texts ← init_texts (get_member (codes "init") ms)
-  procs ← with_scripts (names_of some sems) some
-  steps ← init_list (names_of some sems) procs sems texts
-  Ok (record { cores = cores; limit = limit; processes = procs; semaphores = sems; init = steps })
+  procs ← with_scripts (names_of some things) some
+  steps ← init_list (names_of some things) procs things texts
+  Ok (table_with cores limit procs things steps)
 
 -- TOML's tree of a text
 abbrev pub tree_of : List ℕ → Option Members

@@ -1,8 +1,12 @@
 -- The terms in which the definitions and proofs of this crate speak: the values of a partition, and the
 -- faults of a table.
+pub use Rattle.apex_types.specs.declared.BlackboardService.{BlackboardService}
+pub use Rattle.apex_types.specs.declared.BufferService.{BufferService}
 pub use Rattle.apex_types.specs.declared.Call.{Call}
 pub use Rattle.apex_types.specs.declared.CallerCall.{CallerCall}
 pub use Rattle.apex_types.specs.declared.Discipline.{Discipline}
+pub use Rattle.apex_types.specs.declared.EventService.{EventService}
+pub use Rattle.apex_types.specs.declared.Message.{Message}
 pub use Rattle.apex_types.specs.declared.Named.{Named}
 pub use Rattle.apex_types.specs.declared.ObjectCall.{ObjectCall}
 pub use Rattle.apex_types.specs.declared.Origin.{Origin}

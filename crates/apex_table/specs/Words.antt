@@ -1,9 +1,11 @@
 -- The words of a step's text: what stands between single spaces, the forms that a word may have, and
 -- what a word of the right form means.
-use Rattle.std.specs.Prelude.{codes, ℕ, ◌==◌, ◌||◌, Bool, true, false, if◌then◌else◌, List, [], ◌∷◌, Result, Ok, is_some}
-use Rattle.std.specs.List.{slice_split, position_from}
+use Rattle.std.specs.Prelude.{codes, ℕ, ◌+◌, ◌*◌, ◌%◌, ◌==◌, ◌||◌, ◌&&◌, nat_le, Bool, true, false, if◌then◌else◌, List, [], ◌∷◌, length, Option, Some, None, Result, Ok, is_some, option_and_then}
+use Rattle.std.specs.Char.{digit_value, is_ascii_digit}
+use Rattle.std.specs.List.{list_all, slice_split, position_from}
 use Rattle.std.specs.Str.{bytes_eq}
-use Rattle.apex_table.specs.Terms.{Place, TableFault, Timeout}
+use Rattle.apex_types.specs.Limits.{most_message}
+use Rattle.apex_table.specs.Terms.{Message, Origin, Place, TableFault, Timeout}
 use Rattle.apex_types.specs.declared.calls.Timeout.TheVariants.{Poll, Ticks, Infinite}
 use Rattle.apex_types.specs.Numbers.{number_of, at_most}
 use Rattle.apex_table.specs.declared.fault.TableFault.TheVariants.{OutOfRange, UnknownName}
@@ -36,6 +38,38 @@ timeout at word =
     if bytes_eq word (codes "0") then Ok Poll else
     if bytes_eq word (codes "infinite") then Ok Infinite else
     number at 4294967295 word >>= λ n. Ok (Ticks n)
+
+-- a digit of a message: 0 to 9, a to f
+abbrev pub is_digit : ℕ → Bool
+is_digit c = is_ascii_digit c || (nat_le 97 c && nat_le c 102)
+
+-- the bytes that pairs of digits write
+abbrev pub pairs_value : List ℕ → List ℕ
+pairs_value (high ∷ low ∷ digits) = (digit_value high * 16 + digit_value low) ∷ pairs_value digits
+pairs_value _ = []
+
+-- the bytes that a word writes, by pairs of digits, or by `-` where there are none; none where the word
+-- is no message
+abbrev pub bytes_of : List ℕ → Option (List ℕ)
+bytes_of word =
+    if bytes_eq word (codes "-") then Some [] else
+    if length word % 2 == 0 && list_all is_digit word then Some (pairs_value word) else None
+
+-- the form of a message, which may be of any length
+abbrev pub is_message : List ℕ → Bool
+is_message word = is_some (bytes_of word)
+
+-- these bytes, where they are 64 at the most
+abbrev pub few_bytes : List ℕ → Option (List ℕ)
+few_bytes bytes = if nat_le (length bytes) most_message then Some bytes else None
+
+-- the bytes of a message, which are 64 at the most
+abbrev pub message_bytes : Place → List ℕ → Result (List ℕ) TableFault
+message_bytes at word = some_or (OutOfRange at) (option_and_then few_bytes (bytes_of word))
+
+-- a message of the step of this origin, whose literal its bytes are
+abbrev pub message : Place → Origin → List ℕ → Result Message TableFault
+message at origin word = message_bytes at word >>= λ bytes. Ok (record { origin = origin; length = length bytes })
 
 -- the place, counted from 0, of the entry of this name
 abbrev pub entry_of : Place → List (List ℕ) → List ℕ → Result ℕ TableFault

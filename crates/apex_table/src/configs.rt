@@ -165,3 +165,124 @@ impl SemaphoreConfig {
         self.discipline
     }
 }
+
+/// A buffer as the table gives it (ARINC 653 Part 1, buffers).
+#[derive(Debug, Drop)]
+pub struct BufferConfig {
+    name: Name,
+    length: u8,
+    capacity: u8,
+    discipline: Discipline,
+}
+
+impl Model for BufferConfig {
+    ghost use Rattle.apex_types.specs.Table.{BufferConfig};
+
+    ghost Value = { BufferConfig };
+
+    ghost view = { λ b. record { name = b.name; length = b.length; capacity = b.capacity; discipline = b.discipline } };
+}
+
+impl BufferConfig {
+    pub(crate) fn new(name: Name, length: u8, capacity: u8, discipline: Discipline) -> BufferConfig
+        ensures { result ≡ record { name = name; length = length; capacity = capacity; discipline = discipline } }
+    {
+        BufferConfig {
+            name,
+            length,
+            capacity,
+            discipline,
+        }
+    }
+
+    pub fn name(&self) -> &Name
+        ensures { result.now ≡ self.now.name }
+    {
+        &self.name
+    }
+
+    /// The most bytes of a message.
+    pub fn length(&self) -> u8
+        ensures { result ≡ self.now.length }
+    {
+        self.length
+    }
+
+    /// How many messages it holds at the most.
+    pub fn capacity(&self) -> u8
+        ensures { result ≡ self.now.capacity }
+    {
+        self.capacity
+    }
+
+    /// Who comes first among those that wait.
+    pub fn discipline(&self) -> Discipline
+        ensures { result ≡ self.now.discipline }
+    {
+        self.discipline
+    }
+}
+
+/// A blackboard as the table gives it (ARINC 653 Part 1, blackboards).
+#[derive(Debug, Drop)]
+pub struct BlackboardConfig {
+    name: Name,
+    length: u8,
+}
+
+impl Model for BlackboardConfig {
+    ghost use Rattle.apex_types.specs.Table.{BlackboardConfig};
+
+    ghost Value = { BlackboardConfig };
+
+    ghost view = { λ b. record { name = b.name; length = b.length } };
+}
+
+impl BlackboardConfig {
+    pub(crate) fn new(name: Name, length: u8) -> BlackboardConfig
+        ensures { result ≡ record { name = name; length = length } }
+    {
+        BlackboardConfig { name, length }
+    }
+
+    pub fn name(&self) -> &Name
+        ensures { result.now ≡ self.now.name }
+    {
+        &self.name
+    }
+
+    /// The most bytes of a message.
+    pub fn length(&self) -> u8
+        ensures { result ≡ self.now.length }
+    {
+        self.length
+    }
+}
+
+/// An event as the table gives it (ARINC 653 Part 1, events).
+#[derive(Debug, Drop)]
+pub struct EventConfig {
+    name: Name,
+}
+
+impl Model for EventConfig {
+    ghost use Rattle.apex_types.specs.Table.{EventConfig};
+
+    ghost Value = { EventConfig };
+
+    ghost view = { λ e. record { name = e.name } };
+}
+
+impl EventConfig {
+    pub(crate) fn new(name: Name) -> EventConfig
+        ensures { result ≡ record { name = name } }
+    {
+        EventConfig { name }
+    }
+
+    pub fn name(&self) -> &Name
+        ensures { result.now ≡ self.now.name }
+    {
+        &self.name
+    }
+}

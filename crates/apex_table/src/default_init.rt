@@ -1,12 +1,16 @@
-ghost use Rattle.std.specs.Prelude.{◌≡◌, ◌<◌, ◌≤◌, length, IfOk};
+ghost use Rattle.std.specs.Prelude.{◌≡◌, ◌<◌, ◌≤◌, ◌++◌, length, IfOk};
 ghost use Rattle.apex_types.specs.Limits.{most_objects, most_processes};
+ghost use Rattle.apex_types.specs.Places.{map_places};
 ghost use Rattle.apex_types.specs.declared.calls.Named.TheVariants.{Known};
 ghost use Rattle.apex_types.specs.declared.calls.ObjectCall.TheVariants.{Create};
-ghost use Rattle.apex_table.specs.DefaultInit.{default_init};
+ghost use Rattle.apex_table.specs.DefaultInit.{creates, creates_objects, default_init};
 
-use crate::configs::{ProcessConfig, SemaphoreConfig};
+use crate::configs::ProcessConfig;
+use crate::objects::Objects;
+use crate::steps::object::Services;
 use apex_types::{
-    Call, Id, Named, ObjectCall, PartitionCall, ProcessId, ProcessService, RequestedMode, Step,
+    BlackboardKind, BufferKind, Call, EventKind, Id, Named, ObjectCall, PartitionCall, ProcessId,
+    ProcessService, RequestedMode, SemaphoreKind, Step,
 };
 use std::alloc::{AllocError, Global};
 
@@ -18,20 +22,39 @@ fn create<K, W>(place: usize) -> ObjectCall<Id<K>, W>
     ObjectCall::Create(Named::Known(Id::at(place as u8)))
 }
 
+/// Adds the CREATE of each of these objects, which are of the kind.
+fn create_each<K: Services, E>(init: &mut Vec<Step>, objects: &[E]) -> Result<(), AllocError>
+    requires { length objects.now ≤ most_objects }
+    ensures { IfOk result (λ _. init.new.items ≡ init.old.items ++ map_places (creates K.kind) 0 objects.now) }
+{
+    for (place, _) in objects.iter().enumerate() {
+        init.push(Step::of(K::call(create(place))))?;
+    }
+    Ok(())
+}
+
+/// The CREATE of each object, kind by kind.
+fn create_objects(alloc: Global, objects: &Objects) -> Result<Vec<Step>, AllocError>
+    ensures { IfOk result (λ init. init.items ≡ creates_objects objects.now) }
+{
+    let mut init = Vec::new(alloc);
+    create_each::<SemaphoreKind, _>(&mut init, &objects.semaphores)?;
+    create_each::<BufferKind, _>(&mut init, &objects.buffers)?;
+    create_each::<BlackboardKind, _>(&mut init, &objects.blackboards)?;
+    create_each::<EventKind, _>(&mut init, &objects.events)?;
+    Ok(init)
+}
+
 /// The init list of a table that gives none: creates everything, starts what starts, and enters NORMAL.
 pub fn default_init(
     alloc: Global,
     processes: &[ProcessConfig],
-    semaphores: &[SemaphoreConfig],
+    objects: &Objects,
 ) -> Result<Vec<Step>, AllocError>
-    requires processes { length processes.now ≤ most_processes }
-    requires semaphores { length semaphores.now ≤ most_objects }
-    ensures { IfOk result (λ init. init.items ≡ default_init processes.now semaphores.now) }
+    requires { length processes.now ≤ most_processes }
+    ensures { IfOk result (λ init. init.items ≡ default_init processes.now objects.now) }
 {
-    let mut init = Vec::new(alloc);
-    for (place, _) in semaphores.iter().enumerate() {
-        init.push(Step::of(Call::Semaphore(create(place))))?;
-    }
+    let mut init = create_objects(alloc, objects)?;
     for (place, process) in processes.iter().enumerate() {
         let id = ProcessId::at(place as u8);
         let affinity = ProcessService::InitializeCoreAffinity(process.core().number());

@@ -14,6 +14,9 @@ pub enum Section {
     Top,
     Process,
     Semaphore,
+    Buffer,
+    Blackboard,
+    Event,
     Init,
 }
 
@@ -21,12 +24,15 @@ impl Section {
     /// The section's word in the text of a fault.
     pub fn word(self) -> &'static str
         ensures word { result.now ≡ section_word self }
-        ensures short { length result.now ≤ 9 }
+        ensures short { length result.now ≤ 10 }
     {
         match self {
             Section::Top => "top",
             Section::Process => "process",
             Section::Semaphore => "semaphore",
+            Section::Buffer => "buffer",
+            Section::Blackboard => "blackboard",
+            Section::Event => "event",
             Section::Init => "init",
         }
     }

@@ -1,16 +1,20 @@
 ghost use Rattle.std.specs.Prelude.{◌≡◌, ◌<◌, ◌≤◌, map, length, option_map, IfOk, IfSome};
-ghost use Rattle.apex_types.specs.Limits.{most_init_steps, most_objects, most_processes};
+ghost use Rattle.apex_types.specs.Limits.{most_init_steps, most_processes};
 ghost use Rattle.toml.specs.View.{view};
 ghost use Rattle.apex_table.specs.Outcome.{Gives};
-ghost use Rattle.apex_table.specs.Init.{next_text, texts, given_texts, init_texts, is_init_process_service, is_init_semaphore_service, is_init_time_call, is_init_call, init_step, next_init_step, init_steps, init_list};
+ghost use Rattle.apex_table.specs.Init.{next_text, texts, given_texts, init_texts, is_init_process_service, is_init_semaphore_service, is_init_blackboard_service, is_init_event_service, is_init_time_call, is_init_call, init_step, next_init_step, init_steps, init_list};
 
-use crate::configs::{ProcessConfig, SemaphoreConfig};
+use crate::configs::ProcessConfig;
 use crate::default_init::default_init;
 use crate::fault::{Place, Section, TableFault};
 use crate::keys;
 use crate::names::Names;
+use crate::objects::Objects;
 use crate::steps::step;
-use apex_types::{Call, ObjectCall, Origin, ProcessService, SemaphoreService, Step, TimeCall};
+use apex_types::{
+    BlackboardService, Call, EventService, ObjectCall, Origin, ProcessService, SemaphoreService,
+    Step, TimeCall,
+};
 use std::alloc::Global;
 use toml::Value;
 
@@ -81,6 +85,24 @@ fn is_init_semaphore_service(service: &SemaphoreService) -> bool
     }
 }
 
+fn is_init_blackboard_service(service: &BlackboardService) -> bool
+    ensures { result ≡ is_init_blackboard_service service.now }
+{
+    match service {
+        BlackboardService::Read(_) => false,
+        BlackboardService::Display(_) | BlackboardService::Clear => true,
+    }
+}
+
+fn is_init_event_service(service: &EventService) -> bool
+    ensures { result ≡ is_init_event_service service.now }
+{
+    match service {
+        EventService::Wait(_) => false,
+        EventService::Set | EventService::Reset => true,
+    }
+}
+
 fn is_init_time_call(call: &TimeCall) -> bool
     ensures { result ≡ is_init_time_call call.now }
 {
@@ -97,7 +119,15 @@ fn is_init_call(call: &Call) -> bool
     match call {
         Call::Process(ObjectCall::Own(_, service)) => is_init_process_service(service),
         Call::Semaphore(ObjectCall::Own(_, service)) => is_init_semaphore_service(service),
-        Call::Partition(_) | Call::Process(_) | Call::Semaphore(_) => true,
+        Call::Buffer(ObjectCall::Own(_, _)) => false,
+        Call::Blackboard(ObjectCall::Own(_, service)) => is_init_blackboard_service(service),
+        Call::Event(ObjectCall::Own(_, service)) => is_init_event_service(service),
+        Call::Partition(_)
+        | Call::Process(_)
+        | Call::Semaphore(_)
+        | Call::Buffer(_)
+        | Call::Blackboard(_)
+        | Call::Event(_) => true,
         Call::Caller(_) => false,
         Call::Time(call) => is_init_time_call(call),
     }
@@ -152,16 +182,15 @@ pub fn init_list(
     alloc: Global,
     names: &Names,
     processes: &[ProcessConfig],
-    semaphores: &[SemaphoreConfig],
+    objects: &Objects,
     texts: Option<Vec<&str>>,
 ) -> Result<Vec<Step>, TableFault>
     requires processes { length processes.now ≤ most_processes }
-    requires semaphores { length semaphores.now ≤ most_objects }
     requires texts { IfSome texts (λ v. length v.items ≤ most_init_steps) }
-    ensures { Gives (λ v. v.items) result (init_list names.now processes.now semaphores.now (option_map (λ v. map (λ t. t.now) v.items) texts.entry)) }
+    ensures { Gives (λ v. v.items) result (init_list names.now processes.now objects.now (option_map (λ v. map (λ t. t.now) v.items) texts.entry)) }
 {
     match texts {
         Some(texts) => init_steps(alloc, names, &texts),
-        None => Ok(default_init(alloc, processes, semaphores)?),
+        None => Ok(default_init(alloc, processes, objects)?),
     }
 }

@@ -4,11 +4,11 @@ ghost use Rattle.std.specs.Str.{bytes_eq};
 ghost use Rattle.toml.specs.Data.{get_member};
 ghost use Rattle.toml.specs.View.{view, table_view};
 ghost use Rattle.apex_table.specs.Outcome.{Gives};
-ghost use Rattle.apex_table.specs.Keys.{has_only, known, required, text, truth, table, array, array_at, at_most, number, number_at, number_or, truth_or, text_at, well_formed, name_at};
+ghost use Rattle.apex_table.specs.Keys.{has_only, known, required, text, truth, table, array, array_at, at_most, number, number_at, number_or, truth_or, text_at, discipline, discipline_at, well_formed, name_at};
 
 use crate::fault::{Place, TableFault};
 use crate::named::{Named, has_name};
-use apex_types::Name;
+use apex_types::{Discipline, Name};
 use toml::{Table, Value};
 
 fn is_one_of(names: &[&str], name: &str) -> bool
@@ -170,11 +170,29 @@ pub fn array_at<'a>(at: Place, table: &'a Table, name: &str) -> Result<&'a [Valu
 }
 
 /// The text at a key without a default.
-pub fn text_at<'a>(at: Place, table: &'a Table, name: &str) -> Result<&'a str, TableFault>
+fn text_at<'a>(at: Place, table: &'a Table, name: &str) -> Result<&'a str, TableFault>
     ensures { Gives (λ t. t.now) result (text_at at name.now (table_view table.now)) }
 {
     let value = required(at, table, name)?;
     text(at, value)
+}
+
+fn discipline(at: Place, word: &str) -> Result<Discipline, TableFault>
+    ensures { Gives (λ d. d) result (discipline at word.now) }
+{
+    match word {
+        "FIFO" => Ok(Discipline::Fifo),
+        "PRIORITY" => Ok(Discipline::Priority),
+        _ => Err(TableFault::OutOfRange(at)),
+    }
+}
+
+/// The discipline of a queue, at its key.
+pub fn discipline_at(at: Place, table: &Table) -> Result<Discipline, TableFault>
+    ensures { Gives (λ d. d) result (discipline_at at (table_view table.now)) }
+{
+    let word = text_at(at, table, "discipline")?;
+    discipline(at, word)
 }
 
 pub fn well_formed(at: Place, text: &str) -> Result<Name, TableFault>

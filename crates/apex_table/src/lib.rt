@@ -1,14 +1,18 @@
 //! The partition table: what is read of a table's text, or the first fault that it has.
 #![tactic(auto)]
 
+mod blackboards;
+mod buffers;
 mod configs;
 mod default_init;
+mod events;
 mod fault;
 mod init;
 mod keys;
 mod listed;
 mod named;
 mod names;
+mod objects;
 mod processes;
 mod reading;
 mod scripts;
@@ -17,7 +21,7 @@ mod semaphores;
 mod steps;
 mod table;
 
-pub use configs::{ProcessConfig, SemaphoreConfig};
+pub use configs::{BlackboardConfig, BufferConfig, EventConfig, ProcessConfig, SemaphoreConfig};
 pub use fault::{Place, Section, TableFault};
 pub use reading::read_table;
 pub use table::Table;

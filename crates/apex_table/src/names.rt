@@ -1,9 +1,9 @@
 ghost use Rattle.std.specs.Prelude.{◌≡◌, ◌≤◌, map, length, IfOk};
-ghost use Rattle.apex_types.specs.Limits.{most_objects, most_processes};
+ghost use Rattle.apex_types.specs.Limits.{most_processes};
 ghost use Rattle.apex_table.specs.Names.{names_of};
 
-use crate::configs::SemaphoreConfig;
 use crate::named::Named;
+use crate::objects::Objects;
 use crate::processes::Draft;
 use apex_types::Name;
 use std::alloc::{AllocError, Global};
@@ -14,6 +14,9 @@ use std::marker::Model;
 pub struct Names {
     processes: Vec<Name>,
     semaphores: Vec<Name>,
+    buffers: Vec<Name>,
+    blackboards: Vec<Name>,
+    events: Vec<Name>,
 }
 
 impl Model for Names {
@@ -23,10 +26,13 @@ impl Model for Names {
 
     ghost Value = { Names };
 
-    ghost view = { λ n. record { processes = n.processes.items; semaphores = n.semaphores.items } };
+    ghost view = { λ n. record { processes = n.processes.items; semaphores = n.semaphores.items; buffers = n.buffers.items; blackboards = n.blackboards.items; events = n.events.items } };
 
     ghost invariant = { λ n. (length n.processes.items ≤ most_processes)
-        × (length n.semaphores.items ≤ most_objects) };
+        × (length n.semaphores.items ≤ most_objects)
+        × (length n.buffers.items ≤ most_objects)
+        × (length n.blackboards.items ≤ most_objects)
+        × (length n.events.items ≤ most_objects) };
 }
 
 /// The names of the entries of one kind.
@@ -42,18 +48,16 @@ fn listed<T: Named>(alloc: Global, entries: &[T]) -> Result<Vec<Name>, AllocErro
 
 impl Names {
     /// The names of these things. It fails only for want of memory.
-    pub fn of(
-        alloc: Global,
-        processes: &[Draft],
-        semaphores: &[SemaphoreConfig],
-    ) -> Result<Names, AllocError>
-        requires processes { length processes.now ≤ most_processes }
-        requires semaphores { length semaphores.now ≤ most_objects }
-        ensures { IfOk result (λ names. names ≡ names_of processes.now semaphores.now) }
+    pub fn of(alloc: Global, processes: &[Draft], objects: &Objects) -> Result<Names, AllocError>
+        requires { length processes.now ≤ most_processes }
+        ensures { IfOk result (λ names. names ≡ names_of processes.now objects.now) }
     {
         Ok(Names {
             processes: listed(alloc, processes)?,
-            semaphores: listed(alloc, semaphores)?,
+            semaphores: listed(alloc, &objects.semaphores)?,
+            buffers: listed(alloc, &objects.buffers)?,
+            blackboards: listed(alloc, &objects.blackboards)?,
+            events: listed(alloc, &objects.events)?,
         })
     }
 
@@ -69,5 +73,26 @@ impl Names {
         ensures few { length result.now ≤ most_processes }
     {
         &self.semaphores
+    }
+
+    pub fn buffers(&self) -> &[Name]
+        ensures value { result.now ≡ self.now.buffers }
+        ensures few { length result.now ≤ most_processes }
+    {
+        &self.buffers
+    }
+
+    pub fn blackboards(&self) -> &[Name]
+        ensures value { result.now ≡ self.now.blackboards }
+        ensures few { length result.now ≤ most_processes }
+    {
+        &self.blackboards
+    }
+
+    pub fn events(&self) -> &[Name]
+        ensures value { result.now ≡ self.now.events }
+        ensures few { length result.now ≤ most_processes }
+    {
+        &self.events
     }
 }

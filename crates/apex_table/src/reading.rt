@@ -6,14 +6,23 @@ use crate::fault::{Place, Section, TableFault};
 use crate::init::{init_list, init_texts};
 use crate::keys;
 use crate::names::Names;
+use crate::objects::Objects;
 use crate::processes::{Processes, some_process};
 use crate::scripts::with_scripts;
 use crate::sections::read_section;
-use crate::semaphores::Semaphores;
 use crate::table::Table;
 use std::alloc::Global;
 
-const TOP_KEYS: &[&str] = &["cores", "history", "process", "semaphore", "init"];
+const TOP_KEYS: &[&str] = &[
+    "cores",
+    "history",
+    "process",
+    "semaphore",
+    "buffer",
+    "blackboard",
+    "event",
+    "init",
+];
 
 #[tactic(auto, unfolding(crate::specs::Reading::reading))]
 fn read_tree(alloc: Global, tree: &toml::Table) -> Result<Table, TableFault>
@@ -25,12 +34,12 @@ fn read_tree(alloc: Global, tree: &toml::Table) -> Result<Table, TableFault>
     let limit = keys::number_or(at, 4096, 1, 65536, tree, "history")?;
     let drafts = read_section(alloc, &Processes { cores }, tree)?;
     some_process(&drafts)?;
-    let semaphores = read_section(alloc, &Semaphores, tree)?;
+    let objects = Objects::read(alloc, tree)?;
     let texts = init_texts(alloc, keys::key(tree, "init"))?;
-    let names = Names::of(alloc, &drafts, &semaphores)?;
+    let names = Names::of(alloc, &drafts, &objects)?;
     let processes = with_scripts(alloc, &names, &drafts)?;
-    let init = init_list(alloc, &names, &processes, &semaphores, texts)?;
-    Ok(Table::new(cores as u8, limit, processes, semaphores, init))
+    let init = init_list(alloc, &names, &processes, &objects, texts)?;
+    Ok(Table::new(cores as u8, limit, processes, objects, init))
 }
 
 fn document(alloc: Global, text: &[u8]) -> Result<toml::Table, TableFault>

@@ -1,13 +1,11 @@
-ghost use Rattle.std.specs.Prelude.{◌≡◌};
-ghost use Rattle.apex_table.specs.Outcome.{Gives};
-ghost use Rattle.apex_table.specs.Semaphores.{discipline, semaphores};
+ghost use Rattle.apex_table.specs.Semaphores.{semaphores};
 
 use crate::configs::SemaphoreConfig;
 use crate::fault::{Place, Section, TableFault};
 use crate::keys;
 use crate::named::Named;
 use crate::sections::{Head, Kind};
-use apex_types::{Discipline, Name};
+use apex_types::Name;
 use std::alloc::Global;
 use toml::Table;
 
@@ -16,16 +14,6 @@ impl Named for SemaphoreConfig {
 
     fn name(&self) -> &Name {
         SemaphoreConfig::name(self)
-    }
-}
-
-fn discipline(at: Place, word: &str) -> Result<Discipline, TableFault>
-    ensures { Gives (λ d. d) result (discipline at word.now) }
-{
-    match word {
-        "FIFO" => Ok(Discipline::Fifo),
-        "PRIORITY" => Ok(Discipline::Priority),
-        _ => Err(TableFault::OutOfRange(at)),
     }
 }
 
@@ -58,8 +46,7 @@ impl<'a> Kind<'a> for Semaphores {
     ) -> Result<SemaphoreConfig, TableFault> {
         let maximum = keys::number_at(at, 1, 32767, table, "maximum")?;
         let initial = keys::number_at(at, 0, maximum, table, "initial")?;
-        let word = keys::text_at(at, table, "discipline")?;
-        let discipline = discipline(at, word)?;
+        let discipline = keys::discipline_at(at, table)?;
         Ok(SemaphoreConfig::new(name, maximum as u16, initial as u16, discipline))
     }
 }

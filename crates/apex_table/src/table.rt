@@ -1,10 +1,12 @@
 ghost use Rattle.std.specs.Prelude.{◌≡◌, ◌<◌, ◌≤◌, length, slice_get};
 ghost use Rattle.apex_types.specs.Limits.{most_cores, most_entries, most_literal, most_objects, most_processes};
-ghost use Rattle.apex_types.specs.Table.{IsLawful, process_config, semaphore_config, call_in, literal_text};
+ghost use Rattle.apex_types.specs.Table.{IsLawful, process_config, semaphore_config, buffer_config, blackboard_config, event_config, call_in, literal_text};
+ghost use Rattle.apex_table.specs.Reading.{table_with};
 
-use crate::configs::{ProcessConfig, SemaphoreConfig};
+use crate::configs::{BlackboardConfig, BufferConfig, EventConfig, ProcessConfig, SemaphoreConfig};
 use crate::listed::{call_in, literal_in};
-use apex_types::{Call, Origin, ProcessId, SemaphoreId, Step};
+use crate::objects::Objects;
+use apex_types::{BlackboardId, BufferId, Call, EventId, Origin, ProcessId, SemaphoreId, Step};
 use std::marker::Model;
 
 /// A partition's table. By its type every range and every reference in it holds.
@@ -13,18 +15,19 @@ pub struct Table {
     cores: u8,
     limit: u32,
     processes: Vec<ProcessConfig>,
-    semaphores: Vec<SemaphoreConfig>,
+    objects: Objects,
     init: Vec<Step>,
 }
 
 impl Model for Table {
     ghost use Rattle.apex_types.specs.Table.{Table, IsLawful};
+    ghost use Rattle.apex_table.specs.Reading.{table_with};
 
     ghost Value = { Table };
 
-    ghost view = { λ t. record { cores = t.cores; limit = t.limit; processes = t.processes.items; semaphores = t.semaphores.items; init = t.init.items } };
+    ghost view = { λ t. table_with t.cores t.limit t.processes.items t.objects t.init.items };
 
-    ghost invariant = { λ t. IsLawful (record { cores = t.cores; limit = t.limit; processes = t.processes.items; semaphores = t.semaphores.items; init = t.init.items }) };
+    ghost invariant = { λ t. IsLawful (table_with t.cores t.limit t.processes.items t.objects t.init.items) };
 }
 
 impl Table {
@@ -32,17 +35,17 @@ impl Table {
         cores: u8,
         limit: u32,
         processes: Vec<ProcessConfig>,
-        semaphores: Vec<SemaphoreConfig>,
+        objects: Objects,
         init: Vec<Step>,
     ) -> Table
-        requires { IsLawful (record { cores = cores; limit = limit; processes = processes.items; semaphores = semaphores.items; init = init.items }) }
-        ensures { result ≡ record { cores = cores; limit = limit; processes = processes.items; semaphores = semaphores.items; init = init.items } }
+        requires { IsLawful (table_with cores limit processes.items objects init.items) }
+        ensures { result ≡ table_with cores limit processes.items objects init.items }
     {
         Table {
             cores,
             limit,
             processes,
-            semaphores,
+            objects,
             init,
         }
     }
@@ -83,7 +86,7 @@ impl Table {
         ensures value { result ≡ length self.now.semaphores }
         ensures range { result ≤ most_objects }
     {
-        self.semaphores.len()
+        self.objects.semaphores.len()
     }
 
     /// The semaphore of this id.
@@ -92,7 +95,55 @@ impl Table {
         ensures place { slice_get self.now.semaphores id ≡ Some result.now }
         ensures entry { result.now ≡ semaphore_config self.now id }
     {
-        &self.semaphores[id.place()]
+        &self.objects.semaphores[id.place()]
+    }
+
+    pub fn buffer_count(&self) -> usize
+        ensures value { result ≡ length self.now.buffers }
+        ensures range { result ≤ most_objects }
+    {
+        self.objects.buffers.len()
+    }
+
+    /// The buffer of this id.
+    pub fn buffer(&self, id: BufferId) -> &BufferConfig
+        requires { id < length self.now.buffers }
+        ensures place { slice_get self.now.buffers id ≡ Some result.now }
+        ensures entry { result.now ≡ buffer_config self.now id }
+    {
+        &self.objects.buffers[id.place()]
+    }
+
+    pub fn blackboard_count(&self) -> usize
+        ensures value { result ≡ length self.now.blackboards }
+        ensures range { result ≤ most_objects }
+    {
+        self.objects.blackboards.len()
+    }
+
+    /// The blackboard of this id.
+    pub fn blackboard(&self, id: BlackboardId) -> &BlackboardConfig
+        requires { id < length self.now.blackboards }
+        ensures place { slice_get self.now.blackboards id ≡ Some result.now }
+        ensures entry { result.now ≡ blackboard_config self.now id }
+    {
+        &self.objects.blackboards[id.place()]
+    }
+
+    pub fn event_count(&self) -> usize
+        ensures value { result ≡ length self.now.events }
+        ensures range { result ≤ most_objects }
+    {
+        self.objects.events.len()
+    }
+
+    /// The event of this id.
+    pub fn event(&self, id: EventId) -> &EventConfig
+        requires { id < length self.now.events }
+        ensures place { slice_get self.now.events id ≡ Some result.now }
+        ensures entry { result.now ≡ event_config self.now id }
+    {
+        &self.objects.events[id.place()]
     }
 
     /// The call of the step at this place of the init list, counted from 0, or none past its end.

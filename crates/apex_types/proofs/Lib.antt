@@ -9,3 +9,5 @@ pub mod Reaches
 pub mod Rows
 pub mod Dues
 pub mod Digits
+pub mod Loops
+pub mod Waking

@@ -4,7 +4,7 @@ use Rattle.std.proofs.lemmas.Bool.{both_ways, cases_eq, cond_both}
 use Rattle.std.proofs.lemmas.Int.{ints}
 use Rattle.std.proofs.lemmas.List.{length-map, set-set}
 use Rattle.std.proofs.lemmas.Option.{none-some}
-use Rattle.apex_types.specs.Terms.{Mode, Record, Suspender, Wait}
+use Rattle.apex_types.specs.Terms.{Message, Mode, Record, Suspender, Wait}
 use Rattle.apex_types.specs.declared.records.Suspender.TheVariants.{Itself, Other}
 use Rattle.apex_types.specs.declared.records.Wait.TheVariants.{Normal, Start}
 use Rattle.apex_types.specs.Roster.{Roster, nobody, record_at, with_record, is_normal}
@@ -12,7 +12,7 @@ use Rattle.apex_types.specs.Running.{is_eligible}
 use Rattle.apex_types.specs.Dues.{IsFrom, HasNoPastDue}
 use Rattle.apex_types.specs.Distinct.{IsStamped}
 use Rattle.apex_types.specs.Waiters.{goes_by_priority, queue_in}
-use Rattle.apex_types.specs.Stamps.{WaitsForOne, HasOrderlyStarts, suspension_awake, newest, readied, reset, begin, start, stop, stopped, is_by_itself, suspend, self_suspended, suspend_self, unsuspended, resume, set_priority, awake, waiting, block, unblock, release, place_newest, without_due, set_mode, set_core, set_step}
+use Rattle.apex_types.specs.Stamps.{WaitsForOne, HasOrderlyStarts, suspension_awake, newest, readied, reset, begin, start, stop, stopped, is_by_itself, suspend, self_suspended, suspend_self, unsuspended, resume, set_priority, awake, waiting, block, unblock, release, place_newest, without_due, set_mode, set_core, set_step, receive}
 use Rattle.apex_types.specs.PartitionServices.{enter_idle}
 use Rattle.apex_types.specs.InTurn.{Changed, next_and, in_turn}
 use Rattle.apex_types.proofs.Rosters.{changes_record, changes_newest, at_record}
@@ -267,6 +267,9 @@ module _ (roster : Roster) (p : ℕ) (known : p < length roster.records) where
 
   pub reaches_set_step : (step : ℕ) → Reaches 0 roster (set_step roster p step)
   reaches_set_step step = reaches_record _ refl (own_fits _ refl refl refl (λ h. h))
+
+  pub reaches_receive : (message : Message) → Reaches 0 roster (receive roster p message)
+  reaches_receive message = reaches_record _ refl (own_fits _ refl refl refl (λ h. h))
 
 -- a start that begins leaves the mode
 mode_readied : (roster : Roster) (p : ℕ) (r : Record) → (readied roster p r).mode ≡ roster.mode

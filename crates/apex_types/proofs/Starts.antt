@@ -1,17 +1,18 @@
 -- What changes of single processes keep of the order of starts.
 use Rattle.std.proofs.Common.{◌≡◌, ℕ, zero, suc, ◌<◌, ◌≤◌, arith, ◌&&◌, Bool, true, false, Option, None, Some, is_none, length, refl, sym, ◌∙◌, ap}
 use Rattle.std.proofs.lemmas.Bool.{and_parts, both_ways, eqb-true, eq-eqb}
-use Rattle.std.proofs.lemmas.Option.{none-some}
-use Rattle.apex_types.specs.Terms.{Mode, Queue, Record, Wait}
+use Rattle.std.proofs.lemmas.Option.{none-some, same_Some}
+use Rattle.apex_types.specs.Terms.{Message, Mode, Queue, Record, Wait}
 use Rattle.apex_types.specs.declared.records.Queue.TheVariants as queues
-use Rattle.apex_types.specs.declared.records.Wait.TheVariants.{Normal, Start, Time, Semaphore}
+use Rattle.apex_types.specs.declared.records.Wait.TheVariants.{Normal, Start, Time, Semaphore, Receive, Send, Blackboard, Event}
 use Rattle.apex_types.specs.Roster.{Roster, nobody, record_at, is_normal}
 use Rattle.apex_types.specs.Running.{is_eligible, chosen, runs_on, is_before}
-use Rattle.apex_types.specs.Stamps.{HasOrderlyStarts, ReadiesNobody, is_free, may_wait, set_step}
+use Rattle.apex_types.specs.Stamps.{HasOrderlyStarts, ReadiesNobody, is_free, may_wait, receive, set_step}
 use Rattle.apex_types.specs.Callers.{IsReady}
 use Rattle.apex_types.proofs.Rosters.{at_record}
 use Rattle.std.proofs.lemmas.List.{get_or_past, length-set}
-use Rattle.apex_types.specs.Waiters.{is_queue, is_same_queue, queue_in, waits_in, waits_before, discipline_of, first_waiter}
+use Rattle.apex_types.specs.Queues.{is_queue, is_same_queue}
+use Rattle.apex_types.specs.Waiters.{queue_in, waits_in, waits_before, discipline_of, first_waiter}
 use Rattle.apex_types.proofs.Choice.{place_passes, place_within}
 
 -- the order of starts, of one record
@@ -65,6 +66,12 @@ ready_step roster p step ready =
     let r : Record = record (record_at roster p) { step = step } in
     record { known = rw (length-set roster.records p r) ready.known; eligible = rw (at_record roster p ready.known r) ready.eligible }
 
+-- and where it receives a message
+pub ready_receive : (roster : Roster) (p : ℕ) (message : Message) → IsReady roster p → IsReady (receive roster p message) p
+ready_receive roster p message ready =
+    let r : Record = record (record_at roster p) { inbox = Some message } in
+    record { known = rw (length-set roster.records p r) ready.known; eligible = rw (at_record roster p ready.known r) ready.eligible }
+
 -- the chosen process of a core is ready
 pub chosen_ready : (roster : Roster) (core p : ℕ) → chosen roster core ≡ Some p → IsReady roster p
 unfolding runs_on
@@ -99,12 +106,17 @@ two_unready roster mode two first second (suc (suc p)) e =
 same_queue : (q r : Queue) → is_same_queue q r ≡ true → q ≡ r
 same_queue queues.Normal queues.Normal e = refl
 same_queue (queues.Semaphore s) (queues.Semaphore t) e = ap queues.Semaphore (eqb-true s t e)
-same_queue queues.Normal (queues.Semaphore t) e = cc
-same_queue (queues.Semaphore s) queues.Normal e = cc
+same_queue (queues.Buffer b) (queues.Buffer c) e = ap queues.Buffer (eqb-true b c e)
+same_queue (queues.Blackboard b) (queues.Blackboard c) e = ap queues.Blackboard (eqb-true b c e)
+same_queue (queues.Event s) (queues.Event t) e = ap queues.Event (eqb-true s t e)
+same_queue _ _ e = cc
 
-queue_itself : (q : Queue) → is_same_queue q q ≡ true
+pub queue_itself : (q : Queue) → is_same_queue q q ≡ true
 queue_itself queues.Normal = refl
 queue_itself (queues.Semaphore s) = eq-eqb s s refl
+queue_itself (queues.Buffer b) = eq-eqb b b refl
+queue_itself (queues.Blackboard b) = eq-eqb b b refl
+queue_itself (queues.Event e) = eq-eqb e e refl
 
 is_queue_some : (q : Queue) (found : Option Queue) → is_queue q found ≡ true → found ≡ Some q
 is_queue_some q None e = cc
@@ -141,6 +153,10 @@ normal_free (Some (Normal delay)) e = refl
 normal_free (Some Start) e = cc
 normal_free (Some Time) e = cc
 normal_free (Some (Semaphore s)) e = cc
+normal_free (Some (Receive b)) e = cc
+normal_free (Some (Send b message)) e = cc
+normal_free (Some (Blackboard b)) e = cc
+normal_free (Some (Event v)) e = cc
 
 pub first_may_wait : (roster : Roster) → HasOrderlyStarts roster → (p : ℕ) → first_waiter roster queues.Normal ≡ Some p → may_wait (record_at roster p) ≡ true
 first_may_wait roster orderly p e =
@@ -148,8 +164,9 @@ first_may_wait roster orderly p e =
     rw (queued_started roster orderly p queues.Normal stands, normal_free _ stands)
 
 -- before NORMAL a process that stands in another queue is a contradiction
-pub queued_normal : (roster : Roster) → HasOrderlyStarts roster → (p s : ℕ) → queue_in (record_at roster p) ≡ Some (queues.Semaphore s) → is_normal roster.mode ≡ false → ⊥
-queued_normal roster orderly p s e early =
-    let started = queued_started roster orderly p (queues.Semaphore s) e in
-    let normal = orderly.early early p started in
-    let clash : Some queues.Normal ≡ Some (queues.Semaphore s) = sym normal ∙ e in cc
+pub queued_normal : (roster : Roster) → HasOrderlyStarts roster → (p : ℕ) (q : Queue) → queue_in (record_at roster p) ≡ Some q
+    → is_same_queue queues.Normal q ≡ false → is_normal roster.mode ≡ false → ⊥
+queued_normal roster orderly p q e apart early =
+    let started = queued_started roster orderly p q e in
+    let normal = same_Some queues.Normal q (sym (orderly.early early p started) ∙ e) in
+    both_ways _ apart (ap (is_same_queue queues.Normal) (sym normal))

@@ -1,10 +1,15 @@
 -- What a call names, and what it creates.
-use Rattle.std.specs.Prelude.{ℕ, Bool, true, false, Option, None, Some, ◌==◌}
-use Rattle.apex_types.specs.Terms.{Call, Named, ObjectCall, Origin}
-use Rattle.apex_types.specs.declared.calls.Call.TheVariants.{Partition, Process, Caller, Time, Semaphore}
+use Rattle.std.specs.Prelude.{ℕ, Bool, true, false, Option, None, Some, ◌==◌, option_map}
+use Rattle.apex_types.specs.Terms.{Call, Message, Named, ObjectCall, Origin, Queue}
+use Rattle.apex_types.specs.declared.calls.BlackboardService.TheVariants.{Display, Clear}
+use Rattle.apex_types.specs.declared.calls.BufferService.TheVariants.{Send, Receive}
+use Rattle.apex_types.specs.declared.calls.Call.TheVariants.{Partition, Process, Caller, Time, Semaphore, Buffer, Blackboard, Event}
+use Rattle.apex_types.specs.declared.calls.EventService.TheVariants.{Set, Reset}
 use Rattle.apex_types.specs.declared.calls.Named.TheVariants.{Known, Unknown}
 use Rattle.apex_types.specs.declared.calls.ObjectCall.TheVariants.{Create, GetId, GetStatus, Own}
 use Rattle.apex_types.specs.declared.calls.SemaphoreService.TheVariants.{Wait, Signal}
+use Rattle.apex_types.specs.declared.records.Queue.TheVariants as queues
+use Rattle.apex_types.specs.Queues.{is_queue}
 
 -- the thing of a name, where an entry has it
 abbrev pub known : {I : Type 0} → Named I → Option I
@@ -35,13 +40,22 @@ object_origin (GetId named) = unknown named
 object_origin (GetStatus i) = None
 object_origin (Own i service) = None
 
--- the origin of the literal that the call names, if it names one
+-- the origin of the name that the call gives, where no entry has it
 abbrev pub origin_of : Call → Option Origin
 origin_of (Partition call) = None
 origin_of (Process call) = object_origin call
 origin_of (Caller call) = None
 origin_of (Time call) = None
 origin_of (Semaphore call) = object_origin call
+origin_of (Buffer call) = object_origin call
+origin_of (Blackboard call) = object_origin call
+origin_of (Event call) = object_origin call
+
+-- the message that the call gives: what SEND_BUFFER sends and DISPLAY_BLACKBOARD displays
+abbrev pub message_in : Call → Option Message
+message_in (Buffer (Own b (Send message timeout))) = Some message
+message_in (Blackboard (Own b (Display message))) = Some message
+message_in _ = None
 
 -- there is such a place, and it is this one
 abbrev pub is_place : ℕ → Option ℕ → Bool
@@ -58,10 +72,32 @@ abbrev pub created_semaphore : Call → Option ℕ
 created_semaphore (Semaphore call) = creation_of call
 created_semaphore _ = None
 
--- the call names semaphore s
-abbrev pub names_semaphore : ℕ → Call → Bool
-names_semaphore s (Semaphore call) = is_place s (object_of call)
-names_semaphore s _ = false
+-- the buffer that the call creates
+abbrev pub created_buffer : Call → Option ℕ
+created_buffer (Buffer call) = creation_of call
+created_buffer _ = None
+
+-- the blackboard that the call creates
+abbrev pub created_blackboard : Call → Option ℕ
+created_blackboard (Blackboard call) = creation_of call
+created_blackboard _ = None
+
+-- the event that the call creates
+abbrev pub created_event : Call → Option ℕ
+created_event (Event call) = creation_of call
+created_event _ = None
+
+-- the object that the call names, by its queue
+abbrev pub queue_named : Call → Option Queue
+queue_named (Semaphore call) = option_map queues.Semaphore (object_of call)
+queue_named (Buffer call) = option_map queues.Buffer (object_of call)
+queue_named (Blackboard call) = option_map queues.Blackboard (object_of call)
+queue_named (Event call) = option_map queues.Event (object_of call)
+queue_named _ = None
+
+-- the call names the object of this queue
+abbrev pub names : Queue → Call → Bool
+names queue call = is_queue queue (queue_named call)
 
 -- the call is WAIT_SEMAPHORE
 abbrev pub is_wait : Call → Bool
@@ -72,3 +108,25 @@ is_wait _ = false
 abbrev pub is_signal : Call → Bool
 is_signal (Semaphore (Own s Signal)) = true
 is_signal _ = false
+
+-- the message that the call sends, where it is SEND_BUFFER
+abbrev pub sent_message : Call → Option Message
+sent_message (Buffer (Own b (Send message timeout))) = Some message
+sent_message _ = None
+
+-- the call is RECEIVE_BUFFER
+abbrev pub is_receive : Call → Bool
+is_receive (Buffer (Own b (Receive timeout))) = true
+is_receive _ = false
+
+-- what a blackboard holds after the call, where it held this before
+abbrev pub shown_after : Option Message → Call → Option Message
+shown_after shown (Blackboard (Own b (Display message))) = Some message
+shown_after shown (Blackboard (Own b Clear)) = None
+shown_after shown _ = shown
+
+-- whether an event is up after the call, where it was or was not before
+abbrev pub up_after : Bool → Call → Bool
+up_after up (Event (Own e Set)) = true
+up_after up (Event (Own e Reset)) = false
+up_after up _ = up

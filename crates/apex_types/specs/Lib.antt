@@ -2,6 +2,7 @@ pub mod Terms
 pub mod Limits
 pub mod Name
 pub mod Numbers
+pub mod Queues
 pub mod Table
 pub mod Places
 pub mod Roster
@@ -11,6 +12,8 @@ pub mod Waiters
 pub mod Dues
 pub mod Stamps
 pub mod InTurn
+pub mod Waking
+pub mod Messages
 pub mod Ticks
 pub mod Callers
 pub mod Calls
@@ -20,6 +23,9 @@ pub mod Rows
 pub mod Objects
 pub mod Waiting
 pub mod SemaphoreServices
+pub mod BufferServices
+pub mod BlackboardServices
+pub mod EventServices
 pub mod ProcessServices
 pub mod CallerServices
 pub mod TimeServices

@@ -25,6 +25,14 @@ most_init_steps = 512
 abbrev pub most_literal : ℕ
 most_literal = 64
 
+-- the bytes of a message
+abbrev pub most_message : ℕ
+most_message = 64
+
+-- the messages that a buffer holds
+abbrev pub most_messages : ℕ
+most_messages = 16
+
 -- the entries of a history
 abbrev pub most_entries : ℕ
 most_entries = 65536

@@ -1,8 +1,12 @@
 -- The lines of a history: what is printed of each entry (this profile).
-use Rattle.std.specs.Prelude.{ℕ, ◌+◌, List, ◌++◌, flat_map, Option, None, Some, IfSome, codes, decimal}
-use Rattle.apex_types.specs.Terms.{Call, Caller, CallerCall, Entry, Named, Notice, ObjectCall, Origin, PartitionCall, ProcessService, Reply, RequestedMode, ReturnCode, SemaphoreService, TimeCall, Timeout, Who}
-use Rattle.apex_types.specs.declared.calls.Call.TheVariants.{Partition, Process, Caller as ToCaller, Time, Semaphore}
+use Rattle.std.specs.Prelude.{ℕ, ◌+◌, ◌/◌, ◌%◌, false, List, [], ◌∷◌, ◌++◌, flat_map, Option, None, Some, IfSome, codes, decimal}
+use Rattle.std.specs.Fmt.{digit_glyph}
+use Rattle.apex_types.specs.Terms.{BlackboardService, BufferService, Call, Caller, CallerCall, Entry, EventService, Message, Named, Notice, ObjectCall, Origin, PartitionCall, ProcessService, Reply, RequestedMode, ReturnCode, SemaphoreService, TimeCall, Timeout, Who}
+use Rattle.apex_types.specs.declared.calls.BlackboardService.TheVariants.{Display, Read, Clear}
+use Rattle.apex_types.specs.declared.calls.BufferService.TheVariants.{Send, Receive}
+use Rattle.apex_types.specs.declared.calls.Call.TheVariants.{Partition, Process, Caller as ToCaller, Time, Semaphore, Buffer, Blackboard, Event}
 use Rattle.apex_types.specs.declared.calls.CallerCall.TheVariants.{StopSelf, SuspendSelf, GetMyId, GetMyProcessorCoreId}
+use Rattle.apex_types.specs.declared.calls.EventService.TheVariants.{Set, Reset, Wait as WaitFor}
 use Rattle.apex_types.specs.declared.calls.Named.TheVariants.{Known, Unknown}
 use Rattle.apex_types.specs.declared.calls.ObjectCall.TheVariants.{Create, GetId, GetStatus, Own}
 use Rattle.apex_types.specs.declared.calls.PartitionCall.TheVariants.{SetPartitionMode, GetPartitionStatus}
@@ -13,10 +17,10 @@ use Rattle.apex_types.specs.declared.calls.TimeCall.TheVariants.{TimedWait, GetT
 use Rattle.apex_types.specs.declared.calls.Timeout.TheVariants.{Poll, Ticks, Infinite}
 use Rattle.apex_types.specs.declared.entries.Caller.TheVariants.{Process as AskedBy, Init, Nobody}
 use Rattle.apex_types.specs.declared.entries.Notice.TheVariants.{Woken, Released}
-use Rattle.apex_types.specs.declared.entries.Reply.TheVariants.{Code, Value, Status, Blocked, Gone, Idle as IdleTurn, Advanced}
+use Rattle.apex_types.specs.declared.entries.Reply.TheVariants.{Code, Value, Status, Message as Gets, Blocked, Gone, Idle as IdleTurn, Advanced}
 use Rattle.apex_types.specs.declared.entries.ReturnCode.TheVariants.{NoError, NoAction, NotAvailable, InvalidParam, InvalidConfig, InvalidMode, TimedOut}
 use Rattle.apex_types.specs.declared.entries.Who.TheVariants.{Core, Ticker}
-use Rattle.apex_types.specs.Table.{Table, process_config, semaphore_config, literal_text, IsKnown}
+use Rattle.apex_types.specs.Table.{Table, process_config, semaphore_config, buffer_config, blackboard_config, event_config, literal_text, message_bytes, IsKnown}
 
 -- the id of a process as users see it: its place in the table, counted from 1
 abbrev pub id_text : ℕ → List ℕ
@@ -50,6 +54,31 @@ process_name table p = (process_config table p).name
 -- the name that the table gives a semaphore
 abbrev pub semaphore_name : Table → ℕ → List ℕ
 semaphore_name table s = (semaphore_config table s).name
+
+-- the name that the table gives a buffer
+abbrev pub buffer_name : Table → ℕ → List ℕ
+buffer_name table b = (buffer_config table b).name
+
+-- the name that the table gives a blackboard
+abbrev pub blackboard_name : Table → ℕ → List ℕ
+blackboard_name table b = (blackboard_config table b).name
+
+-- the name that the table gives an event
+abbrev pub event_name : Table → ℕ → List ℕ
+event_name table e = (event_config table e).name
+
+-- a byte as two digits, 0 to 9 and a to f
+abbrev pub byte_text : ℕ → List ℕ
+byte_text byte = digit_glyph false (byte / 16) ∷ digit_glyph false (byte % 16) ∷ []
+
+-- the bytes of a message; the empty one has a mark of its own
+abbrev pub bytes_text : List ℕ → List ℕ
+bytes_text [] = codes "-"
+bytes_text (byte ∷ bytes) = flat_map byte_text (byte ∷ bytes)
+
+-- a message
+abbrev pub message_text : Table → Message → List ℕ
+message_text table message = bytes_text (message_bytes table message)
 
 -- a step of partition management
 abbrev pub partition_call_text : PartitionCall → List ℕ
@@ -98,6 +127,27 @@ abbrev pub semaphore_service_text : List ℕ → SemaphoreService → List ℕ
 semaphore_service_text name (Wait timeout) = codes "WAIT_SEMAPHORE " ++ name ++ codes " " ++ timeout_text timeout
 semaphore_service_text name Signal = codes "SIGNAL_SEMAPHORE " ++ name
 
+-- a service of the buffer of this name
+abbrev pub buffer_service_text : Table → List ℕ → BufferService → List ℕ
+buffer_service_text table name (Send message timeout) =
+    codes "SEND_BUFFER " ++ name ++ codes " " ++ message_text table message ++ codes " " ++ timeout_text timeout
+buffer_service_text table name (Receive timeout) =
+    codes "RECEIVE_BUFFER " ++ name ++ codes " " ++ timeout_text timeout
+
+-- a service of the blackboard of this name
+abbrev pub blackboard_service_text : Table → List ℕ → BlackboardService → List ℕ
+blackboard_service_text table name (Display message) =
+    codes "DISPLAY_BLACKBOARD " ++ name ++ codes " " ++ message_text table message
+blackboard_service_text table name (Read timeout) =
+    codes "READ_BLACKBOARD " ++ name ++ codes " " ++ timeout_text timeout
+blackboard_service_text table name Clear = codes "CLEAR_BLACKBOARD " ++ name
+
+-- a service of the event of this name
+abbrev pub event_service_text : List ℕ → EventService → List ℕ
+event_service_text name Set = codes "SET_EVENT " ++ name
+event_service_text name Reset = codes "RESET_EVENT " ++ name
+event_service_text name (WaitFor timeout) = codes "WAIT_EVENT " ++ name ++ codes " " ++ timeout_text timeout
+
 -- a step as the table writes it
 abbrev pub call_text : Table → Call → List ℕ
 call_text table (Partition call) = partition_call_text call
@@ -107,6 +157,12 @@ call_text table (ToCaller call) = caller_call_text call
 call_text table (Time call) = time_call_text call
 call_text table (Semaphore call) =
     object_call_text (codes "SEMAPHORE") (semaphore_name table) (literal_text table) semaphore_service_text call
+call_text table (Buffer call) =
+    object_call_text (codes "BUFFER") (buffer_name table) (literal_text table) (buffer_service_text table) call
+call_text table (Blackboard call) =
+    object_call_text (codes "BLACKBOARD") (blackboard_name table) (literal_text table) (blackboard_service_text table) call
+call_text table (Event call) =
+    object_call_text (codes "EVENT") (event_name table) (literal_text table) event_service_text call
 
 -- what stands in the place of a step: how many ticks were asked for, or nothing at an idle turn
 abbrev pub no_call_text : Reply → List ℕ
@@ -130,14 +186,15 @@ caller_text Init = codes "init"
 caller_text Nobody = codes "-"
 
 -- what the call was answered
-abbrev pub reply_text : Reply → List ℕ
-reply_text (Code code) = code_text code
-reply_text (Value value) = codes "VALUE " ++ decimal value
-reply_text (Status first second) = codes "STATUS " ++ decimal first ++ codes " " ++ decimal second
-reply_text Blocked = codes "BLOCKED"
-reply_text Gone = codes "GONE"
-reply_text IdleTurn = codes "IDLE"
-reply_text (Advanced asked went) = codes "ADVANCED " ++ decimal went
+abbrev pub reply_text : Table → Reply → List ℕ
+reply_text table (Code code) = code_text code
+reply_text table (Value value) = codes "VALUE " ++ decimal value
+reply_text table (Status first second) = codes "STATUS " ++ decimal first ++ codes " " ++ decimal second
+reply_text table (Gets message) = codes "MESSAGE " ++ message_text table message
+reply_text table Blocked = codes "BLOCKED"
+reply_text table Gone = codes "GONE"
+reply_text table IdleTurn = codes "IDLE"
+reply_text table (Advanced asked went) = codes "ADVANCED " ++ decimal went
 
 -- what the event did to a process
 abbrev pub notice_text : Notice → List ℕ
@@ -154,7 +211,7 @@ abbrev pub line_of : Table → Entry → List ℕ
 line_of table entry =
     decimal entry.number ++ codes " " ++ decimal entry.now ++ codes " " ++ who_text entry.who
     ++ codes " " ++ caller_text entry.process ++ codes " " ++ asked_text table entry.call entry.reply
-    ++ codes " -> " ++ reply_text entry.reply ++ flat_map noticed_text entry.notices ++ codes "\n"
+    ++ codes " -> " ++ reply_text table entry.reply ++ flat_map noticed_text entry.notices ++ codes "\n"
 
 -- the lines of a history, one behind the other
 abbrev pub lines_of : Table → List Entry → List ℕ

@@ -2,7 +2,7 @@
 -- each entry.
 use Rattle.std.specs.Prelude.{ℕ, ◌+◌, ◌-◌, List, [], ◌∷◌, ◌++◌, length, map, Option, None, Some, ◌==◌, nat_lt, ◌&&◌, if◌then◌else◌}
 use Rattle.apex_types.specs.Terms.{Call, Caller, Entry, Event, Reply, Who}
-use Rattle.apex_types.specs.declared.calls.Call.TheVariants.{Partition, Process as ToProcess, Caller as ToCaller, Time, Semaphore}
+use Rattle.apex_types.specs.declared.calls.Call.TheVariants.{Partition, Process as ToProcess, Caller as ToCaller, Time, Semaphore, Buffer, Blackboard, Event as ToEvent}
 use Rattle.apex_types.specs.declared.calls.CallerCall.TheVariants.{StopSelf}
 use Rattle.apex_types.specs.declared.entries.Caller.TheVariants.{Process, Init, Nobody}
 use Rattle.apex_types.specs.declared.entries.Event.TheVariants.{Turn, Tick}
@@ -17,6 +17,9 @@ use Rattle.apex_types.specs.Rows.{Outcome, told, within}
 use Rattle.apex_types.specs.Objects.{object_deed, objects_of}
 use Rattle.apex_types.specs.ProcessServices.{ProcessObject, process_kind}
 use Rattle.apex_types.specs.SemaphoreServices.{SemaphoreObject, semaphore_kind}
+use Rattle.apex_types.specs.BufferServices.{BufferObject, buffer_kind}
+use Rattle.apex_types.specs.BlackboardServices.{BlackboardObject, blackboard_kind}
+use Rattle.apex_types.specs.EventServices.{EventObject, event_kind}
 use Rattle.apex_types.specs.CallerServices.{caller_service}
 use Rattle.apex_types.specs.TimeServices.{time_service}
 use Rattle.apex_types.specs.PartitionServices.{partition_service}
@@ -32,20 +35,35 @@ pub record Machine : Type 0 where
 pub record Objects : Type 0 where
   pub processes : List ProcessObject
   pub semaphores : List SemaphoreObject
+  pub buffers : List BufferObject
+  pub blackboards : List BlackboardObject
+  pub events : List EventObject
 
 -- all objects, read off the whole history
 abbrev pub objects_after : Table → List Entry → Objects
 objects_after table history = record {
   processes = objects_of process_kind history table.processes;
   semaphores = objects_of semaphore_kind history table.semaphores;
+  buffers = objects_of buffer_kind history table.buffers;
+  blackboards = objects_of blackboard_kind history table.blackboards;
+  events = objects_of event_kind history table.events;
 }
 
--- the objects, with these processes or with these semaphores
+-- the objects, with these of one kind
 abbrev pub with_processes : Objects → List ProcessObject → Objects
 with_processes objects processes = record objects { processes = processes }
 
 abbrev pub with_semaphores : Objects → List SemaphoreObject → Objects
 with_semaphores objects semaphores = record objects { semaphores = semaphores }
+
+abbrev pub with_buffers : Objects → List BufferObject → Objects
+with_buffers objects buffers = record objects { buffers = buffers }
+
+abbrev pub with_blackboards : Objects → List BlackboardObject → Objects
+with_blackboards objects blackboards = record objects { blackboards = blackboards }
+
+abbrev pub with_events : Objects → List EventObject → Objects
+with_events objects events = record objects { events = events }
 
 -- service: what the caller's call does
 abbrev pub service : Roster → Objects → Caller → Call → Outcome Objects
@@ -56,6 +74,12 @@ service roster objects caller (ToCaller call) = caller_service roster objects ca
 service roster objects caller (Time call) = time_service roster objects caller call
 service roster objects caller (Semaphore call) =
     within (with_semaphores objects) (object_deed semaphore_kind roster objects.semaphores caller call)
+service roster objects caller (Buffer call) =
+    within (with_buffers objects) (object_deed buffer_kind roster objects.buffers caller call)
+service roster objects caller (Blackboard call) =
+    within (with_blackboards objects) (object_deed blackboard_kind roster objects.blackboards caller call)
+service roster objects caller (ToEvent call) =
+    within (with_events objects) (object_deed event_kind roster objects.events caller call)
 
 -- a call that was carried out, or none at an idle turn and a tick
 pub record Deed : Type 0 where

@@ -9,7 +9,7 @@ use Rattle.apex_types.specs.declared.entries.ReturnCode.TheVariants.{NoAction}
 use Rattle.apex_types.specs.declared.records.Mode.TheVariants as mode
 use Rattle.apex_types.specs.declared.records.Queue.TheVariants as queues
 use Rattle.apex_types.specs.declared.records.Wait.TheVariants as wait
-use Rattle.apex_types.specs.Rows.{Outcome, told, accepted, guarded, ◌⟶◌}
+use Rattle.apex_types.specs.Rows.{Outcome, told, accepted_with, guarded, ◌⟶◌}
 use Rattle.apex_types.specs.Roster.{Roster, record_at, is_normal}
 use Rattle.apex_types.specs.Stamps.{set_mode, stopped}
 use Rattle.apex_types.specs.Waiters.{first_waiter}
@@ -34,10 +34,6 @@ unfoldable pub enter_normal : Roster → Changed
 enter_normal roster =
     in_turn first_to_start begin_waiter (length roster.records) (set_mode roster mode.Normal)
 
--- accepted, with these changes
-abbrev pub entered_normal : {X : Type 0} → X → Changed → Outcome X
-entered_normal objects changed = accepted changed.roster objects changed.notices
-
 -- IDLE: every process is stopped for good, and nobody is told
 abbrev pub enter_idle : Roster → Roster
 enter_idle roster = record roster { mode = mode.Idle; records = map stopped roster.records }
@@ -47,7 +43,7 @@ abbrev pub set_partition_mode : {X : Type 0} → Roster → X → RequestedMode 
 set_partition_mode roster objects requested.Idle = told (enter_idle roster) objects Gone
 set_partition_mode roster objects requested.Normal =
     guarded roster objects (is_normal roster.mode ⟶ NoAction ∷ [])
-    (entered_normal objects (enter_normal roster))
+    (accepted_with objects (enter_normal roster))
 
 -- the number of a mode (ARINC 653 Part 1)
 abbrev pub mode_number : Mode → ℕ

@@ -3,10 +3,15 @@ use Rattle.std.specs.Prelude.{ℕ, ◌+◌, Bool, true, false, List, length, map
 use Rattle.apex_types.specs.Terms.{Discipline, Mode, Record}
 use Rattle.apex_types.specs.declared.records.Mode.TheVariants.{Idle, ColdStart, Normal}
 use Rattle.apex_types.specs.Places.{map_places}
-use Rattle.apex_types.specs.Table.{Table, ProcessConfig, SemaphoreConfig}
+use Rattle.apex_types.specs.Table.{Table, ProcessConfig, SemaphoreConfig, BufferConfig}
+
+-- the disciplines of the queues of semaphores and of buffers
+pub record Disciplines : Type 0 where
+  pub semaphores : List Discipline
+  pub buffers : List Discipline
 
 -- the processes of a partition at one moment, and what stays: how many cores it has, and the
--- disciplines of its semaphores' queues
+-- disciplines of its queues
 pub record Roster : Type 0 where
   pub cores : ℕ
   pub mode : Mode
@@ -14,7 +19,7 @@ pub record Roster : Type 0 where
   pub records : List Record
   pub young : ℤ
   pub old : ℤ
-  pub disciplines : List Discipline
+  pub disciplines : Disciplines
 
 -- a record that no process has, for a place past the end
 abbrev pub nobody : Record
@@ -28,6 +33,7 @@ nobody = record {
   since = pos 0;
   due = None;
   step = 0;
+  inbox = None;
 }
 
 -- the record of process p
@@ -62,6 +68,14 @@ opening_record p entry = record {
   since = pos (p + 1);
   due = None;
   step = 0;
+  inbox = None;
+}
+
+-- the disciplines that the table gives
+abbrev pub disciplines_of : Table → Disciplines
+disciplines_of table = record {
+  semaphores = map (λ (s : SemaphoreConfig). s.discipline) table.semaphores;
+  buffers = map (λ (b : BufferConfig). b.discipline) table.buffers;
 }
 
 -- the roster before any event
@@ -73,5 +87,5 @@ opening_roster table = record {
   records = map_places opening_record 0 table.processes;
   young = pos (length table.processes + 1);
   old = pos 0;
-  disciplines = map (λ (s : SemaphoreConfig). s.discipline) table.semaphores;
+  disciplines = disciplines_of table;
 }

@@ -5,6 +5,7 @@ use Rattle.apex_types.specs.Terms.{Caller, Notice, Reply, ReturnCode}
 use Rattle.apex_types.specs.declared.entries.Caller.TheVariants.{Process, Init, Nobody}
 use Rattle.apex_types.specs.declared.entries.Reply.TheVariants.{Code}
 use Rattle.apex_types.specs.declared.entries.ReturnCode.TheVariants.{NoError, InvalidMode}
+use Rattle.apex_types.specs.InTurn.{Changed}
 use Rattle.apex_types.specs.Roster.{Roster}
 
 -- what a service leaves, answers and tells; the object is whatever it works on besides the roster
@@ -26,6 +27,15 @@ refused roster object code = told roster object (Code code)
 abbrev pub accepted : {X : Type 0} → Roster → X → List Notice → Outcome X
 accepted roster object notices =
     record { roster = roster; object = object; reply = Code NoError; notices = notices }
+
+-- answered with this reply, and these changes
+abbrev pub answered_with : {X : Type 0} → Reply → X → Changed → Outcome X
+answered_with reply object changed =
+    record { roster = changed.roster; object = object; reply = reply; notices = changed.notices }
+
+-- accepted, with these changes
+abbrev pub accepted_with : {X : Type 0} → X → Changed → Outcome X
+accepted_with object changed = answered_with (Code NoError) object changed
 
 -- a guard: where it holds the call is refused with its code
 pub record Guard : Type 0 where

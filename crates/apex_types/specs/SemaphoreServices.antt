@@ -3,21 +3,20 @@
 use Rattle.std.specs.Prelude.{ℕ, ◌+◌, ◌-◌, Bool, true, false, List, [], ◌∷◌, Option, None, Some, nat_lt, not, if◌then◌else◌}
 use Rattle.apex_types.specs.Terms.{Caller, Entry, Reply, SemaphoreService, Timeout}
 use Rattle.apex_types.specs.declared.calls.SemaphoreService.TheVariants.{Wait, Signal}
-use Rattle.apex_types.specs.declared.entries.Notice.TheVariants.{Woken}
 use Rattle.apex_types.specs.declared.entries.Reply.TheVariants.{Status}
-use Rattle.apex_types.specs.declared.entries.ReturnCode.TheVariants.{NoError, NoAction, InvalidParam}
+use Rattle.apex_types.specs.declared.entries.ReturnCode.TheVariants.{NoAction, InvalidParam}
 use Rattle.apex_types.specs.declared.records.Queue.TheVariants as queues
 use Rattle.apex_types.specs.declared.records.Wait.TheVariants as wait
 use Rattle.apex_types.specs.Calls.{created_semaphore}
 use Rattle.apex_types.specs.History.{is_created}
 use Rattle.apex_types.specs.Objects.{KindOf}
 use Rattle.apex_types.specs.Roster.{Roster}
-use Rattle.apex_types.specs.Rows.{Outcome, accepted, guarded, ◌⟶◌, by_process}
+use Rattle.apex_types.specs.Rows.{Outcome, accepted, accepted_with, guarded, ◌⟶◌, by_process}
 use Rattle.apex_types.specs.Satisfied.{semaphore_value}
-use Rattle.apex_types.specs.Stamps.{unblock}
 use Rattle.apex_types.specs.Table.{SemaphoreConfig}
 use Rattle.apex_types.specs.Waiters.{first_waiter, waiter_count}
 use Rattle.apex_types.specs.Waiting.{wait_for}
+use Rattle.apex_types.specs.Waking.{granted}
 
 -- a semaphore as its services see it
 pub record SemaphoreObject : Type 0 where
@@ -39,7 +38,7 @@ abbrev pub signal_to : Roster → SemaphoreObject → Option ℕ → Outcome Sem
 signal_to roster semaphore None =
     guarded roster semaphore (not (nat_lt semaphore.value semaphore.maximum) ⟶ NoAction ∷ [])
     (accepted roster (record semaphore { value = semaphore.value + 1 }) [])
-signal_to roster semaphore (Some p) = accepted (unblock roster p) semaphore (Woken p NoError ∷ [])
+signal_to roster semaphore (Some p) = accepted_with semaphore (granted None roster p)
 
 -- SIGNAL_SEMAPHORE
 abbrev pub signal_semaphore : Roster → SemaphoreObject → ℕ → Outcome SemaphoreObject

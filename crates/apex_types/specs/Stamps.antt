@@ -1,7 +1,7 @@
 -- How records change and when a process takes a new stamp (this profile).
 use Rattle.std.specs.Prelude.{◌≡◌, ℕ, ◌+◌, Bool, true, false, Option, None, Some, pos, ◌+ℤ◌, ◌<ℤ◌, ◌==◌, ◌&&◌, ◌||◌, slice_set, if◌then◌else◌}
 use Rattle.apex_types.specs.Limits.{most_stamps}
-use Rattle.apex_types.specs.Terms.{Mode, Record, Suspender, Wait}
+use Rattle.apex_types.specs.Terms.{Message, Mode, Record, Suspender, Wait}
 use Rattle.apex_types.specs.declared.records.Queue.TheVariants as queues
 use Rattle.apex_types.specs.declared.records.Suspender.TheVariants.{Itself, Other}
 use Rattle.apex_types.specs.declared.records.Wait.TheVariants.{Normal, Start}
@@ -14,6 +14,11 @@ use Rattle.apex_types.specs.Dues.{first_due}
 pub record HasStamps (roster : Roster) : Type 0 where
   pub young : roster.young <ℤ pos most_stamps
   pub old : pos 0 <ℤ (roster.old +ℤ pos most_stamps)
+
+-- there are stamps left, upwards and downwards, for all that one event may stamp
+pub record HasManyStamps (roster : Roster) : Type 0 where
+  pub young : (roster.young +ℤ pos 256) <ℤ pos most_stamps
+  pub old : pos 256 <ℤ (roster.old +ℤ pos most_stamps)
 
 -- process p has this record with the next stamp upwards: it is the newest
 abbrev pub newest : Roster → ℕ → Record → Roster
@@ -67,9 +72,10 @@ waiting r wait due =
 abbrev pub block : Roster → ℕ → Wait → Option ℕ → Roster
 block roster p wait due = newest roster p (waiting (record_at roster p) wait due)
 
--- a process at its start: not suspended, at the table's priority and at the first step
+-- a process at its start: not suspended, at the table's priority and at the first step, with an empty
+-- inbox
 abbrev pub reset : Record → Record
-reset r = record r { base = r.attributes.priority; started = true; suspended = None; step = 0 }
+reset r = record r { base = r.attributes.priority; started = true; suspended = None; step = 0; inbox = None }
 
 -- a start begins: without delay it is a release, else the process waits for its start until then
 abbrev pub begin : Roster → ℕ → ℕ → Roster
@@ -82,9 +88,9 @@ start roster p delay =
     let fresh = with_record roster p (reset (record_at roster p)) in
     if is_normal roster.mode then begin fresh p delay else block fresh p (Normal delay) None
 
--- a stop: not started, not suspended, waits for nothing, at the first step
+-- a stop: not started, not suspended, waits for nothing, at the first step, with an empty inbox
 abbrev pub stopped : Record → Record
-stopped r = record r { started = false; suspended = None; wait = None; due = None; step = 0 }
+stopped r = record r { started = false; suspended = None; wait = None; due = None; step = 0; inbox = None }
 
 -- the process is stopped; this stamps nobody
 abbrev pub stop : Roster → ℕ → Roster
@@ -153,6 +159,10 @@ set_core roster p core = with_record roster p (record (record_at roster p) { cor
 -- the process's next step is this one, counted from 0
 abbrev pub set_step : Roster → ℕ → ℕ → Roster
 set_step roster p step = with_record roster p (record (record_at roster p) { step = step })
+
+-- the process has received this message
+abbrev pub receive : Roster → ℕ → Message → Roster
+receive roster p message = with_record roster p (record (record_at roster p) { inbox = Some message })
 
 -- whoever is eligible in this mode is eligible already
 abbrev pub ReadiesNobody : Roster → Mode → Type 0

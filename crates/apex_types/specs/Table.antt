@@ -1,16 +1,16 @@
 -- A partition table as every contract sees it, and what holds of each accepted one.
 use Rattle.std.specs.Prelude.{◌≡◌, ℕ, ◌<◌, ◌≤◌, Bool, true, false, List, [], length, slice_index_or, slice_get, map, Option, None, Some, option_map, IsTrue}
-use Rattle.apex_types.specs.Limits.{most_cores, most_entries, most_init_steps, most_objects, most_priority, most_processes, most_steps, most_value}
+use Rattle.apex_types.specs.Limits.{most_cores, most_entries, most_init_steps, most_message, most_messages, most_objects, most_priority, most_processes, most_steps, most_value}
 use Rattle.std.specs.List.{IsDistinct}
 use Rattle.std.specs.Str.{bytes_eq}
-use Rattle.apex_types.specs.Terms.{Call, Discipline, Named, ObjectCall, Origin}
-use Rattle.apex_types.specs.declared.calls.Call.TheVariants.{Partition, Process, Caller, Time, Semaphore}
+use Rattle.apex_types.specs.Terms.{Call, Discipline, Message, Named, ObjectCall, Origin}
+use Rattle.apex_types.specs.declared.calls.Call.TheVariants.{Partition, Process, Caller, Time, Semaphore, Buffer, Blackboard, Event}
 use Rattle.apex_types.specs.declared.calls.CallerCall.TheVariants.{StopSelf}
 use Rattle.apex_types.specs.declared.calls.Named.TheVariants.{Known, Unknown}
 use Rattle.apex_types.specs.declared.calls.ObjectCall.TheVariants.{Create, GetId, GetStatus, Own}
 use Rattle.apex_types.specs.declared.calls.Origin.TheVariants.{Init, Script}
 use Rattle.apex_types.specs.declared.records.Discipline.TheVariants.{Fifo}
-use Rattle.apex_types.specs.Calls.{origin_of}
+use Rattle.apex_types.specs.Calls.{origin_of, message_in}
 use Rattle.apex_types.specs.Name.{is_name}
 
 -- a step as the table gives it; the literal is what its call names by the step's origin
@@ -34,12 +34,31 @@ pub record SemaphoreConfig : Type 0 where
   pub initial : ℕ
   pub discipline : Discipline
 
+-- a buffer as the table gives it: the most bytes of a message, and how many messages it holds
+pub record BufferConfig : Type 0 where
+  pub name : List ℕ
+  pub length : ℕ
+  pub capacity : ℕ
+  pub discipline : Discipline
+
+-- a blackboard as the table gives it: the most bytes of a message
+pub record BlackboardConfig : Type 0 where
+  pub name : List ℕ
+  pub length : ℕ
+
+-- an event as the table gives it
+pub record EventConfig : Type 0 where
+  pub name : List ℕ
+
 -- a partition table; the limit is how many entries its history may have
 pub record Table : Type 0 where
   pub cores : ℕ
   pub limit : ℕ
   pub processes : List ProcessConfig
   pub semaphores : List SemaphoreConfig
+  pub buffers : List BufferConfig
+  pub blackboards : List BlackboardConfig
+  pub events : List EventConfig
   pub init : List Step
 
 -- an entry that no table has, for a place past the end
@@ -49,12 +68,30 @@ no_process = record { name = []; priority = 0; core = 0; loops = false; start = 
 abbrev pub no_semaphore : SemaphoreConfig
 no_semaphore = record { name = []; maximum = 0; initial = 0; discipline = Fifo }
 
+abbrev pub no_buffer : BufferConfig
+no_buffer = record { name = []; length = 0; capacity = 0; discipline = Fifo }
+
+abbrev pub no_blackboard : BlackboardConfig
+no_blackboard = record { name = []; length = 0 }
+
+abbrev pub no_event : EventConfig
+no_event = record { name = [] }
+
 -- the entry at a place, counted from 0
 abbrev pub process_config : Table → ℕ → ProcessConfig
 process_config table p = slice_index_or table.processes p no_process
 
 abbrev pub semaphore_config : Table → ℕ → SemaphoreConfig
 semaphore_config table s = slice_index_or table.semaphores s no_semaphore
+
+abbrev pub buffer_config : Table → ℕ → BufferConfig
+buffer_config table b = slice_index_or table.buffers b no_buffer
+
+abbrev pub blackboard_config : Table → ℕ → BlackboardConfig
+blackboard_config table b = slice_index_or table.blackboards b no_blackboard
+
+abbrev pub event_config : Table → ℕ → EventConfig
+event_config table e = slice_index_or table.events e no_event
 
 -- what stands past the end of every script: STOP_SELF
 abbrev pub no_step : Step
@@ -72,6 +109,10 @@ call_in steps k = option_map (λ (s : Step). s.call) (slice_get steps k)
 abbrev pub literal_text : Table → Origin → List ℕ
 literal_text table (Init k) = (step_at table.init k).literal
 literal_text table (Script p k) = (step_at (process_config table p).script k).literal
+
+-- the bytes of a message
+abbrev pub message_bytes : Table → Message → List ℕ
+message_bytes table message = literal_text table message.origin
 
 -- a name that is an entry's is one of so many
 abbrev pub IsKnownName : ℕ → Named ℕ → Type 0
@@ -92,17 +133,27 @@ IsKnown table (Process call) = IsKnownObject (length table.processes) call
 IsKnown table (Caller call) = Unit {0}
 IsKnown table (Time call) = Unit {0}
 IsKnown table (Semaphore call) = IsKnownObject (length table.semaphores) call
+IsKnown table (Buffer call) = IsKnownObject (length table.buffers) call
+IsKnown table (Blackboard call) = IsKnownObject (length table.blackboards) call
+IsKnown table (Event call) = IsKnownObject (length table.events) call
 
--- the literal of the step of this origin: a name, where the call names a literal, and then it is this
--- step's; else nothing
-abbrev pub IsLiteral : Origin → List ℕ → Option Origin → Type 0
-IsLiteral origin literal None = literal ≡ []
-IsLiteral origin literal (Some named) = (named ≡ origin) × IsTrue (is_name literal)
+-- the message is that of the step of this origin, which has this literal
+pub record IsMessageOf (origin : Origin) (literal : List ℕ) (message : Message) : Type 0 where
+  pub given : message.origin ≡ origin
+  pub many : message.length ≡ length literal
+  pub few : message.length ≤ most_message
+
+-- the literal of the step of this origin is what its call gives: a name that no entry has, a message,
+-- or nothing
+abbrev pub IsLiteral : Origin → List ℕ → Option Origin → Option Message → Type 0
+IsLiteral origin literal None None = literal ≡ []
+IsLiteral origin literal None (Some message) = IsMessageOf origin literal message
+IsLiteral origin literal (Some named) message = (named ≡ origin) × IsTrue (is_name literal)
 
 -- what holds of the step of this origin of an accepted table
 pub record IsLawfulStep (table : Table) (origin : Origin) (step : Step) : Type 0 where
   pub known : IsKnown table step.call
-  pub literal : IsLiteral origin step.literal (origin_of step.call)
+  pub literal : IsLiteral origin step.literal (origin_of step.call) (message_in step.call)
 
 -- what holds of the process at place p of an accepted table
 pub record IsLawfulProcess (table : Table) (p : ℕ) (entry : ProcessConfig) : Type 0 where
@@ -119,15 +170,39 @@ pub record IsLawfulSemaphore (entry : SemaphoreConfig) : Type 0 where
   pub maximum : (1 ≤ entry.maximum) × (entry.maximum ≤ most_value)
   pub initial : entry.initial ≤ entry.maximum
 
+-- what holds of a buffer of an accepted table
+pub record IsLawfulBuffer (entry : BufferConfig) : Type 0 where
+  pub name : IsTrue (is_name entry.name)
+  pub length : (1 ≤ entry.length) × (entry.length ≤ most_message)
+  pub capacity : (1 ≤ entry.capacity) × (entry.capacity ≤ most_messages)
+
+-- what holds of a blackboard of an accepted table
+pub record IsLawfulBlackboard (entry : BlackboardConfig) : Type 0 where
+  pub name : IsTrue (is_name entry.name)
+  pub length : (1 ≤ entry.length) × (entry.length ≤ most_message)
+
+-- what holds of an event of an accepted table
+pub record IsLawfulEvent (entry : EventConfig) : Type 0 where
+  pub name : IsTrue (is_name entry.name)
+
 -- what holds of an accepted table: ranges and references
 pub record IsLawful (table : Table) : Type 0 where
   pub cores : (1 ≤ table.cores) × (table.cores ≤ most_cores)
   pub limit : (1 ≤ table.limit) × (table.limit ≤ most_entries)
   pub process_count : (1 ≤ length table.processes) × (length table.processes ≤ most_processes)
   pub semaphore_count : length table.semaphores ≤ most_objects
+  pub buffer_count : length table.buffers ≤ most_objects
+  pub blackboard_count : length table.blackboards ≤ most_objects
+  pub event_count : length table.events ≤ most_objects
   pub init_count : length table.init ≤ most_init_steps
   pub processes : (p : ℕ) → p < length table.processes → IsLawfulProcess table p (process_config table p)
   pub semaphores : (s : ℕ) → s < length table.semaphores → IsLawfulSemaphore (semaphore_config table s)
+  pub buffers : (b : ℕ) → b < length table.buffers → IsLawfulBuffer (buffer_config table b)
+  pub blackboards : (b : ℕ) → b < length table.blackboards → IsLawfulBlackboard (blackboard_config table b)
+  pub events : (e : ℕ) → e < length table.events → IsLawfulEvent (event_config table e)
   pub init : (k : ℕ) → k < length table.init → IsLawfulStep table (Init k) (step_at table.init k)
   pub process_names : IsDistinct bytes_eq (map (λ (e : ProcessConfig). e.name) table.processes)
   pub semaphore_names : IsDistinct bytes_eq (map (λ (e : SemaphoreConfig). e.name) table.semaphores)
+  pub buffer_names : IsDistinct bytes_eq (map (λ (e : BufferConfig). e.name) table.buffers)
+  pub blackboard_names : IsDistinct bytes_eq (map (λ (e : BlackboardConfig). e.name) table.blackboards)
+  pub event_names : IsDistinct bytes_eq (map (λ (e : EventConfig). e.name) table.events)

@@ -1,6 +1,10 @@
 -- The terms in which the definitions speak: the values of a partition, as the code declares them.
+pub use Rattle.apex_types.specs.declared.calls.BlackboardService.{BlackboardService}
+pub use Rattle.apex_types.specs.declared.calls.BufferService.{BufferService}
 pub use Rattle.apex_types.specs.declared.calls.Call.{Call}
 pub use Rattle.apex_types.specs.declared.calls.CallerCall.{CallerCall}
+pub use Rattle.apex_types.specs.declared.calls.EventService.{EventService}
+pub use Rattle.apex_types.specs.declared.calls.Message.{Message}
 pub use Rattle.apex_types.specs.declared.calls.Named.{Named}
 pub use Rattle.apex_types.specs.declared.calls.ObjectCall.{ObjectCall}
 pub use Rattle.apex_types.specs.declared.calls.Origin.{Origin}

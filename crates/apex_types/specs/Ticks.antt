@@ -1,13 +1,14 @@
 -- A tick: how far time goes on, and which waits it ends (this profile).
 use Rattle.std.specs.Prelude.{ℕ, ◌+◌, List, [], ◌∷◌, length, Option, None, Some, min, ◌==◌, if◌then◌else◌}
-use Rattle.apex_types.specs.Terms.{Notice, ReturnCode, Wait}
-use Rattle.apex_types.specs.declared.entries.Notice.TheVariants.{Woken, Released}
+use Rattle.apex_types.specs.Terms.{Notice, Wait}
+use Rattle.apex_types.specs.declared.entries.Notice.TheVariants.{Released}
 use Rattle.apex_types.specs.declared.entries.ReturnCode.TheVariants.{NoError, TimedOut}
 use Rattle.apex_types.specs.declared.records.Wait.TheVariants.{Start, Time}
 use Rattle.apex_types.specs.Roster.{Roster, record_at}
 use Rattle.apex_types.specs.Dues.{next_instant, first_due}
-use Rattle.apex_types.specs.Stamps.{unblock, release, begin, advance_to, without_due}
+use Rattle.apex_types.specs.Stamps.{release, begin, advance_to, without_due}
 use Rattle.apex_types.specs.InTurn.{Changed, in_turn}
+use Rattle.apex_types.specs.Waking.{woken}
 
 -- the smaller of an instant and the next one, where there is one
 abbrev pub not_beyond : ℕ → Option ℕ → ℕ
@@ -17,10 +18,6 @@ not_beyond t (Some next) = min t next
 -- where a tick of n goes: to the smaller of now + n and the next instant
 abbrev pub tick_goal : Roster → ℕ → ℕ
 tick_goal roster n = not_beyond (roster.now + n) (next_instant roster)
-
--- process p is woken with this code
-abbrev pub woken : Roster → ℕ → ReturnCode → Changed
-woken roster p code = record { roster = unblock roster p; notices = Woken p code ∷ [] }
 
 -- process p is released
 abbrev pub released : Roster → ℕ → Changed

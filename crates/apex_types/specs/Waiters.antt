@@ -1,43 +1,17 @@
 -- Who waits in a queue, and in which order (ARINC 653 Part 1, intrapartition communication).
-use Rattle.std.specs.Prelude.{ℕ, Bool, true, false, Option, None, Some, ◌==◌, ◌&&◌, count_by, slice_index_or}
+use Rattle.std.specs.Prelude.{ℕ, Bool, true, false, Option, None, Some, ◌&&◌, count_by, slice_index_or}
 use Rattle.std.specs.Option.{option_and_then}
-use Rattle.apex_types.specs.Terms.{Discipline, Queue, Record, Wait}
+use Rattle.apex_types.specs.Terms.{Discipline, Queue, Record}
 use Rattle.apex_types.specs.declared.records.Discipline.TheVariants.{Fifo, Priority}
 use Rattle.apex_types.specs.declared.records.Queue.TheVariants as queues
-use Rattle.apex_types.specs.declared.records.Wait.TheVariants.{Normal, Start, Time, Semaphore}
+use Rattle.apex_types.specs.Queues.{queue_of, is_queue}
 use Rattle.apex_types.specs.Roster.{Roster, record_at}
 use Rattle.apex_types.specs.Choice.{place_of_least}
 use Rattle.apex_types.specs.Running.{is_older, is_before}
 
--- the two wait for the same thing
-abbrev pub is_same_wait : Wait → Wait → Bool
-is_same_wait (Normal d) (Normal e) = true
-is_same_wait Start Start = true
-is_same_wait Time Time = true
-is_same_wait (Semaphore s) (Semaphore t) = s == t
-is_same_wait _ _ = false
-
--- the queue in which a wait stands: a wait for an instant stands in none
-abbrev pub queue_of : Wait → Option Queue
-queue_of (Normal delay) = Some queues.Normal
-queue_of (Semaphore s) = Some (queues.Semaphore s)
-queue_of Start = None
-queue_of Time = None
-
 -- the queue in which the process stands
 abbrev pub queue_in : Record → Option Queue
 queue_in r = option_and_then queue_of r.wait
-
--- the two queues are the same
-abbrev pub is_same_queue : Queue → Queue → Bool
-is_same_queue queues.Normal queues.Normal = true
-is_same_queue (queues.Semaphore s) (queues.Semaphore t) = s == t
-is_same_queue _ _ = false
-
--- there is a queue, and it is this one
-abbrev pub is_queue : Queue → Option Queue → Bool
-is_queue queue None = false
-is_queue queue (Some other) = is_same_queue queue other
 
 -- the process waits in this queue
 unfoldable pub waits_in : Queue → Record → Bool
@@ -48,10 +22,12 @@ abbrev pub is_by_priority : Discipline → Bool
 is_by_priority Fifo = false
 is_by_priority Priority = true
 
--- the discipline of a queue: a semaphore's is the table's; who waits for NORMAL is first in, first out
+-- the discipline of a queue: a semaphore's and a buffer's is the table's; all others are first in,
+-- first out
 abbrev pub discipline_of : Roster → Queue → Discipline
-discipline_of roster (queues.Semaphore s) = slice_index_or roster.disciplines s Fifo
-discipline_of roster queues.Normal = Fifo
+discipline_of roster (queues.Semaphore s) = slice_index_or roster.disciplines.semaphores s Fifo
+discipline_of roster (queues.Buffer b) = slice_index_or roster.disciplines.buffers b Fifo
+discipline_of roster _ = Fifo
 
 -- whether r comes before s in a queue of this discipline: the longer waiter, or the more urgent one and
 -- among equals the longer waiter

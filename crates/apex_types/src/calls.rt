@@ -1,7 +1,7 @@
 ghost use Rattle.std.specs.Prelude.{◌≡◌};
-ghost use Rattle.apex_types.specs.Calls.{known, object_of, unknown, object_origin, origin_of};
+ghost use Rattle.apex_types.specs.Calls.{known, object_of, unknown, object_origin, origin_of, message_in};
 
-use crate::identifiers::{ProcessId, SemaphoreId};
+use crate::identifiers::{BlackboardId, BufferId, EventId, ProcessId, SemaphoreId};
 
 /// How long a call may wait.
 #[derive(Clone, Copy, Debug, PartialEq, Eq)]
@@ -35,6 +35,23 @@ pub enum Origin {
     Init(u16),
     /// In the script of a process.
     Script(ProcessId, u8),
+}
+
+/// A message, by the step that gives it: the table keeps its bytes, as the step's literal.
+#[derive(Clone, Copy, Debug, PartialEq, Eq)]
+pub struct Message {
+    pub origin: Origin,
+    /// How many bytes it has, 0 to 64.
+    pub length: u8,
+}
+
+impl Default for Message {
+    fn default() -> Message {
+        Message {
+            origin: Origin::Init(0),
+            length: 0,
+        }
+    }
 }
 
 /// A thing by the name that a step gives, which need not be an entry's.
@@ -143,6 +160,38 @@ pub enum SemaphoreService {
 /// A call of a service of semaphores.
 pub type SemaphoreCall = ObjectCall<SemaphoreId, SemaphoreService>;
 
+/// A service of buffers, but for the three that each kind has.
+#[derive(Clone, Copy, Debug, PartialEq, Eq)]
+pub enum BufferService {
+    Send(Message, Timeout),
+    Receive(Timeout),
+}
+
+/// A call of a service of buffers.
+pub type BufferCall = ObjectCall<BufferId, BufferService>;
+
+/// A service of blackboards, but for the three that each kind has.
+#[derive(Clone, Copy, Debug, PartialEq, Eq)]
+pub enum BlackboardService {
+    Display(Message),
+    Read(Timeout),
+    Clear,
+}
+
+/// A call of a service of blackboards.
+pub type BlackboardCall = ObjectCall<BlackboardId, BlackboardService>;
+
+/// A service of events, but for the three that each kind has.
+#[derive(Clone, Copy, Debug, PartialEq, Eq)]
+pub enum EventService {
+    Set,
+    Reset,
+    Wait(Timeout),
+}
+
+/// A call of a service of events.
+pub type EventCall = ObjectCall<EventId, EventService>;
+
 /// A service with its literal arguments, as a step of a script or of the init list asks for it.
 #[derive(Clone, Copy, Debug, PartialEq, Eq)]
 pub enum Call {
@@ -151,17 +200,36 @@ pub enum Call {
     Caller(CallerCall),
     Time(TimeCall),
     Semaphore(SemaphoreCall),
+    Buffer(BufferCall),
+    Blackboard(BlackboardCall),
+    Event(EventCall),
 }
 
 impl Call {
-    /// The origin of the literal that the call names, if it names one.
+    /// The origin of the name that the call gives, where no entry has it.
     pub fn origin(&self) -> Option<Origin>
         ensures { result ≡ origin_of self.now }
     {
         match self {
             Call::Process(call) => call.origin(),
             Call::Semaphore(call) => call.origin(),
+            Call::Buffer(call) => call.origin(),
+            Call::Blackboard(call) => call.origin(),
+            Call::Event(call) => call.origin(),
             Call::Partition(_) | Call::Caller(_) | Call::Time(_) => None,
+        }
+    }
+
+    /// The message that the call gives, if it gives one.
+    pub fn message(&self) -> Option<Message>
+        ensures { result ≡ message_in self.now }
+    {
+        match self {
+            Call::Buffer(ObjectCall::Own(_, BufferService::Send(message, _)))
+            | Call::Blackboard(ObjectCall::Own(_, BlackboardService::Display(message))) => {
+                Some(*message)
+            }
+            _ => None,
         }
     }
 }

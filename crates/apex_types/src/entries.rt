@@ -1,7 +1,7 @@
 ghost use Rattle.std.specs.Prelude.{◌≡◌, ◌<◌, ◌≤◌, [], ◌∷◌, ◌++◌, length};
 ghost use Rattle.apex_types.specs.Limits.{most_notices};
 
-use crate::calls::Call;
+use crate::calls::{Call, Message};
 use crate::identifiers::{CoreId, ProcessId};
 use arrayvec::ArrayVec;
 use std::marker::Model;
@@ -53,6 +53,8 @@ pub enum Reply {
     Value(u64),
     /// The two numbers of a status.
     Status(u32, u32),
+    /// The message that the caller gets.
+    Message(Message),
     /// The caller waits, or suspended itself; a later `woken` notice has its code.
     Blocked,
     /// The caller is stopped, or the mode is IDLE from now on.

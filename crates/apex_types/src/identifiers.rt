@@ -94,8 +94,29 @@ pub struct ProcessKind;
 #[derive(Clone, Copy, Debug, PartialEq, Eq)]
 pub struct SemaphoreKind;
 
+/// What an id of a buffer stands for.
+#[derive(Clone, Copy, Debug, PartialEq, Eq)]
+pub struct BufferKind;
+
+/// What an id of a blackboard stands for.
+#[derive(Clone, Copy, Debug, PartialEq, Eq)]
+pub struct BlackboardKind;
+
+/// What an id of an event of APEX stands for.
+#[derive(Clone, Copy, Debug, PartialEq, Eq)]
+pub struct EventKind;
+
 /// A process of the partition.
 pub type ProcessId = Id<ProcessKind>;
 
 /// A semaphore of the partition.
 pub type SemaphoreId = Id<SemaphoreKind>;
+
+/// A buffer of the partition.
+pub type BufferId = Id<BufferKind>;
+
+/// A blackboard of the partition.
+pub type BlackboardId = Id<BlackboardKind>;
+
+/// An event of APEX, which is up or down. What happens to the partition is an `Event`.
+pub type EventId = Id<EventKind>;

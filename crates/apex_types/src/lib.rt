@@ -14,11 +14,15 @@ mod records;
 mod steps;
 
 pub use calls::{
-    Call, CallerCall, Named, ObjectCall, Origin, PartitionCall, ProcessCall, ProcessService,
+    BlackboardCall, BlackboardService, BufferCall, BufferService, Call, CallerCall, EventCall,
+    EventService, Message, Named, ObjectCall, Origin, PartitionCall, ProcessCall, ProcessService,
     RequestedMode, SemaphoreCall, SemaphoreService, TimeCall, Timeout,
 };
 pub use entries::{Caller, Entry, Event, Full, LentEntry, Notice, Notices, Reply, ReturnCode, Who};
-pub use identifiers::{CoreId, Id, ProcessId, ProcessKind, SemaphoreId, SemaphoreKind};
+pub use identifiers::{
+    BlackboardId, BlackboardKind, BufferId, BufferKind, CoreId, EventId, EventKind, Id, ProcessId,
+    ProcessKind, SemaphoreId, SemaphoreKind,
+};
 pub use names::Name;
 pub use numbers::{number, number_at_most};
 pub use records::{Attributes, Discipline, Mode, Queue, Record, State, Suspender, Wait};

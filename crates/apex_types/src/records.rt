@@ -2,9 +2,11 @@ ghost use Rattle.std.specs.Prelude.{◌≡◌};
 ghost use Rattle.apex_types.specs.Roster.{is_normal};
 ghost use Rattle.apex_types.specs.Running.{current_priority, is_eligible};
 ghost use Rattle.apex_types.specs.Stamps.{is_by_itself};
-ghost use Rattle.apex_types.specs.Waiters.{queue_in, queue_of};
+ghost use Rattle.apex_types.specs.Queues.{queue_of};
+ghost use Rattle.apex_types.specs.Waiters.{queue_in};
 
-use crate::identifiers::{CoreId, SemaphoreId};
+use crate::calls::Message;
+use crate::identifiers::{BlackboardId, BufferId, CoreId, EventId, SemaphoreId};
 
 /// The partition's operating mode (ARINC 653 Part 1, partition management).
 #[derive(Clone, Copy, Debug, PartialEq, Eq)]
@@ -41,6 +43,14 @@ pub enum Wait {
     /// An instant, after a TIMED_WAIT.
     Time,
     Semaphore(SemaphoreId),
+    /// A message of the buffer.
+    Receive(BufferId),
+    /// Room for this message in the buffer.
+    Send(BufferId, Message),
+    /// A message on the blackboard.
+    Blackboard(BlackboardId),
+    /// That the event is up.
+    Event(EventId),
 }
 
 /// Where processes stand one behind the other while they wait.
@@ -49,16 +59,23 @@ pub enum Queue {
     /// Those that wait for the entry into NORMAL.
     Normal,
     Semaphore(SemaphoreId),
+    /// Receivers, or senders.
+    Buffer(BufferId),
+    Blackboard(BlackboardId),
+    Event(EventId),
 }
 
 impl Wait {
     /// The queue in which a process stands that waits for this. None where it waits for an instant.
-    pub fn queue(self) -> Option<Queue>
-        ensures { result ≡ queue_of self }
+    pub fn queue(&self) -> Option<Queue>
+        ensures { result ≡ queue_of self.now }
     {
         match self {
             Wait::Normal(_) => Some(Queue::Normal),
-            Wait::Semaphore(semaphore) => Some(Queue::Semaphore(semaphore)),
+            Wait::Semaphore(semaphore) => Some(Queue::Semaphore(*semaphore)),
+            Wait::Receive(buffer) | Wait::Send(buffer, _) => Some(Queue::Buffer(*buffer)),
+            Wait::Blackboard(blackboard) => Some(Queue::Blackboard(*blackboard)),
+            Wait::Event(event) => Some(Queue::Event(*event)),
             Wait::Start | Wait::Time => None,
         }
     }
@@ -71,7 +88,8 @@ pub enum Suspender {
     Other,
 }
 
-/// Who comes first in a semaphore's queue (ARINC 653 Part 1, semaphores).
+/// Who comes first in the queue of a semaphore or of a buffer (ARINC 653 Part 1, intrapartition
+/// communication).
 #[derive(Clone, Copy, Debug, PartialEq, Eq)]
 pub enum Discipline {
     /// Who waits longest.
@@ -104,6 +122,8 @@ pub struct Record {
     pub due: Option<u64>,
     /// The place of its next step in its script, counted from 0.
     pub step: u8,
+    /// The last message that it received.
+    pub inbox: Option<Message>,
 }
 
 impl Record {
@@ -125,7 +145,7 @@ impl Record {
     pub fn queue(&self) -> Option<Queue>
         ensures { result ≡ queue_in self.now }
     {
-        self.wait?.queue()
+        self.wait.as_ref()?.queue()
     }
 
     pub fn is_suspended_by_itself(&self) -> bool

@@ -174,6 +174,105 @@ fn thirty_two_processes_of_64_steps(rt: HostRuntime) -> Result<(), Fail> {
     Ok(())
 }
 
+// 16 buffers, 16 blackboards and 16 events, all of the greatest size, and one process.
+fn greatest_objects(alloc: Global, steps: &str) -> Result<String, Fail> {
+    let mut outline = String::new(alloc);
+    writeln!(outline, "process A 10 0 start: {steps}")?;
+    for number in 1u8..=16 {
+        writeln!(outline, "buffer Q{number} 64 16 FIFO")?;
+        writeln!(outline, "blackboard L{number} 64")?;
+        writeln!(outline, "event E{number}")?;
+    }
+    table_of(alloc, outline.as_str())
+}
+
+// The buffer is filled with sixteen messages and emptied again.
+#[test]
+fn sixteen_objects_of_each_kind(rt: HostRuntime) -> Result<(), Fail> {
+    let rest = times(rt.alloc(), 63, "5a")?;
+    let rest = rest.as_str();
+    let mut steps = String::new(rt.alloc());
+    let mut lines = String::new(rt.alloc());
+    for (number, line) in (1u8..=16).zip(53u8..=68) {
+        write!(steps, "SEND_BUFFER Q16 {number:02}{rest} 0; ")?;
+        let call = "core0 1 SEND_BUFFER Q16";
+        writeln!(lines, "{line} 0 {call} {number:02}{rest} 0 -> NO_ERROR")?;
+    }
+    steps.push_str("SEND_BUFFER Q16 17 0; ")?;
+    lines.push_str("69 0 core0 1 SEND_BUFFER Q16 17 0 -> NOT_AVAILABLE\n")?;
+    for (number, line) in (1u8..=16).zip(70u8..=85) {
+        steps.push_str("RECEIVE_BUFFER Q16 0; ")?;
+        let call = "core0 1 RECEIVE_BUFFER Q16 0";
+        writeln!(lines, "{line} 0 {call} -> MESSAGE {number:02}{rest}")?;
+    }
+    write!(
+        steps,
+        "DISPLAY_BLACKBOARD L16 99{rest}; READ_BLACKBOARD L16 0; READ_BLACKBOARD L15 0; "
+    )?;
+    let call = "86 0 core0 1 DISPLAY_BLACKBOARD L16";
+    writeln!(lines, "{call} 99{rest} -> NO_ERROR")?;
+    let call = "87 0 core0 1 READ_BLACKBOARD L16 0";
+    writeln!(lines, "{call} -> MESSAGE 99{rest}")?;
+    steps.push_str("SET_EVENT E16; WAIT_EVENT E16 0; WAIT_EVENT E15 0")?;
+    lines.push_str(
+        "88 0 core0 1 READ_BLACKBOARD L15 0 -> NOT_AVAILABLE
+89 0 core0 1 SET_EVENT E16 -> NO_ERROR
+90 0 core0 1 WAIT_EVENT E16 0 -> NO_ERROR
+91 0 core0 1 WAIT_EVENT E15 0 -> NOT_AVAILABLE
+",
+    )?;
+    let table = greatest_objects(rt.alloc(), steps.as_str())?;
+    let limit = Limit {
+        name: "sixteen_objects_of_each_kind",
+        table: table.as_str(),
+        schedule: "0*91",
+        status: 0,
+        fault: "",
+        lines: lines.as_str(),
+    };
+    check_limit(&rt, rt.alloc(), &limit)
+}
+
+// 31 processes, of which the later ones have the higher priorities and wait first, and one that
+// releases them.
+fn waiters(alloc: Global, wait: &str, release: &str) -> Result<String, Fail> {
+    let mut outline = String::new(alloc);
+    outline.push_str("event E\nblackboard L 4\n")?;
+    for (number, priority) in (1u8..=31).zip(21u8..=51) {
+        writeln!(outline, "process W{number} {priority} 0 start: {wait}")?;
+    }
+    writeln!(outline, "process K 10 0 start: {release}")?;
+    table_of(alloc, outline.as_str())
+}
+
+#[test]
+fn thirty_one_waiters_are_released_at_once(rt: HostRuntime) -> Result<(), Fail> {
+    let mut woken = String::new(rt.alloc());
+    for number in (1u8..=31).rev() {
+        write!(woken, " | woken {number} NO_ERROR")?;
+    }
+    let woken = woken.as_str();
+    for (wait, release) in [
+        ("WAIT_EVENT E infinite", "SET_EVENT E"),
+        ("READ_BLACKBOARD L infinite", "DISPLAY_BLACKBOARD L 01"),
+    ] {
+        let table = waiters(rt.alloc(), wait, release)?;
+        let lines = format!(in rt.alloc();
+            "130 0 core0 1 {wait} -> BLOCKED\n131 0 core0 32 {release} -> NO_ERROR{woken}\n"
+        )?;
+        let limit = Limit {
+            name: release,
+            table: table.as_str(),
+            schedule: "0*131",
+            status: 0,
+            fault: "",
+            lines: lines.as_str(),
+        };
+        check_limit(&rt, rt.alloc(), &limit)?;
+    }
+    Ok(())
+}
+
 #[test]
 fn an_init_list_of_512_steps(rt: HostRuntime) -> Result<(), Fail> {
     let steps = times(rt.alloc(), 511, "init GET_TIME\n")?;

@@ -11,6 +11,9 @@ use std::test::Fail;
 //     init STEP; STEP
 //     process NAME PRIORITY CORE start loop: STEP; STEP
 //     semaphore NAME MAXIMUM INITIAL DISCIPLINE
+//     buffer NAME LENGTH CAPACITY DISCIPLINE
+//     blackboard NAME LENGTH
+//     event NAME
 //     schedule ITEM ITEM
 //     NUMBER NOW WHO PROCESS CALL -> REPLY
 //
@@ -55,6 +58,9 @@ impl<'a> Outline<'a> {
             }
             ("process", process) => put_process(&mut self.sections, process)?,
             ("semaphore", semaphore) => put_semaphore(&mut self.sections, semaphore)?,
+            ("buffer", buffer) => put_buffer(&mut self.sections, buffer)?,
+            ("blackboard", blackboard) => put_blackboard(&mut self.sections, blackboard)?,
+            ("event", name) => writeln!(self.sections, "[[event]]\nname = \"{name}\"")?,
             ("schedule", schedule) => self.schedule = schedule,
             ("", _) => {}
             _ => writeln!(self.lines, "{line}")?,
@@ -115,6 +121,25 @@ fn put_semaphore(text: &mut String, semaphore: &str) -> Result<(), Fail> {
         "[[semaphore]]\nname = \"{name}\"\nmaximum = {maximum}"
     )?;
     writeln!(text, "initial = {initial}\ndiscipline = \"{discipline}\"")?;
+    Ok(())
+}
+
+// Writes the section of a buffer, told as `NAME LENGTH CAPACITY DISCIPLINE`.
+fn put_buffer(text: &mut String, buffer: &str) -> Result<(), Fail> {
+    let mut words = buffer.split(' ');
+    let name = words.next().ok_or("no name")?;
+    let length = words.next().ok_or("no length")?;
+    let capacity = words.next().ok_or("no capacity")?;
+    let discipline = words.next().ok_or("no discipline")?;
+    writeln!(text, "[[buffer]]\nname = \"{name}\"\nlength = {length}")?;
+    writeln!(text, "capacity = {capacity}\ndiscipline = \"{discipline}\"")?;
+    Ok(())
+}
+
+// Writes the section of a blackboard, told as `NAME LENGTH`.
+fn put_blackboard(text: &mut String, blackboard: &str) -> Result<(), Fail> {
+    let (name, length) = blackboard.split_once(' ').ok_or("no length")?;
+    writeln!(text, "[[blackboard]]\nname = \"{name}\"\nlength = {length}")?;
     Ok(())
 }
 

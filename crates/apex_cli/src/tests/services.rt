@@ -1,5 +1,9 @@
 // The services: `rows` tells for each its guards from left to right and its effects, and which case
 // shows them; the cases stand in a file for each kind. Where two guards hold, the left one answers.
+mod blackboard;
+mod buffer;
+mod event;
+mod kinds;
 mod partition;
 mod process;
 mod rows;
@@ -7,14 +11,18 @@ mod semaphore;
 mod time;
 
 use super::outlines::check_outline;
-use rows::ROWS;
+use rows::{Row, rows};
 use std::test::Fail;
 
-const CASES: [&[&str]; 4] = [
+const CASES: [&[&str]; 8] = [
     partition::CASES,
     process::CASES,
     time::CASES,
     semaphore::CASES,
+    buffer::CASES,
+    blackboard::CASES,
+    event::CASES,
+    kinds::CASES,
 ];
 
 #[test]
@@ -48,26 +56,26 @@ fn has_case(service: &str, told: &str) -> bool {
     false
 }
 
+fn has_row(rows: &[Row], service: &str, told: &str) -> bool {
+    rows.iter().any(|row| {
+        row.service == service && (row.guards.contains(&told) || row.effects.contains(&told))
+    })
+}
+
 fn stands_in_a_row(case: &str) -> bool {
     let Some((service, told)) = name_of(case) else {
         return false;
     };
-    for row in ROWS {
-        if row.service == service && (row.guards.contains(&told) || row.effects.contains(&told)) {
-            return true;
-        }
-    }
-    false
+    rows().iter().any(|rows| has_row(rows, service, told))
 }
 
 #[test]
 fn each_guard_and_each_effect_has_its_case(rt: HostRuntime) -> Result<(), Fail> {
-    for row in ROWS {
-        for told in row.guards {
-            assert!(rt; has_case(row.service, told), "{}: {told}", row.service);
-        }
-        for told in row.effects {
-            assert!(rt; has_case(row.service, told), "{}: {told}", row.service);
+    for rows in rows().iter() {
+        for row in rows.iter() {
+            for told in row.guards.iter().chain(row.effects.iter()) {
+                assert!(rt; has_case(row.service, told), "{}: {told}", row.service);
+            }
         }
     }
     Ok(())

@@ -7,8 +7,7 @@ ghost use Rattle.apex_types.specs.InTurn.{Makes};
 ghost use Rattle.apex_types.specs.PartitionServices as services;
 ghost use Rattle.apex_types.specs.Roster.{is_normal, record_at};
 ghost use Rattle.apex_types.specs.Rows.{Leaves};
-ghost use Rattle.apex_types.specs.Stamps.{HasOrderlyStarts, HasStamps, may_wait};
-ghost use Rattle.apex_dispatch.specs.Premises.{HasManyStamps};
+ghost use Rattle.apex_types.specs.Stamps.{HasManyStamps, HasOrderlyStarts, HasStamps, may_wait};
 
 use crate::objects::Objects;
 use apex_store::Store;

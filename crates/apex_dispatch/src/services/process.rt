@@ -1,13 +1,13 @@
 //! The services of process management for a process that is named.
 
-ghost use Rattle.std.specs.Prelude.{◌≡◌, ◌<◌, [], ◌++◌, length, false};
-ghost use Rattle.apex_types.specs.Limits.{most_notices};
+ghost use Rattle.std.specs.Prelude.{◌≡◌, ◌<◌, ◌≤◌, [], ◌++◌, length, false};
+ghost use Rattle.apex_types.specs.Limits.{most_notices, most_processes};
 ghost use Rattle.apex_types.specs.Callers.{IsReadyCaller, is_by_process};
 ghost use Rattle.apex_types.specs.Dues.{HasTime};
 ghost use Rattle.apex_types.specs.ProcessServices as services;
 ghost use Rattle.apex_types.specs.Roster.{Roster};
 ghost use Rattle.apex_types.specs.Rows.{Leaves};
-ghost use Rattle.apex_types.specs.Stamps.{HasStamps};
+ghost use Rattle.apex_types.specs.Stamps.{HasManyStamps, HasStamps};
 
 use apex_store::{Object, Store};
 use apex_types::{
@@ -247,10 +247,11 @@ impl Object for ProcessObject {
         notices: &mut Notices,
     ) -> Reply
         requires stands { id < length (S.roster store.old).records }
+        requires few { length (S.roster store.old).records ≤ most_processes }
         requires caller { IsReadyCaller (S.roster store.old) caller.now }
-        requires stamps { HasStamps (S.roster store.old) }
+        requires stamps { HasManyStamps (S.roster store.old) }
         requires time { HasTime (S.roster store.old) }
-        requires room { length notices.old < most_notices }
+        requires room { length notices.old ≤ most_processes }
         ensures { Leaves (services.process_own (S.roster store.old) self.old id caller.now service.now)
             (S.roster store.new) self.new result notices.old notices.new }
     {

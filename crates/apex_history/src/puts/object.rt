@@ -22,7 +22,7 @@ pub(super) trait Kind: Copy {
     ghost names: { TableOf → ℕ → List ℕ };
 
     // The text of a service of the object of this name.
-    ghost own: { List ℕ → Self.Service → List ℕ };
+    ghost own: { TableOf → List ℕ → Self.Service → List ℕ };
 
     /// The kind's word in the names of the services that each kind has.
     fn word() -> &'static str
@@ -33,10 +33,10 @@ pub(super) trait Kind: Copy {
         requires { id < count table.now }
         ensures { result.now ≡ names table.now id };
 
-    fn put_service(line: &mut Lines, name: &Name, service: &Self::Service)
-        requires { array_vec_len line.old + 80 ≤ 8192 }
-        ensures text { line.new.items ≡ line.old.items ++ own name.now service.now }
-        ensures short { array_vec_len line.new ≤ array_vec_len line.old + 80 };
+    fn put_service(line: &mut Lines, table: &Table, name: &Name, service: &Self::Service)
+        requires { array_vec_len line.old + 192 ≤ 8192 }
+        ensures text { line.new.items ≡ line.old.items ++ own table.now name.now service.now }
+        ensures short { array_vec_len line.new ≤ array_vec_len line.old + 192 };
 }
 
 // The name that a step gives.
@@ -60,9 +60,9 @@ pub(super) fn put_object_call<K: Kind>(
     call: &ObjectCall<Id<K>, K::Service>,
 )
     requires known { IsKnownObject (K.count table.now) call.now }
-    requires room { array_vec_len line.old + 128 ≤ 8192 }
-    ensures text { line.new.items ≡ line.old.items ++ object_call_text K.word (K.names table.now) (literal_text table.now) K.own call.now }
-    ensures short { array_vec_len line.new ≤ array_vec_len line.old + 128 }
+    requires room { array_vec_len line.old + 192 ≤ 8192 }
+    ensures text { line.new.items ≡ line.old.items ++ object_call_text K.word (K.names table.now) (literal_text table.now) (K.own table.now) call.now }
+    ensures short { array_vec_len line.new ≤ array_vec_len line.old + 192 }
 {
     match call {
         ObjectCall::Create(named) => {
@@ -83,6 +83,6 @@ pub(super) fn put_object_call<K: Kind>(
             put(line, "_STATUS ");
             put_name(line, K::name(table, *id));
         }
-        ObjectCall::Own(id, service) => K::put_service(line, K::name(table, *id), service),
+        ObjectCall::Own(id, service) => K::put_service(line, table, K::name(table, *id), service),
     }
 }

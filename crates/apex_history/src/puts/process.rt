@@ -16,7 +16,7 @@ impl Kind for ProcessKind {
 
     ghost names = { process_name };
 
-    ghost own = { process_service_text };
+    ghost own = { λ _. process_service_text };
 
     fn word() -> &'static str {
         "PROCESS"
@@ -29,7 +29,7 @@ impl Kind for ProcessKind {
         table.process(id).name()
     }
 
-    fn put_service(line: &mut Lines, name: &Name, service: &ProcessService) {
+    fn put_service(line: &mut Lines, _table: &Table, name: &Name, service: &ProcessService) {
         use ProcessService::*;
         match service {
             InitializeCoreAffinity(core) => {

@@ -16,7 +16,7 @@ impl Kind for SemaphoreKind {
 
     ghost names = { semaphore_name };
 
-    ghost own = { semaphore_service_text };
+    ghost own = { λ _. semaphore_service_text };
 
     fn word() -> &'static str {
         "SEMAPHORE"
@@ -29,7 +29,7 @@ impl Kind for SemaphoreKind {
         table.semaphore(id).name()
     }
 
-    fn put_service(line: &mut Lines, name: &Name, service: &SemaphoreService) {
+    fn put_service(line: &mut Lines, _table: &Table, name: &Name, service: &SemaphoreService) {
         match service {
             SemaphoreService::Wait(timeout) => {
                 put_with_name_and_timeout(line, "WAIT_SEMAPHORE ", name, timeout);

@@ -1,4 +1,4 @@
-use super::{called, of_process, paper, print};
+use super::{called, code, of_process, paper, print};
 use crate::Counted;
 use apex_table::read_table;
 use apex_types::{
@@ -81,17 +81,17 @@ fn suspensions(rt: HostRuntime) -> Result<(), Fail> {
     let own = Call::Caller(CallerCall::SuspendSelf(Timeout::Ticks(3)));
     print(&table, &called(5, 0, p1, own, Reply::Blocked), &mut writer)?;
     let poll = Call::Caller(CallerCall::SuspendSelf(Timeout::Poll));
-    let ok = Reply::Code(ReturnCode::NoError);
+    let ok = code(ReturnCode::NoError);
     print(&table, &called(7, 3, p1, poll, ok), &mut writer)?;
     let own = Call::Caller(CallerCall::SuspendSelf(Timeout::Infinite));
     print(&table, &called(8, 3, p1, own, Reply::Blocked), &mut writer)?;
-    let refused = Reply::Code(ReturnCode::NoAction);
+    let refused = code(ReturnCode::NoAction);
     let suspend = of_process(p1, ProcessService::Suspend);
     let mut entry = called(10, 3, p2, suspend, refused);
     entry.who = Who::Core(CoreId::new(1));
     print(&table, &entry, &mut writer)?;
     let resume = of_process(p1, ProcessService::Resume);
-    let mut entry = called(13, 3, p2, resume, ok);
+    let mut entry = called(13, 3, p2, resume, code(ReturnCode::NoError));
     entry.who = Who::Core(CoreId::new(1));
     entry.notices.push(Notice::Woken(p1, ReturnCode::NoError));
     print(&table, &entry, &mut writer)?;
@@ -105,21 +105,39 @@ fn priorities_and_stops(rt: HostRuntime) -> Result<(), Fail> {
     let table = read_table(rt.alloc(), TABLE.as_bytes())?;
     assert_eq!(rt; table.process_count(), 2);
     let (p1, p2) = (ProcessId::at(0), ProcessId::at(1));
-    let ok = Reply::Code(ReturnCode::NoError);
-    let refused = Reply::Code(ReturnCode::InvalidParam);
     let mut paper = paper(rt, 1024, 0)?;
     let mut writer = Counted::new(&mut paper);
 
     let raise = of_process(p2, ProcessService::SetPriority(20));
-    print(&table, &called(9, 0, p1, raise, ok), &mut writer)?;
+    print(
+        &table,
+        &called(9, 0, p1, raise, code(ReturnCode::NoError)),
+        &mut writer,
+    )?;
     let least = of_process(p1, ProcessService::SetPriority(0));
-    print(&table, &called(10, 0, p1, least, refused), &mut writer)?;
+    print(
+        &table,
+        &called(10, 0, p1, least, code(ReturnCode::InvalidParam)),
+        &mut writer,
+    )?;
     let greatest = of_process(p2, ProcessService::SetPriority(65_535));
-    print(&table, &called(11, 0, p1, greatest, refused), &mut writer)?;
+    print(
+        &table,
+        &called(11, 0, p1, greatest, code(ReturnCode::InvalidParam)),
+        &mut writer,
+    )?;
     let stop = of_process(p1, ProcessService::Stop);
-    print(&table, &called(12, 0, p2, stop, ok), &mut writer)?;
+    print(
+        &table,
+        &called(12, 0, p2, stop, code(ReturnCode::NoError)),
+        &mut writer,
+    )?;
     let own = of_process(p2, ProcessService::Stop);
-    print(&table, &called(13, 0, p2, own, refused), &mut writer)?;
+    print(
+        &table,
+        &called(13, 0, p2, own, code(ReturnCode::InvalidParam)),
+        &mut writer,
+    )?;
 
     assert_eq!(rt; paper.held(), PRIORITIES_AND_STOPS.as_bytes());
     Ok(())
@@ -157,19 +175,29 @@ fn names_of_processes(rt: HostRuntime) -> Result<(), Fail> {
     let table = read_table(rt.alloc(), TABLE.as_bytes())?;
     assert_eq!(rt; table.process_count(), 2);
     let (p1, p2) = (ProcessId::at(0), ProcessId::at(1));
-    let refused = Reply::Code(ReturnCode::InvalidMode);
     let mut paper = paper(rt, 1024, 0)?;
     let mut writer = Counted::new(&mut paper);
 
     let create = Call::Process(ProcessCall::Create(Named::Known(p2)));
-    print(&table, &called(9, 0, p1, create, refused), &mut writer)?;
+    print(
+        &table,
+        &called(9, 0, p1, create, code(ReturnCode::InvalidMode)),
+        &mut writer,
+    )?;
     let create = Call::Process(ProcessCall::Create(Named::Unknown(of_p1(0))));
-    print(&table, &called(10, 0, p1, create, refused), &mut writer)?;
+    print(
+        &table,
+        &called(10, 0, p1, create, code(ReturnCode::InvalidMode)),
+        &mut writer,
+    )?;
     let id = Call::Process(ProcessCall::GetId(Named::Known(p2)));
     print(&table, &called(11, 0, p1, id, Reply::Value(2)), &mut writer)?;
     let id = Call::Process(ProcessCall::GetId(Named::Unknown(of_p1(0))));
-    let absent = Reply::Code(ReturnCode::InvalidConfig);
-    print(&table, &called(12, 0, p1, id, absent), &mut writer)?;
+    print(
+        &table,
+        &called(12, 0, p1, id, code(ReturnCode::InvalidConfig)),
+        &mut writer,
+    )?;
 
     assert_eq!(rt; paper.held(), PROCESS_NAMES.as_bytes());
     Ok(())
@@ -181,19 +209,29 @@ fn names_of_semaphores(rt: HostRuntime) -> Result<(), Fail> {
     assert_eq!(rt; table.semaphore_count(), 1);
     let p1 = ProcessId::at(0);
     let s = SemaphoreId::at(0);
-    let refused = Reply::Code(ReturnCode::InvalidMode);
     let mut paper = paper(rt, 1024, 0)?;
     let mut writer = Counted::new(&mut paper);
 
     let create = Call::Semaphore(SemaphoreCall::Create(Named::Known(s)));
-    print(&table, &called(9, 0, p1, create, refused), &mut writer)?;
+    print(
+        &table,
+        &called(9, 0, p1, create, code(ReturnCode::InvalidMode)),
+        &mut writer,
+    )?;
     let create = Call::Semaphore(SemaphoreCall::Create(Named::Unknown(of_p1(1))));
-    print(&table, &called(10, 0, p1, create, refused), &mut writer)?;
+    print(
+        &table,
+        &called(10, 0, p1, create, code(ReturnCode::InvalidMode)),
+        &mut writer,
+    )?;
     let id = Call::Semaphore(SemaphoreCall::GetId(Named::Known(s)));
     print(&table, &called(11, 0, p1, id, Reply::Value(1)), &mut writer)?;
     let id = Call::Semaphore(SemaphoreCall::GetId(Named::Unknown(of_p1(1))));
-    let absent = Reply::Code(ReturnCode::InvalidConfig);
-    print(&table, &called(12, 0, p1, id, absent), &mut writer)?;
+    print(
+        &table,
+        &called(12, 0, p1, id, code(ReturnCode::InvalidConfig)),
+        &mut writer,
+    )?;
 
     assert_eq!(rt; paper.held(), SEMAPHORE_NAMES.as_bytes());
     Ok(())

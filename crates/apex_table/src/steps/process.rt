@@ -1,10 +1,11 @@
 ghost use Rattle.std.specs.Prelude.{codes, ◌≡◌};
+ghost use Rattle.apex_types.specs.declared.calls.Call.TheVariants.{Process};
 ghost use Rattle.apex_table.specs.ProcessSteps.{process_alone, process_with_word, process_service};
 
 use crate::fault::{Place, TableFault};
 use crate::steps::object::Services;
 use crate::steps::words::{is_number, is_timeout, number, timeout};
-use apex_types::{ProcessKind, ProcessService};
+use apex_types::{Call, Origin, ProcessCall, ProcessKind, ProcessService};
 
 fn alone(service: &str) -> Option<ProcessService>
     ensures { result ≡ process_alone service.now }
@@ -40,14 +41,23 @@ impl Services for ProcessKind {
 
     ghost word = { codes "PROCESS" };
 
-    ghost own = { process_service };
+    ghost kind = { Process };
+
+    ghost own = { λ at _. process_service at };
 
     fn word() -> &'static str {
         "PROCESS"
     }
 
+    fn call(call: ProcessCall) -> Call
+        ensures { result ≡ Process call }
+    {
+        Call::Process(call)
+    }
+
     fn own_service(
         at: Place,
+        _origin: &Origin,
         service: &str,
         words: &[&str],
     ) -> Result<Option<ProcessService>, TableFault> {

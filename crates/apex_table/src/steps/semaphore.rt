@@ -1,10 +1,11 @@
 ghost use Rattle.std.specs.Prelude.{codes, ◌≡◌};
+ghost use Rattle.apex_types.specs.declared.calls.Call.TheVariants.{Semaphore};
 ghost use Rattle.apex_table.specs.SemaphoreSteps.{semaphore_alone, semaphore_with_word, semaphore_service};
 
 use crate::fault::{Place, TableFault};
 use crate::steps::object::Services;
 use crate::steps::words::{is_timeout, timeout};
-use apex_types::{SemaphoreKind, SemaphoreService};
+use apex_types::{Call, Origin, SemaphoreCall, SemaphoreKind, SemaphoreService};
 
 fn alone(service: &str) -> Option<SemaphoreService>
     ensures { result ≡ semaphore_alone service.now }
@@ -31,14 +32,23 @@ impl Services for SemaphoreKind {
 
     ghost word = { codes "SEMAPHORE" };
 
-    ghost own = { semaphore_service };
+    ghost kind = { Semaphore };
+
+    ghost own = { λ at _. semaphore_service at };
 
     fn word() -> &'static str {
         "SEMAPHORE"
     }
 
+    fn call(call: SemaphoreCall) -> Call
+        ensures { result ≡ Semaphore call }
+    {
+        Call::Semaphore(call)
+    }
+
     fn own_service(
         at: Place,
+        _origin: &Origin,
         service: &str,
         words: &[&str],
     ) -> Result<Option<SemaphoreService>, TableFault> {

@@ -1,11 +1,13 @@
-ghost use Rattle.std.specs.Prelude.{ℕ, ◌≡◌, ◌<◌, ◌≤◌, map, length, IfOk};
-ghost use Rattle.apex_types.specs.Limits.{most_processes};
-ghost use Rattle.std.specs.List.{list_any};
-ghost use Rattle.apex_table.specs.Words.{words, is_empty, is_number, is_timeout, number, timeout, entry_of};
+ghost use Rattle.std.specs.Prelude.{ℕ, ◌≡◌, ◌<◌, ◌≤◌, ◌/◌, ◌%◌, ◌==◌, ◌&&◌, true, map, length, IfOk};
+ghost use Rattle.apex_types.specs.Limits.{most_message, most_processes};
+ghost use Rattle.std.specs.Char.{digit_value};
+ghost use Rattle.std.specs.List.{list_all, list_any};
+ghost use Rattle.apex_table.specs.Words.{words, is_empty, is_number, is_timeout, is_digit, pairs_value, is_message, message_bytes, message, number, timeout, entry_of};
 
 use crate::fault::{Place, TableFault};
 use crate::named::place_of;
-use apex_types::{Name, Timeout, number_at_most};
+use apex_types::{Literal, Message, Name, Origin, Timeout, number_at_most};
+use arrayvec::ArrayVec;
 use std::alloc::{AllocError, Global};
 
 /// What stands between single spaces, which may be empty.
@@ -61,6 +63,88 @@ pub fn timeout(at: Place, word: &str) -> Result<Timeout, TableFault>
         "infinite" => Ok(Timeout::Infinite),
         _ => Ok(Timeout::Ticks(number(at, u32::MAX, word)?)),
     }
+}
+
+fn is_digit(byte: u8) -> bool
+    ensures { result ≡ is_digit byte }
+{
+    byte.is_ascii_digit() || (b'a'..=b'f').contains(&byte)
+}
+
+fn all_digits(word: &[u8]) -> bool
+    ensures { result ≡ list_all is_digit word.now }
+{
+    word.iter().all(|byte| is_digit(*byte))
+}
+
+/// Whether a word is pairs of digits.
+fn is_pairs(word: &[u8]) -> bool
+    ensures { result ≡ (length word.now % 2 == 0 && list_all is_digit word.now) }
+{
+    word.len() % 2 == 0 && all_digits(word)
+}
+
+/// Whether a word has the form of a message, which may be of any length.
+pub fn is_message(word: &str) -> bool
+    ensures { result ≡ is_message word.now }
+{
+    word == "-" || is_pairs(word.as_bytes())
+}
+
+fn value_of(digit: u8) -> u8
+    requires { is_digit digit ≡ true }
+    ensures value { result ≡ digit_value digit }
+    ensures range { result < 16 }
+{
+    if digit.is_ascii_digit() {
+        digit - b'0'
+    } else {
+        digit - b'a' + 10
+    }
+}
+
+/// The bytes that pairs of digits write. Takes no memory.
+fn decoded(digits: &[u8]) -> Literal
+    requires digits { list_all is_digit digits.now ≡ true }
+    requires few { length digits.now / 2 ≤ most_message }
+    ensures { result ≡ pairs_value digits.now }
+{
+    let mut bytes = ArrayVec::<u8, 64>::new();
+    let mut rest = digits;
+    while let [high, low, others @ ..] = rest {
+        bytes.push(value_of(*high) * 16 + value_of(*low));
+        rest = others;
+    }
+    Literal::of(bytes.as_slice())
+}
+
+/// The bytes of the message that a word writes, 64 at the most.
+#[tactic(auto, using(crate::proofs::Messages::count_of_pairs))]
+pub fn message_bytes(at: Place, word: &str) -> Result<Literal, TableFault>
+    ensures { result ≡ message_bytes at word.now }
+{
+    if word == "-" {
+        return Ok(Literal::new());
+    }
+    let digits = word.as_bytes();
+    if !is_pairs(digits) {
+        return Err(TableFault::OutOfRange(at));
+    }
+    if digits.len() / 2 > 64 {
+        return Err(TableFault::OutOfRange(at));
+    }
+    Ok(decoded(digits))
+}
+
+/// The message that a word writes, in the step of this origin.
+pub fn message(at: Place, origin: &Origin, word: &str) -> Result<Message, TableFault>
+    ensures { result ≡ message at origin.now word.now }
+{
+    let bytes = message_bytes(at, word)?;
+    Ok(Message {
+        origin: *origin,
+        length: bytes.as_bytes().len() as u8,
+    })
 }
 
 /// The place, counted from 0, of the entry of this name.

@@ -6,7 +6,24 @@ pub struct Row {
     pub effects: &'static [&'static str],
 }
 
-pub const ROWS: &[Row] = &[
+/// All rows, in the order of the services.
+// Each list is a function's, since the proof of a function that names all of them would be too long.
+pub fn rows() -> [&'static [Row]; 9] {
+    [
+        general(),
+        creates(),
+        ids(),
+        statuses(),
+        partition(),
+        processes(),
+        stops(),
+        semaphores(),
+        flags(),
+    ]
+}
+
+// Those of several services.
+const GENERAL: &[Row] = &[
     Row {
         service: "before NORMAL",
         guards: &[],
@@ -16,6 +33,27 @@ pub const ROWS: &[Row] = &[
             "an empty list",
         ],
     },
+    Row {
+        service: "several kinds",
+        guards: &[],
+        effects: &[
+            "the default list creates them kind by kind, in the order of the table",
+            "one of five of one name is created",
+            "of one name, the ids are counted kind by kind",
+            "of one name, each service is that of its own kind",
+            "of one name, the waiters of one do not wait for another",
+            "the waits of one due end by number",
+            "IDLE wakes nobody",
+        ],
+    },
+];
+
+fn general() -> &'static [Row] {
+    GENERAL
+}
+
+// CREATE of each kind.
+const CREATES: &[Row] = &[
     Row {
         service: "CREATE_PROCESS",
         guards: &[
@@ -39,6 +77,47 @@ pub const ROWS: &[Row] = &[
         effects: &["with its initial value"],
     },
     Row {
+        service: "CREATE_BUFFER",
+        guards: &[
+            "the mode is NORMAL",
+            "the mode is NORMAL, and no entry has the name",
+            "the mode is NORMAL, and it is created",
+            "no entry has the name",
+            "it is created",
+        ],
+        effects: &["it is empty"],
+    },
+    Row {
+        service: "CREATE_BLACKBOARD",
+        guards: &[
+            "the mode is NORMAL",
+            "the mode is NORMAL, and no entry has the name",
+            "the mode is NORMAL, and it is created",
+            "no entry has the name",
+            "it is created",
+        ],
+        effects: &["it is empty"],
+    },
+    Row {
+        service: "CREATE_EVENT",
+        guards: &[
+            "the mode is NORMAL",
+            "the mode is NORMAL, and no entry has the name",
+            "the mode is NORMAL, and it is created",
+            "no entry has the name",
+            "it is created",
+        ],
+        effects: &["it is down"],
+    },
+];
+
+fn creates() -> &'static [Row] {
+    CREATES
+}
+
+// GET_ID of each kind.
+const IDS: &[Row] = &[
+    Row {
         service: "GET_PROCESS_ID",
         guards: &["no entry has the name", "not created"],
         effects: &["the process's id"],
@@ -48,6 +127,29 @@ pub const ROWS: &[Row] = &[
         guards: &["no entry has the name", "not created"],
         effects: &["the semaphore's id"],
     },
+    Row {
+        service: "GET_BUFFER_ID",
+        guards: &["no entry has the name", "not created"],
+        effects: &["the buffer's id"],
+    },
+    Row {
+        service: "GET_BLACKBOARD_ID",
+        guards: &["no entry has the name", "not created"],
+        effects: &["the blackboard's id"],
+    },
+    Row {
+        service: "GET_EVENT_ID",
+        guards: &["no entry has the name", "not created"],
+        effects: &["the event's id"],
+    },
+];
+
+fn ids() -> &'static [Row] {
+    IDS
+}
+
+// GET_STATUS of each kind, and of the partition.
+const STATUSES: &[Row] = &[
     Row {
         service: "GET_PROCESS_STATUS",
         guards: &["not created"],
@@ -59,10 +161,36 @@ pub const ROWS: &[Row] = &[
         effects: &["the value, and how many wait"],
     },
     Row {
+        service: "GET_BUFFER_STATUS",
+        guards: &["not created"],
+        effects: &[
+            "the messages, and how many wait to send",
+            "how many wait to receive",
+        ],
+    },
+    Row {
+        service: "GET_BLACKBOARD_STATUS",
+        guards: &["not created"],
+        effects: &["1 where it holds a message, and how many wait"],
+    },
+    Row {
+        service: "GET_EVENT_STATUS",
+        guards: &["not created"],
+        effects: &["1 where it is up, and how many wait"],
+    },
+    Row {
         service: "GET_PARTITION_STATUS",
         guards: &[],
         effects: &["before NORMAL", "in NORMAL"],
     },
+];
+
+fn statuses() -> &'static [Row] {
+    STATUSES
+}
+
+// The partition, time, and who asks.
+const PARTITION: &[Row] = &[
     Row {
         service: "SET_PARTITION_MODE NORMAL",
         guards: &["the mode is NORMAL"],
@@ -94,6 +222,14 @@ pub const ROWS: &[Row] = &[
         guards: &[],
         effects: &["the caller's core"],
     },
+];
+
+fn partition() -> &'static [Row] {
+    PARTITION
+}
+
+// Processes, up to their starts.
+const PROCESSES: &[Row] = &[
     Row {
         service: "INITIALIZE_PROCESS_CORE_AFFINITY",
         guards: &[
@@ -122,6 +258,13 @@ pub const ROWS: &[Row] = &[
             "a waiter of the PRIORITY discipline is the newest",
             "a suspended waiter of the PRIORITY discipline is the newest",
             "a waiter of the FIFO discipline keeps its place",
+            "a sender that waits by the PRIORITY discipline is the newest",
+            "a receiver that waits by the PRIORITY discipline is the newest",
+            "a receiver that waits by the PRIORITY discipline goes first with a higher priority",
+            "a sender that waits by the FIFO discipline keeps its place",
+            "a receiver that waits by the FIFO discipline keeps its place",
+            "a reader of a blackboard keeps its place",
+            "a waiter for an event keeps its place",
             "a process that waits for NORMAL keeps its place",
         ],
     },
@@ -152,6 +295,14 @@ pub const ROWS: &[Row] = &[
             "with 0 before NORMAL",
         ],
     },
+];
+
+fn processes() -> &'static [Row] {
+    PROCESSES
+}
+
+// Stops, suspensions and waits for time.
+const STOPS: &[Row] = &[
     Row {
         service: "STOP",
         guards: &[
@@ -163,6 +314,11 @@ pub const ROWS: &[Row] = &[
         effects: &[
             "it runs on another core",
             "a waiter leaves its queue, and has no due",
+            "a sender that waits takes its message away",
+            "the messages that it sent stay",
+            "a receiver that waits leaves its queue, and has no due",
+            "a reader of a blackboard is woken no more, and has no due",
+            "a waiter for an event is woken no more, and has no due",
             "it is suspended no more",
             "before NORMAL it does not wait for it any more",
         ],
@@ -189,6 +345,7 @@ pub const ROWS: &[Row] = &[
             "it loses its core",
             "a wait for time ends while it is suspended",
             "a wait for a semaphore ends while it is suspended",
+            "a wait for a buffer ends while it is suspended",
             "it is released while it is suspended",
         ],
     },
@@ -221,6 +378,14 @@ pub const ROWS: &[Row] = &[
             "whose due comes is the newest",
         ],
     },
+];
+
+fn stops() -> &'static [Row] {
+    STOPS
+}
+
+// Semaphores and buffers.
+const SEMAPHORES: &[Row] = &[
     Row {
         service: "WAIT_SEMAPHORE",
         guards: &["not created"],
@@ -243,4 +408,134 @@ pub const ROWS: &[Row] = &[
             "who is woken is the newest",
         ],
     },
+    Row {
+        service: "SEND_BUFFER",
+        guards: &[
+            "not created",
+            "not created, and the message does not fit",
+            "the message is empty",
+            "the message is empty, and a receiver waits",
+            "the message is above the length",
+            "the message is above the length, and a receiver waits",
+            "the message does not fit, and the buffer is full",
+        ],
+        effects: &[
+            "a receiver that waits is woken, and has no due",
+            "the buffer stays empty where a receiver waits",
+            "by the FIFO discipline the first receiver is the oldest",
+            "by the PRIORITY discipline the first receiver has the highest priority",
+            "by the PRIORITY discipline the oldest of equal receivers",
+            "a suspended receiver gets the message, and stays WAITING",
+            "a suspended receiver keeps its place",
+            "a receiver that is woken is the newest",
+            "not full, the message goes last",
+            "by the PRIORITY discipline messages keep their order",
+            "full, with 0",
+            "full, until its due",
+            "full, infinite",
+        ],
+    },
+    Row {
+        service: "RECEIVE_BUFFER",
+        guards: &["not created"],
+        effects: &[
+            "the first message is taken away",
+            "messages of different lengths between sends",
+            "the message of a sender that waits goes last",
+            "a sender that waits is woken, and has no due",
+            "by the FIFO discipline the first sender is the oldest",
+            "by the PRIORITY discipline the first sender has the highest priority",
+            "by the PRIORITY discipline the oldest of equal senders",
+            "the message of a suspended sender is taken in, and the sender stays WAITING",
+            "the message of a sender whose due came is not taken in",
+            "a sender that is woken is the newest",
+            "empty, with 0",
+            "empty, until its due",
+            "empty, infinite",
+        ],
+    },
 ];
+
+fn semaphores() -> &'static [Row] {
+    SEMAPHORES
+}
+
+// Blackboards and events.
+const FLAGS: &[Row] = &[
+    Row {
+        service: "DISPLAY_BLACKBOARD",
+        guards: &[
+            "not created",
+            "not created, and the message does not fit",
+            "the message is empty",
+            "the message is above the length",
+            "the message does not fit, and a reader waits",
+        ],
+        effects: &[
+            "the message replaces the old one",
+            "all readers are woken in the order of their waiting, and have no due",
+            "the readers of another one wait on",
+            "a suspended reader is woken, and stays WAITING",
+            "those that are woken are ready in the order of their waiting",
+            "in the init list",
+        ],
+    },
+    Row {
+        service: "READ_BLACKBOARD",
+        guards: &["not created"],
+        effects: &[
+            "it holds a message, which stays",
+            "empty, with 0",
+            "empty, until its due",
+            "empty, infinite",
+        ],
+    },
+    Row {
+        service: "CLEAR_BLACKBOARD",
+        guards: &["not created"],
+        effects: &[
+            "it is empty",
+            "it was empty, and those that wait go on to wait",
+            "another one keeps its message",
+            "in the init list",
+        ],
+    },
+    Row {
+        service: "SET_EVENT",
+        guards: &["not created"],
+        effects: &[
+            "it is up, also where it was up",
+            "all waiters are woken in the order of their waiting, and have no due",
+            "it stays up where somebody waited",
+            "the waiters of another one wait on",
+            "a suspended waiter is woken, and stays WAITING",
+            "those that are woken are ready in the order of their waiting",
+            "who is woken is the newest",
+            "in the init list",
+        ],
+    },
+    Row {
+        service: "RESET_EVENT",
+        guards: &["not created"],
+        effects: &[
+            "it is down",
+            "it was down, and those that wait go on to wait",
+            "in the init list",
+        ],
+    },
+    Row {
+        service: "WAIT_EVENT",
+        guards: &["not created"],
+        effects: &[
+            "it is up, and stays up",
+            "down, with 0",
+            "down, until its due",
+            "down, infinite",
+            "waiters of one due end by number",
+        ],
+    },
+];
+
+fn flags() -> &'static [Row] {
+    FLAGS
+}

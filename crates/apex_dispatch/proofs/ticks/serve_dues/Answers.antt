@@ -6,7 +6,7 @@ use Rattle.apex_types.specs.Ticks.{serve_due}
 use Rattle.apex_types.proofs.Dues.{first_due_within}
 use Rattle.apex_types.proofs.Reaches.{reaches_then}
 use Rattle.apex_dispatch.proofs.DuesServed.{reach_serve_due, one_due, served_is}
-use Rattle.apex_dispatch.proofs.Loops.{made_by_none, made_by_all, leads_on}
+use Rattle.apex_types.proofs.Loops.{made_by_none, made_by_all, leads_on}
 use Rattle.apex_dispatch.proofs.ticks.serve_dues.Goals as goal
 
 pub returns-in-None : goal.returns-in-None

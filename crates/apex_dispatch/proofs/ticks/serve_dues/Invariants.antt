@@ -4,7 +4,7 @@ use Rattle.apex_types.specs.InTurn.{behind}
 use Rattle.apex_types.specs.Stamps.{HasOrderlyStarts}
 use Rattle.apex_types.specs.Ticks.{serve_due, serve_dues}
 use Rattle.apex_types.proofs.Reaches.{Reaches}
-use Rattle.apex_dispatch.proofs.Loops.{LeadsTo}
+use Rattle.apex_types.proofs.Loops.{LeadsTo}
 use Rattle.apex_dispatch.proofs.ticks.serve_dues.Given as goal
 
 abbrev pub invariant-loop-turn : goal.invariant-loop-turn

@@ -1,20 +1,15 @@
 use Rattle.std.proofs.Common.{◌≡◌, ◌++◌, drop}
 use Rattle.apex_types.specs.Places.{map_places}
-use Rattle.apex_types.specs.declared.calls.Call.TheVariants.{Semaphore}
-use Rattle.apex_table.specs.DefaultInit.{creates, creates_process, starts_process, joined}
+use Rattle.apex_table.specs.DefaultInit.{creates_objects, creates_process, starts_process, joined}
 use Rattle.apex_table.proofs.default_init.default_init.Given as goal
 
 abbrev pub invariant-loop-place : goal.invariant-loop-place
 invariant-loop-place l =
-    l.init.items ++ map_places (creates Semaphore) l.place (drop l.place l.semaphores) ≡ map_places (creates Semaphore) 0 l.semaphores
+    l.init.items ++ joined (map_places creates_process l.place (drop l.place l.processes))
+    ≡ creates_objects l.objects ++ joined (map_places creates_process 0 l.processes)
 
 abbrev pub invariant-loop-place-2 : goal.invariant-loop-place-2
 invariant-loop-place-2 l =
-    l.init.items ++ joined (map_places creates_process l.place (drop l.place l.processes))
-    ≡ map_places (creates Semaphore) 0 l.semaphores ++ joined (map_places creates_process 0 l.processes)
-
-abbrev pub invariant-loop-place-3 : goal.invariant-loop-place-3
-invariant-loop-place-3 l =
     l.init.items ++ joined (map_places starts_process l.place (drop l.place l.processes))
-    ≡ (map_places (creates Semaphore) 0 l.semaphores ++ joined (map_places creates_process 0 l.processes))
+    ≡ (creates_objects l.objects ++ joined (map_places creates_process 0 l.processes))
     ++ joined (map_places starts_process 0 l.processes)

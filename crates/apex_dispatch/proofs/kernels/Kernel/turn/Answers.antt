@@ -23,6 +23,9 @@ pub carry_out-deed-requires-clause-objects : goal.carry_out-deed-requires-clause
 carry_out-deed-requires-clause-objects g c = rw c.self.invariant.objects (record {
   processes = length-map_places _ 0 c.self.inside.table.processes;
   semaphores = length-map_places _ 0 c.self.inside.table.semaphores;
+  buffers = length-map_places _ 0 c.self.inside.table.buffers;
+  blackboards = length-map_places _ 0 c.self.inside.table.blackboards;
+  events = length-map_places _ 0 c.self.inside.table.events;
 })
 
 pub carry_out-deed-requires-clause-starts : goal.carry_out-deed-requires-clause-starts

@@ -3,7 +3,7 @@ use Rattle.apex_types.specs.PartitionServices.{first_to_start, begin_waiter}
 use Rattle.apex_types.proofs.Reaches.{reaches_then}
 use Rattle.apex_types.proofs.Starts.{first_may_wait}
 use Rattle.apex_dispatch.proofs.Begun.{reach_begin_waiter, stays_begun, few_starts}
-use Rattle.apex_dispatch.proofs.Loops.{made_by_none, made_by_all, leads_on}
+use Rattle.apex_types.proofs.Loops.{made_by_none, made_by_all, leads_on}
 use Rattle.apex_dispatch.proofs.services.partition.enter_normal.Goals as goal
 
 pub returns-in-None : goal.returns-in-None

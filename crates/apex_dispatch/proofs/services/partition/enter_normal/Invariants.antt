@@ -3,7 +3,7 @@ use Rattle.apex_types.specs.InTurn.{behind}
 use Rattle.apex_types.specs.PartitionServices.{first_to_start, begin_waiter, enter_normal}
 use Rattle.apex_types.proofs.Reaches.{Reaches}
 use Rattle.apex_dispatch.proofs.Begun.{IsBegun}
-use Rattle.apex_dispatch.proofs.Loops.{LeadsTo}
+use Rattle.apex_types.proofs.Loops.{LeadsTo}
 use Rattle.apex_dispatch.proofs.services.partition.enter_normal.Given as goal
 
 abbrev pub invariant-loop-turn : goal.invariant-loop-turn

@@ -1,6 +1,6 @@
 use Rattle.std.proofs.Common.{◌≡◌, length, map, drop, ◌++◌}
 use Rattle.apex_types.specs.Table.{SemaphoreConfig}
-use Rattle.apex_store.proofs.opening.disciplines_of.Given as goal
+use Rattle.apex_store.proofs.opening.semaphore_disciplines.Given as goal
 
 abbrev pub invariant-loop-place : goal.invariant-loop-place
 invariant-loop-place l = record {

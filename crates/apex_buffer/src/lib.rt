@@ -1,0 +1,11 @@
+//! The services of buffers (ARINC 653 Part 1, intrapartition communication), over any store.
+//!
+//! A buffer is an object of its kind. Its messages are named by the steps that give them, so no
+//! bytes are copied. The queue of a buffer holds receivers or senders.
+#![tactic(auto)]
+
+mod buffers;
+#[cfg(test)]
+mod tests;
+
+pub use buffers::Buffer;

@@ -1,0 +1,170 @@
+ghost use Rattle.std.specs.Prelude.{◌≡◌, ◌≤◌, [], length, false, None};
+ghost use Rattle.apex_types.specs.Limits.{most_processes};
+ghost use Rattle.apex_types.specs.BlackboardServices as services;
+ghost use Rattle.apex_types.specs.Callers.{IsReadyCaller};
+ghost use Rattle.apex_types.specs.Dues.{HasTime};
+ghost use Rattle.apex_types.specs.Roster.{Roster};
+ghost use Rattle.apex_types.specs.Rows.{Leaves};
+ghost use Rattle.apex_types.specs.Stamps.{HasManyStamps};
+
+use apex_store::{Object, Store, grant_all, is_unfit, wait_for};
+use apex_types::{
+    BlackboardId, BlackboardKind, BlackboardService, Caller, Message, Notices, Queue, Reply,
+    ReturnCode, Timeout, Wait,
+};
+use std::marker::Model;
+
+/// A blackboard as its services see it.
+#[derive(Clone, Copy, Debug)]
+pub struct Blackboard {
+    longest: u8,
+    created: bool,
+    message: Option<Message>,
+}
+
+impl Model for Blackboard {
+    ghost use Rattle.apex_types.specs.BlackboardServices.{BlackboardObject};
+
+    ghost Value = { BlackboardObject };
+
+    ghost view = { λ b. record { longest = b.longest; created = b.created; message = b.message } };
+
+    ghost inverse = { λ b. record { longest = b.longest; created = b.created; message = b.message } };
+}
+
+impl Blackboard {
+    /// A blackboard that isn't created yet, for messages of up to `longest` bytes.
+    pub fn new(longest: u8) -> Blackboard
+        ensures { result ≡ record { longest = longest; created = false; message = None } }
+    {
+        Blackboard {
+            longest,
+            created: false,
+            message: None,
+        }
+    }
+
+    /// DISPLAY_BLACKBOARD: the message replaces the old one, and all who wait for one get it, who
+    /// waits longest first. INVALID_PARAM where the blackboard isn't created or the message is empty
+    /// or too long.
+    pub fn display<S: Store>(
+        &mut self,
+        store: &mut S,
+        id: BlackboardId,
+        message: Message,
+        notices: &mut Notices,
+    ) -> Reply
+        requires few { length (S.roster store.old).records ≤ most_processes }
+        requires stamps { HasManyStamps (S.roster store.old) }
+        requires room { length notices.old ≤ most_processes }
+        ensures { Leaves (services.display_blackboard (S.roster store.old) self.old id message)
+            (S.roster store.new) self.new result notices.old notices.new }
+    {
+        if !self.created || is_unfit(self.longest, &message) {
+            return Reply::Code(ReturnCode::InvalidParam);
+        }
+        self.message = Some(message);
+        grant_all(store, &Queue::Blackboard(id), &self.message, notices);
+        Reply::Code(ReturnCode::NoError)
+    }
+
+    /// READ_BLACKBOARD: the caller gets the message; where there is none it waits for the time in
+    /// ticks that it may. INVALID_PARAM where the blackboard isn't created, INVALID_MODE where no
+    /// process calls, NOT_AVAILABLE where the caller may not wait.
+    pub fn read<S: Store>(
+        &self,
+        store: &mut S,
+        id: BlackboardId,
+        caller: &Caller,
+        timeout: Timeout,
+    ) -> Reply
+        requires caller { IsReadyCaller (S.roster store.old) caller.now }
+        requires stamps { HasManyStamps (S.roster store.old) }
+        requires time { HasTime (S.roster store.old) }
+        ensures { Leaves (services.read_blackboard (S.roster store.old) self.now id caller.now timeout)
+            (S.roster store.new) self.now result [] [] }
+    {
+        if !self.created {
+            return Reply::Code(ReturnCode::InvalidParam);
+        }
+        let Caller::Process(process) = caller else {
+            return Reply::Code(ReturnCode::InvalidMode);
+        };
+        match self.message {
+            Some(message) => {
+                let shown = message;
+                store.receive(*process, message);
+                Reply::Message(shown)
+            }
+            None => wait_for(store, self, *process, Wait::Blackboard(id), timeout),
+        }
+    }
+
+    /// CLEAR_BLACKBOARD. INVALID_PARAM where the blackboard isn't created.
+    pub fn clear<S: Store>(&mut self, store: &S) -> Reply
+        ensures { Leaves (services.clear_blackboard (S.roster store.now) self.old)
+            (S.roster store.now) self.new result [] [] }
+    {
+        if !self.created {
+            return Reply::Code(ReturnCode::InvalidParam);
+        }
+        self.message = None;
+        Reply::Code(ReturnCode::NoError)
+    }
+}
+
+impl Object for Blackboard {
+    type Kind = BlackboardKind;
+
+    type Own = BlackboardService;
+
+    ghost use Rattle.apex_types.specs.BlackboardServices.{blackboard_kind};
+    ghost use Rattle.apex_types.specs.Roster.{Roster};
+    ghost use Rattle.apex_types.specs.Table.{BlackboardConfig};
+
+    ghost Config = { BlackboardConfig };
+
+    ghost kind = { blackboard_kind };
+
+    ghost Stands = { λ roster b. Unit {0} };
+
+    fn is_created(&self) -> bool {
+        self.created
+    }
+
+    fn make(&mut self) {
+        self.created = true;
+    }
+
+    fn status<S: Store>(&self, store: &S, id: BlackboardId) -> Reply
+        requires stands { Unit {0} }
+        ensures { result ≡ services.blackboard_status (S.roster store.now) self.now id }
+    {
+        let waiting = store.waiting(Queue::Blackboard(id));
+        Reply::Status(u32::from(self.message.is_some()), waiting)
+    }
+
+    fn serve<S: Store>(
+        &mut self,
+        store: &mut S,
+        id: BlackboardId,
+        caller: &Caller,
+        service: &BlackboardService,
+        notices: &mut Notices,
+    ) -> Reply
+        requires stands { Unit {0} }
+        requires few { length (S.roster store.old).records ≤ most_processes }
+        requires caller { IsReadyCaller (S.roster store.old) caller.now }
+        requires stamps { HasManyStamps (S.roster store.old) }
+        requires time { HasTime (S.roster store.old) }
+        requires room { length notices.old ≤ most_processes }
+        ensures { Leaves (services.blackboard_own (S.roster store.old) self.old id caller.now service.now)
+            (S.roster store.new) self.new result notices.old notices.new }
+    {
+        match service {
+            BlackboardService::Display(message) => self.display(store, id, *message, notices),
+            BlackboardService::Read(timeout) => self.read(store, id, caller, *timeout),
+            BlackboardService::Clear => self.clear(store),
+        }
+    }
+}

@@ -1,0 +1,154 @@
+ghost use Rattle.std.specs.Prelude.{◌≡◌, ◌≤◌, [], length, false};
+ghost use Rattle.apex_types.specs.Limits.{most_processes};
+ghost use Rattle.apex_types.specs.Callers.{IsReadyCaller};
+ghost use Rattle.apex_types.specs.Dues.{HasTime};
+ghost use Rattle.apex_types.specs.EventServices as services;
+ghost use Rattle.apex_types.specs.Roster.{Roster};
+ghost use Rattle.apex_types.specs.Rows.{Leaves};
+ghost use Rattle.apex_types.specs.Stamps.{HasManyStamps};
+
+use apex_store::{Object, Store, grant_all, wait_for};
+use apex_types::{
+    Caller, EventId, EventKind, EventService, Notices, Queue, Reply, ReturnCode, Timeout, Wait,
+};
+use std::marker::Model;
+
+/// An event as its services see it.
+#[derive(Clone, Copy, Debug)]
+pub struct Event {
+    created: bool,
+    up: bool,
+}
+
+impl Model for Event {
+    ghost use Rattle.apex_types.specs.EventServices.{EventObject};
+
+    ghost Value = { EventObject };
+
+    ghost view = { λ e. record { created = e.created; up = e.up } };
+
+    ghost inverse = { λ e. record { created = e.created; up = e.up } };
+}
+
+impl Event {
+    /// An event that isn't created yet.
+    pub fn new() -> Event
+        ensures { result ≡ record { created = false; up = false } }
+    {
+        Event {
+            created: false,
+            up: false,
+        }
+    }
+
+    /// SET_EVENT: the event is up, and all who wait for it are woken, who waits longest first.
+    /// INVALID_PARAM where the event isn't created.
+    pub fn set<S: Store>(&mut self, store: &mut S, id: EventId, notices: &mut Notices) -> Reply
+        requires few { length (S.roster store.old).records ≤ most_processes }
+        requires stamps { HasManyStamps (S.roster store.old) }
+        requires room { length notices.old ≤ most_processes }
+        ensures { Leaves (services.set_event (S.roster store.old) self.old id)
+            (S.roster store.new) self.new result notices.old notices.new }
+    {
+        if !self.created {
+            return Reply::Code(ReturnCode::InvalidParam);
+        }
+        self.up = true;
+        grant_all(store, &Queue::Event(id), &None, notices);
+        Reply::Code(ReturnCode::NoError)
+    }
+
+    /// RESET_EVENT: the event is down. INVALID_PARAM where the event isn't created.
+    pub fn reset<S: Store>(&mut self, store: &S) -> Reply
+        ensures { Leaves (services.reset_event (S.roster store.now) self.old)
+            (S.roster store.now) self.new result [] [] }
+    {
+        if !self.created {
+            return Reply::Code(ReturnCode::InvalidParam);
+        }
+        self.up = false;
+        Reply::Code(ReturnCode::NoError)
+    }
+
+    /// WAIT_EVENT: where the event is down the caller waits for the time in ticks that it may.
+    /// INVALID_PARAM where the event isn't created, INVALID_MODE where no process calls,
+    /// NOT_AVAILABLE where the caller may not wait.
+    pub fn wait<S: Store>(
+        &self,
+        store: &mut S,
+        id: EventId,
+        caller: &Caller,
+        timeout: Timeout,
+    ) -> Reply
+        requires caller { IsReadyCaller (S.roster store.old) caller.now }
+        requires stamps { HasManyStamps (S.roster store.old) }
+        requires time { HasTime (S.roster store.old) }
+        ensures { Leaves (services.wait_event (S.roster store.old) self.now id caller.now timeout)
+            (S.roster store.new) self.now result [] [] }
+    {
+        if !self.created {
+            return Reply::Code(ReturnCode::InvalidParam);
+        }
+        match caller {
+            Caller::Process(_) if self.up => Reply::Code(ReturnCode::NoError),
+            Caller::Process(process) => wait_for(store, self, *process, Wait::Event(id), timeout),
+            Caller::Init | Caller::Nobody => Reply::Code(ReturnCode::InvalidMode),
+        }
+    }
+}
+
+impl Object for Event {
+    type Kind = EventKind;
+
+    type Own = EventService;
+
+    ghost use Rattle.apex_types.specs.EventServices.{event_kind};
+    ghost use Rattle.apex_types.specs.Roster.{Roster};
+    ghost use Rattle.apex_types.specs.Table.{EventConfig};
+
+    ghost Config = { EventConfig };
+
+    ghost kind = { event_kind };
+
+    ghost Stands = { λ roster e. Unit {0} };
+
+    fn is_created(&self) -> bool {
+        self.created
+    }
+
+    fn make(&mut self) {
+        self.created = true;
+    }
+
+    fn status<S: Store>(&self, store: &S, id: EventId) -> Reply
+        requires stands { Unit {0} }
+        ensures { result ≡ services.event_status (S.roster store.now) self.now id }
+    {
+        let waiting = store.waiting(Queue::Event(id));
+        Reply::Status(u32::from(self.up), waiting)
+    }
+
+    fn serve<S: Store>(
+        &mut self,
+        store: &mut S,
+        id: EventId,
+        caller: &Caller,
+        service: &EventService,
+        notices: &mut Notices,
+    ) -> Reply
+        requires stands { Unit {0} }
+        requires few { length (S.roster store.old).records ≤ most_processes }
+        requires caller { IsReadyCaller (S.roster store.old) caller.now }
+        requires stamps { HasManyStamps (S.roster store.old) }
+        requires time { HasTime (S.roster store.old) }
+        requires room { length notices.old ≤ most_processes }
+        ensures { Leaves (services.event_own (S.roster store.old) self.old id caller.now service.now)
+            (S.roster store.new) self.new result notices.old notices.new }
+    {
+        match service {
+            EventService::Set => self.set(store, id, notices),
+            EventService::Reset => self.reset(store),
+            EventService::Wait(timeout) => self.wait(store, id, caller, *timeout),
+        }
+    }
+}

@@ -1,0 +1,16 @@
+use Rattle.std.proofs.Common.{◌≡◌, ◌≤◌, ◌≤ℤ◌, ◌+ℤ◌, pos, length, ◌+◌}
+use Rattle.apex_types.specs.InTurn.{behind}
+use Rattle.apex_types.specs.Waking.{first_in, granted, grant_all}
+use Rattle.apex_types.proofs.Loops.{LeadsTo}
+use Rattle.apex_store.proofs.waking.grant_all.Given as goal
+
+abbrev pub invariant-loop-turn : goal.invariant-loop-turn
+invariant-loop-turn g l = record {
+  rest : LeadsTo (first_in l.fn.queue) (granted l.fn.message)
+      (behind l.fn.notices (grant_all l.fn.queue l.fn.message (g.S.Store.roster l.fn.store))) l.turn l.turn-end (g.S.Store.roster l.store) l.notices;
+  many : length (g.S.Store.roster l.store).records ≡ length (g.S.Store.roster l.fn.store).records;
+  young : (g.S.Store.roster l.store).young ≤ℤ ((g.S.Store.roster l.fn.store).young +ℤ pos l.turn);
+  old : (g.S.Store.roster l.store).old ≡ (g.S.Store.roster l.fn.store).old;
+  end : l.turn-end ≡ length (g.S.Store.roster l.fn.store).records;
+  room : length l.notices ≤ 32 + l.turn;
+}

@@ -1,0 +1,28 @@
+-- The kind of blackboards.
+use Rattle.std.specs.Prelude.{codes, ℕ, List, [], ◌∷◌, map, Result, Ok}
+use Rattle.toml.specs.Data.{Members}
+use Rattle.apex_types.specs.Limits.{most_message, most_objects}
+use Rattle.apex_types.specs.Table.{BlackboardConfig}
+use Rattle.apex_table.specs.Terms.{Place, TableFault}
+use Rattle.apex_table.specs.declared.fault.Section.TheVariants.{Blackboard}
+use Rattle.apex_table.specs.Outcome.{◌>>=◌}
+use Rattle.apex_table.specs.Keys.{number_at}
+use Rattle.apex_table.specs.Sections.{KindOf}
+
+-- the names of blackboards
+abbrev pub blackboard_names : List BlackboardConfig → List (List ℕ)
+blackboard_names blackboards = map (λ (b : BlackboardConfig). b.name) blackboards
+
+-- a blackboard of a name
+unfoldable pub blackboard : Place → List ℕ → Members → Result BlackboardConfig TableFault
+blackboard at name ms = do
+  length ← number_at at 1 most_message (codes "length") ms
+  Ok (record { name = name; length = length })
+
+-- the kind of blackboards
+abbrev pub blackboards : KindOf BlackboardConfig
+blackboards = record {
+  head = record { section = Blackboard; most = most_objects; keys = codes "name" ∷ codes "length" ∷ [] };
+  name_of = λ b. b.name;
+  read = blackboard;
+}

@@ -1,0 +1,30 @@
+-- The kind of buffers.
+use Rattle.std.specs.Prelude.{codes, ℕ, List, [], ◌∷◌, map, Result, Ok}
+use Rattle.toml.specs.Data.{Members}
+use Rattle.apex_types.specs.Limits.{most_message, most_messages, most_objects}
+use Rattle.apex_types.specs.Table.{BufferConfig}
+use Rattle.apex_table.specs.Terms.{Place, TableFault}
+use Rattle.apex_table.specs.declared.fault.Section.TheVariants.{Buffer}
+use Rattle.apex_table.specs.Outcome.{◌>>=◌}
+use Rattle.apex_table.specs.Keys.{number_at, discipline_at}
+use Rattle.apex_table.specs.Sections.{KindOf}
+
+-- the names of buffers
+abbrev pub buffer_names : List BufferConfig → List (List ℕ)
+buffer_names buffers = map (λ (b : BufferConfig). b.name) buffers
+
+-- a buffer of a name
+unfoldable pub buffer : Place → List ℕ → Members → Result BufferConfig TableFault
+buffer at name ms = do
+  length ← number_at at 1 most_message (codes "length") ms
+  capacity ← number_at at 1 most_messages (codes "capacity") ms
+  discipline ← discipline_at at ms
+  Ok (record { name = name; length = length; capacity = capacity; discipline = discipline })
+
+-- the kind of buffers
+abbrev pub buffers : KindOf BufferConfig
+buffers = record {
+  head = record { section = Buffer; most = most_objects; keys = codes "name" ∷ codes "length" ∷ codes "capacity" ∷ codes "discipline" ∷ [] };
+  name_of = λ b. b.name;
+  read = buffer;
+}

@@ -1,0 +1,27 @@
+-- The objects of a table, kind by kind.
+use Rattle.std.specs.Prelude.{List, Result, Ok}
+use Rattle.toml.specs.Data.{Members}
+use Rattle.apex_types.specs.Table.{SemaphoreConfig, BufferConfig, BlackboardConfig, EventConfig}
+use Rattle.apex_table.specs.Terms.{TableFault}
+use Rattle.apex_table.specs.Outcome.{◌>>=◌}
+use Rattle.apex_table.specs.Sections.{section}
+use Rattle.apex_table.specs.Semaphores.{semaphores}
+use Rattle.apex_table.specs.Buffers.{buffers}
+use Rattle.apex_table.specs.Blackboards.{blackboards}
+use Rattle.apex_table.specs.Events.{events}
+
+-- the objects of each kind, in the order of the table
+pub record Objects : Type 0 where
+  pub semaphores : List SemaphoreConfig
+  pub buffers : List BufferConfig
+  pub blackboards : List BlackboardConfig
+  pub events : List EventConfig
+
+-- the sections of objects, in the order of the checks
+unfoldable pub objects : Members → Result Objects TableFault
+objects top = do
+  semaphores ← section semaphores top
+  buffers ← section buffers top
+  blackboards ← section blackboards top
+  events ← section events top
+  Ok (record { semaphores = semaphores; buffers = buffers; blackboards = blackboards; events = events })

@@ -1,0 +1,50 @@
+ghost use Rattle.apex_table.specs.Blackboards.{blackboards};
+
+use crate::configs::BlackboardConfig;
+use crate::fault::{Place, Section, TableFault};
+use crate::keys;
+use crate::named::Named;
+use crate::sections::{Head, Kind};
+use apex_types::Name;
+use std::alloc::Global;
+use toml::Table;
+
+impl Named for BlackboardConfig {
+    ghost name_of = { λ b. b.name };
+
+    fn name(&self) -> &Name {
+        BlackboardConfig::name(self)
+    }
+}
+
+/// The kind of blackboards.
+#[derive(Drop)]
+pub struct Blackboards;
+
+impl<'a> Kind<'a> for Blackboards {
+    type Entry = BlackboardConfig;
+
+    ghost head = { λ _. blackboards.head };
+
+    ghost read = { λ _. blackboards.read };
+
+    fn head(&self) -> Head<'static> {
+        Head {
+            section: Section::Blackboard,
+            most: 16,
+            keys: &["name", "length"],
+        }
+    }
+
+    #[tactic(auto, unfolding(crate::specs::Blackboards::blackboard))]
+    fn entry(
+        &self,
+        _alloc: Global,
+        at: Place,
+        name: Name,
+        table: &'a Table,
+    ) -> Result<BlackboardConfig, TableFault> {
+        let length = keys::number_at(at, 1, 64, table, "length")?;
+        Ok(BlackboardConfig::new(name, length as u8))
+    }
+}

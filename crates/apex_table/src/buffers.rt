@@ -1,0 +1,52 @@
+ghost use Rattle.apex_table.specs.Buffers.{buffers};
+
+use crate::configs::BufferConfig;
+use crate::fault::{Place, Section, TableFault};
+use crate::keys;
+use crate::named::Named;
+use crate::sections::{Head, Kind};
+use apex_types::Name;
+use std::alloc::Global;
+use toml::Table;
+
+impl Named for BufferConfig {
+    ghost name_of = { λ b. b.name };
+
+    fn name(&self) -> &Name {
+        BufferConfig::name(self)
+    }
+}
+
+/// The kind of buffers.
+#[derive(Drop)]
+pub struct Buffers;
+
+impl<'a> Kind<'a> for Buffers {
+    type Entry = BufferConfig;
+
+    ghost head = { λ _. buffers.head };
+
+    ghost read = { λ _. buffers.read };
+
+    fn head(&self) -> Head<'static> {
+        Head {
+            section: Section::Buffer,
+            most: 16,
+            keys: &["name", "length", "capacity", "discipline"],
+        }
+    }
+
+    #[tactic(auto, unfolding(crate::specs::Buffers::buffer))]
+    fn entry(
+        &self,
+        _alloc: Global,
+        at: Place,
+        name: Name,
+        table: &'a Table,
+    ) -> Result<BufferConfig, TableFault> {
+        let length = keys::number_at(at, 1, 64, table, "length")?;
+        let capacity = keys::number_at(at, 1, 16, table, "capacity")?;
+        let discipline = keys::discipline_at(at, table)?;
+        Ok(BufferConfig::new(name, length as u8, capacity as u8, discipline))
+    }
+}

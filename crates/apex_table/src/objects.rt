@@ -1,0 +1,52 @@
+ghost use Rattle.toml.specs.View.{table_view};
+ghost use Rattle.apex_table.specs.Outcome.{Gives};
+ghost use Rattle.apex_table.specs.Objects.{objects};
+
+use crate::blackboards::Blackboards;
+use crate::buffers::Buffers;
+use crate::configs::{BlackboardConfig, BufferConfig, EventConfig, SemaphoreConfig};
+use crate::events::Events;
+use crate::fault::TableFault;
+use crate::sections::read_section;
+use crate::semaphores::Semaphores;
+use std::alloc::Global;
+use std::marker::Model;
+
+/// The objects of a table, kind by kind.
+#[derive(Debug, Drop)]
+pub struct Objects {
+    pub semaphores: Vec<SemaphoreConfig>,
+    pub buffers: Vec<BufferConfig>,
+    pub blackboards: Vec<BlackboardConfig>,
+    pub events: Vec<EventConfig>,
+}
+
+impl Model for Objects {
+    ghost use Rattle.std.specs.Prelude.{◌≤◌, length};
+    ghost use Rattle.apex_types.specs.Limits.{most_objects};
+    ghost use Rattle.apex_table.specs.Objects.{Objects};
+
+    ghost Value = { Objects };
+
+    ghost view = { λ o. record { semaphores = o.semaphores.items; buffers = o.buffers.items; blackboards = o.blackboards.items; events = o.events.items } };
+
+    ghost invariant = { λ o. (length o.semaphores.items ≤ most_objects)
+        × (length o.buffers.items ≤ most_objects)
+        × (length o.blackboards.items ≤ most_objects)
+        × (length o.events.items ≤ most_objects) };
+}
+
+impl Objects {
+    /// Reads the sections of objects, from the top of the table.
+    #[tactic(auto, unfolding(crate::specs::Objects::objects))]
+    pub fn read(alloc: Global, top: &toml::Table) -> Result<Objects, TableFault>
+        ensures { Gives (λ o. o) result (objects (table_view top.now)) }
+    {
+        Ok(Objects {
+            semaphores: read_section(alloc, &Semaphores, top)?,
+            buffers: read_section(alloc, &Buffers, top)?,
+            blackboards: read_section(alloc, &Blackboards, top)?,
+            events: read_section(alloc, &Events, top)?,
+        })
+    }
+}

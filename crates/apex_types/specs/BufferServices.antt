@@ -1,0 +1,118 @@
+-- The services of buffers, row by row: the first guard that holds answers and changes nothing
+-- (ARINC 653 Part 1, buffers; the guards are this profile's).
+use Rattle.std.specs.Prelude.{ℕ, Bool, true, false, List, [], ◌∷◌, ◌++◌, length, Option, None, Some, nat_lt, not, if◌then◌else◌}
+use Rattle.apex_types.specs.Terms.{BufferService, Caller, Entry, Message, Reply, Timeout, Wait}
+use Rattle.apex_types.specs.declared.calls.BufferService.TheVariants.{Send, Receive}
+use Rattle.apex_types.specs.declared.entries.Reply.TheVariants.{Status, Message as Gets}
+use Rattle.apex_types.specs.declared.entries.ReturnCode.TheVariants.{NoError, InvalidParam}
+use Rattle.apex_types.specs.declared.records.Queue.TheVariants as queues
+use Rattle.apex_types.specs.declared.records.Wait.TheVariants as wait
+use Rattle.apex_types.specs.Calls.{created_buffer}
+use Rattle.apex_types.specs.History.{is_created}
+use Rattle.apex_types.specs.Messages.{is_unfit}
+use Rattle.apex_types.specs.Objects.{KindOf}
+use Rattle.apex_types.specs.Roster.{Roster, record_at}
+use Rattle.apex_types.specs.Rows.{Outcome, told, accepted, answered_with, accepted_with, guarded, ◌⟶◌, by_process}
+use Rattle.apex_types.specs.Satisfied.{buffer_content}
+use Rattle.apex_types.specs.Stamps.{receive}
+use Rattle.apex_types.specs.Table.{BufferConfig}
+use Rattle.apex_types.specs.Waiters.{first_waiter, waiter_count}
+use Rattle.apex_types.specs.Waiting.{wait_for}
+use Rattle.apex_types.specs.Waking.{granted, woken}
+
+-- a buffer as its services see it: the most bytes of a message, how many messages it may hold, and those
+-- that it holds, the first one first
+pub record BufferObject : Type 0 where
+  pub longest : ℕ
+  pub capacity : ℕ
+  pub created : Bool
+  pub messages : List Message
+
+-- the process waits for a message of a buffer
+abbrev pub is_receiver : Option Wait → Bool
+is_receiver (Some (wait.Receive b)) = true
+is_receiver _ = false
+
+-- the message with which the process waits for room in a buffer
+abbrev pub held_back : Option Wait → Option Message
+held_back (Some (wait.Send b message)) = Some message
+held_back _ = None
+
+-- the message goes last
+abbrev pub with_last : BufferObject → Message → BufferObject
+with_last buffer message = record buffer { messages = buffer.messages ++ message ∷ [] }
+
+-- a send by process p to the buffer itself: its message goes last where there is room, else it waits
+abbrev pub send_last : Roster → BufferObject → ℕ → ℕ → Message → Timeout → Outcome BufferObject
+send_last roster buffer b p message timeout =
+    if nat_lt (length buffer.messages) buffer.capacity then accepted roster (with_last buffer message) []
+    else wait_for roster buffer p (wait.Send b message) timeout
+
+-- a send by process p, where this is the buffer's first waiter: a receiver gets the message, and no
+-- other is passed over
+abbrev pub send_past : Roster → BufferObject → ℕ → ℕ → Message → Timeout → Option ℕ → Outcome BufferObject
+send_past roster buffer b p message timeout None = send_last roster buffer b p message timeout
+send_past roster buffer b p message timeout (Some q) =
+    if is_receiver (record_at roster q).wait then accepted_with buffer (granted (Some message) roster q)
+    else send_last roster buffer b p message timeout
+
+-- SEND_BUFFER
+abbrev pub send_buffer : Roster → BufferObject → ℕ → Caller → Message → Timeout → Outcome BufferObject
+send_buffer roster buffer b caller message timeout =
+    guarded roster buffer
+    (not buffer.created ⟶ InvalidParam ∷ is_unfit buffer.longest message ⟶ InvalidParam ∷ [])
+    (by_process roster buffer caller (λ p.
+    send_past roster buffer b p message timeout (first_waiter roster (queues.Buffer b))))
+
+-- the message is received, and where process q waits with this one, that goes last, and q is woken
+abbrev pub take_in : Roster → BufferObject → Message → ℕ → Option Message → Outcome BufferObject
+take_in roster buffer message q None = told roster buffer (Gets message)
+take_in roster buffer message q (Some sent) =
+    answered_with (Gets message) (with_last buffer sent) (woken roster q NoError)
+
+-- the message is received, where this is the buffer's first waiter
+abbrev pub received : Roster → BufferObject → Message → Option ℕ → Outcome BufferObject
+received roster buffer message None = told roster buffer (Gets message)
+received roster buffer message (Some q) = take_in roster buffer message q (held_back (record_at roster q).wait)
+
+-- a receive by process p, where these are the buffer's messages: it gets the first, else it waits
+abbrev pub receive_first : Roster → BufferObject → ℕ → ℕ → Timeout → List Message → Outcome BufferObject
+receive_first roster buffer b p timeout [] = wait_for roster buffer p (wait.Receive b) timeout
+receive_first roster buffer b p timeout (message ∷ later) =
+    let after = receive roster p message in
+    received after (record buffer { messages = later }) message (first_waiter after (queues.Buffer b))
+
+-- RECEIVE_BUFFER
+abbrev pub receive_buffer : Roster → BufferObject → ℕ → Caller → Timeout → Outcome BufferObject
+receive_buffer roster buffer b caller timeout =
+    guarded roster buffer (not buffer.created ⟶ InvalidParam ∷ [])
+    (by_process roster buffer caller (λ p. receive_first roster buffer b p timeout buffer.messages))
+
+-- the services that buffers alone have
+abbrev pub buffer_own : Roster → BufferObject → ℕ → Caller → BufferService → Outcome BufferObject
+buffer_own roster buffer b caller (Send message timeout) = send_buffer roster buffer b caller message timeout
+buffer_own roster buffer b caller (Receive timeout) = receive_buffer roster buffer b caller timeout
+
+-- the status: how many messages it holds, and how many wait
+abbrev pub buffer_status : Roster → BufferObject → ℕ → Reply
+buffer_status roster buffer b = Status (length buffer.messages) (waiter_count roster (queues.Buffer b))
+
+-- buffer b of this entry after the history
+abbrev pub buffer_after : List Entry → ℕ → BufferConfig → BufferObject
+buffer_after history b entry = record {
+  longest = entry.length;
+  capacity = entry.capacity;
+  created = is_created created_buffer b history;
+  messages = buffer_content b history;
+}
+
+-- buffers
+abbrev pub buffer_kind : KindOf BufferConfig BufferObject BufferService
+buffer_kind = record {
+  absent = record { longest = 0; capacity = 0; created = false; messages = [] };
+  created = λ buffer. buffer.created;
+  made = λ buffer. record buffer { created = true };
+  status = buffer_status;
+  own = buffer_own;
+  after = buffer_after;
+}

@@ -1,0 +1,32 @@
+-- The queues in which processes wait, and which wait stands in which (ARINC 653 Part 1, intrapartition
+-- communication).
+use Rattle.std.specs.Prelude.{Bool, true, false, Option, None, Some, ◌==◌}
+use Rattle.apex_types.specs.Terms.{Queue, Wait}
+use Rattle.apex_types.specs.declared.records.Queue.TheVariants as queues
+use Rattle.apex_types.specs.declared.records.Wait.TheVariants.{Normal, Start, Time, Semaphore, Receive, Send, Blackboard, Event}
+
+-- the queue in which a wait stands: a wait for an instant stands in none, and receivers and senders
+-- stand in the one queue of their buffer
+abbrev pub queue_of : Wait → Option Queue
+queue_of (Normal delay) = Some queues.Normal
+queue_of Start = None
+queue_of Time = None
+queue_of (Semaphore s) = Some (queues.Semaphore s)
+queue_of (Receive b) = Some (queues.Buffer b)
+queue_of (Send b message) = Some (queues.Buffer b)
+queue_of (Blackboard b) = Some (queues.Blackboard b)
+queue_of (Event e) = Some (queues.Event e)
+
+-- the two queues are the same
+abbrev pub is_same_queue : Queue → Queue → Bool
+is_same_queue queues.Normal queues.Normal = true
+is_same_queue (queues.Semaphore s) (queues.Semaphore t) = s == t
+is_same_queue (queues.Buffer b) (queues.Buffer c) = b == c
+is_same_queue (queues.Blackboard b) (queues.Blackboard c) = b == c
+is_same_queue (queues.Event e) (queues.Event f) = e == f
+is_same_queue _ _ = false
+
+-- there is a queue, and it is this one
+abbrev pub is_queue : Queue → Option Queue → Bool
+is_queue queue None = false
+is_queue queue (Some other) = is_same_queue queue other
