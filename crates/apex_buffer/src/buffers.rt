@@ -9,7 +9,7 @@ ghost use Rattle.apex_types.specs.Stamps.{HasManyStamps};
 ghost use Rattle.apex_types.specs.Waiters.{first_waiter};
 ghost use Rattle.apex_types.specs.declared.records.Queue.TheVariants as queues;
 
-use apex_store::{Object, Store, grant, is_unfit, wait_for};
+use apex_store::{Object, Store, grant, is_unfit, is_waiting_owner, wait_for};
 use apex_types::{
     BufferId, BufferKind, BufferService, Caller, Message, Notices, ProcessId, Queue, Reply,
     ReturnCode, Timeout, Wait,
@@ -98,8 +98,8 @@ impl Buffer {
 
     /// SEND_BUFFER: a waiting receiver gets the message, else it goes last, else the caller waits
     /// with it for the time in ticks that it may. INVALID_PARAM where the buffer isn't created or
-    /// the message is empty or too long, INVALID_MODE where no process calls, NOT_AVAILABLE where
-    /// the caller may not wait.
+    /// the message is empty or too long, INVALID_MODE where the caller owns a mutex and would wait, or
+    /// no process calls, NOT_AVAILABLE where the caller may not wait.
     pub fn send<S: Store>(
         &mut self,
         store: &mut S,
@@ -118,6 +118,9 @@ impl Buffer {
     {
         if !self.created || is_unfit(self.longest, &message) {
             return Reply::Code(ReturnCode::InvalidParam);
+        }
+        if is_waiting_owner(store, caller, timeout) {
+            return Reply::Code(ReturnCode::InvalidMode);
         }
         let Caller::Process(process) = caller else {
             return Reply::Code(ReturnCode::InvalidMode);
@@ -173,8 +176,8 @@ impl Buffer {
 
     /// RECEIVE_BUFFER: the caller gets the first message, and then the first waiting sender's goes
     /// last; where there is none the caller waits for the time in ticks that it may. INVALID_PARAM
-    /// where the buffer isn't created, INVALID_MODE where no process calls, NOT_AVAILABLE where the
-    /// caller may not wait.
+    /// where the buffer isn't created, INVALID_MODE where the caller owns a mutex and would wait, or no
+    /// process calls, NOT_AVAILABLE where the caller may not wait.
     pub fn receive<S: Store>(
         &mut self,
         store: &mut S,
@@ -192,6 +195,9 @@ impl Buffer {
     {
         if !self.created {
             return Reply::Code(ReturnCode::InvalidParam);
+        }
+        if is_waiting_owner(store, caller, timeout) {
+            return Reply::Code(ReturnCode::InvalidMode);
         }
         let Caller::Process(process) = caller else {
             return Reply::Code(ReturnCode::InvalidMode);

@@ -1,5 +1,9 @@
-ghost use Rattle.std.specs.Prelude.{◌≡◌, ◌<ℤ◌, ◌≤◌, pos, [], length, true, false, IfOk};
+ghost use Rattle.std.specs.Prelude.{◌≡◌, ◌<ℤ◌, ◌≤◌, pos, [], ◌∷◌, length, true, false, IfOk};
+ghost use Rattle.apex_types.specs.declared.Origin.TheVariants.{Init};
+ghost use Rattle.apex_types.specs.Callers.{IsReady};
+ghost use Rattle.apex_types.specs.Dues.{HasTime};
 ghost use Rattle.apex_types.specs.Roster.{is_normal};
+ghost use Rattle.apex_types.specs.Stamps.{HasManyStamps};
 ghost use Rattle.apex_store.specs.Opened.{IsEarly};
 
 use crate::Buffer;
@@ -46,7 +50,9 @@ fn the_buffer() -> BufferId
 }
 
 /// A message of this many bytes.
-fn message(length: u8) -> Message {
+fn message(length: u8) -> Message
+    ensures { result ≡ record { origin = Init 0; length = length } }
+{
     Message {
         origin: Origin::Init(0),
         length,
@@ -129,8 +135,27 @@ fn a_receiver_gets_what_is_sent<S: Store>(rt: &impl Abort, store: &mut S)
     assert_eq!(rt; sent, Reply::Code(ReturnCode::NoError));
     let woken = Notice::Woken(slow(), ReturnCode::NoError);
     assert_eq!(rt; notices.as_slice(), [woken].as_slice());
+    assert_eq!(rt; store.process_count(), 2);
     assert_eq!(rt; store.record(slow()).inbox, Some(message(2)));
     assert_eq!(rt; buffer.status(store, id), Reply::Status(0, 0));
+}
+
+/// The buffer takes the first message, and nobody changes.
+fn sends_one<S: Store>(rt: &impl Abort, store: &mut S, buffer: &mut Buffer)
+    requires ready { IsReady (S.roster store.old) 0 }
+    requires stamps { HasManyStamps (S.roster store.old) }
+    requires time { HasTime (S.roster store.old) }
+    requires empty { buffer.old ≡ record { longest = 2; capacity = 1; created = true; messages = [] } }
+    ensures same { S.roster store.new ≡ S.roster store.old }
+    ensures full { buffer.new ≡ record { longest = 2; capacity = 1; created = true; messages = record { origin = Init 0; length = 1 } ∷ [] } }
+{
+    let (mut notices, caller) = (Notices::new(), Caller::Process(slow()));
+    if store.first(Queue::Buffer(the_buffer())).is_some() {
+        panic!(rt; "a process waits for the buffer");
+    }
+    let poll = Timeout::Poll;
+    let sent = buffer.send(store, the_buffer(), &caller, message(1), poll, &mut notices);
+    assert_eq!(rt; sent, Reply::Code(ReturnCode::NoError));
 }
 
 /// A full buffer holds the second message back, until the first one is received.
@@ -144,25 +169,14 @@ fn a_sender_waits_for_room<S: Store>(rt: &impl Abort, store: &mut S)
     let (mut buffer, mut notices, id) = (created(rt), Notices::new(), the_buffer());
     let (first, second) = (Caller::Process(slow()), Caller::Process(urgent()));
     assert!(rt; store.record(slow()).is_eligible(store.mode()));
-    assert_eq!(rt; store.first(Queue::Buffer(id)), None);
-    let sent = buffer.send(store, id, &first, message(1), Timeout::Poll, &mut notices);
-    assert_eq!(rt; sent, Reply::Code(ReturnCode::NoError));
-    assert!(rt; store.record(slow()).is_eligible(store.mode()));
-    let sent = buffer.send(store, id, &first, message(2), Timeout::Poll, &mut notices);
-    assert_eq!(rt; sent, Reply::Code(ReturnCode::NotAvailable));
-    assert!(rt; store.record(slow()).is_eligible(store.mode()));
-    let sent = buffer.send(
-        store,
-        id,
-        &first,
-        message(2),
-        Timeout::Infinite,
-        &mut notices,
-    );
+    sends_one(rt, store, &mut buffer);
+    let send = BufferService::Send(message(2), Timeout::Infinite);
+    let sent = buffer.serve(store, id, &first, &send, &mut notices);
     assert_eq!(rt; sent, Reply::Blocked);
     assert_eq!(rt; buffer.status(store, id), Reply::Status(1, 1));
+    let receive = BufferService::Receive(Timeout::Poll);
     assert!(rt; store.record(urgent()).is_eligible(store.mode()));
-    let received = buffer.receive(store, id, &second, Timeout::Poll, &mut notices);
+    let received = buffer.serve(store, id, &second, &receive, &mut notices);
     assert_eq!(rt; received, Reply::Message(message(1)));
     let woken = Notice::Woken(slow(), ReturnCode::NoError);
     assert_eq!(rt; notices.as_slice(), [woken].as_slice());
@@ -171,9 +185,30 @@ fn a_sender_waits_for_room<S: Store>(rt: &impl Abort, store: &mut S)
     assert_eq!(rt; buffer.status(store, id), Reply::Status(1, 0));
 }
 
+/// A full buffer refuses a message that may not wait.
+fn a_full_buffer_refuses_a_message<S: Store>(rt: &impl Abort, store: &mut S)
+    requires records { length (S.roster store.old).records ≡ 2 }
+    requires stamps { (S.roster store.old).young ≡ pos 3 }
+    requires old { (S.roster store.old).old ≡ pos 0 }
+    requires time { (S.roster store.old).now ≡ 0 }
+{
+    both_run(rt, store);
+    let (mut buffer, mut notices, id) = (created(rt), Notices::new(), the_buffer());
+    assert!(rt; store.record(slow()).is_eligible(store.mode()));
+    sends_one(rt, store, &mut buffer);
+    let (caller, send) = (
+        Caller::Process(slow()),
+        BufferService::Send(message(2), Timeout::Poll),
+    );
+    let sent = buffer.serve(store, id, &caller, &send, &mut notices);
+    assert_eq!(rt; sent, Reply::Code(ReturnCode::NotAvailable));
+    assert_eq!(rt; buffer.status(store, id), Reply::Status(1, 0));
+}
+
 #[test]
 fn services_serve_over_the_plain_store(rt: HostRuntime) -> Result<(), Fail> {
     a_receiver_gets_what_is_sent(&rt, &mut two_processes(&rt, rt.alloc())?);
     a_sender_waits_for_room(&rt, &mut two_processes(&rt, rt.alloc())?);
+    a_full_buffer_refuses_a_message(&rt, &mut two_processes(&rt, rt.alloc())?);
     Ok(())
 }

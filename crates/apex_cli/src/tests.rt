@@ -2,6 +2,7 @@ mod faults;
 mod given;
 mod limits;
 mod messages;
+mod mutexes;
 mod outlines;
 mod processes;
 mod services;
@@ -42,6 +43,13 @@ const SEMAPHORE: &str = r#"
 name = "S"
 maximum = 1
 initial = 0
+discipline = "FIFO"
+"#;
+
+const MUTEX: &str = r#"
+[[mutex]]
+name = "M"
+ceiling = 50
 discipline = "FIFO"
 "#;
 

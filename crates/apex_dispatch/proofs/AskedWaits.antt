@@ -10,7 +10,7 @@ use Rattle.apex_dispatch.specs.Terms.{Call, Caller, Message, Queue, Record, Susp
 use Rattle.apex_types.specs.declared.Caller.TheVariants.{Process}
 use Rattle.apex_types.specs.declared.Suspender.TheVariants.{Itself, Other}
 use Rattle.apex_types.specs.declared.Queue.TheVariants as queues
-use Rattle.apex_types.specs.declared.Wait.TheVariants.{Normal, Start, Time, Semaphore, Receive, Send, Blackboard, Event}
+use Rattle.apex_types.specs.declared.Wait.TheVariants.{Normal, Start, Time, Semaphore, Receive, Send, Blackboard, Event, Mutex}
 use Rattle.apex_types.specs.Roster.{Roster, nobody, record_at, with_record}
 use Rattle.apex_types.specs.Stamps.{is_by_itself, suspension_awake, awake, waiting, block, unblock, newest, readied, receive}
 use Rattle.apex_types.specs.Waking.{first_in, granted, grant_all}
@@ -66,6 +66,7 @@ stands_by queue apart r (Some (Receive b)) is h = stands_for queue r (Receive b)
 stands_by queue apart r (Some (Send b message)) is h = stands_for queue r (Send b message) refl is h
 stands_by queue apart r (Some (Blackboard b)) is h = stands_for queue r (Blackboard b) refl is h
 stands_by queue apart r (Some (Event e)) is h = stands_for queue r (Event e) refl is h
+stands_by queue apart r (Some (Mutex m)) is h = stands_for queue r (Mutex m) refl is h
 
 -- the first waiter for an object waits for it
 pub first_awaits : (roster : Roster) (queue : Queue) (p : ℕ) → is_same_queue queues.Normal queue ≡ false
@@ -92,6 +93,7 @@ awaited_stands (Some (Receive b)) by_itself w queue h is = ap queue_of (same_Som
 awaited_stands (Some (Send b message)) by_itself w queue h is = ap queue_of (same_Some (Send b message) w h) ∙ is
 awaited_stands (Some (Blackboard b)) by_itself w queue h is = ap queue_of (same_Some (Blackboard b) w h) ∙ is
 awaited_stands (Some (Event e)) by_itself w queue h is = ap queue_of (same_Some (Event e) w h) ∙ is
+awaited_stands (Some (Mutex m)) by_itself w queue h is = ap queue_of (same_Some (Mutex m) w h) ∙ is
 
 -- who waits for what it asked for afterwards waited for it before
 pub record Frees (old new : Roster) : Type 0 where

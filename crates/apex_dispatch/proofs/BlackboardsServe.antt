@@ -1,5 +1,5 @@
 -- Blackboards: what their services keep, and what an entry does to them.
-use Rattle.std.proofs.Common.{◌≡◌, ℕ, Bool, true, false, ◌||◌, not, cond, fold, filter, List, [], ◌∷◌, ◌++◌, flat_map, Option, None, Some, lit≤, refl, ◌∙◌}
+use Rattle.std.proofs.Common.{◌≡◌, ℕ, Bool, true, false, ◌||◌, not, cond, fold, filter, List, [], ◌∷◌, ◌++◌, flat_map, Option, None, Some, lit≤, refl, ◌∙◌, inl}
 use Rattle.std.proofs.lemmas.Bool.{eq-eqb}
 use Rattle.std.proofs.lemmas.List.Elements.{All-cons}
 use Rattle.std.proofs.lemmas.Option.{none-some}
@@ -18,6 +18,7 @@ use Rattle.apex_types.specs.Calls.{created_blackboard, names, object_of, shown_a
 use Rattle.apex_types.specs.Callers.{IsReady}
 use Rattle.apex_types.specs.BlackboardServices.{BlackboardObject, blackboard_after, blackboard_kind, blackboard_own}
 use Rattle.apex_types.specs.History.{creates, is_created}
+use Rattle.apex_types.specs.Owners.{is_waiting_owner}
 use Rattle.apex_types.specs.Roster.{Roster, record_at}
 use Rattle.apex_types.specs.Rows.{Outcome, refused, told, accepted, accepted_with}
 use Rattle.apex_types.specs.Satisfied.{answered_by, is_no_error, blackboard_message, satisfied_by}
@@ -32,7 +33,7 @@ use Rattle.apex_types.proofs.Rows.{by_guard, by_caller}
 use Rattle.apex_types.proofs.Waking.{none_left, reach_grant_all}
 use Rattle.apex_dispatch.specs.AskedWaits.{AreAsked, AreHeldBack, begins}
 use Rattle.apex_dispatch.proofs.AskedWaits.{all_granted, asks_freed, frees_moved, held_asking, held_nobody, held_still, still_freed}
-use Rattle.apex_dispatch.proofs.Satisfied.{all_named, filter_all, handed, names_begun}
+use Rattle.apex_dispatch.proofs.Satisfied.{all_named, far_answered, filter_all, handed}
 use Rattle.apex_dispatch.proofs.Serving.{Scene, ServesBy, serves_same, serves_blocked, serves_freed}
 use Rattle.apex_dispatch.proofs.ObjectsServe.{LawsOf, ServesOne, IsQuiet, IsRead, elsewhere, quiet_told}
 use Rattle.apex_dispatch.proofs.Truths.{or_false, or_true, other}
@@ -115,7 +116,7 @@ module _ (history : List Entry) (roster : Roster) (caller : Caller) (b : ℕ) (c
         serves = record {
           reaches = reaches_more _ 64 scene.few (reach_grant_all (queues.Blackboard b) (Some message) roster refl scene.starts);
           asks = asks_freed caller (Some display) roster all.roster granted.frees;
-          woken = granted.waited;
+          woken = λ q woken. inl (granted.waited q woken);
         };
         read = λ number now who. after_calls roster history _ b config keeps all.roster (display ∷ answered) (Some message) blackboard.created
             (filter_all (names (queues.Blackboard b)) true (display ∷ answered)
@@ -150,7 +151,7 @@ module _ (history : List Entry) (roster : Roster) (caller : Caller) (b : ℕ) (c
     served_blocked : (timeout : Timeout) → blackboard.message ≡ None → Served (Read timeout) (blocked roster blackboard p (Blackboard b) timeout)
     served_blocked timeout empty =
         let read = asks_for (Read timeout) in
-        let serves : ServesBy roster caller read at (blocked roster blackboard p (Blackboard b) timeout) = rw by (serves_blocked roster p ready read at (Blackboard b) timeout refl refl) in
+        let serves : ServesBy roster caller read at (blocked roster blackboard p (Blackboard b) timeout) = rw by (serves_blocked roster p ready read at (Blackboard b) timeout refl refl (λ m is. cc)) in
         record {
           serves = serves;
           read = λ number now who. after_quiet roster history _ b config keeps _
@@ -178,9 +179,10 @@ module _ (history : List Entry) (roster : Roster) (caller : Caller) (b : ℕ) (c
       guard (Display message) (is_unfit blackboard.longest message) _ _ refl (λ _. served_display message))
   served_own Clear = guard Clear (not blackboard.created) _ _ refl (λ _. served_clear)
   served_own (Read timeout) =
-      guard (Read timeout) (not blackboard.created) _ _ refl
-      (λ _. by_caller roster blackboard (Served (Read timeout)) (served_refused (Read timeout)) caller _
-      (λ p by. served_read p by (rw by at scene.ready) timeout blackboard.message refl))
+      guard (Read timeout) (not blackboard.created) _ _ refl (λ _.
+      guard (Read timeout) (is_waiting_owner roster caller timeout) _ _ refl (λ _.
+      by_caller roster blackboard (Served (Read timeout)) (served_refused (Read timeout)) caller _
+      (λ p by. served_read p by (rw by at scene.ready) timeout blackboard.message refl)))
 
 -- blackboards are objects of a kind
 abbrev pub blackboard_laws : LawsOf blackboard_kind
@@ -195,7 +197,7 @@ blackboard_laws = record {
   created = λ call. refl;
   named = λ call j e. elsewhere queues.Blackboard (λ j i. refl) (object_of call) j e;
   apart = λ call j e. elsewhere queues.Blackboard (λ j i. refl) (object_of call) j e;
-  awaited = λ c i j begun apart. names_begun (queues.Blackboard j) (Some (queues.Blackboard i)) c begun ∙ other j i apart;
+  awaited = λ c i j answered apart. far_answered (queues.Blackboard j) (Some (queues.Blackboard i)) c (λ m. refl) (other j i apart) answered;
   status = λ roster x i. refl;
   stays = λ old new history entry b config keeps quiet still. after_quiet old history entry b config keeps new quiet
       (held_still (IsEmpty b history) (queues.Blackboard b) old new keeps.held still);

@@ -1,5 +1,5 @@
 -- Buffers: what their services keep, and what an entry does to them.
-use Rattle.std.proofs.Common.{◌≡◌, ℕ, ◌+◌, ◌<◌, ◌≤◌, Bool, true, false, ◌||◌, not, cond, nat_lt, filter, List, [], ◌∷◌, ◌++◌, length, Option, None, Some, lit≤, refl, sym, ◌∙◌, ap, subst, arith, append_assoc, append-nil, length-append}
+use Rattle.std.proofs.Common.{◌≡◌, ℕ, ◌+◌, ◌<◌, ◌≤◌, Bool, true, false, ◌||◌, not, cond, nat_lt, filter, List, [], ◌∷◌, ◌++◌, length, Option, None, Some, lit≤, refl, sym, ◌∙◌, ap, subst, arith, append_assoc, append-nil, length-append, inl}
 use Rattle.std.proofs.lemmas.Bool.{both_ways, cond_both, eq-eqb, ltb-true, ltb-false}
 use Rattle.std.proofs.lemmas.List.Elements.{All-nil, All-cons}
 use Rattle.std.proofs.lemmas.Option.{none-some, same_Some}
@@ -13,13 +13,14 @@ use Rattle.apex_types.specs.declared.Queue.TheVariants as queues
 use Rattle.apex_types.specs.declared.Reply.TheVariants.{Code, Blocked, Message as Gets}
 use Rattle.apex_types.specs.declared.ReturnCode.TheVariants.{NoError, NotAvailable}
 use Rattle.apex_types.specs.declared.Timeout.TheVariants.{Poll, Ticks, Infinite}
-use Rattle.apex_types.specs.declared.Wait.TheVariants.{Receive, Send}
+use Rattle.apex_types.specs.declared.Wait.TheVariants.{Receive, Send, Mutex}
 use Rattle.apex_types.specs.BufferServices.{BufferObject, buffer_after, buffer_kind, buffer_own, held_back, is_receiver, receive_first, received, send_last, send_past, take_in, with_last}
 use Rattle.apex_types.specs.Calls.{created_buffer, names, object_of}
 use Rattle.apex_types.specs.Callers.{IsReady}
 use Rattle.apex_types.specs.History.{creates, is_created}
 use Rattle.apex_types.specs.Messages.{is_unfit}
 use Rattle.apex_types.specs.Queues.{queue_of}
+use Rattle.apex_types.specs.Owners.{is_waiting_owner}
 use Rattle.apex_types.specs.Roster.{Roster, record_at}
 use Rattle.apex_types.specs.Rows.{Outcome, refused, told, accepted_with, answered_with}
 use Rattle.apex_types.specs.Satisfied.{buffer_content, calls_where, is_no_error, satisfied_by}
@@ -34,7 +35,7 @@ use Rattle.apex_types.proofs.Waking.{none_waits, reach_granted}
 use Rattle.apex_dispatch.specs.AskedWaits.{AreAsked, AreHeldBack, LacksMessage, asked_of, awaited, begins}
 use Rattle.apex_dispatch.proofs.AskedWaits.{Frees, asks_freed, awaits_at, first_awaits, frees_granted, frees_moved, frees_then, held_asking, held_nobody, held_still, still_freed, waits_in_queue}
 use Rattle.apex_dispatch.proofs.Delivered.{IsDelivered, delivered_content, delivered_none, delivered_received, delivered_sent}
-use Rattle.apex_dispatch.proofs.Satisfied.{begins_receive, begins_send, calls-push, filter_all, handed_one, names_begun, woken_alone}
+use Rattle.apex_dispatch.proofs.Satisfied.{begins_receive, begins_send, calls-push, far_answered, filter_all, handed_one, names_begun, woken_alone}
 use Rattle.apex_dispatch.proofs.Serving.{Scene, ServesBy, few, serves_same, serves_blocked, serves_freed}
 use Rattle.apex_dispatch.proofs.ObjectsServe.{LawsOf, ServesOne, IsQuiet, IsRead, elsewhere, quiet_told}
 use Rattle.apex_dispatch.proofs.Truths.{or_false, or_true, other}
@@ -151,10 +152,10 @@ module _ (history : List Entry) (roster : Roster) (caller : Caller) (b : ℕ) (c
   module _ (p : ℕ) (by : caller ≡ Process p) (ready : IsReady roster p) where
     -- it waits for what is not there
     served_blocked : (service : BufferService) (w : Wait) (timeout : Timeout) → asked_of (Some w) ≡ Some w → begins (asks_for service) ≡ Some w
-        → Lacks w → Served service (blocked roster buffer p w timeout)
-    served_blocked service w timeout plain begun lacks =
+        → ((m : ℕ) → Some w ≡ Some (Mutex m) → ⊥) → Lacks w → Served service (blocked roster buffer p w timeout)
+    served_blocked service w timeout plain begun other lacks =
         let asks = asks_for service in
-        let serves : ServesBy roster caller asks at (blocked roster buffer p w timeout) = rw by (serves_blocked roster p ready asks at w timeout plain begun) in
+        let serves : ServesBy roster caller asks at (blocked roster buffer p w timeout) = rw by (serves_blocked roster p ready asks at w timeout plain begun other) in
         record {
           serves = serves;
           read = λ number now who. after_quiet roster history _ b config keeps _
@@ -164,10 +165,10 @@ module _ (history : List Entry) (roster : Roster) (caller : Caller) (b : ℕ) (c
         }
 
     served_waiting : (service : BufferService) (w : Wait) (timeout : Timeout) → asked_of (Some w) ≡ Some w → begins (asks_for service) ≡ Some w
-        → Lacks w → Served service (wait_for roster buffer p w timeout)
-    served_waiting service w Poll plain begun lacks = served_refused service NotAvailable refl
-    served_waiting service w (Ticks n) plain begun lacks = served_blocked service w (Ticks n) plain begun lacks
-    served_waiting service w Infinite plain begun lacks = served_blocked service w Infinite plain begun lacks
+        → ((m : ℕ) → Some w ≡ Some (Mutex m) → ⊥) → Lacks w → Served service (wait_for roster buffer p w timeout)
+    served_waiting service w Poll plain begun other lacks = served_refused service NotAvailable refl
+    served_waiting service w (Ticks n) plain begun other lacks = served_blocked service w (Ticks n) plain begun other lacks
+    served_waiting service w Infinite plain begun other lacks = served_blocked service w Infinite plain begun other lacks
 
     -- SEND_BUFFER
     module _ (message : Message) (timeout : Timeout) where
@@ -201,7 +202,7 @@ module _ (history : List Entry) (roster : Roster) (caller : Caller) (b : ℕ) (c
             serves = record {
               reaches = few (reach_granted (Some message) roster q (queues.Buffer b) refl scene.starts is);
               asks = asks_freed caller (Some sends) roster after frees;
-              woken = λ r waking. rw (woken_alone r q waking) (awaits_at stands);
+              woken = λ r waking. rw (woken_alone r q waking) (inl (awaits_at stands));
             };
             read = λ number now who. after_calls roster history _ b config keeps after (sends ∷ c ∷ []) content buffer.created
                 (rw found.1 (both_named sends c (eq-eqb b b refl) named_so)) (or_false buffer.created)
@@ -239,7 +240,7 @@ module _ (history : List Entry) (roster : Roster) (caller : Caller) (b : ℕ) (c
           })
           (λ full.
           let least : config.capacity ≤ length content = ltb-false _ _ full in
-          served_waiting send (Send b message) timeout refl refl (omega (arith, least, keeps.fits)))
+          served_waiting send (Send b message) timeout refl refl (λ m clash. cc) (omega (arith, least, keeps.fits)))
 
       served_send : (first : Option ℕ) → first_waiter roster (queues.Buffer b) ≡ first
           → Served send (send_past roster buffer b p message timeout first)
@@ -310,7 +311,7 @@ module _ (history : List Entry) (roster : Roster) (caller : Caller) (b : ℕ) (c
               reaches = reaches_more 1 64 (lit≤ tt)
                   (reaches_then 0 1 got (reach_granted None after q (queues.Buffer b) refl (got.starts scene.starts) is));
               asks = asks_freed caller (Some receives) roster new frees;
-              woken = λ r waking. rw (woken_alone r q waking) (w, before, stands.queued);
+              woken = λ r waking. rw (woken_alone r q waking) (inl (w, before, stands.queued));
             };
             read = λ number now who. after_calls roster history _ b config keeps new (receives ∷ c ∷ []) (later ++ sent ∷ []) buffer.created
                 (rw found.1 (both_named receives c (eq-eqb b b refl) named_so)) (or_false buffer.created) two (omega (arith, filled))
@@ -338,7 +339,7 @@ module _ (history : List Entry) (roster : Roster) (caller : Caller) (b : ℕ) (c
 
     served_receive : (timeout : Timeout) (messages : List Message) → content ≡ messages
         → Served (service.Receive timeout) (receive_first roster buffer b p timeout messages)
-    served_receive timeout [] is = served_waiting (service.Receive timeout) (Receive b) timeout refl refl is
+    served_receive timeout [] is = served_waiting (service.Receive timeout) (Receive b) timeout refl refl (λ m clash. cc) is
     served_receive timeout (message ∷ later) is =
         served_received timeout message later is (first_waiter (receive roster p message) (queues.Buffer b)) refl
 
@@ -347,13 +348,15 @@ module _ (history : List Entry) (roster : Roster) (caller : Caller) (b : ℕ) (c
       let send = service.Send message timeout in
       guard send (not buffer.created) _ _ refl (λ _.
       guard send (is_unfit buffer.longest message) _ _ refl (λ _.
+      guard send (is_waiting_owner roster caller timeout) _ _ refl (λ _.
       by_caller roster buffer (Served send) (served_refused send) caller _
-      (λ p by. served_send p by (rw by at scene.ready) message timeout (first_waiter roster (queues.Buffer b)) refl)))
+      (λ p by. served_send p by (rw by at scene.ready) message timeout (first_waiter roster (queues.Buffer b)) refl))))
   served_own (service.Receive timeout) =
       let receives = service.Receive timeout in
       guard receives (not buffer.created) _ _ refl (λ _.
+      guard receives (is_waiting_owner roster caller timeout) _ _ refl (λ _.
       by_caller roster buffer (Served receives) (served_refused receives) caller _
-      (λ p by. served_receive p by (rw by at scene.ready) timeout content refl))
+      (λ p by. served_receive p by (rw by at scene.ready) timeout content refl)))
 
 -- buffers are objects of a kind
 abbrev pub buffer_laws : LawsOf buffer_kind
@@ -368,7 +371,7 @@ buffer_laws = record {
   created = λ call. refl;
   named = λ call j e. elsewhere queues.Buffer (λ j i. refl) (object_of call) j e;
   apart = λ call j e. elsewhere queues.Buffer (λ j i. refl) (object_of call) j e;
-  awaited = λ c i j begun apart. names_begun (queues.Buffer j) (Some (queues.Buffer i)) c begun ∙ other j i apart;
+  awaited = λ c i j answered apart. far_answered (queues.Buffer j) (Some (queues.Buffer i)) c (λ m. refl) (other j i apart) answered;
   status = λ roster x i. refl;
   stays = λ old new history entry b config keeps quiet still. after_quiet old history entry b config keeps new quiet
       (held_still (LacksMessage config.capacity (buffer_content b history)) (queues.Buffer b) old new keeps.held still);

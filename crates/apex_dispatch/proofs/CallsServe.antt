@@ -1,15 +1,16 @@
 -- After each service and each tick the objects that it leaves are those that the history then gives.
-use Rattle.std.proofs.Common.{◌≡◌, ℕ, ◌<◌, true, false, List, [], ◌∷◌, ◌++◌, length, Option, None, Some, option_and_then, option_map, refl, ◌∙◌}
+use Rattle.std.proofs.Common.{◌≡◌, ℕ, ◌<◌, true, false, List, [], ◌∷◌, ◌++◌, length, Option, None, Some, option_and_then, option_map, refl}
 use Rattle.std.proofs.lemmas.Bool.{both_ways}
 use Rattle.apex_dispatch.specs.Terms.{Call, Caller, Entry, Notice, Queue, Reply, Who}
-use Rattle.apex_types.specs.declared.Call.TheVariants.{Partition, Process as ToProcess, Caller as ToCaller, Time as ToTime, Semaphore as ToSemaphore, Buffer as ToBuffer, Blackboard as ToBlackboard, Event as ToEvent}
+use Rattle.apex_types.specs.declared.Call.TheVariants.{Partition, Process as ToProcess, Caller as ToCaller, Time as ToTime, Semaphore as ToSemaphore, Buffer as ToBuffer, Blackboard as ToBlackboard, Event as ToEvent, Mutex as ToMutex}
 use Rattle.apex_types.specs.declared.Caller.TheVariants.{Nobody}
 use Rattle.apex_types.specs.declared.Queue.TheVariants as queues
 use Rattle.apex_types.specs.BlackboardServices.{BlackboardObject, blackboard_kind}
 use Rattle.apex_types.specs.BufferServices.{BufferObject, buffer_kind}
-use Rattle.apex_types.specs.Calls.{created_process, created_semaphore, created_buffer, created_blackboard, created_event, object_of, queue_named}
+use Rattle.apex_types.specs.Calls.{created_process, created_semaphore, created_buffer, created_blackboard, created_event, created_mutex, object_of, queue_named}
 use Rattle.apex_types.specs.EventServices.{EventObject, event_kind}
 use Rattle.apex_types.specs.Machine.{Objects, objects_after, service}
+use Rattle.apex_types.specs.MutexServices.{MutexObject, mutex_kind}
 use Rattle.apex_types.specs.ProcessServices.{ProcessObject, process_kind}
 use Rattle.apex_types.specs.Queues.{is_queue, is_same_queue}
 use Rattle.apex_types.specs.Roster.{Roster, record_at}
@@ -22,10 +23,11 @@ use Rattle.apex_dispatch.proofs.AskedWaits.{Frees, asks_freed, still_freed}
 use Rattle.apex_dispatch.proofs.BlackboardsServe.{KeepsBlackboard, blackboard_laws}
 use Rattle.apex_dispatch.proofs.BuffersServe.{KeepsBuffer, buffer_laws}
 use Rattle.apex_dispatch.proofs.EventsServe.{KeepsEvent, event_laws}
+use Rattle.apex_dispatch.proofs.MutexesServe.{mutex_laws}
 use Rattle.apex_dispatch.proofs.ObjectsServe.{AreRead, all_elsewhere, all_served, all_stay, quiet_uncalled, queue_at, entry_with}
 use Rattle.apex_dispatch.proofs.OthersServe.{ServesNone, served_partition, served_caller, served_time}
 use Rattle.apex_dispatch.proofs.ProcessesServe.{process_laws}
-use Rattle.apex_dispatch.proofs.Satisfied.{AwaitsAt, IsIdle, asked-push, names_begun, wakes}
+use Rattle.apex_dispatch.proofs.Satisfied.{AwaitsAt, IsIdle, asked-push, far_answered, names_begun, wakes}
 use Rattle.apex_dispatch.proofs.SemaphoresServe.{semaphore_laws}
 use Rattle.apex_dispatch.proofs.Serving.{Scene, Serves}
 use Rattle.apex_dispatch.proofs.Values.{KeepsSemaphore}
@@ -49,6 +51,10 @@ far_at queue other apart (Some i) j = apart j i
 far_process : (queue : ℕ → Queue) (target : Option ℕ) → IsFar queue (queue_at process_laws target)
 far_process queue None j = refl
 far_process queue (Some p) j = refl
+
+far_mutex : (queue : ℕ → Queue) (target : Option ℕ) → IsFar queue (queue_at mutex_laws target)
+far_mutex queue None j = refl
+far_mutex queue (Some m) j = refl
 
 -- what is kept of the objects, and of who waits
 pub record AreKept (table : Table) (roster : Roster) (history : List Entry) : Type 0 where
@@ -87,6 +93,9 @@ module _ (table : Table) (history : List Entry) (roster : Roster) (kept : AreKep
   process_keeps : (p : ℕ) → p < length table.processes → Unit {0}
   process_keeps p inside = tt
 
+  mutex_keeps : (m : ℕ) → m < length table.mutexes → Unit {0}
+  mutex_keeps m inside = tt
+
   -- the objects of each kind after an entry
   abbrev Processes : Roster → Entry → List ProcessObject → Type 0
   Processes = AreRead process_kind process_laws history roster table.processes process_keeps
@@ -103,16 +112,20 @@ module _ (table : Table) (history : List Entry) (roster : Roster) (kept : AreKep
   abbrev Events : Roster → Entry → List EventObject → Type 0
   Events = AreRead event_kind event_laws history roster table.events kept.events
 
+  abbrev Mutexes : Roster → Entry → List MutexObject → Type 0
+  Mutexes = AreRead mutex_kind mutex_laws history roster table.mutexes mutex_keeps
+
   record AllRead (new : Roster) (e : Entry) (all : Objects) : Type 0 where
     processes : Processes new e all.processes
     semaphores : Semaphores new e all.semaphores
     buffers : Buffers new e all.buffers
     blackboards : Blackboards new e all.blackboards
     events : Events new e all.events
+    mutexes : Mutexes new e all.mutexes
 
   exact_from : (e : Entry) (all : Objects) (new : Roster) → AllRead new e all → AreAsked new (history ++ e ∷ []) → IsExact table history e all new
   exact_from e all new read asked = record {
-    objects = rw (read.processes.are, read.semaphores.are, read.buffers.are, read.blackboards.are, read.events.are) refl;
+    objects = rw (read.processes.are, read.semaphores.are, read.buffers.are, read.blackboards.are, read.events.are, read.mutexes.are) refl;
     kept = record {
       semaphores = read.semaphores.kept;
       buffers = read.buffers.kept;
@@ -143,31 +156,38 @@ module _ (table : Table) (history : List Entry) (roster : Roster) (kept : AreKep
           → Semaphores new (entry_with number now who caller call reply notices) before.semaphores
       semaphores_stay uncreated named far =
           all_elsewhere semaphore_kind semaphore_laws history roster table.semaphores kept.semaphores caller kept.asked call at new reply notices serves
-          named uncreated named (λ c j begun. names_begun (queues.Semaphore j) at c begun ∙ far j)
+          named uncreated named (λ c j answered. far_answered (queues.Semaphore j) at c (λ m. refl) (far j) answered)
 
       buffers_stay : created_buffer call ≡ None → IsFar queues.Buffer (queue_named call) → IsFar queues.Buffer at → (number now : ℕ) (who : Who)
           → Buffers new (entry_with number now who caller call reply notices) before.buffers
       buffers_stay uncreated named far =
           all_elsewhere buffer_kind buffer_laws history roster table.buffers kept.buffers caller kept.asked call at new reply notices serves
-          named uncreated named (λ c j begun. names_begun (queues.Buffer j) at c begun ∙ far j)
+          named uncreated named (λ c j answered. far_answered (queues.Buffer j) at c (λ m. refl) (far j) answered)
 
       blackboards_stay : created_blackboard call ≡ None → IsFar queues.Blackboard (queue_named call) → IsFar queues.Blackboard at → (number now : ℕ) (who : Who)
           → Blackboards new (entry_with number now who caller call reply notices) before.blackboards
       blackboards_stay uncreated named far =
           all_elsewhere blackboard_kind blackboard_laws history roster table.blackboards kept.blackboards caller kept.asked call at new reply notices serves
-          named uncreated named (λ c j begun. names_begun (queues.Blackboard j) at c begun ∙ far j)
+          named uncreated named (λ c j answered. far_answered (queues.Blackboard j) at c (λ m. refl) (far j) answered)
 
       events_stay : created_event call ≡ None → IsFar queues.Event (queue_named call) → IsFar queues.Event at → (number now : ℕ) (who : Who)
           → Events new (entry_with number now who caller call reply notices) before.events
       events_stay uncreated named far =
           all_elsewhere event_kind event_laws history roster table.events kept.events caller kept.asked call at new reply notices serves
-          named uncreated named (λ c j begun. names_begun (queues.Event j) at c begun ∙ far j)
+          named uncreated named (λ c j answered. far_answered (queues.Event j) at c (λ m. refl) (far j) answered)
+
+      mutexes_stay : created_mutex call ≡ None → (number now : ℕ) (who : Who)
+          → Mutexes new (entry_with number now who caller call reply notices) before.mutexes
+      mutexes_stay uncreated =
+          all_elsewhere mutex_kind mutex_laws history roster table.mutexes mutex_keeps caller kept.asked call at new reply notices serves
+          (λ j. refl) uncreated (λ j. tt) (λ c j answered. refl)
 
     -- a service of no object
     serves_none : (call : Call) (o : Outcome Objects) → ServesNone roster before caller call o → queue_named call ≡ None
         → created_process call ≡ None → created_semaphore call ≡ None → created_buffer call ≡ None → created_blackboard call ≡ None → created_event call ≡ None
+        → created_mutex call ≡ None
         → ServesCall table history roster caller call o
-    serves_none call o none unnamed no_process no_semaphore no_buffer no_blackboard no_event = record {
+    serves_none call o none unnamed no_process no_semaphore no_buffer no_blackboard no_event no_mutex = record {
       reaches = none.serves.reaches;
       exact = λ number now who.
           let e = entry_with number now who caller call o.reply o.notices in
@@ -177,6 +197,7 @@ module _ (table : Table) (history : List Entry) (roster : Roster) (kept : AreKep
             buffers = buffers_stay call None o.roster o.reply o.notices none.serves no_buffer (λ j. rw unnamed refl) (λ j. refl) number now who;
             blackboards = blackboards_stay call None o.roster o.reply o.notices none.serves no_blackboard (λ j. rw unnamed refl) (λ j. refl) number now who;
             events = events_stay call None o.roster o.reply o.notices none.serves no_event (λ j. rw unnamed refl) (λ j. refl) number now who;
+            mutexes = mutexes_stay call None o.roster o.reply o.notices none.serves no_mutex number now who;
           })
           (asked_after call None o.roster o.reply o.notices none.serves number now who));
     }
@@ -184,9 +205,9 @@ module _ (table : Table) (history : List Entry) (roster : Roster) (kept : AreKep
     -- any service
     pub serves_call : length roster.records ≡ length table.processes → (call : Call) → IsKnown table call
         → ServesCall table history roster caller call (service roster before caller call)
-    serves_call many (Partition call) known = serves_none (Partition call) _ (served_partition roster before caller scene call) refl refl refl refl refl refl
-    serves_call many (ToCaller call) known = serves_none (ToCaller call) _ (served_caller roster before caller scene call) refl refl refl refl refl refl
-    serves_call many (ToTime call) known = serves_none (ToTime call) _ (served_time roster before caller scene call) refl refl refl refl refl refl
+    serves_call many (Partition call) known = serves_none (Partition call) _ (served_partition roster before caller scene call) refl refl refl refl refl refl refl
+    serves_call many (ToCaller call) known = serves_none (ToCaller call) _ (served_caller roster before caller scene call) refl refl refl refl refl refl refl
+    serves_call many (ToTime call) known = serves_none (ToTime call) _ (served_time roster before caller scene call) refl refl refl refl refl refl refl
     serves_call many (ToProcess call) known =
         let all = all_served process_kind process_laws history roster table.processes process_keeps caller kept.asked scene
         (λ p inside. rw many inside) call (object_of call) refl known in
@@ -199,6 +220,7 @@ module _ (table : Table) (history : List Entry) (roster : Roster) (kept : AreKep
             buffers = buffers_stay (ToProcess call) _ _ _ _ all.serves refl (λ j. refl) (far_process queues.Buffer target) number now who;
             blackboards = blackboards_stay (ToProcess call) _ _ _ _ all.serves refl (λ j. refl) (far_process queues.Blackboard target) number now who;
             events = events_stay (ToProcess call) _ _ _ _ all.serves refl (λ j. refl) (far_process queues.Event target) number now who;
+            mutexes = mutexes_stay (ToProcess call) _ _ _ _ all.serves refl number now who;
           })
               (asked_after (ToProcess call) _ _ _ _ all.serves number now who);
         }
@@ -215,6 +237,7 @@ module _ (table : Table) (history : List Entry) (roster : Roster) (kept : AreKep
             buffers = buffers_stay (ToSemaphore call) _ _ _ _ all.serves refl (far_named queues.Buffer own (λ j i. refl) target) (far_at queues.Buffer own (λ j i. refl) target) number now who;
             blackboards = blackboards_stay (ToSemaphore call) _ _ _ _ all.serves refl (far_named queues.Blackboard own (λ j i. refl) target) (far_at queues.Blackboard own (λ j i. refl) target) number now who;
             events = events_stay (ToSemaphore call) _ _ _ _ all.serves refl (far_named queues.Event own (λ j i. refl) target) (far_at queues.Event own (λ j i. refl) target) number now who;
+            mutexes = mutexes_stay (ToSemaphore call) _ _ _ _ all.serves refl number now who;
           })
               (asked_after (ToSemaphore call) _ _ _ _ all.serves number now who);
         }
@@ -231,6 +254,7 @@ module _ (table : Table) (history : List Entry) (roster : Roster) (kept : AreKep
             buffers = all.read number now who;
             blackboards = blackboards_stay (ToBuffer call) _ _ _ _ all.serves refl (far_named queues.Blackboard own (λ j i. refl) target) (far_at queues.Blackboard own (λ j i. refl) target) number now who;
             events = events_stay (ToBuffer call) _ _ _ _ all.serves refl (far_named queues.Event own (λ j i. refl) target) (far_at queues.Event own (λ j i. refl) target) number now who;
+            mutexes = mutexes_stay (ToBuffer call) _ _ _ _ all.serves refl number now who;
           })
               (asked_after (ToBuffer call) _ _ _ _ all.serves number now who);
         }
@@ -247,6 +271,7 @@ module _ (table : Table) (history : List Entry) (roster : Roster) (kept : AreKep
             buffers = buffers_stay (ToBlackboard call) _ _ _ _ all.serves refl (far_named queues.Buffer own (λ j i. refl) target) (far_at queues.Buffer own (λ j i. refl) target) number now who;
             blackboards = all.read number now who;
             events = events_stay (ToBlackboard call) _ _ _ _ all.serves refl (far_named queues.Event own (λ j i. refl) target) (far_at queues.Event own (λ j i. refl) target) number now who;
+            mutexes = mutexes_stay (ToBlackboard call) _ _ _ _ all.serves refl number now who;
           })
               (asked_after (ToBlackboard call) _ _ _ _ all.serves number now who);
         }
@@ -263,8 +288,26 @@ module _ (table : Table) (history : List Entry) (roster : Roster) (kept : AreKep
             buffers = buffers_stay (ToEvent call) _ _ _ _ all.serves refl (far_named queues.Buffer own (λ j i. refl) target) (far_at queues.Buffer own (λ j i. refl) target) number now who;
             blackboards = blackboards_stay (ToEvent call) _ _ _ _ all.serves refl (far_named queues.Blackboard own (λ j i. refl) target) (far_at queues.Blackboard own (λ j i. refl) target) number now who;
             events = all.read number now who;
+            mutexes = mutexes_stay (ToEvent call) _ _ _ _ all.serves refl number now who;
           })
               (asked_after (ToEvent call) _ _ _ _ all.serves number now who);
+        }
+    serves_call many (ToMutex call) known =
+        let all = all_served mutex_kind mutex_laws history roster table.mutexes mutex_keeps caller kept.asked scene
+        (λ m inside. tt) call (object_of call) refl known in
+        let target = object_of call in
+        let own = queues.Mutex in
+        record {
+          reaches = all.serves.reaches;
+          exact = λ number now who. exact_from _ _ _ (record {
+            processes = processes_stay (ToMutex call) _ _ _ _ all.serves refl number now who;
+            semaphores = semaphores_stay (ToMutex call) _ _ _ _ all.serves refl (far_named queues.Semaphore own (λ j i. refl) target) (far_mutex queues.Semaphore target) number now who;
+            buffers = buffers_stay (ToMutex call) _ _ _ _ all.serves refl (far_named queues.Buffer own (λ j i. refl) target) (far_mutex queues.Buffer target) number now who;
+            blackboards = blackboards_stay (ToMutex call) _ _ _ _ all.serves refl (far_named queues.Blackboard own (λ j i. refl) target) (far_mutex queues.Blackboard target) number now who;
+            events = events_stay (ToMutex call) _ _ _ _ all.serves refl (far_named queues.Event own (λ j i. refl) target) (far_mutex queues.Event target) number now who;
+            mutexes = all.read number now who;
+          })
+              (asked_after (ToMutex call) _ _ _ _ all.serves number now who);
         }
 
   -- an event that asks for no call, leaves all objects, and wakes with NO_ERROR only who waited for time
@@ -288,6 +331,9 @@ module _ (table : Table) (history : List Entry) (roster : Roster) (kept : AreKep
         events = all_stay event_kind event_laws history roster table.events kept.events new e
             (λ j. quiet_uncalled event_laws.names event_laws.creation j history roster e kept.asked uncalled woken (names_begun (queues.Event j) None))
             (λ j. still_freed (queues.Event j) roster new frees);
+        mutexes = all_stay mutex_kind mutex_laws history roster table.mutexes mutex_keeps new e
+            (λ j. quiet_uncalled mutex_laws.names mutex_laws.creation j history roster e kept.asked uncalled woken (λ c begun. refl))
+            (λ j. tt);
       })
       (asked-push history e roster new (λ q w by h. absurd (both_ways false refl (rw nobody at by))) kept.asked
       (asks_freed e.process e.call roster new frees))

@@ -1,5 +1,5 @@
 -- Events: what their services keep, and what an entry does to them.
-use Rattle.std.proofs.Common.{◌≡◌, ℕ, Bool, true, false, ◌||◌, not, cond, fold, filter, List, [], ◌∷◌, ◌++◌, flat_map, Option, None, Some, refl, ◌∙◌}
+use Rattle.std.proofs.Common.{◌≡◌, ℕ, Bool, true, false, ◌||◌, not, cond, fold, filter, List, [], ◌∷◌, ◌++◌, flat_map, Option, None, Some, refl, ◌∙◌, inl}
 use Rattle.std.proofs.lemmas.Bool.{cond_both, eq-eqb}
 use Rattle.std.proofs.lemmas.List.Elements.{All-cons}
 use Rattle.std.proofs.lemmas.Option.{none-some}
@@ -18,6 +18,7 @@ use Rattle.apex_types.specs.Calls.{created_event, names, object_of, up_after}
 use Rattle.apex_types.specs.Callers.{IsReady}
 use Rattle.apex_types.specs.EventServices.{EventObject, event_after, event_kind, event_own}
 use Rattle.apex_types.specs.History.{creates, is_created}
+use Rattle.apex_types.specs.Owners.{is_waiting_owner}
 use Rattle.apex_types.specs.Roster.{Roster}
 use Rattle.apex_types.specs.Rows.{Outcome, refused, accepted, accepted_with}
 use Rattle.apex_types.specs.Satisfied.{answered_by, is_no_error, is_up, satisfied_by}
@@ -29,7 +30,7 @@ use Rattle.apex_types.proofs.Rows.{by_guard, by_caller}
 use Rattle.apex_types.proofs.Waking.{none_left, reach_grant_all}
 use Rattle.apex_dispatch.specs.AskedWaits.{AreAsked, AreHeldBack, begins}
 use Rattle.apex_dispatch.proofs.AskedWaits.{all_granted, asks_freed, held_asking, held_nobody, held_still}
-use Rattle.apex_dispatch.proofs.Satisfied.{all_named, filter_all, handed, names_begun}
+use Rattle.apex_dispatch.proofs.Satisfied.{all_named, far_answered, filter_all, handed}
 use Rattle.apex_dispatch.proofs.Serving.{Scene, ServesBy, serves_same, serves_blocked}
 use Rattle.apex_dispatch.proofs.ObjectsServe.{LawsOf, ServesOne, IsQuiet, IsRead, elsewhere, quiet_told}
 use Rattle.apex_dispatch.proofs.Truths.{or_false, or_true, other}
@@ -109,7 +110,7 @@ module _ (history : List Entry) (roster : Roster) (caller : Caller) (e : ℕ) (c
         serves = record {
           reaches = reaches_more _ 64 scene.few (reach_grant_all (queues.Event e) None roster refl scene.starts);
           asks = asks_freed caller (Some set) roster all.roster granted.frees;
-          woken = granted.waited;
+          woken = λ q woken. inl (granted.waited q woken);
         };
         read = λ number now who. after_calls roster history _ e config keeps all.roster (set ∷ answered) true event.created
             (filter_all (names (queues.Event e)) true (set ∷ answered)
@@ -138,7 +139,7 @@ module _ (history : List Entry) (roster : Roster) (caller : Caller) (e : ℕ) (c
     served_blocked : (timeout : Timeout) → event.up ≡ false → Served (Wait timeout) (blocked roster event p (Event e) timeout)
     served_blocked timeout down =
         let wait = asks_for (Wait timeout) in
-        let serves : ServesBy roster caller wait at (blocked roster event p (Event e) timeout) = rw by (serves_blocked roster p ready wait at (Event e) timeout refl refl) in
+        let serves : ServesBy roster caller wait at (blocked roster event p (Event e) timeout) = rw by (serves_blocked roster p ready wait at (Event e) timeout refl refl (λ m is. cc)) in
         record {
           serves = serves;
           read = λ number now who. after_quiet roster history _ e config keeps _
@@ -164,9 +165,10 @@ module _ (history : List Entry) (roster : Roster) (caller : Caller) (e : ℕ) (c
   served_own Set = guard Set (not event.created) _ _ refl (λ _. served_set)
   served_own Reset = guard Reset (not event.created) _ _ refl (λ _. served_reset)
   served_own (Wait timeout) =
-      guard (Wait timeout) (not event.created) _ _ refl
-      (λ _. by_caller roster event (Served (Wait timeout)) (served_refused (Wait timeout)) caller _
-      (λ p by. served_wait p by (rw by at scene.ready) timeout))
+      guard (Wait timeout) (not event.created) _ _ refl (λ _.
+      guard (Wait timeout) (is_waiting_owner roster caller timeout) _ _ refl (λ _.
+      by_caller roster event (Served (Wait timeout)) (served_refused (Wait timeout)) caller _
+      (λ p by. served_wait p by (rw by at scene.ready) timeout)))
 
 -- events are objects of a kind
 abbrev pub event_laws : LawsOf event_kind
@@ -181,7 +183,7 @@ event_laws = record {
   created = λ call. refl;
   named = λ call j e. elsewhere queues.Event (λ j i. refl) (object_of call) j e;
   apart = λ call j e. elsewhere queues.Event (λ j i. refl) (object_of call) j e;
-  awaited = λ c i j begun apart. names_begun (queues.Event j) (Some (queues.Event i)) c begun ∙ other j i apart;
+  awaited = λ c i j answered apart. far_answered (queues.Event j) (Some (queues.Event i)) c (λ m. refl) (other j i apart) answered;
   status = λ roster x i. refl;
   stays = λ old new history entry e config keeps quiet still. after_quiet old history entry e config keeps new quiet
       (held_still (IsDown e history) (queues.Event e) old new keeps.held still);

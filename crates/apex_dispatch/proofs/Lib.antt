@@ -12,7 +12,9 @@ pub mod EventsServe
 pub mod BlackboardsServe
 pub mod Delivered
 pub mod BuffersServe
+pub mod HandedOver
 pub mod ProcessesServe
+pub mod MutexesServe
 pub mod OthersServe
 pub mod CallsServe
 pub mod Turns
@@ -20,5 +22,6 @@ pub mod TickTold
 pub mod Runs
 pub mod Sound
 pub mod InVain
+pub mod OwnedInOrder
 pub mod States
 pub mod Replays

@@ -20,7 +20,7 @@ use Rattle.apex_types.proofs.Places.{get_or-map_places, map_places_same, set-map
 use Rattle.apex_types.proofs.Rows.{by_guard}
 use Rattle.apex_dispatch.specs.AskedWaits.{AreAsked}
 use Rattle.apex_dispatch.proofs.AskedWaits.{Frees, IsElsewhere, IsStill, still_elsewhere, still_freed}
-use Rattle.apex_dispatch.proofs.Satisfied.{Asks, AwaitsAt, BeginsAt, wakes, handed}
+use Rattle.apex_dispatch.proofs.Satisfied.{AnsweredAt, Asks, AwaitsAt, BeginsAt, WokenAt, answered_at, handed, wakes}
 use Rattle.apex_dispatch.proofs.Serving.{Scene, Serves, ServesBy, serves_same}
 use Rattle.apex_dispatch.proofs.Truths.{and_false, other}
 
@@ -93,7 +93,7 @@ pub record LawsOf {C X W : Type 0} (kind : KindOf C X W) : Type 1 where
   pub created : (call : ObjectCall ℕ W) → creation (to call) ≡ creation_of call
   pub named : (call : ObjectCall ℕ W) (j : ℕ) → is_place j (object_of call) ≡ false → names j (to call) ≡ false
   pub apart : (call : ObjectCall ℕ W) (j : ℕ) → is_place j (object_of call) ≡ false → IsElsewhereAt (at j) (to call)
-  pub awaited : (c : Call) (i j : ℕ) → BeginsAt (at i) c → j ≢ i → names j c ≡ false
+  pub awaited : (c : Call) (i j : ℕ) → AnsweredAt (at i) c → j ≢ i → names j c ≡ false
   pub status : (roster : Roster) (x : X) (i : ℕ) → is_satisfied (kind.status roster x i) ≡ false
   pub stays : (old new : Roster) (history : List Entry) (e : Entry) (i : ℕ) (c : C) → Keeps old history i c
       → IsQuiet names creation i history e → IsStillAt (at i) old new
@@ -125,12 +125,12 @@ quiet_told names created i history number now who caller call reply plain = reco
 -- one, says nothing of it
 pub quiet_elsewhere : (names : ℕ → Call → Bool) (created : Call → Option ℕ) (i : ℕ) (history : List Entry) (roster : Roster)
     (at : Option Queue) (number now : ℕ) (who : Who) (caller : Caller) (call : Call) (reply : Reply) (notices : List Notice)
-    → AreAsked roster history → ((q : ℕ) → wakes q notices ≡ true → AwaitsAt at (record_at roster q))
-    → names i call ≡ false → is_place i (created call) ≡ false → ((c : Call) → BeginsAt at c → names i c ≡ false)
+    → AreAsked roster history → ((q : ℕ) → wakes q notices ≡ true → WokenAt at (record_at roster q))
+    → names i call ≡ false → is_place i (created call) ≡ false → ((c : Call) → AnsweredAt at c → names i c ≡ false)
     → IsQuiet names created i history (entry_with number now who caller call reply notices)
 quiet_elsewhere names created i history roster at number now who caller call reply notices asked woken unnamed uncreated far = record {
   calls = All-append P (own_call (entry_with number now who caller call reply notices)) (flat_map (answered_by history) notices) (here (is_satisfied reply))
-      (All-weaker (BeginsAt at) P far (flat_map (answered_by history) notices) (handed roster history notices at asked woken));
+      (All-weaker (AnsweredAt at) P far (flat_map (answered_by history) notices) (answered_at roster history notices at asked woken));
   create = rw uncreated refl;
 } where
   P : Call → Type 0
@@ -271,7 +271,7 @@ module _ {C X W : Type 0} (kind : KindOf C X W) (laws : LawsOf kind) (history : 
         → Serves roster caller call at new notices
         → ((j : ℕ) → laws.names j call ≡ false) → laws.creation call ≡ None
         → ((j : ℕ) → IsElsewhereAt (laws.at j) call)
-        → ((c : Call) (j : ℕ) → BeginsAt at c → laws.names j c ≡ false)
+        → ((c : Call) (j : ℕ) → AnsweredAt at c → laws.names j c ≡ false)
         → (number now : ℕ) (who : Who) → AreRead new (entry_with number now who caller call reply notices) objects
     all_elsewhere call at new reply notices serves unnamed uncreated elsewhere far number now who =
         all_stay new (entry_with number now who caller call reply notices)

@@ -1,5 +1,5 @@
 -- The services of no object: those of the partition, of time, and those that a process asks for itself.
-use Rattle.std.proofs.Common.{◌≡◌, ℕ, false, List, [], ◌∷◌, None, length, map, get_or, zero, suc, lit≤, refl, sym, ◌∙◌}
+use Rattle.std.proofs.Common.{◌≡◌, ℕ, false, List, [], ◌∷◌, is_some, None, Some, length, map, get_or, zero, suc, lit≤, refl, sym, ◌∙◌}
 use Rattle.std.proofs.lemmas.Bool.{both_ways}
 use Rattle.std.proofs.lemmas.List.Folds.{list_any-append}
 use Rattle.std.proofs.lemmas.Option.{none-some}
@@ -17,6 +17,8 @@ use Rattle.apex_types.specs.declared.Wait.TheVariants.{Time}
 use Rattle.apex_types.specs.Callers.{IsReady}
 use Rattle.apex_types.specs.CallerServices as callers
 use Rattle.apex_types.specs.Dues.{due_after}
+use Rattle.apex_types.specs.Handovers.{halted}
+use Rattle.apex_types.specs.Owners.{is_owner}
 use Rattle.apex_types.specs.PartitionServices as partitions
 use Rattle.apex_types.specs.Roster.{Roster, nobody, record_at, is_normal}
 use Rattle.apex_types.specs.Rows.{Outcome, told, refused}
@@ -25,13 +27,15 @@ use Rattle.apex_types.specs.Stamps as stamps
 use Rattle.apex_types.specs.Ticks.{begin_notices}
 use Rattle.apex_types.specs.TimeServices as times
 use Rattle.apex_types.proofs.Dues.{due_later}
+use Rattle.apex_types.proofs.Handovers.{reaches_halted}
 use Rattle.apex_types.proofs.InTurn.{holds_in_turn}
-use Rattle.apex_types.proofs.Reaches.{reaches_more, reaches_stop, reaches_suspend_self, reaches_place_newest, reaches_enter_idle}
+use Rattle.apex_types.proofs.Reaches.{reaches_more, reaches_suspend_self, reaches_place_newest, reaches_enter_idle}
 use Rattle.apex_types.proofs.Rows.{by_guard, by_caller}
 use Rattle.apex_dispatch.specs.AskedWaits.{awaited}
 use Rattle.apex_dispatch.proofs.Begun.{reach_enter_normal}
-use Rattle.apex_dispatch.proofs.AskedWaits.{Frees, frees_then, frees_moved, asks_waiting}
-use Rattle.apex_dispatch.proofs.ProcessesServe.{begin_frees, begin_quiet, stop_frees}
+use Rattle.apex_dispatch.proofs.AskedWaits.{Frees, asks_freed, frees_then, frees_moved, asks_waiting}
+use Rattle.apex_dispatch.proofs.HandedOver.{halts}
+use Rattle.apex_dispatch.proofs.ProcessesServe.{begin_frees, begin_quiet}
 use Rattle.apex_dispatch.proofs.Satisfied.{is_waking}
 use Rattle.apex_dispatch.proofs.Serving.{Scene, Serves, ServesBy, AreQuiet, few, ready_started, ready_normal, serves_freed, serves_same, serves_blocked}
 
@@ -107,13 +111,23 @@ module _ {X : Type 0} (roster : Roster) (objects : X) (caller : Caller) (scene :
           woken = λ q woken. absurd (both_ways false refl woken);
         })
 
+    served_suspension : (timeout : Timeout) → Served (call.Caller (SuspendSelf timeout)) (callers.self_suspension roster objects p timeout)
+    served_suspension Poll = same (call.Caller (SuspendSelf Poll)) _
+    served_suspension (Ticks n) = served_suspended (Ticks n)
+    served_suspension Infinite = served_suspended Infinite
+
     served_itself : (asked : CallerCall) → Served (call.Caller asked) (callers.service_by roster objects asked p)
     served_itself StopSelf =
-        served _ _ _ _ (serves_freed roster caller (call.Caller StopSelf) None (stamps.stop roster p) []
-        (few (reaches_stop roster p ready.known)) (stop_frees roster p) (λ q. refl))
-    served_itself (SuspendSelf Poll) = same (call.Caller (SuspendSelf Poll)) _
-    served_itself (SuspendSelf (Ticks n)) = served_suspended (Ticks n)
-    served_itself (SuspendSelf Infinite) = served_suspended Infinite
+        let halts_so = halts roster p in
+        served _ _ _ _ (record {
+          reaches = few (reaches_halted roster p ready.known scene.starts);
+          asks = asks_freed caller (Some (call.Caller StopSelf)) roster (halted roster p).roster halts_so.frees;
+          woken = halts_so.woken;
+        })
+    served_itself (SuspendSelf timeout) =
+        let asked = call.Caller (SuspendSelf timeout) in
+        by_guard roster objects (Served asked) (served_refused asked) (is_some (record_at roster p).owned) _ _ refl
+        (λ _. served_suspension timeout)
     served_itself GetMyId = same (call.Caller GetMyId) _
     served_itself GetMyProcessorCoreId = same (call.Caller GetMyProcessorCoreId) _
 
@@ -124,7 +138,7 @@ module _ {X : Type 0} (roster : Roster) (objects : X) (caller : Caller) (scene :
         (few (reaches_place_newest roster p ready.known))
         (frees_moved roster (stamps.place_newest roster p) p r refl (λ w h. h)) (λ q. refl))
     served_timed_wait (Ticks n) =
-        served _ _ _ _ (rw by (serves_blocked roster p ready (call.Time (TimedWait (Ticks n))) None Time (Ticks n) refl refl))
+        served _ _ _ _ (rw by (serves_blocked roster p ready (call.Time (TimedWait (Ticks n))) None Time (Ticks n) refl refl (λ m is. cc)))
     served_timed_wait Infinite = same (call.Time (TimedWait Infinite)) _
 
   pub served_caller : (asked : CallerCall) → Served (call.Caller asked) (callers.caller_service roster objects caller asked)
@@ -134,6 +148,7 @@ module _ {X : Type 0} (roster : Roster) (objects : X) (caller : Caller) (scene :
 
   pub served_time : (asked : TimeCall) → Served (call.Time asked) (times.time_service roster objects caller asked)
   served_time (TimedWait timeout) =
+      by_guard roster objects (Served (call.Time (TimedWait timeout))) (served_refused (call.Time (TimedWait timeout))) (is_owner roster caller) _ _ refl (λ _.
       by_caller roster objects (Served (call.Time (TimedWait timeout))) (served_refused (call.Time (TimedWait timeout))) caller _
-      (λ p by. served_timed_wait p by (rw by at scene.ready) timeout)
+      (λ p by. served_timed_wait p by (rw by at scene.ready) timeout))
   served_time GetTime = same (call.Time GetTime) _

@@ -1,5 +1,5 @@
 -- Processes as objects of a kind: what their services keep.
-use Rattle.std.proofs.Common.{◌≡◌, ℕ, ◌+◌, ◌<◌, Bool, true, false, ◌&&◌, ◌||◌, ◌==◌, cond, not, nat_le, nat_lt, is_none, is_some, List, [], ◌∷◌, Option, None, Some, All, length, lit≤, refl, ap, ◌∙◌}
+use Rattle.std.proofs.Common.{◌≡◌, ℕ, ◌+◌, ◌<◌, Bool, true, false, ◌&&◌, ◌||◌, ◌==◌, cond, not, nat_le, nat_lt, is_none, is_some, List, [], ◌∷◌, Option, None, Some, All, length, lit≤, refl, ap, ◌∙◌, inl}
 use Rattle.std.proofs.lemmas.Bool.{both_ways, cond_both, not-false}
 use Rattle.std.proofs.lemmas.List.Elements.{All-nil, All-cons}
 use Rattle.std.proofs.lemmas.Option.{none-some}
@@ -16,6 +16,7 @@ use Rattle.apex_types.specs.declared.Timeout.TheVariants.{Poll}
 use Rattle.apex_types.specs.declared.Wait.TheVariants.{Normal, Start as ForStart, Time}
 use Rattle.apex_types.specs.Calls.{created_process}
 use Rattle.apex_types.specs.Callers.{is_by_process}
+use Rattle.apex_types.specs.Handovers.{halted}
 use Rattle.apex_types.specs.History.{creates, is_created}
 use Rattle.apex_types.specs.ProcessServices as services
 use Rattle.apex_types.specs.ProcessServices.{ProcessObject, process_after, process_kind}
@@ -27,12 +28,14 @@ use Rattle.apex_types.specs.Stamps as stamps
 use Rattle.apex_types.specs.Table.{ProcessConfig, no_process}
 use Rattle.apex_types.specs.Ticks.{begin_notices}
 use Rattle.apex_types.specs.Waiters.{queue_in, goes_by_priority}
-use Rattle.apex_types.proofs.Reaches.{Reaches, reaches_more, reaches_set_core, reaches_set_priority, reaches_start, reaches_stop, reaches_suspend, reaches_resume}
+use Rattle.apex_types.proofs.Handovers.{reaches_halted}
+use Rattle.apex_types.proofs.Reaches.{Reaches, reaches_more, reaches_set_core, reaches_set_priority, reaches_start, reaches_suspend, reaches_resume}
 use Rattle.apex_types.proofs.Rows.{by_guard}
 use Rattle.apex_types.proofs.Starts.{waitless_queue}
 use Rattle.apex_dispatch.specs.AskedWaits.{asked_of, awaited, or_suspended}
 use Rattle.apex_dispatch.proofs.AskedWaits.{Frees, frees_then, frees_moved, frees_changed, frees_lessened, frees_unblock, asks_freed, awake_free}
-use Rattle.apex_dispatch.proofs.Satisfied.{AwaitsAt, wakes, woken_alone}
+use Rattle.apex_dispatch.proofs.HandedOver.{halts}
+use Rattle.apex_dispatch.proofs.Satisfied.{WokenAt, wakes, woken_alone}
 use Rattle.apex_dispatch.proofs.Serving.{Scene, Serves, AreQuiet, few, serves_same, serves_freed}
 use Rattle.apex_dispatch.proofs.ObjectsServe.{LawsOf, ServesOne, IsRead}
 use Rattle.apex_dispatch.proofs.Truths.{or_false, or_true}
@@ -103,13 +106,11 @@ module _ (roster : Roster) (p : ℕ) where
   priority_frees : (priority : ℕ) → Frees roster (stamps.set_priority roster p priority)
   priority_frees priority =
       let changed : Record = record r { base = priority } in
-      cond_both {A = Roster} (is_eligible roster.mode r || goes_by_priority roster (queue_in r))
+      let stays = is_some r.owned && stamps.is_level changed r in
+      cond_both {A = Roster} ((is_eligible roster.mode r && not stays) || goes_by_priority roster (queue_in r))
       (stamps.newest roster p changed) (with_record roster p changed) (Frees roster)
       (λ _. frees_moved roster (stamps.newest roster p changed) p (record changed { since = roster.young }) refl (λ w h. h))
       (λ _. frees_moved roster (with_record roster p changed) p changed refl (λ w h. h))
-
-  pub stop_frees : Frees roster (stamps.stop roster p)
-  stop_frees = frees_changed roster (stamps.stop roster p) p (stamps.stopped r) refl refl
 
   suspend_frees : Frees roster (stamps.suspend roster p)
   suspend_frees =
@@ -128,10 +129,10 @@ module _ (roster : Roster) (p : ℕ) where
     resume_asks false is = frees_lessened roster p (stamps.unsuspended r) (λ w h. rw is h)
 
     resume_woken : (by_itself : Bool) → stamps.is_by_itself r.suspended ≡ by_itself → (q : ℕ)
-        → wakes q (cond by_itself (Woken p NoError ∷ []) []) ≡ true → AwaitsAt None (record_at roster q)
+        → wakes q (cond by_itself (Woken p NoError ∷ []) []) ≡ true → WokenAt None (record_at roster q)
     resume_woken true is q woken =
         let free = scene.one p is in
-        (Time, ap (λ (k : ℕ). awaited (record_at roster k)) (woken_alone q p woken) ∙ rw (free, is) refl, refl)
+        inl (Time, ap (λ (k : ℕ). awaited (record_at roster k)) (woken_alone q p woken) ∙ rw (free, is) refl, refl)
     resume_woken false is q woken = absurd (both_ways false refl woken)
 
     serves_resume : Serves roster caller call None (stamps.resume roster p) (services.resume_notices roster p)
@@ -207,14 +208,21 @@ module _ (history : List Entry) (roster : Roster) (caller : Caller) (p : ℕ) (e
       guard Stop (is_by_process p caller) _ _ refl (λ _.
       guard Stop (not process.created) _ _ refl (λ _.
       guard Stop (not (record_at roster p).started) _ _ refl (λ _.
-      served_freed Stop (stamps.stop roster p) [] (few (reaches_stop roster p known)) (stop_frees roster p) (λ q. refl))))
+      let after = halted roster p in
+      let halts_so = halts roster p in
+      served Stop after.roster (Code NoError) after.notices (record {
+        reaches = few (reaches_halted roster p known scene.starts);
+        asks = asks_freed caller (Some (asks_for Stop)) roster after.roster halts_so.frees;
+        woken = halts_so.woken;
+      }))))
   served_own Suspend =
       guard Suspend (is_by_process p caller) _ _ refl (λ _.
       guard Suspend (not process.created) _ _ refl (λ _.
       guard Suspend (not (record_at roster p).started) _ _ refl (λ _.
       guard Suspend (is_some (record_at roster p).suspended) _ _ refl (λ _.
+      guard Suspend (is_some (record_at roster p).owned) _ _ refl (λ _.
       served_freed Suspend (stamps.suspend roster p) []
-      (reaches_more 0 64 (lit≤ tt) (reaches_suspend roster p known)) (suspend_frees roster p) (λ q. refl)))))
+      (reaches_more 0 64 (lit≤ tt) (reaches_suspend roster p known)) (suspend_frees roster p) (λ q. refl))))))
   served_own Resume =
       guard Resume (is_by_process p caller) _ _ refl (λ _.
       guard Resume (not process.created) _ _ refl (λ _.

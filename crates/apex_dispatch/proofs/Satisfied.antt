@@ -10,14 +10,16 @@ use Rattle.apex_types.specs.declared.BlackboardService.TheVariants as blackboard
 use Rattle.apex_types.specs.declared.BufferService.TheVariants as buffer
 use Rattle.apex_types.specs.declared.Call.TheVariants as call
 use Rattle.apex_types.specs.declared.EventService.TheVariants as event
+use Rattle.apex_types.specs.declared.MutexService.TheVariants as mutex
 use Rattle.apex_types.specs.declared.Notice.TheVariants.{Woken, Released}
 use Rattle.apex_types.specs.declared.CallerCall.TheVariants.{SuspendSelf}
 use Rattle.apex_types.specs.declared.ObjectCall.TheVariants.{Own}
 use Rattle.apex_types.specs.declared.SemaphoreService.TheVariants as semaphore
 use Rattle.apex_types.specs.declared.ReturnCode.TheVariants.{NoError}
 use Rattle.apex_types.specs.declared.TimeCall.TheVariants.{TimedWait}
-use Rattle.apex_types.specs.declared.Wait.TheVariants.{Time, Semaphore, Receive, Send, Blackboard, Event}
-use Rattle.apex_types.specs.Queues.{queue_of, is_queue}
+use Rattle.apex_types.specs.declared.Wait.TheVariants.{Time, Semaphore, Receive, Send, Blackboard, Event, Mutex}
+use Rattle.apex_types.specs.declared.Queue.TheVariants as queues
+use Rattle.apex_types.specs.Queues.{queue_of, is_queue, is_same_queue}
 use Rattle.apex_types.specs.Callers.{is_by_process}
 use Rattle.apex_types.specs.Calls.{names, queue_named, is_wait, is_signal, is_receive, sent_message}
 use Rattle.apex_types.specs.Roster.{Roster, record_at}
@@ -101,6 +103,26 @@ AwaitsAt at r = (w : Wait) × (awaited r ≡ Some w) × (queue_of w ≡ at)
 abbrev pub BeginsAt : Option Queue → Call → Type 0
 BeginsAt at c = (w : Wait) × (begins c ≡ Some w) × (queue_of w ≡ at)
 
+-- who a service may wake that works on this queue: who waits there, or for a mutex, which a stop hands
+-- over
+abbrev pub WokenAt : Option Queue → Record → Type 0
+WokenAt at r = AwaitsAt at r ⊎ ((m : ℕ) × AwaitsAt (Some (queues.Mutex m)) r)
+
+-- the call that is answered then
+abbrev pub AnsweredAt : Option Queue → Call → Type 0
+AnsweredAt at c = BeginsAt at c ⊎ ((m : ℕ) × BeginsAt (Some (queues.Mutex m)) c)
+
+pub answered_at : (roster : Roster) (history : List Entry) (notices : List Notice) (at : Option Queue)
+    → AreAsked roster history
+    → ((p : ℕ) → wakes p notices ≡ true → WokenAt at (record_at roster p))
+    → All (AnsweredAt at) (flat_map (answered_by history) notices)
+answered_at roster history notices at asked woken =
+    answered_all (AnsweredAt at) history notices
+    (λ p c wakes_p is. elim (woken p wakes_p) [
+      | inl waits ↦ inl (waits.0, rw is at (asked p waits.0 waits.1), waits.2)
+      | inr waits ↦ inr (waits.0, (waits.1.0, rw is at (asked p waits.1.0 waits.1.1), waits.1.2))
+    ])
+
 -- where all whom an entry wakes with NO_ERROR waited there, each call that it answers begins a wait there
 pub handed : (roster : Roster) (history : List Entry) (notices : List Notice) (at : Option Queue)
     → AreAsked roster history
@@ -128,6 +150,7 @@ begins_named (call.Buffer (Own b (buffer.Send message timeout))) w h = ap queue_
 begins_named (call.Buffer (Own b (buffer.Receive timeout))) w h = ap queue_of (same_Some (Receive b) w h)
 begins_named (call.Blackboard (Own b (blackboard.Read timeout))) w h = ap queue_of (same_Some (Blackboard b) w h)
 begins_named (call.Event (Own e (event.Wait timeout))) w h = ap queue_of (same_Some (Event e) w h)
+begins_named (call.Mutex (Own m (mutex.Acquire timeout))) w h = ap queue_of (same_Some (Mutex m) w h)
 begins_named (call.Time (TimedWait timeout)) w h = ap queue_of (same_Some Time w h)
 begins_named (call.Caller (SuspendSelf timeout)) w h = ap queue_of (same_Some Time w h)
 begins_named _ w h = cc
@@ -135,6 +158,14 @@ begins_named _ w h = cc
 pub names_begun : (queue : Queue) (at : Option Queue) (c : Call) → BeginsAt at c → names queue c ≡ is_queue queue at
 names_begun queue at c begun =
     ap (is_queue queue) (begins_named c begun.0 begun.1 ∙ begun.2)
+
+-- such a call names no object of another queue
+pub far_answered : (queue : Queue) (at : Option Queue) (c : Call) → ((m : ℕ) → is_same_queue queue (queues.Mutex m) ≡ false)
+    → is_queue queue at ≡ false → AnsweredAt at c → names queue c ≡ false
+far_answered queue at c apart far answered = elim answered [
+  | inl begun ↦ names_begun queue at c begun ∙ far
+  | inr begun ↦ names_begun queue (Some (queues.Mutex begun.0)) c begun.1 ∙ apart begun.0
+]
 
 -- so calls that begin a wait for an object all name it
 pub all_named : (queue : Queue) (calls : List Call) → All (BeginsAt (Some queue)) calls → All (λ c. names queue c ≡ true) calls
@@ -148,6 +179,7 @@ asking (Receive b) timeout = call.Buffer (Own b (buffer.Receive timeout))
 asking (Send b message) timeout = call.Buffer (Own b (buffer.Send message timeout))
 asking (Blackboard b) timeout = call.Blackboard (Own b (blackboard.Read timeout))
 asking (Event e) timeout = call.Event (Own e (event.Wait timeout))
+asking (Mutex m) timeout = call.Mutex (Own m (mutex.Acquire timeout))
 asking _ timeout = call.Time (TimedWait timeout)
 
 begun_by : (c : Call) (w : Wait) → begins c ≡ Some w → (w ≡ Time) ⊎ ((timeout : Timeout) × (c ≡ asking w timeout))
@@ -157,6 +189,7 @@ begun_by (call.Buffer (Own b (buffer.Receive timeout))) w h = inr (timeout, ap (
 begun_by (call.Buffer (Own b (buffer.Send message timeout))) w h = inr (timeout, ap (λ v. asking v timeout) (same_Some (Send b message) w h))
 begun_by (call.Blackboard (Own b (blackboard.Read timeout))) w h = inr (timeout, ap (λ v. asking v timeout) (same_Some (Blackboard b) w h))
 begun_by (call.Event (Own e (event.Wait timeout))) w h = inr (timeout, ap (λ v. asking v timeout) (same_Some (Event e) w h))
+begun_by (call.Mutex (Own m (mutex.Acquire timeout))) w h = inr (timeout, ap (λ v. asking v timeout) (same_Some (Mutex m) w h))
 begun_by (call.Time (TimedWait timeout)) w h = inl (sym (same_Some Time w h))
 begun_by (call.Caller (SuspendSelf timeout)) w h = inl (sym (same_Some Time w h))
 begun_by _ w h = absurd (none-some w h)

@@ -1,5 +1,5 @@
 -- Semaphores: what their services keep, and what an entry does to their values.
-use Rattle.std.proofs.Common.{◌≡◌, ℕ, ◌+◌, ◌-◌, ◌≤◌, Bool, true, false, cond, not, nat_lt, List, [], ◌∷◌, Option, None, Some, count_by, refl, ◌∙◌, ap, arith}
+use Rattle.std.proofs.Common.{◌≡◌, ℕ, ◌+◌, ◌-◌, ◌≤◌, Bool, true, false, cond, not, nat_lt, List, [], ◌∷◌, Option, None, Some, count_by, refl, ◌∙◌, ap, arith, inl}
 use Rattle.std.proofs.lemmas.Bool.{cond_both, eq-eqb, ltb-true, not-false}
 use Rattle.std.proofs.lemmas.List.Elements.{All-nil, All-cons}
 use Rattle.apex_dispatch.specs.Terms.{Call, Caller, Entry, Queue, ReturnCode, SemaphoreService, Timeout, Wait as ForWhat, Who}
@@ -16,6 +16,7 @@ use Rattle.apex_types.specs.declared.Wait.TheVariants.{Semaphore}
 use Rattle.apex_types.specs.Calls.{created_semaphore, names, object_of, is_wait, is_signal}
 use Rattle.apex_types.specs.Queues.{queue_of}
 use Rattle.apex_types.specs.Callers.{IsReady}
+use Rattle.apex_types.specs.Owners.{is_waiting_owner}
 use Rattle.apex_types.specs.Roster.{Roster}
 use Rattle.apex_types.specs.Rows.{Outcome, refused, accepted, accepted_with}
 use Rattle.apex_types.specs.Satisfied.{is_no_error}
@@ -28,7 +29,7 @@ use Rattle.apex_types.proofs.Rows.{by_guard, by_caller}
 use Rattle.apex_types.proofs.Waking.{reach_granted}
 use Rattle.apex_dispatch.specs.AskedWaits.{AreAsked, begins}
 use Rattle.apex_dispatch.proofs.AskedWaits.{asks_freed, awaits_at, first_awaits, frees_granted}
-use Rattle.apex_dispatch.proofs.Satisfied.{begins_wait, filter_all, handed_one, names_begun, woken_alone}
+use Rattle.apex_dispatch.proofs.Satisfied.{begins_wait, far_answered, filter_all, handed_one, names_begun, woken_alone}
 use Rattle.apex_dispatch.proofs.Serving.{Scene, few, serves_same, serves_blocked}
 use Rattle.apex_dispatch.proofs.ObjectsServe.{LawsOf, ServesOne, IsRead, elsewhere, entry_with, quiet_told}
 use Rattle.apex_dispatch.proofs.Truths.{or_false, or_true, other}
@@ -77,7 +78,7 @@ module _ (history : List Entry) (roster : Roster) (caller : Caller) (s : ℕ) (e
   module _ (p : ℕ) (by : caller ≡ Process p) (ready : IsReady roster p) where
     served_blocked : (timeout : Timeout) → Served (Wait timeout) (blocked roster semaphore p (Semaphore s) timeout)
     served_blocked timeout = record {
-      serves = rw by (serves_blocked roster p ready (asks_for (Wait timeout)) at (Semaphore s) timeout refl refl);
+      serves = rw by (serves_blocked roster p ready (asks_for (Wait timeout)) at (Semaphore s) timeout refl refl (λ m is. cc));
       read = λ number now who. after_quiet roster history _ s entry keeps _
           (quiet_told named created_semaphore s history number now who caller (asks_for (Wait timeout)) Blocked refl);
     }
@@ -116,7 +117,7 @@ module _ (history : List Entry) (roster : Roster) (caller : Caller) (s : ℕ) (e
         serves = record {
           reaches = few (reach_granted None roster p (queues.Semaphore s) refl scene.starts is);
           asks = asks_freed caller (Some signal) roster (granted None roster p).roster (frees_granted None roster p);
-          woken = λ q woken. rw (woken_alone q p woken) (awaits_at first.1);
+          woken = λ q woken. rw (woken_alone q p woken) (inl (awaits_at first.1));
         };
         read = λ number now who. after_calls roster history _ s entry keeps _ (signal ∷ found.0 ∷ []) semaphore.value semaphore.created
             (rw found.1 (filter_all (names (queues.Semaphore s)) true (signal ∷ found.0 ∷ [])
@@ -137,9 +138,10 @@ module _ (history : List Entry) (roster : Roster) (caller : Caller) (s : ℕ) (e
 
   pub served_own : (service : SemaphoreService) → Served service (semaphore_own roster semaphore s caller service)
   served_own (Wait timeout) =
-      by_guard roster semaphore (Served (Wait timeout)) (served_refused (Wait timeout)) (not semaphore.created) _ _ refl
-      (λ _. by_caller roster semaphore (Served (Wait timeout)) (served_refused (Wait timeout)) caller _
-      (λ p by. served_wait p by (rw by at scene.ready) timeout))
+      by_guard roster semaphore (Served (Wait timeout)) (served_refused (Wait timeout)) (not semaphore.created) _ _ refl (λ _.
+      by_guard roster semaphore (Served (Wait timeout)) (served_refused (Wait timeout)) (is_waiting_owner roster caller timeout) _ _ refl (λ _.
+      by_caller roster semaphore (Served (Wait timeout)) (served_refused (Wait timeout)) caller _
+      (λ p by. served_wait p by (rw by at scene.ready) timeout)))
   served_own Signal =
       by_guard roster semaphore (Served Signal) (served_refused Signal) (not semaphore.created) _ _ refl
       (λ _. served_signal (first_waiter roster (queues.Semaphore s)) refl)
@@ -157,7 +159,7 @@ semaphore_laws = record {
   created = λ call. refl;
   named = λ call j e. elsewhere queues.Semaphore (λ j i. refl) (object_of call) j e;
   apart = λ call j e. elsewhere queues.Semaphore (λ j i. refl) (object_of call) j e;
-  awaited = λ c i j begun apart. names_begun (queues.Semaphore j) (Some (queues.Semaphore i)) c begun ∙ other j i apart;
+  awaited = λ c i j answered apart. far_answered (queues.Semaphore j) (Some (queues.Semaphore i)) c (λ m. refl) (other j i apart) answered;
   status = λ roster x i. refl;
   stays = λ old new history e s entry keeps quiet still. after_quiet old history e s entry keeps new quiet;
   makes = λ roster history e s entry keeps alone made.

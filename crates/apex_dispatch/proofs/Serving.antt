@@ -4,6 +4,7 @@ use Rattle.std.proofs.Common.{◌≡◌, ℕ, ◌≤◌, true, false, List, [], 
 use Rattle.std.proofs.lemmas.Bool.{both_ways}
 use Rattle.apex_dispatch.specs.Terms.{Call, Caller, Notice, Queue, Timeout, Wait}
 use Rattle.apex_types.specs.declared.Caller.TheVariants.{Process}
+use Rattle.apex_types.specs.declared.Wait.TheVariants.{Mutex}
 use Rattle.apex_types.specs.Callers.{IsReady, IsReadyCaller}
 use Rattle.apex_types.specs.Dues.{due_after}
 use Rattle.apex_types.specs.Roster.{Roster, record_at, is_normal}
@@ -13,7 +14,7 @@ use Rattle.apex_types.proofs.Dues.{due_later}
 use Rattle.apex_types.proofs.Reaches.{Reaches, reaches_none, reaches_more, reaches_block}
 use Rattle.apex_types.proofs.Starts.{runnable}
 use Rattle.apex_dispatch.specs.AskedWaits.{begins, asked_of}
-use Rattle.apex_dispatch.proofs.Satisfied.{Asks, AwaitsAt, wakes}
+use Rattle.apex_dispatch.proofs.Satisfied.{Asks, WokenAt, wakes}
 use Rattle.apex_dispatch.proofs.AskedWaits.{Frees, frees_none, asks_freed, asks_blocked}
 
 -- what a service may rely on
@@ -24,11 +25,11 @@ pub record Scene (roster : Roster) (caller : Caller) : Type 0 where
   pub ready : IsReadyCaller roster caller
 
 -- what a service keeps that leaves this roster and tells these notices; whom it wakes with NO_ERROR had
--- waited in this queue, or for time where there is none
+-- waited in this queue, or for time where there is none, or for a mutex
 pub record Serves (roster : Roster) (caller : Caller) (call : Call) (at : Option Queue) (new : Roster) (notices : List Notice) : Type 0 where
   pub reaches : Reaches 64 roster new
   pub asks : Asks caller (Some call) roster new
-  pub woken : (q : ℕ) → wakes q notices ≡ true → AwaitsAt at (record_at roster q)
+  pub woken : (q : ℕ) → wakes q notices ≡ true → WokenAt at (record_at roster q)
 
 -- the same, of an outcome
 abbrev pub ServesBy : {X : Type 0} → Roster → Caller → Call → Option Queue → Outcome X → Type 0
@@ -64,14 +65,21 @@ module _ (roster : Roster) (caller : Caller) (call : Call) (at : Option Queue) w
   serves_same = serves_freed roster [] (reaches_none 64 roster) (frees_none roster) (λ q. refl)
 
 -- the caller blocks, on what its call waits for
-pub serves_blocked : (roster : Roster) (p : ℕ) → IsReady roster p → (call : Call) (at : Option Queue) (v : Wait) (timeout : Timeout)
-    → asked_of (Some v) ≡ Some v → begins call ≡ Some v
-    → Serves roster (Process p) call at (block roster p v (due_after roster timeout)) []
-serves_blocked roster p ready call at v timeout asked begun =
-    let due = due_after roster timeout in
+pub serves_waiting : (roster : Roster) (p : ℕ) (call : Call) (at : Option Queue) (v : Wait) (due : Option ℕ)
+    → asked_of (Some v) ≡ Some v → begins call ≡ Some v → Reaches 1 roster (block roster p v due)
+    → Serves roster (Process p) call at (block roster p v due) []
+serves_waiting roster p call at v due asked begun reaches =
     record {
-      reaches = few (reaches_block roster p ready.known v due (due_later roster timeout)
-          (ready_started roster p ready) (ready_normal roster p ready));
+      reaches = few reaches;
       asks = asks_blocked p call v due roster asked begun;
       woken = λ q woken. absurd (both_ways false refl woken);
     }
+
+-- so it does on another thing than a mutex
+pub serves_blocked : (roster : Roster) (p : ℕ) → IsReady roster p → (call : Call) (at : Option Queue) (v : Wait) (timeout : Timeout)
+    → asked_of (Some v) ≡ Some v → begins call ≡ Some v → ((m : ℕ) → Some v ≡ Some (Mutex m) → ⊥)
+    → Serves roster (Process p) call at (block roster p v (due_after roster timeout)) []
+serves_blocked roster p ready call at v timeout asked begun other =
+    let due = due_after roster timeout in
+    serves_waiting roster p call at v due asked begun
+    (reaches_block roster p ready.known v due (due_later roster timeout) (ready_started roster p ready) (ready_normal roster p ready) other)

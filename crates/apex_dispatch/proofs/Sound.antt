@@ -8,12 +8,14 @@ use Rattle.std.proofs.lemmas.Int.{ints}
 use Rattle.std.proofs.lemmas.Option.{none-some}
 use Rattle.apex_dispatch.specs.Terms.{Event, Record, Wait, Who}
 use Rattle.apex_types.specs.declared.Event.TheVariants.{Turn, Tick}
+use Rattle.apex_types.specs.declared.Wait.TheVariants.{Mutex}
 use Rattle.apex_types.specs.declared.Who.TheVariants.{Core, Ticker}
 use Rattle.apex_types.specs.Distinct.{IsStamped}
 use Rattle.apex_types.specs.Dues.{HasNoDueBelow, HasNoPastDue}
 use Rattle.apex_types.specs.History.{init_count}
 use Rattle.apex_types.specs.Lines.{IsPrintable}
 use Rattle.apex_types.specs.Machine.{Machine, Deed, Objects, objects_after, tick_deed, turn_deed, due_init_call, opening, after_deed, turn, tick, happen, accept, run, replay, events_of, event_of, entry_of}
+use Rattle.apex_types.specs.Owners.{is_held}
 use Rattle.apex_types.specs.Places.{map_places}
 use Rattle.apex_types.specs.Roster.{Roster, nobody, opening_record, opening_roster, record_at, is_cold_start}
 use Rattle.apex_types.specs.Stamps.{advance_to}
@@ -21,6 +23,7 @@ use Rattle.apex_types.specs.Table.{Table, ProcessConfig, IsLawful}
 use Rattle.apex_types.specs.Ticks.{tick_goal}
 use Rattle.apex_types.proofs.DistinctStamps.{stamped_opening, stamped_advance_to}
 use Rattle.apex_types.proofs.Dues.{goal_forward, goal_near, goal_not_past}
+use Rattle.apex_types.proofs.Owners.{owners_kept}
 use Rattle.apex_types.proofs.Places.{length-map_places}
 use Rattle.apex_dispatch.specs.AskedWaits.{awaited}
 use Rattle.apex_dispatch.specs.Events.{IsWithin}
@@ -155,9 +158,12 @@ module _ (table : Table) (lawful : IsLawful table) (machine : Machine) (sound : 
       subst (IsSound table) (sym is) (record {
         orderly = record {
           many = reaches.many ∙ orderly.many;
+          ceilings = reaches.ceilings ∙ orderly.ceilings;
           one = reaches.one orderly.one;
           starts = reaches.starts
               (record { dormant = starts.dormant; early = starts.early; undue = starts.undue });
+          owners = reaches.owners (owners_kept machine.roster (advance_to machine.roster (instant_of machine.roster event))
+              (record { ceilings = refl; owned = λ q. refl; mutex = λ q m is. is }) orderly.owners);
           kept = due.exact.kept;
         };
         stamps = rw longer (omega (arith, ints, reaches.stamps, sound.stamps));
@@ -202,11 +208,12 @@ record IsDormant (r : Record) : Type 0 where
   suspended : r.suspended ≡ None
   wait : r.wait ≡ None
   due : r.due ≡ None
+  owned : r.owned ≡ None
 
 opening_dormant : (entries : List ProcessConfig) (q p : ℕ)
     → IsDormant (get_or (map_places opening_record q entries) p nobody)
-opening_dormant [] q p = record { started = refl; suspended = refl; wait = refl; due = refl }
-opening_dormant (e ∷ entries) q zero = record { started = refl; suspended = refl; wait = refl; due = refl }
+opening_dormant [] q p = record { started = refl; suspended = refl; wait = refl; due = refl; owned = refl }
+opening_dormant (e ∷ entries) q zero = record { started = refl; suspended = refl; wait = refl; due = refl; owned = refl }
 opening_dormant (e ∷ entries) q (suc p) = opening_dormant entries (q + 1) p
 
 sound_opening : (table : Table) → IsLawful table → IsSound table (opening table)
@@ -218,11 +225,17 @@ sound_opening table lawful =
     record {
       orderly = record {
         many = length-map_places opening_record 0 table.processes;
+        ceilings = refl;
         one = λ p h. (dormant p).wait;
         starts = record {
           dormant = λ p e. (dormant p).wait;
           early = λ e p h. absurd (both_ways _ (dormant p).started h);
           undue = λ e p. (dormant p).due;
+        };
+        owners = record {
+          holdings = λ p holding h. absurd (none-some holding (sym (dormant p).owned ∙ h));
+          one = λ m p q first second. absurd (both_ways false refl (sym (ap (is_held m) (dormant p).owned) ∙ first));
+          waiters = λ p m h. absurd (none-some (Mutex m) (sym (dormant p).wait ∙ h));
         };
         kept = record {
           semaphores = λ s h. record { enough = omega arith; bounded = omega (arith, (lawful.semaphores s h).initial) };

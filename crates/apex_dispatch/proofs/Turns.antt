@@ -9,7 +9,8 @@ use Rattle.apex_types.specs.declared.CallerCall.TheVariants.{StopSelf}
 use Rattle.apex_types.specs.declared.Caller.TheVariants.{Process, Init, Nobody}
 use Rattle.apex_types.specs.Callers.{IsReady, IsReadyCaller}
 use Rattle.apex_types.specs.Machine.{Objects, objects_after, Deed, service, served, next_place, script_deed, chosen_deed, turn_deed, step_of, entry_of}
-use Rattle.apex_types.specs.Roster.{Roster, record_at}
+use Rattle.apex_types.specs.Owners.{HasOrderlyOwners}
+use Rattle.apex_types.specs.Roster.{Roster, ceilings_of, record_at}
 use Rattle.apex_types.specs.Running.{is_eligible, chosen}
 use Rattle.apex_types.specs.Stamps.{WaitsForOne, HasOrderlyStarts, is_by_itself, set_step}
 use Rattle.apex_types.specs.Table.{Table, process_config, IsLawful, IsKnown}
@@ -41,12 +42,14 @@ ready_idle roster (Process p) ready q w by h =
 ready_idle roster Init ready q w by h = cc
 ready_idle roster Nobody ready q w by h = cc
 
--- what a deed may rely on: there is a record for each process of the table, who suspended itself waits
--- for nothing else, starts are in order, and all is kept
+-- what a deed may rely on: there is a record for each process of the table, and the ceilings are the
+-- table's; who suspended itself waits for nothing else; starts and owners are in order, and all is kept
 pub record IsOrderly (table : Table) (history : List Entry) (roster : Roster) : Type 0 where
   pub many : length roster.records ≡ length table.processes
+  pub ceilings : roster.ceilings ≡ ceilings_of table
   pub one : WaitsForOne roster
   pub starts : HasOrderlyStarts roster
+  pub owners : HasOrderlyOwners roster
   pub kept : AreKept table roster history
 
 -- what it owes then: it reaches the roster that it leaves, its call is the table's, and all stays kept
@@ -87,8 +90,10 @@ module _ (table : Table) (lawful : IsLawful table) (history : List Entry) (who :
         let owes = served_owes moved
         (record {
           many = moves.many ∙ orderly.many;
+          ceilings = moves.ceilings ∙ orderly.ceilings;
           one = moves.one orderly.one;
           starts = moves.starts orderly.starts;
+          owners = moves.owners orderly.owners;
           kept = kept_freed table history roster moved frees orderly.kept;
         })
         (Process p) (ready_step roster p next ready) call (known_script_step table p r.step call lawful is) in

@@ -7,11 +7,12 @@ use Rattle.apex_types.specs.declared.BufferService.TheVariants as buffer
 use Rattle.apex_types.specs.declared.Call.TheVariants as call
 use Rattle.apex_types.specs.declared.CallerCall.TheVariants.{SuspendSelf}
 use Rattle.apex_types.specs.declared.EventService.TheVariants as event
+use Rattle.apex_types.specs.declared.MutexService.TheVariants as mutex
 use Rattle.apex_types.specs.declared.ObjectCall.TheVariants.{Own}
 use Rattle.apex_types.specs.declared.Queue.TheVariants as queues
 use Rattle.apex_types.specs.declared.SemaphoreService.TheVariants as semaphore
 use Rattle.apex_types.specs.declared.TimeCall.TheVariants.{TimedWait}
-use Rattle.apex_types.specs.declared.Wait.TheVariants.{Time, Semaphore, Receive, Send, Blackboard, Event}
+use Rattle.apex_types.specs.declared.Wait.TheVariants.{Time, Semaphore, Receive, Send, Blackboard, Event, Mutex}
 use Rattle.apex_types.specs.Queues.{queue_of}
 use Rattle.apex_types.specs.Roster.{Roster, record_at}
 use Rattle.apex_types.specs.Stamps.{is_by_itself}
@@ -35,6 +36,7 @@ begins (call.Buffer (Own b (buffer.Send message timeout))) = Some (Send b messag
 begins (call.Buffer (Own b (buffer.Receive timeout))) = Some (Receive b)
 begins (call.Blackboard (Own b (blackboard.Read timeout))) = Some (Blackboard b)
 begins (call.Event (Own e (event.Wait timeout))) = Some (Event e)
+begins (call.Mutex (Own m (mutex.Acquire timeout))) = Some (Mutex m)
 begins (call.Time (TimedWait timeout)) = Some Time
 begins (call.Caller (SuspendSelf timeout)) = Some Time
 begins _ = None
@@ -47,6 +49,7 @@ asked_of (Some (Receive b)) = Some (Receive b)
 asked_of (Some (Send b message)) = Some (Send b message)
 asked_of (Some (Blackboard b)) = Some (Blackboard b)
 asked_of (Some (Event e)) = Some (Event e)
+asked_of (Some (Mutex m)) = Some (Mutex m)
 asked_of _ = None
 
 -- else, where the process suspended itself, it waits for time

@@ -1,14 +1,17 @@
 -- Laws of whole runs, in the subject's own words.
-use Rattle.std.specs.Prelude.{◌≡◌, ℕ, ◌≤◌, ◌<◌, false, List, [], ◌++◌, None, Some, count_by, length}
+use Rattle.std.specs.Prelude.{◌≡◌, ◌≢◌, ℕ, ◌≤◌, ◌<◌, true, false, List, [], ◌++◌, None, Some, count_by, length}
 use Rattle.std.specs.List.{filter_map}
 use Rattle.apex_dispatch.specs.Terms.{Entry, Event as Happening, Message}
 use Rattle.apex_types.specs.declared.Queue.TheVariants as queues
-use Rattle.apex_types.specs.declared.Wait.TheVariants.{Receive, Send, Blackboard, Event}
+use Rattle.apex_types.specs.declared.Wait.TheVariants.{Receive, Send, Blackboard, Event, Mutex}
 use Rattle.apex_types.specs.Calls.{names, is_receive, sent_message}
 use Rattle.apex_types.specs.Dues.{HasNoPastDue}
+use Rattle.apex_types.specs.Limits.{most_depth}
+use Rattle.apex_types.specs.Owners.{depth_of, owner, owns}
 use Rattle.apex_types.specs.Roster.{record_at}
+use Rattle.apex_types.specs.Running.{current_priority}
 use Rattle.apex_types.specs.SemaphoreServices.{SemaphoreObject}
-use Rattle.apex_types.specs.Table.{Table, semaphore_config, buffer_config}
+use Rattle.apex_types.specs.Table.{Table, semaphore_config, buffer_config, mutex_config}
 use Rattle.apex_types.specs.Satisfied.{calls_where, semaphore_value, buffer_content, blackboard_message, is_up}
 use Rattle.apex_types.specs.Machine.{Machine, run, opening, events_of}
 use Rattle.apex_dispatch.specs.AskedWaits.{IsAccounted}
@@ -52,6 +55,21 @@ pub record NobodyWaitsInVain (table : Table) (machine : Machine) : Type 0 where
   pub buffers : (b : ℕ) → b < length table.buffers → BufferIsInOrder table machine b
   pub blackboards : (b : ℕ) → b < length table.blackboards → ReadersWaitForMessages machine b
   pub events : (e : ℕ) → e < length table.events → WaitersWaitForEvents machine e
+
+-- mutex m has one owner at the most, whose current priority is at least the ceiling, and which owns it at
+-- a depth of 1 to 32; who waits for it owns none, and where nobody owns it nobody waits for it
+pub record MutexIsOwnedInOrder (table : Table) (machine : Machine) (m : ℕ) : Type 0 where
+  pub one : (p q : ℕ) → owns m (record_at machine.roster p) ≡ true → owns m (record_at machine.roster q) ≡ true → p ≡ q
+  pub raised : (p : ℕ) → owns m (record_at machine.roster p) ≡ true
+      → (mutex_config table m).ceiling ≤ current_priority (record_at machine.roster p)
+  pub depth : (p : ℕ) → owns m (record_at machine.roster p) ≡ true
+      → (1 ≤ depth_of (record_at machine.roster p).owned) × (depth_of (record_at machine.roster p).owned ≤ most_depth)
+  pub waiters : (p : ℕ) → (record_at machine.roster p).wait ≡ Some (Mutex m) → (record_at machine.roster p).owned ≡ None
+  pub free : owner machine.roster m ≡ None → (p : ℕ) → (record_at machine.roster p).wait ≢ Some (Mutex m)
+
+-- that holds of each mutex
+abbrev pub MutexesAreOwnedInOrder : Table → Machine → Type 0
+MutexesAreOwnedInOrder table machine = (m : ℕ) → m < length table.mutexes → MutexIsOwnedInOrder table machine m
 
 -- in every run each semaphore's value stays from 0 to its maximum
 abbrev pub ValuesStayInRange : Table → Type 0

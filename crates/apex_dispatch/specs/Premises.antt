@@ -1,7 +1,7 @@
 -- What a service may rely on: what is named is there.
 use Rattle.std.specs.Prelude.{◌≡◌, length}
 use Rattle.apex_dispatch.specs.Terms.{Call}
-use Rattle.apex_types.specs.declared.Call.TheVariants.{Partition, Process as ToProcess, Caller as ToCaller, Time, Semaphore, Buffer, Blackboard, Event}
+use Rattle.apex_types.specs.declared.Call.TheVariants.{Partition, Process as ToProcess, Caller as ToCaller, Time, Semaphore, Buffer, Blackboard, Event, Mutex}
 use Rattle.apex_types.specs.Machine.{Objects}
 use Rattle.apex_types.specs.Table.{Table, IsKnownObject}
 
@@ -15,6 +15,7 @@ IsKnownTo objects (Semaphore call) = IsKnownObject (length objects.semaphores) c
 IsKnownTo objects (Buffer call) = IsKnownObject (length objects.buffers) call
 IsKnownTo objects (Blackboard call) = IsKnownObject (length objects.blackboards) call
 IsKnownTo objects (Event call) = IsKnownObject (length objects.events) call
+IsKnownTo objects (Mutex call) = IsKnownObject (length objects.mutexes) call
 
 -- there is an object for each entry of the table
 pub record AreOf (table : Table) (objects : Objects) : Type 0 where
@@ -23,3 +24,4 @@ pub record AreOf (table : Table) (objects : Objects) : Type 0 where
   pub buffers : length objects.buffers ≡ length table.buffers
   pub blackboards : length objects.blackboards ≡ length table.blackboards
   pub events : length objects.events ≡ length table.events
+  pub mutexes : length objects.mutexes ≡ length table.mutexes

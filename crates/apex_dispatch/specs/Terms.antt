@@ -7,8 +7,10 @@ pub use Rattle.apex_types.specs.declared.CallerCall.{CallerCall}
 pub use Rattle.apex_types.specs.declared.Entry.{Entry}
 pub use Rattle.apex_types.specs.declared.Event.{Event}
 pub use Rattle.apex_types.specs.declared.EventService.{EventService}
+pub use Rattle.apex_types.specs.declared.Holding.{Holding}
 pub use Rattle.apex_types.specs.declared.Message.{Message}
 pub use Rattle.apex_types.specs.declared.Mode.{Mode}
+pub use Rattle.apex_types.specs.declared.MutexService.{MutexService}
 pub use Rattle.apex_types.specs.declared.Notice.{Notice}
 pub use Rattle.apex_types.specs.declared.ObjectCall.{ObjectCall}
 pub use Rattle.apex_types.specs.declared.Origin.{Origin}

@@ -40,6 +40,7 @@ waiter_and_signaller = record {
   buffers = [];
   blackboards = [];
   events = [];
+  mutexes = [];
   init = bares (
       Semaphore (Create (Known 0))
       ∷ Process (Create (Known 0)) ∷ Process (Own 0 (InitializeCoreAffinity 0))
@@ -58,6 +59,7 @@ empty_script = record {
   buffers = [];
   blackboards = [];
   events = [];
+  mutexes = [];
   init = bares (
       Process (Create (Known 0)) ∷ Process (Own 0 (InitializeCoreAffinity 0)) ∷ Process (Own 0 Start)
       ∷ Partition (SetPartitionMode Normal) ∷ []);
@@ -123,6 +125,7 @@ timed_waiter = record {
   buffers = [];
   blackboards = [];
   events = [];
+  mutexes = [];
   init = waiter_and_signaller.init;
 }
 
@@ -149,6 +152,7 @@ three_timers = record {
   buffers = [];
   blackboards = [];
   events = [];
+  mutexes = [];
   init = bares (
       Process (Create (Known 0)) ∷ Process (Own 0 (InitializeCoreAffinity 0))
       ∷ Process (Create (Known 1)) ∷ Process (Own 1 (InitializeCoreAffinity 0))
@@ -191,6 +195,7 @@ delayed_starter = record {
   buffers = [];
   blackboards = [];
   events = [];
+  mutexes = [];
   init = bares (
       Process (Create (Known 0)) ∷ Process (Own 0 (InitializeCoreAffinity 0))
       ∷ Process (Create (Known 1)) ∷ Process (Own 1 (InitializeCoreAffinity 0))
@@ -226,6 +231,7 @@ ranked_waiters = record {
   buffers = [];
   blackboards = [];
   events = [];
+  mutexes = [];
   init = bares (
       Semaphore (Create (Known 0))
       ∷ Process (Create (Known 0)) ∷ Process (Own 0 (InitializeCoreAffinity 0))
@@ -268,6 +274,7 @@ suspended_waiter = record {
   buffers = [];
   blackboards = [];
   events = [];
+  mutexes = [];
   init = waiter_and_signaller.init;
 }
 
@@ -294,6 +301,7 @@ self_suspender = record {
   buffers = [];
   blackboards = [];
   events = [];
+  mutexes = [];
   init = empty_script.init;
 }
 
@@ -321,6 +329,7 @@ own_init_list = record {
   buffers = [];
   blackboards = [];
   events = [];
+  mutexes = [];
   init =
       bares (Process (Create (Known 0)) ∷ Process (Create (Known 0)) ∷ [])
       ++ (record { call = Process (Create (Unknown (Init 2))); literal = codes "Q" })

@@ -4,7 +4,7 @@
 ghost use Rattle.std.specs.Prelude.{All};
 ghost use Rattle.apex_types.specs.Dues.{HasNoPastDue};
 ghost use Rattle.apex_store.specs.Laws.{RunsMostUrgent, FirstWaiterIsFirst};
-ghost use Rattle.apex_dispatch.specs.Laws.{AreInRange, IsWithinItsMaximum, ValuesStayInRange, RunsCompose, RunsStayWithin, HistoriesReplay, TimeGoesForward, WasNeverLater, NobodyWaitsInVain};
+ghost use Rattle.apex_dispatch.specs.Laws.{AreInRange, HistoriesReplay, IsWithinItsMaximum, MutexesAreOwnedInOrder, NobodyWaitsInVain, RunsCompose, RunsStayWithin, TimeGoesForward, ValuesStayInRange, WasNeverLater};
 ghost use Rattle.apex_dispatch.specs.States.{EachHasOneState};
 ghost use Rattle.apex_dispatch.specs.Worked.{SignalWakesWaiter, SignalBeforeWait, EmptyScriptStopsItself, TimedOutWaiterGetsNoSignal, TickHaltsAtTheNextInstant, DelayedStartReleasesAtItsTime, PriorityChangeMovesPriorityWaiter, SuspendedWaiterIsWokenAndStaysWaiting, SuspensionOfItselfEnds, InitListOfTheTable};
 
@@ -93,6 +93,14 @@ pub fn values_and_dues_are_in_range<S: Store>(kernel: &Kernel<S>)
 /// more than it has room for, and nobody waits for an object that has what it waits for.
 pub fn nobody_waits_in_vain<S: Store>(kernel: &Kernel<S>)
     ensures { NobodyWaitsInVain kernel.now.table kernel.now.machine }
+{
+    kernel.holds();
+}
+
+/// In every kernel each mutex has one owner at the most, whose current priority is at least the
+/// ceiling, at a depth of 1 to 32; and nobody waits for a free one.
+pub fn mutexes_are_owned_in_order<S: Store>(kernel: &Kernel<S>)
+    ensures { MutexesAreOwnedInOrder kernel.now.table kernel.now.machine }
 {
     kernel.holds();
 }

@@ -13,6 +13,6 @@ mod ticks;
 pub use kernels::Kernel;
 pub use laws::{
     each_has_one_state, first_waiter_is_first, histories_replay, most_urgent_runs,
-    nobody_waits_in_vain, runs_compose, runs_stay_within, time_goes_forward,
-    values_and_dues_are_in_range, values_stay_in_range, worked_histories,
+    mutexes_are_owned_in_order, nobody_waits_in_vain, runs_compose, runs_stay_within,
+    time_goes_forward, values_and_dues_are_in_range, values_stay_in_range, worked_histories,
 };

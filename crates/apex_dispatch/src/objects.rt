@@ -4,6 +4,7 @@ ghost use Rattle.apex_types.specs.Machine.{objects_after};
 use crate::services::ProcessObject;
 use apex_buffer::Buffer;
 use apex_flags::{Blackboard, Event};
+use apex_mutex::Mutex;
 use apex_semaphore::Semaphore;
 use apex_table::Table;
 use apex_types::{BlackboardId, BufferId, SemaphoreId};
@@ -18,6 +19,7 @@ pub(crate) struct Objects {
     pub(crate) buffers: Vec<Buffer>,
     pub(crate) blackboards: Vec<Blackboard>,
     pub(crate) events: Vec<Event>,
+    pub(crate) mutexes: Vec<Mutex>,
 }
 
 impl Model for Objects {
@@ -31,6 +33,7 @@ impl Model for Objects {
       buffers = o.buffers.items;
       blackboards = o.blackboards.items;
       events = o.events.items;
+      mutexes = o.mutexes.items;
     } };
 }
 
@@ -88,6 +91,16 @@ fn events_before(alloc: Global, table: &Table) -> Result<Vec<Event>, AllocError>
     Ok(events)
 }
 
+fn mutexes_before(alloc: Global, table: &Table) -> Result<Vec<Mutex>, AllocError>
+    ensures { IfOk result (λ v. v.items ≡ (objects_after table.now []).mutexes) }
+{
+    let mut mutexes = Vec::with_capacity(alloc, table.mutex_count())?;
+    for place in 0..table.mutex_count() {
+        mutexes.push(Mutex::new())?;
+    }
+    Ok(mutexes)
+}
+
 impl Objects {
     /// The objects of a partition with an empty history.
     pub(crate) fn new(alloc: Global, table: &Table) -> Result<Objects, AllocError>
@@ -98,12 +111,14 @@ impl Objects {
         let buffers = buffers_before(alloc, table)?;
         let blackboards = blackboards_before(alloc, table)?;
         let events = events_before(alloc, table)?;
+        let mutexes = mutexes_before(alloc, table)?;
         Ok(Objects {
             processes,
             semaphores,
             buffers,
             blackboards,
             events,
+            mutexes,
         })
     }
 }

@@ -44,7 +44,7 @@ pub(crate) fn serve<S: Store>(
     match call {
         Call::Partition(call) => partition::serve(store, objects, call, notices),
         Call::Process(call) => serve_object(store, &mut objects.processes, caller, call, notices),
-        Call::Caller(call) => caller::serve(store, objects, caller, call),
+        Call::Caller(call) => caller::serve(store, objects, caller, call, notices),
         Call::Time(call) => time::serve(store, objects, caller, call),
         Call::Semaphore(call) => {
             serve_object(store, &mut objects.semaphores, caller, call, notices)
@@ -54,5 +54,6 @@ pub(crate) fn serve<S: Store>(
             serve_object(store, &mut objects.blackboards, caller, call, notices)
         }
         Call::Event(call) => serve_object(store, &mut objects.events, caller, call, notices),
+        Call::Mutex(call) => serve_object(store, &mut objects.mutexes, caller, call, notices),
     }
 }

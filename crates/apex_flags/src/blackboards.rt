@@ -7,7 +7,7 @@ ghost use Rattle.apex_types.specs.Roster.{Roster};
 ghost use Rattle.apex_types.specs.Rows.{Leaves};
 ghost use Rattle.apex_types.specs.Stamps.{HasManyStamps};
 
-use apex_store::{Object, Store, grant_all, is_unfit, wait_for};
+use apex_store::{Object, Store, grant_all, is_unfit, is_waiting_owner, wait_for};
 use apex_types::{
     BlackboardId, BlackboardKind, BlackboardService, Caller, Message, Notices, Queue, Reply,
     ReturnCode, Timeout, Wait,
@@ -69,8 +69,9 @@ impl Blackboard {
     }
 
     /// READ_BLACKBOARD: the caller gets the message; where there is none it waits for the time in
-    /// ticks that it may. INVALID_PARAM where the blackboard isn't created, INVALID_MODE where no
-    /// process calls, NOT_AVAILABLE where the caller may not wait.
+    /// ticks that it may. INVALID_PARAM where the blackboard isn't created, INVALID_MODE where the
+    /// caller owns a mutex and would wait, or no process calls, NOT_AVAILABLE where the caller may not
+    /// wait.
     pub fn read<S: Store>(
         &self,
         store: &mut S,
@@ -86,6 +87,9 @@ impl Blackboard {
     {
         if !self.created {
             return Reply::Code(ReturnCode::InvalidParam);
+        }
+        if is_waiting_owner(store, caller, timeout) {
+            return Reply::Code(ReturnCode::InvalidMode);
         }
         let Caller::Process(process) = caller else {
             return Reply::Code(ReturnCode::InvalidMode);

@@ -7,7 +7,7 @@ ghost use Rattle.apex_types.specs.Roster.{Roster};
 ghost use Rattle.apex_types.specs.Rows.{Leaves};
 ghost use Rattle.apex_types.specs.Stamps.{HasManyStamps};
 
-use apex_store::{Object, Store, grant_all, wait_for};
+use apex_store::{Object, Store, grant_all, is_waiting_owner, wait_for};
 use apex_types::{
     Caller, EventId, EventKind, EventService, Notices, Queue, Reply, ReturnCode, Timeout, Wait,
 };
@@ -71,8 +71,8 @@ impl Event {
     }
 
     /// WAIT_EVENT: where the event is down the caller waits for the time in ticks that it may.
-    /// INVALID_PARAM where the event isn't created, INVALID_MODE where no process calls,
-    /// NOT_AVAILABLE where the caller may not wait.
+    /// INVALID_PARAM where the event isn't created, INVALID_MODE where the caller owns a mutex and
+    /// would wait, or no process calls, NOT_AVAILABLE where the caller may not wait.
     pub fn wait<S: Store>(
         &self,
         store: &mut S,
@@ -88,6 +88,9 @@ impl Event {
     {
         if !self.created {
             return Reply::Code(ReturnCode::InvalidParam);
+        }
+        if is_waiting_owner(store, caller, timeout) {
+            return Reply::Code(ReturnCode::InvalidMode);
         }
         match caller {
             Caller::Process(_) if self.up => Reply::Code(ReturnCode::NoError),

@@ -9,6 +9,7 @@ mod buffer;
 mod caller;
 mod event;
 mod message;
+mod mutex;
 mod object;
 mod partition;
 mod process;
@@ -233,6 +234,7 @@ fn put_call(line: &mut Lines, table: &Table, call: &Call)
         Call::Buffer(call) => put_object_call(line, table, call),
         Call::Blackboard(call) => put_object_call(line, table, call),
         Call::Event(call) => put_object_call(line, table, call),
+        Call::Mutex(call) => put_object_call(line, table, call),
     }
 }
 

@@ -1,11 +1,12 @@
 mod events;
 mod lines;
 mod messages;
+mod mutexes;
 mod steps;
 mod ticks;
 
 ghost use Rattle.std.specs.Prelude.{◌≡◌, ◌<◌, ◌↔◌, [], None, Some, IsErr};
-ghost use Rattle.apex_types.specs.declared.Call.TheVariants.{Process, Semaphore, Buffer, Blackboard, Event};
+ghost use Rattle.apex_types.specs.declared.Call.TheVariants.{Process, Semaphore, Buffer, Blackboard, Event, Mutex};
 ghost use Rattle.apex_types.specs.declared.ObjectCall.TheVariants.{Own};
 ghost use Rattle.apex_types.specs.Lines.{IsPrintable};
 ghost use Rattle.apex_history.specs.Counted.{inner_of, reads_left_of};
@@ -14,8 +15,9 @@ use crate::{Counted, FailAt, Log, Page, ReadFault, Sink, Source, print_entry, re
 use apex_table::Table;
 use apex_types::{
     BlackboardCall, BlackboardId, BlackboardService, BufferCall, BufferId, BufferService, Call,
-    Caller, CoreId, Entry, EventCall, EventId, EventService, Notices, ProcessCall, ProcessId,
-    ProcessService, Reply, ReturnCode, SemaphoreCall, SemaphoreId, SemaphoreService, Who,
+    Caller, CoreId, Entry, EventCall, EventId, EventService, MutexCall, MutexId, MutexService,
+    Notices, ProcessCall, ProcessId, ProcessService, Reply, ReturnCode, SemaphoreCall, SemaphoreId,
+    SemaphoreService, Who,
 };
 use std::io;
 use std::io::{ErrorKind, Read, Write};
@@ -100,6 +102,12 @@ fn of_event(event: EventId, service: EventService) -> Call
     ensures { result ≡ Event (Own event service) }
 {
     Call::Event(EventCall::Own(event, service))
+}
+
+fn of_mutex(mutex: MutexId, service: MutexService) -> Call
+    ensures { result ≡ Mutex (Own mutex service) }
+{
+    Call::Mutex(MutexCall::Own(mutex, service))
 }
 
 fn code(code: ReturnCode) -> Reply {

@@ -7,7 +7,7 @@ ghost use Rattle.apex_types.specs.Rows.{Leaves};
 ghost use Rattle.apex_types.specs.SemaphoreServices as services;
 ghost use Rattle.apex_types.specs.Stamps.{HasManyStamps};
 
-use apex_store::{Object, Store, grant, wait_for};
+use apex_store::{Object, Store, grant, is_waiting_owner, wait_for};
 use apex_types::{
     Caller, Notices, Queue, Reply, ReturnCode, SemaphoreId, SemaphoreKind, SemaphoreService,
     Timeout, Wait,
@@ -45,8 +45,8 @@ impl Semaphore {
     }
 
     /// WAIT_SEMAPHORE: takes one of the value, else the caller waits for the time in ticks that it
-    /// may. INVALID_PARAM where the semaphore isn't created, INVALID_MODE where no process calls,
-    /// NOT_AVAILABLE where the caller may not wait.
+    /// may. INVALID_PARAM where the semaphore isn't created, INVALID_MODE where the caller owns a
+    /// mutex and would wait, or no process calls, NOT_AVAILABLE where the caller may not wait.
     pub fn wait<S: Store>(
         &mut self,
         store: &mut S,
@@ -62,6 +62,9 @@ impl Semaphore {
     {
         if !self.created {
             return Reply::Code(ReturnCode::InvalidParam);
+        }
+        if is_waiting_owner(store, caller, timeout) {
+            return Reply::Code(ReturnCode::InvalidMode);
         }
         match caller {
             Caller::Process(_) if self.value > 0 => {

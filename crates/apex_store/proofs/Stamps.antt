@@ -1,16 +1,17 @@
 -- Whatever is asked of a store, no two of its processes come to have the same stamp.
-use Rattle.std.proofs.Common.{refl}
+use Rattle.std.proofs.Common.{Some, refl}
 use Rattle.apex_types.specs.Roster.{Roster, record_at}
+use Rattle.apex_types.proofs.Handovers.{moves_own}
 use Rattle.apex_types.specs.Distinct.{IsStamped}
 use Rattle.apex_types.specs.Stamps.{awake, waiting, self_suspended}
 use Rattle.apex_types.proofs.DistinctStamps.{stamped_newest, stamped_readied, stamped_resume, stamped_set_mode, stamped_advance_to, stamped_take_due}
-use Rattle.apex_types.proofs.Reaches.{reaches_start, reaches_stop, reaches_suspend, reaches_set_priority, reaches_place_newest, reaches_set_core, reaches_set_step, reaches_receive}
+use Rattle.apex_types.proofs.Reaches.{moves_stop, reaches_start, reaches_suspend, reaches_set_priority, reaches_place_newest, reaches_set_core, reaches_set_step, reaches_receive}
 use Rattle.apex_store.specs.Laws.{StampsStayDistinct}
 
 pub stay_distinct : (roster : Roster) → IsStamped roster → StampsStayDistinct roster
 stay_distinct roster stamped = record {
   start = λ p delay known. (reaches_start roster p known delay).stamped stamped;
-  stop = λ p known. (reaches_stop roster p known).stamped stamped;
+  stop = λ p known. (moves_stop roster p known).stamped stamped;
   block = λ p wait due known. stamped_newest roster p known stamped (waiting (record_at roster p) wait due);
   unblock = λ p known. stamped_readied roster p known stamped (awake (record_at roster p)) refl;
   release = λ p known. stamped_readied roster p known stamped (awake (record_at roster p)) refl;
@@ -18,6 +19,8 @@ stay_distinct roster stamped = record {
   suspend_self = λ p due known. stamped_newest roster p known stamped (self_suspended (record_at roster p) due);
   resume = λ p known. stamped_resume roster p known stamped;
   set_priority = λ p base known. (reaches_set_priority roster p known base).stamped stamped;
+  own = λ p owned known. (moves_own roster p known owned).stamped stamped;
+  inherit = λ p holding known. stamped_readied roster p known stamped (awake (record (record_at roster p) { owned = Some holding })) refl;
   place_newest = λ p known. (reaches_place_newest roster p known).stamped stamped;
   advance_to = λ t. stamped_advance_to roster stamped t;
   take_due = stamped_take_due roster stamped;

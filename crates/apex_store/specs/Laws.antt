@@ -1,6 +1,6 @@
 -- What the choices of a store mean, in the standard's own words.
 use Rattle.std.specs.Prelude.{◌≡◌, ◌≢◌, ℕ, ◌<◌, ◌≤◌, ◌<ℤ◌, ◌⊎◌, Bool, true, false, List, length, Option, None, Some, slice_get}
-use Rattle.apex_store.specs.Terms.{Message, Mode, Queue, Record, Wait}
+use Rattle.apex_store.specs.Terms.{Holding, Message, Mode, Queue, Record, Wait}
 use Rattle.apex_types.specs.declared.records.State.TheVariants.{Running}
 use Rattle.apex_types.specs.Roster.{Roster, record_at}
 use Rattle.apex_types.specs.Choice.{IsLeast}
@@ -93,6 +93,8 @@ pub record StampsStayDistinct (roster : Roster) : Type 0 where
   pub suspend_self : (p : ℕ) (due : Option ℕ) → p < length roster.records → IsStamped (stamps.suspend_self roster p due)
   pub resume : (p : ℕ) → p < length roster.records → IsStamped (stamps.resume roster p)
   pub set_priority : (p base : ℕ) → p < length roster.records → IsStamped (stamps.set_priority roster p base)
+  pub own : (p : ℕ) (owned : Option Holding) → p < length roster.records → IsStamped (stamps.own roster p owned)
+  pub inherit : (p : ℕ) (holding : Holding) → p < length roster.records → IsStamped (stamps.inherit roster p holding)
   pub place_newest : (p : ℕ) → p < length roster.records → IsStamped (stamps.place_newest roster p)
   pub advance_to : (t : ℕ) → IsStamped (stamps.advance_to roster t)
   pub take_due : IsStamped (stamps.take_due roster)

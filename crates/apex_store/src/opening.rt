@@ -1,11 +1,13 @@
 ghost use Rattle.std.specs.Prelude.{◌≡◌, ◌+◌, ◌<◌, ◌≤◌, [], ◌∷◌, ◌++◌, length, map, vec_capacity, vec_len, IfOk};
 ghost use Rattle.apex_types.specs.Limits.{most_processes};
 ghost use Rattle.apex_types.specs.Places.{map_places};
-ghost use Rattle.apex_types.specs.Roster.{opening_record};
-ghost use Rattle.apex_types.specs.Table.{BufferConfig, SemaphoreConfig};
+ghost use Rattle.apex_types.specs.Roster.{ceilings_of, opening_record};
+ghost use Rattle.apex_types.specs.Table.{BufferConfig, MutexConfig, SemaphoreConfig};
 
 use apex_table::{ProcessConfig, Table};
-use apex_types::{Attributes, BufferId, CoreId, Discipline, ProcessId, Record, SemaphoreId};
+use apex_types::{
+    Attributes, BufferId, CoreId, Discipline, MutexId, ProcessId, Record, SemaphoreId,
+};
 use std::alloc::{AllocError, Global};
 
 /// Adds the record of a process before any event: dormant on core 0, and as old as its place says.
@@ -26,6 +28,7 @@ fn push_opening(records: &mut Vec<Record>, place: usize, process: &ProcessConfig
         wait: None,
         since: place as i64 + 1,
         due: None,
+        owned: None,
         step: 0,
         inbox: None,
     });
@@ -68,4 +71,28 @@ pub fn semaphore_disciplines(alloc: Global, table: &Table) -> Result<Vec<Discipl
         disciplines.push(table.semaphore(SemaphoreId::at(place as u8)).discipline())?;
     }
     Ok(disciplines)
+}
+
+/// The discipline of each mutex's queue.
+pub fn mutex_disciplines(alloc: Global, table: &Table) -> Result<Vec<Discipline>, AllocError>
+    ensures { IfOk result (λ disciplines. disciplines.items ≡ map (λ (m : MutexConfig). m.discipline) table.now.mutexes) }
+{
+    let count = table.mutex_count();
+    let mut disciplines = Vec::with_capacity(alloc, count)?;
+    for place in 0..count {
+        disciplines.push(table.mutex(MutexId::at(place as u8)).discipline())?;
+    }
+    Ok(disciplines)
+}
+
+/// The ceiling of each mutex.
+pub fn ceilings(alloc: Global, table: &Table) -> Result<Vec<u8>, AllocError>
+    ensures { IfOk result (λ ceilings. ceilings.items ≡ ceilings_of table.now) }
+{
+    let count = table.mutex_count();
+    let mut ceilings = Vec::with_capacity(alloc, count)?;
+    for place in 0..count {
+        ceilings.push(table.mutex(MutexId::at(place as u8)).ceiling())?;
+    }
+    Ok(ceilings)
 }

@@ -8,13 +8,17 @@ ghost use Rattle.apex_types.specs.Stamps as stamps;
 ghost use Rattle.apex_types.specs.Waiters.{discipline_of, goes_by_priority, waits_in};
 
 use crate::dues::{earliest_due, first_due};
-use crate::opening::{buffer_disciplines, opening_records, semaphore_disciplines};
+use crate::opening::{
+    buffer_disciplines, ceilings, mutex_disciplines, opening_records, semaphore_disciplines,
+};
 use crate::orders::waits_in;
+use crate::owners::first_owner;
 use crate::scan::{Behind, Runnable, Waiting, first_of};
 use crate::store::Store;
 use apex_table::Table;
 use apex_types::{
-    CoreId, Discipline, Message, Mode, ProcessId, Queue, Record, State, Suspender, Wait,
+    CoreId, Discipline, Holding, Message, Mode, MutexId, ProcessId, Queue, Record, State,
+    Suspender, Wait,
 };
 use std::alloc::{AllocError, Global};
 use std::marker::Model;
@@ -28,9 +32,11 @@ pub struct PlainStore {
     records: Vec<Record>,
     next_young: i64,
     next_old: i64,
-    /// The discipline of each semaphore's queue, and of each buffer's.
+    /// The discipline of each semaphore's queue, of each buffer's and of each mutex's.
     semaphores: Vec<Discipline>,
     buffers: Vec<Discipline>,
+    mutexes: Vec<Discipline>,
+    ceilings: Vec<u8>,
 }
 
 impl Model for PlainStore {
@@ -40,7 +46,7 @@ impl Model for PlainStore {
 
     ghost Value = { Roster };
 
-    ghost view = { λ a. record { cores = a.cores; mode = a.mode; now = a.time; records = a.records.items; young = a.next_young; old = a.next_old; disciplines = record { semaphores = a.semaphores.items; buffers = a.buffers.items } } };
+    ghost view = { λ a. record { cores = a.cores; mode = a.mode; now = a.time; records = a.records.items; young = a.next_young; old = a.next_old; disciplines = record { semaphores = a.semaphores.items; buffers = a.buffers.items; mutexes = a.mutexes.items }; ceilings = a.ceilings.items } };
 
     ghost invariant = { λ a. (a.cores ≤ most_cores) × (length a.records.items ≤ most_processes) };
 }
@@ -92,6 +98,13 @@ fn reset(row: Record) -> Record
     }
 }
 
+/// The two records have one current priority.
+fn is_level(row: &Record, other: &Record) -> bool
+    ensures { result ≡ stamps.is_level row.now other.now }
+{
+    row.current_priority() == other.current_priority()
+}
+
 /// The discipline at this place, and FIFO past the end.
 fn discipline_at(disciplines: &[Discipline], place: usize) -> Discipline
     ensures { result ≡ slice_index_or disciplines.now place Fifo }
@@ -119,6 +132,8 @@ impl PlainStore {
         let records = opening_records(alloc, table)?;
         let semaphores = semaphore_disciplines(alloc, table)?;
         let buffers = buffer_disciplines(alloc, table)?;
+        let mutexes = mutex_disciplines(alloc, table)?;
+        let ceilings = ceilings(alloc, table)?;
         let next_young = records.len() as i64 + 1;
         Ok(PlainStore {
             cores: table.cores(),
@@ -129,16 +144,19 @@ impl PlainStore {
             next_old: 0,
             semaphores,
             buffers,
+            mutexes,
+            ceilings,
         })
     }
 
-    /// The discipline of the queue: a semaphore's and a buffer's is the table's.
+    /// The discipline of the queue: a semaphore's, a buffer's and a mutex's is the table's.
     fn discipline(&self, queue: &Queue) -> Discipline
         ensures { result ≡ discipline_of self.now queue.now }
     {
         match queue {
             Queue::Semaphore(semaphore) => discipline_at(&self.semaphores, semaphore.place()),
             Queue::Buffer(buffer) => discipline_at(&self.buffers, buffer.place()),
+            Queue::Mutex(mutex) => discipline_at(&self.mutexes, mutex.place()),
             Queue::Normal | Queue::Blackboard(_) | Queue::Event(_) => Discipline::Fifo,
         }
     }
@@ -169,6 +187,20 @@ impl PlainStore {
     {
         let stamp = self.next_young;
         self.next_young += 1;
+        self.records[process.place()] = Record {
+            since: stamp,
+            ..row
+        };
+    }
+
+    /// The process has this record with the next stamp downwards.
+    fn put_oldest(&mut self, process: ProcessId, row: Record)
+        requires known { process < length self.old.records }
+        requires stamps { stamps.HasStamps self.old }
+        ensures { self.new ≡ stamps.oldest self.old process row }
+    {
+        let stamp = self.next_old;
+        self.next_old -= 1;
         self.records[process.place()] = Record {
             since: stamp,
             ..row
@@ -283,6 +315,17 @@ impl Store for PlainStore {
         first_of(&order, &self.records)
     }
 
+    fn ceiling(&self, mutex: MutexId) -> u8 {
+        match self.ceilings.get(mutex.place()) {
+            Some(ceiling) => *ceiling,
+            None => 0,
+        }
+    }
+
+    fn owner(&self, mutex: MutexId) -> Option<ProcessId> {
+        first_owner(mutex, &self.records)
+    }
+
     fn next_instant(&self) -> Option<u64> {
         earliest_due(&self.records)
     }
@@ -308,6 +351,7 @@ impl Store for PlainStore {
             suspended: None,
             wait: None,
             due: None,
+            owned: None,
             step: 0,
             inbox: None,
             ..row
@@ -365,11 +409,31 @@ impl Store for PlainStore {
     fn set_priority(&mut self, process: ProcessId, base: u8) {
         let row = self.record(process);
         let changed = Record { base, ..row };
-        if row.is_eligible(self.mode) || self.goes_by_priority(row.queue()) {
+        let stays = row.owned.is_some() && is_level(&changed, &row);
+        if (row.is_eligible(self.mode) && !stays) || self.goes_by_priority(row.queue()) {
             self.put_newest(process, changed);
         } else {
             self.put(process, changed);
         }
+    }
+
+    fn own(&mut self, process: ProcessId, owned: Option<Holding>) {
+        let row = self.record(process);
+        let changed = Record { owned, ..row };
+        if is_level(&changed, &row) {
+            self.put(process, changed);
+        } else {
+            self.put_oldest(process, changed);
+        }
+    }
+
+    fn inherit(&mut self, process: ProcessId, holding: Holding) {
+        let row = self.record(process);
+        let owner = Record {
+            owned: Some(holding),
+            ..row
+        };
+        self.put_readied(process, awake(owner));
     }
 
     fn place_newest(&mut self, process: ProcessId) {

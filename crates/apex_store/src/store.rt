@@ -3,10 +3,12 @@ ghost use Rattle.apex_types.specs.Limits.{latest, most_cores};
 ghost use Rattle.apex_types.specs.Roster.{Roster, record_at};
 ghost use Rattle.apex_types.specs.Running.{chosen, process_state, IsEligible, IsIneligible};
 ghost use Rattle.apex_types.specs.Waiters.{first_waiter, next_waiter, waiter_count, waits_in};
+ghost use Rattle.apex_types.specs.Owners.{ceiling_of, owner};
 ghost use Rattle.apex_types.specs.Dues.{next_instant, first_due, HasNoDueBelow, HasTime, IsFrom};
 ghost use Rattle.apex_types.specs.Stamps as stamps;
+ghost use Rattle.apex_types.specs.declared.records.Queue.TheVariants as queues;
 
-use apex_types::{CoreId, Message, Mode, ProcessId, Queue, Record, State, Wait};
+use apex_types::{CoreId, Holding, Message, Mode, MutexId, ProcessId, Queue, Record, State, Wait};
 
 /// The processes of a partition: their records, the mode and the time.
 ///
@@ -60,6 +62,15 @@ pub trait Store: Drop {
     /// How many wait in the queue.
     fn waiting(&self, queue: Queue) -> u32
         ensures { result ≡ waiter_count (roster self.now) queue };
+
+    /// The priority to which the mutex raises its owner.
+    fn ceiling(&self, mutex: MutexId) -> u8
+        ensures { result ≡ ceiling_of (roster self.now) mutex };
+
+    /// The process that owns the mutex.
+    fn owner(&self, mutex: MutexId) -> Option<ProcessId>
+        ensures value { result ≡ owner (roster self.now) mutex }
+        ensures known { IfSome result (λ p. p < length (roster self.now).records) };
 
     /// The next instant at which a wait ends by itself: the least due of all processes.
     fn next_instant(&self) -> Option<u64>
@@ -119,11 +130,27 @@ pub trait Store: Drop {
         ensures { roster self.new ≡ stamps.resume (roster self.old) process };
 
     /// Sets the base priority. The process becomes the newest where it is eligible or waits in a
-    /// queue in which the more urgent comes first.
+    /// queue in which the more urgent comes first. An owner of a mutex whose current priority stays
+    /// keeps its place.
     fn set_priority(&mut self, process: ProcessId, base: u8)
         requires known { process < length (roster self.old).records }
         requires stamps { stamps.HasStamps (roster self.old) }
         ensures { roster self.new ≡ stamps.set_priority (roster self.old) process base };
+
+    /// The process, which is eligible, owns this mutex at this depth from now on, or none. It goes
+    /// before all others of its priority where its current priority changes.
+    fn own(&mut self, process: ProcessId, owned: Option<Holding>)
+        requires known { process < length (roster self.old).records }
+        requires eligible { IsEligible (roster self.old) process }
+        requires stamps { stamps.HasStamps (roster self.old) }
+        ensures { roster self.new ≡ stamps.own (roster self.old) process owned };
+
+    /// The process, which waits for the mutex, owns it so and wakes.
+    fn inherit(&mut self, process: ProcessId, holding: Holding)
+        requires known { process < length (roster self.old).records }
+        requires waits { waits_in (queues.Mutex holding.mutex) (record_at (roster self.old) process) ≡ true }
+        requires stamps { stamps.HasStamps (roster self.old) }
+        ensures { roster self.new ≡ stamps.inherit (roster self.old) process holding };
 
     /// The process goes behind all others of its priority.
     fn place_newest(&mut self, process: ProcessId)

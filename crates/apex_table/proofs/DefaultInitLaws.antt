@@ -4,7 +4,7 @@ use Rattle.std.specs.List.{AllByRecursion}
 use Rattle.apex_types.specs.Places.{map_places}
 use Rattle.apex_types.specs.Table.{ProcessConfig, Step, Table, IsLawfulStep}
 use Rattle.apex_types.specs.declared.calls.Origin.TheVariants.{Init}
-use Rattle.apex_types.specs.declared.calls.Call.TheVariants.{Semaphore, Buffer, Blackboard, Event}
+use Rattle.apex_types.specs.declared.calls.Call.TheVariants.{Semaphore, Buffer, Blackboard, Event, Mutex}
 use Rattle.apex_types.proofs.Places.{length-map_places}
 use Rattle.apex_table.specs.DefaultInit.{creates, creates_process, starts_process, joined, creates_objects, default_init}
 use Rattle.apex_table.specs.Objects.{Objects}
@@ -33,6 +33,7 @@ module _ (cores limit : ℕ) (ps : List ProcessConfig) (objects : Objects) (init
   Fits step = (k : ℕ) → IsLawfulStep Whole (Init k) step
 
   object_steps : AllByRecursion Fits (creates_objects objects)
+  unfolding creates_objects
   object_steps =
       let semaphores : AllByRecursion Fits (map_places (creates Semaphore) 0 objects.semaphores) =
       all_places (creates Semaphore) Fits (length objects.semaphores) (λ s entry below k. record { known = below; literal = refl }) 0 objects.semaphores (omega arith) in
@@ -42,7 +43,9 @@ module _ (cores limit : ℕ) (ps : List ProcessConfig) (objects : Objects) (init
       all_places (creates Blackboard) Fits (length objects.blackboards) (λ b entry below k. record { known = below; literal = refl }) 0 objects.blackboards (omega arith) in
       let events : AllByRecursion Fits (map_places (creates Event) 0 objects.events) =
       all_places (creates Event) Fits (length objects.events) (λ e entry below k. record { known = below; literal = refl }) 0 objects.events (omega arith) in
-      all_append Fits _ _ (all_append Fits _ _ (all_append Fits _ _ semaphores buffers) blackboards) events
+      let mutexes : AllByRecursion Fits (map_places (creates Mutex) 0 objects.mutexes) =
+      all_places (creates Mutex) Fits (length objects.mutexes) (λ m entry below k. record { known = below; literal = refl }) 0 objects.mutexes (omega arith) in
+      all_append Fits _ _ (all_append Fits _ _ (all_append Fits _ _ (all_append Fits _ _ semaphores buffers) blackboards) events) mutexes
 
   default_steps : AllByRecursion Fits (default_init ps objects)
   default_steps =
@@ -71,7 +74,9 @@ started_length p (entry ∷ rest) = start_length entry.start _ _ (length rest) (
 abbrev pub object_count : Objects → ℕ
 object_count objects =
     length objects.semaphores + length objects.buffers + length objects.blackboards + length objects.events
+    + length objects.mutexes
 
 pub default_init_length : (ps : List ProcessConfig) (objects : Objects) → length (default_init ps objects) ≤ object_count objects + 3 * length ps + 1
+unfolding creates_objects
 default_init_length ps objects =
     simp (length-append, length-map_places) (omega (arith, created_length 0 ps, started_length 0 ps))

@@ -72,4 +72,5 @@ init_list_law cores limit procs objects init names same some lawful None few =
     let buffers : length objects.buffers ≤ 16 = lawful.buffers.few in
     let blackboards : length objects.blackboards ≤ 16 = lawful.blackboards.few in
     let events : length objects.events ≤ 16 = lawful.events.few in
+    let mutexes : length objects.mutexes ≤ 16 = lawful.mutexes.few in
     record { few = omega (arith, default_init_length procs objects); lawful = default_init_law cores limit procs objects init }

@@ -7,7 +7,7 @@ use Rattle.std.proofs.lemmas.List.{length-map}
 use Rattle.std.proofs.lemmas.List.Elements.{All-from_recursion}
 use Rattle.std.proofs.lemmas.Result.{IfOk-at_ok}
 use Rattle.toml.specs.Data.{Members, get_member}
-use Rattle.apex_types.specs.Table.{Table, ProcessConfig, SemaphoreConfig, BufferConfig, BlackboardConfig, EventConfig, no_process, no_semaphore, no_buffer, no_blackboard, no_event, Step, no_step, IsLawfulStep, IsLawfulProcess, IsLawfulSemaphore, IsLawfulBuffer, IsLawfulBlackboard, IsLawfulEvent, IsLawful}
+use Rattle.apex_types.specs.Table.{Table, ProcessConfig, SemaphoreConfig, BufferConfig, BlackboardConfig, EventConfig, MutexConfig, no_process, no_semaphore, no_buffer, no_blackboard, no_event, no_mutex, Step, no_step, IsLawfulStep, IsLawfulProcess, IsLawfulSemaphore, IsLawfulBuffer, IsLawfulBlackboard, IsLawfulEvent, IsLawfulMutex, IsLawful}
 use Rattle.apex_types.specs.declared.calls.Origin.TheVariants.{Init}
 use Rattle.apex_table.specs.declared.fault.Section.TheVariants.{Top}
 use Rattle.apex_table.specs.Outcome.{place}
@@ -43,6 +43,7 @@ module _ (cores limit : ℕ) (drafts : List ProcessDraft) (procs : List ProcessC
         buffers = length-map things.buffers (λ (b : BufferConfig). b.name);
         blackboards = length-map things.blackboards (λ (b : BlackboardConfig). b.name);
         events = length-map things.events (λ (e : EventConfig). e.name);
+        mutexes = length-map things.mutexes (λ (m : MutexConfig). m.name);
       }
 
   lawful : (1 ≤ cores) × (cores ≤ 8) → (1 ≤ limit) × (limit ≤ 65536) → (1 ≤ length procs) × (length procs ≤ 32) → IsDistinct bytes_eq (entry_names procs) → AllFrom (IsLawfulProcess Whole) 0 procs → AreLawful things → IsInitList Whole steps → IsLawful Whole
@@ -54,18 +55,21 @@ module _ (cores limit : ℕ) (drafts : List ProcessDraft) (procs : List ProcessC
     buffer_count = sound.buffers.few;
     blackboard_count = sound.blackboards.few;
     event_count = sound.events.few;
+    mutex_count = sound.mutexes.few;
     init_count = init.few;
     processes = λ p below. all_from_start (IsLawfulProcess Whole) procs each p no_process below;
     semaphores = λ s below. All-from_recursion IsLawfulSemaphore things.semaphores sound.semaphores.all.each s no_semaphore below;
     buffers = λ b below. All-from_recursion IsLawfulBuffer things.buffers sound.buffers.all.each b no_buffer below;
     blackboards = λ b below. All-from_recursion IsLawfulBlackboard things.blackboards sound.blackboards.all.each b no_blackboard below;
     events = λ e below. All-from_recursion IsLawfulEvent things.events sound.events.all.each e no_event below;
+    mutexes = λ m below. All-from_recursion IsLawfulMutex things.mutexes sound.mutexes.all.each m no_mutex below;
     init = λ k below. all_from_start (λ k step. IsLawfulStep Whole (Init k) step) steps init.lawful k no_step below;
     process_names = distinct;
     semaphore_names = sound.semaphores.all.distinct;
     buffer_names = sound.buffers.all.distinct;
     blackboard_names = sound.blackboards.all.distinct;
     event_names = sound.events.all.distinct;
+    mutex_names = sound.mutexes.all.distinct;
   }
 
 pub reading_law : (tree : Members) → IfOk (reading tree) IsLawful

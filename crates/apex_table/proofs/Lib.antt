@@ -18,6 +18,7 @@ pub mod SemaphoreLaws
 pub mod BufferLaws
 pub mod BlackboardLaws
 pub mod EventLaws
+pub mod MutexLaws
 pub mod ObjectLaws
 pub mod ScriptLaws
 pub mod Law

@@ -2,12 +2,13 @@
 use Rattle.std.proofs.Common.{IfOk}
 use Rattle.std.proofs.lemmas.Result.{IfOk-at_ok}
 use Rattle.toml.specs.Data.{Members}
-use Rattle.apex_types.specs.Table.{IsLawfulSemaphore, IsLawfulBuffer, IsLawfulBlackboard, IsLawfulEvent}
+use Rattle.apex_types.specs.Table.{IsLawfulSemaphore, IsLawfulBuffer, IsLawfulBlackboard, IsLawfulEvent, IsLawfulMutex}
 use Rattle.apex_table.specs.Sections.{section}
 use Rattle.apex_table.specs.Semaphores.{semaphores}
 use Rattle.apex_table.specs.Buffers.{buffers}
 use Rattle.apex_table.specs.Blackboards.{blackboards}
 use Rattle.apex_table.specs.Events.{events}
+use Rattle.apex_table.specs.Mutexes.{mutexes}
 use Rattle.apex_table.specs.Objects.{Objects, objects}
 use Rattle.apex_table.proofs.Results.{ok_then}
 use Rattle.apex_table.proofs.SectionLaws.{IsSection, section_law}
@@ -15,6 +16,7 @@ use Rattle.apex_table.proofs.SemaphoreLaws.{semaphore_law}
 use Rattle.apex_table.proofs.BufferLaws.{buffer_law}
 use Rattle.apex_table.proofs.BlackboardLaws.{blackboard_law}
 use Rattle.apex_table.proofs.EventLaws.{event_law}
+use Rattle.apex_table.proofs.MutexLaws.{mutex_law}
 
 -- what holds of the objects that are read
 pub record AreLawful (things : Objects) : Type 0 where
@@ -22,6 +24,7 @@ pub record AreLawful (things : Objects) : Type 0 where
   pub buffers : IsSection buffers IsLawfulBuffer things.buffers
   pub blackboards : IsSection blackboards IsLawfulBlackboard things.blackboards
   pub events : IsSection events IsLawfulEvent things.events
+  pub mutexes : IsSection mutexes IsLawfulMutex things.mutexes
 
 pub objects_law : (top : Members) → IfOk (objects top) AreLawful
 unfolding objects
@@ -29,9 +32,11 @@ objects_law top =
     ok_then (section semaphores top) _ AreLawful (λ sems es.
     ok_then (section buffers top) _ AreLawful (λ bufs eb.
     ok_then (section blackboards top) _ AreLawful (λ boards ed.
-    ok_then (section events top) _ AreLawful (λ evs ee. record {
+    ok_then (section events top) _ AreLawful (λ evs ee.
+    ok_then (section mutexes top) _ AreLawful (λ locks em. record {
       semaphores = IfOk-at_ok (IsSection semaphores IsLawfulSemaphore) es (section_law semaphores IsLawfulSemaphore semaphore_law top);
       buffers = IfOk-at_ok (IsSection buffers IsLawfulBuffer) eb (section_law buffers IsLawfulBuffer buffer_law top);
       blackboards = IfOk-at_ok (IsSection blackboards IsLawfulBlackboard) ed (section_law blackboards IsLawfulBlackboard blackboard_law top);
       events = IfOk-at_ok (IsSection events IsLawfulEvent) ee (section_law events IsLawfulEvent event_law top);
-    }))))
+      mutexes = IfOk-at_ok (IsSection mutexes IsLawfulMutex) em (section_law mutexes IsLawfulMutex mutex_law top);
+    })))))

@@ -6,7 +6,7 @@ use Rattle.std.proofs.lemmas.Result.{IfOk-at_ok, IfOk-weaker}
 use Rattle.apex_types.specs.Calls.{origin_of, message_in}
 use Rattle.apex_types.specs.Table.{IsKnown, IsLawfulStep, IsLiteral, Table}
 use Rattle.apex_table.specs.Terms.{Call, ObjectCall, Origin, Place, TableFault}
-use Rattle.apex_types.specs.declared.calls.Call.TheVariants.{Partition, Process, Caller, Time, Semaphore, Buffer, Blackboard, Event}
+use Rattle.apex_types.specs.declared.calls.Call.TheVariants.{Partition, Process, Caller, Time, Semaphore, Buffer, Blackboard, Event, Mutex}
 use Rattle.apex_types.specs.declared.calls.Origin.TheVariants.{Script}
 use Rattle.apex_table.specs.declared.fault.TableFault.TheVariants.{BadStep}
 use Rattle.apex_table.specs.Outcome.{some_or, as_call}
@@ -21,6 +21,7 @@ use Rattle.apex_table.specs.SemaphoreSteps.{semaphore_service}
 use Rattle.apex_table.specs.BufferSteps.{buffer_service}
 use Rattle.apex_table.specs.BlackboardSteps.{blackboard_service}
 use Rattle.apex_table.specs.EventSteps.{event_service}
+use Rattle.apex_table.specs.MutexSteps.{mutex_service}
 use Rattle.apex_table.specs.Steps.{readings, call_of, spaced_call_of, literal_of, step}
 use Rattle.apex_table.specs.Scripts.{script}
 use Rattle.apex_table.proofs.Results.{ok_then, ok_branch, Reads, reads_any, reads_as_call, reads_first_of, some_or_law, AllFrom, all_any, each_from, each_length}
@@ -36,6 +37,7 @@ pub record AreNamesOf (table : Table) (names : Names) : Type 0 where
   pub buffers : length names.buffers ≡ length table.buffers
   pub blackboards : length names.blackboards ≡ length table.blackboards
   pub events : length names.events ≡ length table.events
+  pub mutexes : length names.mutexes ≡ length table.mutexes
 
 -- a call of the step of this origin, by these words
 abbrev pub IsAskedBy : Table → Place → Origin → List (List ℕ) → Call → Type 0
@@ -64,7 +66,8 @@ module _ (table : Table) (names : Names) (same : AreNamesOf table names) (at : P
           let buffer = kind_law Buffer (buffers.IsGiven at origin ws) (length table.buffers) (codes "BUFFER") names.buffers (buffer_service at origin) same.buffers (λ c h. (h.0, h.1, buffers.given_by_buffer at origin ws c h.2)) (buffers.buffer_service_law at origin ws) in
           let blackboard = kind_law Blackboard (blackboards.IsGiven at origin ws) (length table.blackboards) (codes "BLACKBOARD") names.blackboards (blackboard_service at origin) same.blackboards (λ c h. (h.0, h.1, blackboards.given_by_blackboard at origin ws c h.2)) (blackboards.blackboard_service_law at origin ws) in
           let event = kind_law Event Any (length table.events) (codes "EVENT") names.events (event_service at) same.events (λ c h. (h.0, h.1, tt)) (reads_any_own (event_service at) ws) in
-          (partition, (process, (caller, (time, (semaphore, (buffer, (blackboard, (event, tt))))))))
+          let mutex = kind_law Mutex Any (length table.mutexes) (codes "MUTEX") names.mutexes (mutex_service at) same.mutexes (λ c h. (h.0, h.1, tt)) (reads_any_own (mutex_service at) ws) in
+          (partition, (process, (caller, (time, (semaphore, (buffer, (blackboard, (event, (mutex, tt)))))))))
 
       call_of_law : Reads Asked (call_of at origin names ws)
       call_of_law = reads_first_of Asked (readings at origin names ws) readings_law

@@ -5,7 +5,7 @@ use Rattle.apex_types.specs.Places.{map_places}
 use Rattle.apex_types.specs.Table.{ProcessConfig, Step}
 use Rattle.apex_table.specs.Terms.{Call, ObjectCall}
 use Rattle.apex_table.specs.Objects.{Objects}
-use Rattle.apex_types.specs.declared.calls.Call.TheVariants.{Partition, Process, Semaphore, Buffer, Blackboard, Event}
+use Rattle.apex_types.specs.declared.calls.Call.TheVariants.{Partition, Process, Semaphore, Buffer, Blackboard, Event, Mutex}
 use Rattle.apex_types.specs.declared.calls.RequestedMode.TheVariants.{Normal}
 use Rattle.apex_types.specs.declared.calls.PartitionCall.TheVariants.{SetPartitionMode}
 use Rattle.apex_types.specs.declared.calls.Named.TheVariants.{Known}
@@ -33,12 +33,13 @@ abbrev pub joined : List (List Step) → List Step
 joined steps = flat_map (λ ss. ss) steps
 
 -- for every object its CREATE, kind by kind
-abbrev pub creates_objects : Objects → List Step
+unfoldable pub creates_objects : Objects → List Step
 creates_objects objects =
     map_places (creates Semaphore) 0 objects.semaphores
     ++ map_places (creates Buffer) 0 objects.buffers
     ++ map_places (creates Blackboard) 0 objects.blackboards
     ++ map_places (creates Event) 0 objects.events
+    ++ map_places (creates Mutex) 0 objects.mutexes
 
 -- creates everything, starts what starts, and enters NORMAL
 abbrev pub default_init : List ProcessConfig → Objects → List Step

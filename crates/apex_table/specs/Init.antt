@@ -3,8 +3,8 @@ use Rattle.std.specs.Prelude.{ℕ, ◌+◌, Bool, true, false, if◌then◌else�
 use Rattle.toml.specs.Data.{Data}
 use Rattle.apex_types.specs.Limits.{most_init_steps}
 use Rattle.apex_types.specs.Table.{ProcessConfig, Step}
-use Rattle.apex_table.specs.Terms.{BlackboardService, BufferService, Call, EventService, ObjectCall, Origin, Place, ProcessService, SemaphoreService, TableFault, TimeCall}
-use Rattle.apex_types.specs.declared.calls.Call.TheVariants.{Partition, Process, Caller, Time, Semaphore, Buffer, Blackboard, Event}
+use Rattle.apex_table.specs.Terms.{BlackboardService, BufferService, Call, EventService, MutexService, ObjectCall, Origin, Place, ProcessService, SemaphoreService, TableFault, TimeCall}
+use Rattle.apex_types.specs.declared.calls.Call.TheVariants.{Partition, Process, Caller, Time, Semaphore, Buffer, Blackboard, Event, Mutex}
 use Rattle.apex_types.specs.declared.calls.ObjectCall.TheVariants.{Create, GetId, GetStatus, Own}
 use Rattle.apex_types.specs.declared.calls.Origin.TheVariants as origin
 use Rattle.apex_types.specs.declared.calls.ProcessService.TheVariants.{InitializeCoreAffinity, SetPriority, Start, DelayedStart, Stop, Suspend, Resume}
@@ -72,6 +72,10 @@ is_init_event_service Set = true
 is_init_event_service Reset = true
 is_init_event_service (WaitFor timeout) = false
 
+-- no service of mutexes alone
+abbrev pub is_init_mutex_service : MutexService → Bool
+is_init_mutex_service service = false
+
 -- an init list may have the services that each kind has, and of the kind's own these
 abbrev pub is_init_object_call : {W : Type 0} → (W → Bool) → ObjectCall ℕ W → Bool
 is_init_object_call own (Create named) = true
@@ -94,6 +98,7 @@ is_init_call (Semaphore call) = is_init_object_call is_init_semaphore_service ca
 is_init_call (Buffer call) = is_init_object_call is_init_buffer_service call
 is_init_call (Blackboard call) = is_init_object_call is_init_blackboard_service call
 is_init_call (Event call) = is_init_object_call is_init_event_service call
+is_init_call (Mutex call) = is_init_object_call is_init_mutex_service call
 
 -- a step that an init list may have
 abbrev pub init_call : Place → Step → Result Step TableFault

@@ -8,6 +8,7 @@ pub mod Semaphores
 pub mod Buffers
 pub mod Blackboards
 pub mod Events
+pub mod Mutexes
 pub mod Objects
 pub mod Names
 pub mod Words
@@ -20,6 +21,7 @@ pub mod SemaphoreSteps
 pub mod BufferSteps
 pub mod BlackboardSteps
 pub mod EventSteps
+pub mod MutexSteps
 pub mod Steps
 pub mod Scripts
 pub mod DefaultInit

@@ -5,6 +5,7 @@ use Rattle.apex_table.specs.Semaphores.{semaphore_names}
 use Rattle.apex_table.specs.Buffers.{buffer_names}
 use Rattle.apex_table.specs.Blackboards.{blackboard_names}
 use Rattle.apex_table.specs.Events.{event_names}
+use Rattle.apex_table.specs.Mutexes.{mutex_names}
 use Rattle.apex_table.specs.Objects.{Objects}
 
 -- the names of the things of each kind, in the order of the table
@@ -14,6 +15,7 @@ pub record Names : Type 0 where
   pub buffers : List (List ℕ)
   pub blackboards : List (List ℕ)
   pub events : List (List ℕ)
+  pub mutexes : List (List ℕ)
 
 -- the names of these things
 abbrev pub names_of : List ProcessDraft → Objects → Names
@@ -23,4 +25,5 @@ names_of processes objects = record {
   buffers = buffer_names objects.buffers;
   blackboards = blackboard_names objects.blackboards;
   events = event_names objects.events;
+  mutexes = mutex_names objects.mutexes;
 }

@@ -1,7 +1,7 @@
 -- The objects of a table, kind by kind.
 use Rattle.std.specs.Prelude.{List, Result, Ok}
 use Rattle.toml.specs.Data.{Members}
-use Rattle.apex_types.specs.Table.{SemaphoreConfig, BufferConfig, BlackboardConfig, EventConfig}
+use Rattle.apex_types.specs.Table.{SemaphoreConfig, BufferConfig, BlackboardConfig, EventConfig, MutexConfig}
 use Rattle.apex_table.specs.Terms.{TableFault}
 use Rattle.apex_table.specs.Outcome.{◌>>=◌}
 use Rattle.apex_table.specs.Sections.{section}
@@ -9,6 +9,7 @@ use Rattle.apex_table.specs.Semaphores.{semaphores}
 use Rattle.apex_table.specs.Buffers.{buffers}
 use Rattle.apex_table.specs.Blackboards.{blackboards}
 use Rattle.apex_table.specs.Events.{events}
+use Rattle.apex_table.specs.Mutexes.{mutexes}
 
 -- the objects of each kind, in the order of the table
 pub record Objects : Type 0 where
@@ -16,6 +17,7 @@ pub record Objects : Type 0 where
   pub buffers : List BufferConfig
   pub blackboards : List BlackboardConfig
   pub events : List EventConfig
+  pub mutexes : List MutexConfig
 
 -- the sections of objects, in the order of the checks
 unfoldable pub objects : Members → Result Objects TableFault
@@ -24,4 +26,5 @@ objects top = do
   buffers ← section buffers top
   blackboards ← section blackboards top
   events ← section events top
-  Ok (record { semaphores = semaphores; buffers = buffers; blackboards = blackboards; events = events })
+  mutexes ← section mutexes top
+  Ok (record { semaphores = semaphores; buffers = buffers; blackboards = blackboards; events = events; mutexes = mutexes })

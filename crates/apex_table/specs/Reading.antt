@@ -22,7 +22,7 @@ abbrev pub top_keys : List (List ℕ)
 top_keys =
     codes "cores" ∷ codes "history" ∷ codes "process"
     ∷ codes "semaphore" ∷ codes "buffer" ∷ codes "blackboard" ∷ codes "event"
-    ∷ codes "init" ∷ []
+    ∷ codes "mutex" ∷ codes "init" ∷ []
 
 -- the table of these parts
 abbrev pub table_with : ℕ → ℕ → List ProcessConfig → Objects → List Step → Table
@@ -34,6 +34,7 @@ table_with cores limit processes objects init = record {
   buffers = objects.buffers;
   blackboards = objects.blackboards;
   events = objects.events;
+  mutexes = objects.mutexes;
   init = init;
 }
 

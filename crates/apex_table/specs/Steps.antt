@@ -4,7 +4,7 @@ use Rattle.std.specs.List.{list_any}
 use Rattle.apex_types.specs.Calls.{origin_of, message_in}
 use Rattle.apex_types.specs.Table.{Step}
 use Rattle.apex_table.specs.Terms.{Call, Message, Origin, Place, TableFault}
-use Rattle.apex_types.specs.declared.calls.Call.TheVariants.{Partition, Process, Caller, Time, Semaphore, Buffer, Blackboard, Event}
+use Rattle.apex_types.specs.declared.calls.Call.TheVariants.{Partition, Process, Caller, Time, Semaphore, Buffer, Blackboard, Event, Mutex}
 use Rattle.apex_table.specs.declared.fault.TableFault.TheVariants.{BadStep}
 use Rattle.apex_table.specs.Outcome.{◌>>=◌, some_or, as_call, first_of}
 use Rattle.apex_table.specs.Keys.{well_formed}
@@ -19,6 +19,7 @@ use Rattle.apex_table.specs.SemaphoreSteps.{semaphore_service}
 use Rattle.apex_table.specs.BufferSteps.{buffer_service}
 use Rattle.apex_table.specs.BlackboardSteps.{blackboard_service}
 use Rattle.apex_table.specs.EventSteps.{event_service}
+use Rattle.apex_table.specs.MutexSteps.{mutex_service}
 
 -- what each kind of service reads of the words of the step of this origin
 abbrev pub readings : Place → Origin → Names → List (List ℕ) → List (Result (Option Call) TableFault)
@@ -31,6 +32,7 @@ readings at origin names ws =
     ∷ as_call Buffer (object_call at origin (codes "BUFFER") names.buffers (buffer_service at origin) ws)
     ∷ as_call Blackboard (object_call at origin (codes "BLACKBOARD") names.blackboards (blackboard_service at origin) ws)
     ∷ as_call Event (object_call at origin (codes "EVENT") names.events (event_service at) ws)
+    ∷ as_call Mutex (object_call at origin (codes "MUTEX") names.mutexes (mutex_service at) ws)
     ∷ []
 
 -- the call of a step's words, none where they are no service's

@@ -7,6 +7,7 @@ pub use Rattle.apex_types.specs.declared.CallerCall.{CallerCall}
 pub use Rattle.apex_types.specs.declared.Discipline.{Discipline}
 pub use Rattle.apex_types.specs.declared.EventService.{EventService}
 pub use Rattle.apex_types.specs.declared.Message.{Message}
+pub use Rattle.apex_types.specs.declared.MutexService.{MutexService}
 pub use Rattle.apex_types.specs.declared.Named.{Named}
 pub use Rattle.apex_types.specs.declared.ObjectCall.{ObjectCall}
 pub use Rattle.apex_types.specs.declared.Origin.{Origin}

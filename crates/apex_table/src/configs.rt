@@ -286,3 +286,51 @@ impl EventConfig {
         &self.name
     }
 }
+
+/// A mutex as the table gives it (ARINC 653 Part 1, mutexes).
+#[derive(Debug, Drop)]
+pub struct MutexConfig {
+    name: Name,
+    ceiling: u8,
+    discipline: Discipline,
+}
+
+impl Model for MutexConfig {
+    ghost use Rattle.apex_types.specs.Table.{MutexConfig};
+
+    ghost Value = { MutexConfig };
+
+    ghost view = { λ m. record { name = m.name; ceiling = m.ceiling; discipline = m.discipline } };
+}
+
+impl MutexConfig {
+    pub(crate) fn new(name: Name, ceiling: u8, discipline: Discipline) -> MutexConfig
+        ensures { result ≡ record { name = name; ceiling = ceiling; discipline = discipline } }
+    {
+        MutexConfig {
+            name,
+            ceiling,
+            discipline,
+        }
+    }
+
+    pub fn name(&self) -> &Name
+        ensures { result.now ≡ self.now.name }
+    {
+        &self.name
+    }
+
+    /// The priority to which the mutex raises its owner.
+    pub fn ceiling(&self) -> u8
+        ensures { result ≡ self.now.ceiling }
+    {
+        self.ceiling
+    }
+
+    /// Who comes first among those that wait.
+    pub fn discipline(&self) -> Discipline
+        ensures { result ≡ self.now.discipline }
+    {
+        self.discipline
+    }
+}

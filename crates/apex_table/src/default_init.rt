@@ -9,8 +9,8 @@ use crate::configs::ProcessConfig;
 use crate::objects::Objects;
 use crate::steps::object::Services;
 use apex_types::{
-    BlackboardKind, BufferKind, Call, EventKind, Id, Named, ObjectCall, PartitionCall, ProcessId,
-    ProcessService, RequestedMode, SemaphoreKind, Step,
+    BlackboardKind, BufferKind, Call, EventKind, Id, MutexKind, Named, ObjectCall, PartitionCall,
+    ProcessId, ProcessService, RequestedMode, SemaphoreKind, Step,
 };
 use std::alloc::{AllocError, Global};
 
@@ -34,6 +34,7 @@ fn create_each<K: Services, E>(init: &mut Vec<Step>, objects: &[E]) -> Result<()
 }
 
 /// The CREATE of each object, kind by kind.
+#[tactic(auto, unfolding(crate::specs::DefaultInit::creates_objects))]
 fn create_objects(alloc: Global, objects: &Objects) -> Result<Vec<Step>, AllocError>
     ensures { IfOk result (λ init. init.items ≡ creates_objects objects.now) }
 {
@@ -42,6 +43,7 @@ fn create_objects(alloc: Global, objects: &Objects) -> Result<Vec<Step>, AllocEr
     create_each::<BufferKind, _>(&mut init, &objects.buffers)?;
     create_each::<BlackboardKind, _>(&mut init, &objects.blackboards)?;
     create_each::<EventKind, _>(&mut init, &objects.events)?;
+    create_each::<MutexKind, _>(&mut init, &objects.mutexes)?;
     Ok(init)
 }
 

@@ -17,6 +17,7 @@ pub enum Section {
     Buffer,
     Blackboard,
     Event,
+    Mutex,
     Init,
 }
 
@@ -33,6 +34,7 @@ impl Section {
             Section::Buffer => "buffer",
             Section::Blackboard => "blackboard",
             Section::Event => "event",
+            Section::Mutex => "mutex",
             Section::Init => "init",
         }
     }

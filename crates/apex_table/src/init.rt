@@ -122,12 +122,14 @@ fn is_init_call(call: &Call) -> bool
         Call::Buffer(ObjectCall::Own(_, _)) => false,
         Call::Blackboard(ObjectCall::Own(_, service)) => is_init_blackboard_service(service),
         Call::Event(ObjectCall::Own(_, service)) => is_init_event_service(service),
+        Call::Mutex(ObjectCall::Own(_, _)) => false,
         Call::Partition(_)
         | Call::Process(_)
         | Call::Semaphore(_)
         | Call::Buffer(_)
         | Call::Blackboard(_)
-        | Call::Event(_) => true,
+        | Call::Event(_)
+        | Call::Mutex(_) => true,
         Call::Caller(_) => false,
         Call::Time(call) => is_init_time_call(call),
     }

@@ -10,6 +10,7 @@ mod fault;
 mod init;
 mod keys;
 mod listed;
+mod mutexes;
 mod named;
 mod names;
 mod objects;
@@ -21,7 +22,9 @@ mod semaphores;
 mod steps;
 mod table;
 
-pub use configs::{BlackboardConfig, BufferConfig, EventConfig, ProcessConfig, SemaphoreConfig};
+pub use configs::{
+    BlackboardConfig, BufferConfig, EventConfig, MutexConfig, ProcessConfig, SemaphoreConfig,
+};
 pub use fault::{Place, Section, TableFault};
 pub use reading::read_table;
 pub use table::Table;

@@ -17,6 +17,7 @@ pub struct Names {
     buffers: Vec<Name>,
     blackboards: Vec<Name>,
     events: Vec<Name>,
+    mutexes: Vec<Name>,
 }
 
 impl Model for Names {
@@ -26,13 +27,14 @@ impl Model for Names {
 
     ghost Value = { Names };
 
-    ghost view = { λ n. record { processes = n.processes.items; semaphores = n.semaphores.items; buffers = n.buffers.items; blackboards = n.blackboards.items; events = n.events.items } };
+    ghost view = { λ n. record { processes = n.processes.items; semaphores = n.semaphores.items; buffers = n.buffers.items; blackboards = n.blackboards.items; events = n.events.items; mutexes = n.mutexes.items } };
 
     ghost invariant = { λ n. (length n.processes.items ≤ most_processes)
         × (length n.semaphores.items ≤ most_objects)
         × (length n.buffers.items ≤ most_objects)
         × (length n.blackboards.items ≤ most_objects)
-        × (length n.events.items ≤ most_objects) };
+        × (length n.events.items ≤ most_objects)
+        × (length n.mutexes.items ≤ most_objects) };
 }
 
 /// The names of the entries of one kind.
@@ -58,6 +60,7 @@ impl Names {
             buffers: listed(alloc, &objects.buffers)?,
             blackboards: listed(alloc, &objects.blackboards)?,
             events: listed(alloc, &objects.events)?,
+            mutexes: listed(alloc, &objects.mutexes)?,
         })
     }
 
@@ -94,5 +97,12 @@ impl Names {
         ensures few { length result.now ≤ most_processes }
     {
         &self.events
+    }
+
+    pub fn mutexes(&self) -> &[Name]
+        ensures value { result.now ≡ self.now.mutexes }
+        ensures few { length result.now ≤ most_processes }
+    {
+        &self.mutexes
     }
 }

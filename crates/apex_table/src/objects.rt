@@ -4,9 +4,10 @@ ghost use Rattle.apex_table.specs.Objects.{objects};
 
 use crate::blackboards::Blackboards;
 use crate::buffers::Buffers;
-use crate::configs::{BlackboardConfig, BufferConfig, EventConfig, SemaphoreConfig};
+use crate::configs::{BlackboardConfig, BufferConfig, EventConfig, MutexConfig, SemaphoreConfig};
 use crate::events::Events;
 use crate::fault::TableFault;
+use crate::mutexes::Mutexes;
 use crate::sections::read_section;
 use crate::semaphores::Semaphores;
 use std::alloc::Global;
@@ -19,6 +20,7 @@ pub struct Objects {
     pub buffers: Vec<BufferConfig>,
     pub blackboards: Vec<BlackboardConfig>,
     pub events: Vec<EventConfig>,
+    pub mutexes: Vec<MutexConfig>,
 }
 
 impl Model for Objects {
@@ -28,12 +30,13 @@ impl Model for Objects {
 
     ghost Value = { Objects };
 
-    ghost view = { λ o. record { semaphores = o.semaphores.items; buffers = o.buffers.items; blackboards = o.blackboards.items; events = o.events.items } };
+    ghost view = { λ o. record { semaphores = o.semaphores.items; buffers = o.buffers.items; blackboards = o.blackboards.items; events = o.events.items; mutexes = o.mutexes.items } };
 
     ghost invariant = { λ o. (length o.semaphores.items ≤ most_objects)
         × (length o.buffers.items ≤ most_objects)
         × (length o.blackboards.items ≤ most_objects)
-        × (length o.events.items ≤ most_objects) };
+        × (length o.events.items ≤ most_objects)
+        × (length o.mutexes.items ≤ most_objects) };
 }
 
 impl Objects {
@@ -47,6 +50,7 @@ impl Objects {
             buffers: read_section(alloc, &Buffers, top)?,
             blackboards: read_section(alloc, &Blackboards, top)?,
             events: read_section(alloc, &Events, top)?,
+            mutexes: read_section(alloc, &Mutexes, top)?,
         })
     }
 }

@@ -21,6 +21,7 @@ const TOP_KEYS: &[&str] = &[
     "buffer",
     "blackboard",
     "event",
+    "mutex",
     "init",
 ];
 

@@ -7,6 +7,7 @@ mod blackboard;
 mod buffer;
 mod caller;
 mod event;
+mod mutex;
 pub mod object;
 mod partition;
 mod process;
@@ -18,7 +19,8 @@ use crate::fault::{Place, TableFault};
 use crate::keys::well_formed;
 use crate::names::Names;
 use apex_types::{
-    BlackboardKind, BufferKind, Call, EventKind, Literal, Origin, ProcessKind, SemaphoreKind, Step,
+    BlackboardKind, BufferKind, Call, EventKind, Literal, MutexKind, Origin, ProcessKind,
+    SemaphoreKind, Step,
 };
 use caller::caller_call;
 use object::object_call;
@@ -57,7 +59,10 @@ fn call_of(
     if let Some(call) = object_call::<BlackboardKind>(at, origin, names.blackboards(), words)? {
         return Ok(Some(call));
     }
-    object_call::<EventKind>(at, origin, names.events(), words)
+    if let Some(call) = object_call::<EventKind>(at, origin, names.events(), words)? {
+        return Ok(Some(call));
+    }
+    object_call::<MutexKind>(at, origin, names.mutexes(), words)
 }
 
 fn spaced_call_of(

@@ -1,12 +1,16 @@
 ghost use Rattle.std.specs.Prelude.{◌≡◌, ◌<◌, ◌≤◌, length, slice_get};
 ghost use Rattle.apex_types.specs.Limits.{most_cores, most_entries, most_literal, most_objects, most_processes};
-ghost use Rattle.apex_types.specs.Table.{IsLawful, process_config, semaphore_config, buffer_config, blackboard_config, event_config, call_in, literal_text};
+ghost use Rattle.apex_types.specs.Table.{IsLawful, process_config, semaphore_config, buffer_config, blackboard_config, event_config, mutex_config, call_in, literal_text};
 ghost use Rattle.apex_table.specs.Reading.{table_with};
 
-use crate::configs::{BlackboardConfig, BufferConfig, EventConfig, ProcessConfig, SemaphoreConfig};
+use crate::configs::{
+    BlackboardConfig, BufferConfig, EventConfig, MutexConfig, ProcessConfig, SemaphoreConfig,
+};
 use crate::listed::{call_in, literal_in};
 use crate::objects::Objects;
-use apex_types::{BlackboardId, BufferId, Call, EventId, Origin, ProcessId, SemaphoreId, Step};
+use apex_types::{
+    BlackboardId, BufferId, Call, EventId, MutexId, Origin, ProcessId, SemaphoreId, Step,
+};
 use std::marker::Model;
 
 /// A partition's table. By its type every range and every reference in it holds.
@@ -144,6 +148,22 @@ impl Table {
         ensures entry { result.now ≡ event_config self.now id }
     {
         &self.objects.events[id.place()]
+    }
+
+    pub fn mutex_count(&self) -> usize
+        ensures value { result ≡ length self.now.mutexes }
+        ensures range { result ≤ most_objects }
+    {
+        self.objects.mutexes.len()
+    }
+
+    /// The mutex of this id.
+    pub fn mutex(&self, id: MutexId) -> &MutexConfig
+        requires { id < length self.now.mutexes }
+        ensures place { slice_get self.now.mutexes id ≡ Some result.now }
+        ensures entry { result.now ≡ mutex_config self.now id }
+    {
+        &self.objects.mutexes[id.place()]
     }
 
     /// The call of the step at this place of the init list, counted from 0, or none past its end.

@@ -423,7 +423,7 @@ fn a_refused_growth_is_memory(rt: HostRuntime) -> Result<(), Fail> {
         "cores = 1\nprocess = [{name = \"P\", priority = 1, script = [\"?\"]}]",
         "cores = 1\nprocess = [{name = \"P\", priority = 1, script = [\"DELAYED_START P 1\", \"TIMED_WAIT 4294967296\"]}]",
         "cores = 1\ninit = [\"START P\", \"GET_PROCESS_ID ->\", \"STOP_SELF\"]\nprocess = [{name = \"P\", priority = 1, script = []}]",
-        "cores = 1\nbuffer = [{name = \"B\", length = 1, capacity = 1, discipline = \"FIFO\"}]\nblackboard = [{name = \"D\", length = 1}]\nevent = [{name = \"E\"}]\nprocess = [{name = \"P\", priority = 1, script = [\"SEND_BUFFER B 00 0\"]}]",
+        "cores = 1\nbuffer = [{name = \"B\", length = 1, capacity = 1, discipline = \"FIFO\"}]\nblackboard = [{name = \"D\", length = 1}]\nevent = [{name = \"E\"}]\nmutex = [{name = \"M\", ceiling = 1, discipline = \"FIFO\"}]\nprocess = [{name = \"P\", priority = 1, script = [\"SEND_BUFFER B 00 0\"]}]",
     ] {
         let one = read_table(rt.alloc(), text.as_bytes());
         let other = read_table(rt.alloc(), text.as_bytes());

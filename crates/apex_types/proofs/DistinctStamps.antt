@@ -1,5 +1,5 @@
 -- Each change of a roster leaves it with distinct stamps, all given before the next one.
-use Rattle.std.proofs.Common.{◌≡◌, ◌≢◌, ℕ, ◌+◌, ◌<◌, ◌<ℤ◌, pos, Option, None, Some, length, refl, sym, ◌∙◌, ap, inl, inr, arith}
+use Rattle.std.proofs.Common.{◌≡◌, ◌≢◌, ℕ, ◌+◌, ◌<◌, ◌<ℤ◌, ◌≤ℤ◌, ℤ, pos, Option, None, Some, length, refl, sym, ◌∙◌, ap, inl, inr, arith}
 use Rattle.std.proofs.lemmas.Bool.{cases_eq, cond_both}
 use Rattle.std.proofs.lemmas.Int.{ints}
 use Rattle.std.proofs.lemmas.List.{length-set}
@@ -7,12 +7,72 @@ use Rattle.apex_types.specs.Terms.{Mode, Record}
 use Rattle.apex_types.specs.Roster.{Roster, record_at, with_record, nobody, opening_record, opening_roster}
 use Rattle.apex_types.specs.Table.{Table, no_process}
 use Rattle.apex_types.specs.Running.{is_eligible}
-use Rattle.apex_types.specs.Stamps.{newest, readied, awake, unsuspended, is_by_itself, resume, advance_to, without_due_of, take_due, set_mode}
+use Rattle.apex_types.specs.Stamps.{newest, oldest, readied, awake, unsuspended, is_by_itself, resume, advance_to, without_due_of, take_due, set_mode}
 use Rattle.apex_types.specs.Distinct.{IsStamped}
 use Rattle.apex_types.specs.Dues.{first_due}
 use Rattle.apex_types.proofs.Dues.{first_due_within}
 use Rattle.apex_types.proofs.Places.{length-map_places, get_or-map_places}
-use Rattle.apex_types.proofs.Rosters.{changes_record, changes_newest, at_record, at_newest}
+use Rattle.apex_types.proofs.Rosters.{changes_record, changes_newest, changes_oldest, at_record, at_newest}
+
+-- a change that gives process p this stamp, which stands between the new counters, and is nobody's
+record GivesStamp (roster new : Roster) (p : ℕ) (stamp : ℤ) : Type 0 where
+  many : length new.records ≡ length roster.records
+  others : (q : ℕ) → q ≢ p → record_at new q ≡ record_at roster q
+  here : (record_at new p).since ≡ stamp
+  below : stamp <ℤ new.young
+  above : new.old <ℤ stamp
+  young : roster.young ≤ℤ new.young
+  old : new.old ≤ℤ roster.old
+  unlike : (q : ℕ) → q < length roster.records → (record_at roster q).since ≡ stamp → ⊥
+
+module _ (roster new : Roster) (p : ℕ) {stamp : ℤ} (stamped : IsStamped roster) (gives : GivesStamp roster new p stamp) where
+  within_before : (q : ℕ) → q < length new.records → q < length roster.records
+  within_before q within = rw gives.many at within
+
+  others_since : (q : ℕ) → q ≢ p → (record_at new q).since ≡ (record_at roster q).since
+  others_since q apart = ap (λ (r : Record). r.since) (gives.others q apart)
+
+  given_then : (q : ℕ) → q < length new.records → (record_at new q).since <ℤ new.young
+  given_then q within =
+      elim (cases_eq q p) [
+        | inl e ↦ rw (e, gives.here) gives.below
+        | inr apart ↦
+            let same = others_since q apart in
+            let before = stamped.given q (within_before q within) in omega (arith, ints, same, before, gives.young)
+      ]
+
+  newer_then : (q : ℕ) → q < length new.records → new.old <ℤ (record_at new q).since
+  newer_then q within =
+      elim (cases_eq q p) [
+        | inl e ↦ rw (e, gives.here) gives.above
+        | inr apart ↦
+            let same = others_since q apart in
+            let before = stamped.newer q (within_before q within) in omega (arith, ints, same, before, gives.old)
+      ]
+
+  -- who has the stamp is the process
+  has_it : (q : ℕ) → q < length new.records → (record_at new q).since ≡ stamp → q ≡ p
+  has_it q within e =
+      elim (cases_eq q p) [
+        | inl same ↦ same
+        | inr apart ↦ absurd (gives.unlike q (within_before q within) (sym (others_since q apart) ∙ e))
+      ]
+
+  distinct_then : (q s : ℕ) → q < length new.records → s < length new.records → (record_at new q).since ≡ (record_at new s).since → q ≡ s
+  distinct_then q s within there e =
+      elim (cases_eq q p) [
+        | inl same ↦ same ∙ sym (has_it s there (sym e ∙ ap (λ (k : ℕ). (record_at new k).since) same ∙ gives.here))
+        | inr apart ↦
+            elim (cases_eq s p) [
+              | inl here ↦ absurd (apart (has_it q within (e ∙ ap (λ (k : ℕ). (record_at new k).since) here ∙ gives.here)))
+              | inr other ↦
+                  stamped.distinct.distinct q s (within_before q within) (within_before s there)
+                  (sym (others_since q apart) ∙ e ∙ others_since s other)
+            ]
+      ]
+
+  stamped_given : IsStamped new
+  stamped_given = record { given = given_then; newer = newer_then; distinct = record { distinct = distinct_then } }
 
 module _ (roster : Roster) (p : ℕ) (known : p < length roster.records) (stamped : IsStamped roster) where
   -- a change that gives no stamp
@@ -35,63 +95,30 @@ module _ (roster : Roster) (p : ℕ) (known : p < length roster.records) (stampe
   }
 
   -- a change that gives the next stamp
-  since_newest : (r : Record) → (record_at (newest roster p r) p).since ≡ roster.young
-  since_newest r = rw (at_newest roster p known r)
-
-  since_others : (r : Record) (q : ℕ) → q ≢ p → (record_at (newest roster p r) q).since ≡ (record_at roster q).since
-  since_others r q apart = rw ((changes_newest roster p r).others q apart)
-
-  within_newest : (r : Record) (q : ℕ) → q < length (newest roster p r).records → q < length roster.records
-  within_newest r q within = rw (length-set roster.records p (record r { since = roster.young })) at within
-
-  given_newest : (r : Record) (q : ℕ) → q < length (newest roster p r).records → (record_at (newest roster p r) q).since <ℤ (newest roster p r).young
-  given_newest r q within =
-      elim (cases_eq q p) [
-        | inl e ↦ rw (e, since_newest r) (omega (arith, ints))
-        | inr apart ↦
-            let others = since_others r q apart in
-            let before = stamped.given q (within_newest r q within) in omega (arith, ints)
-      ]
-
-  newer_newest : (r : Record) (q : ℕ) → q < length (newest roster p r).records → roster.old <ℤ (record_at (newest roster p r) q).since
-  newer_newest r q within =
-      elim (cases_eq q p) [
-        | inl e ↦
-            let before = stamped.given p known in
-            let after = stamped.newer p known in rw (e, since_newest r) (omega (arith, ints))
-        | inr apart ↦ rw (since_others r q apart) (stamped.newer q (within_newest r q within))
-      ]
-
-  other_than_newest : (r : Record) (s : ℕ) → s < length (newest roster p r).records → roster.young ≡ (record_at (newest roster p r) s).since → s ≡ p
-  other_than_newest r s within e =
-      elim (cases_eq s p) [
-        | inl same ↦ same
-        | inr apart ↦
-            let others = since_others r s apart in
-            let before = stamped.given s (within_newest r s within) in absurd (omega (arith, ints))
-      ]
-
-  distinct_newest : (r : Record) (q s : ℕ) → q < length (newest roster p r).records → s < length (newest roster p r).records → (record_at (newest roster p r) q).since ≡ (record_at (newest roster p r) s).since → q ≡ s
-  distinct_newest r q s within there e =
-      elim (cases_eq q p) [
-        | inl same ↦
-            same ∙ sym (other_than_newest r s there (sym (since_newest r) ∙ ap (λ (k : ℕ). (record_at (newest roster p r) k).since) (sym same) ∙ e))
-        | inr apart ↦
-            elim (cases_eq s p) [
-              | inl same ↦
-                  absurd (apart (other_than_newest r q within (sym (since_newest r) ∙ ap (λ (k : ℕ). (record_at (newest roster p r) k).since) (sym same) ∙ sym e)))
-              | inr other ↦
-                  stamped.distinct.distinct q s (within_newest r q within) (within_newest r s there)
-                  (sym (since_others r q apart) ∙ e ∙ since_others r s other)
-            ]
-      ]
-
   pub stamped_newest : (r : Record) → IsStamped (newest roster p r)
-  stamped_newest r = record {
-    given = given_newest r;
-    newer = newer_newest r;
-    distinct = record { distinct = distinct_newest r };
-  }
+  stamped_newest r = stamped_given roster (newest roster p r) p stamped (record {
+    many = (changes_newest roster p r).count;
+    others = (changes_newest roster p r).others;
+    here = ap (λ (x : Record). x.since) (at_newest roster p known r);
+    below = omega (arith, ints);
+    above = let before = stamped.given p known in let after = stamped.newer p known in omega (arith, ints);
+    young = omega (arith, ints);
+    old = omega (arith, ints);
+    unlike = λ q within e. let before = stamped.given q within in absurd (omega (arith, ints, rw e at before));
+  })
+
+  -- a change that gives the next stamp downwards
+  pub stamped_oldest : (r : Record) → IsStamped (oldest roster p r)
+  stamped_oldest r = stamped_given roster (oldest roster p r) p stamped (record {
+    many = (changes_oldest roster p r).count;
+    others = (changes_oldest roster p r).others;
+    here = ap (λ (x : Record). x.since) (at_record roster p known (record r { since = roster.old }));
+    below = let before = stamped.given p known in let after = stamped.newer p known in omega (arith, ints);
+    above = omega (arith, ints);
+    young = omega (arith, ints);
+    old = omega (arith, ints);
+    unlike = λ q within e. let after = stamped.newer q within in absurd (omega (arith, ints, rw e at after));
+  })
 
   pub stamped_readied : (r : Record) → r.since ≡ (record_at roster p).since → IsStamped (readied roster p r)
   stamped_readied r same =

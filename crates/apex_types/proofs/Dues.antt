@@ -131,7 +131,7 @@ due_within (r ∷ rs) zero u e = omega arith
 due_within (r ∷ rs) (suc p) u e = omega (arith, due_within rs p u e)
 
 -- where no first place passes, no record does
-position_none : (passes : Record → Bool) (rs : List Record) → position passes rs ≡ None
+pub position_none : (passes : Record → Bool) (rs : List Record) → position passes rs ≡ None
     → (q : ℕ) → q < length rs → passes (get_or rs q nobody) ≡ false
 position_none passes rs e q within =
     elim (cases_lt (position_or_len passes rs) (length rs)) [

@@ -5,9 +5,11 @@ pub mod Choice
 pub mod Orders
 pub mod DistinctStamps
 pub mod Starts
+pub mod Owners
 pub mod Reaches
 pub mod Rows
 pub mod Dues
 pub mod Digits
 pub mod Loops
 pub mod Waking
+pub mod Handovers

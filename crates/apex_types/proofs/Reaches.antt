@@ -1,30 +1,33 @@
 -- From one roster to another by changes of single processes at one instant: what such changes keep.
-use Rattle.std.proofs.Common.{◌≡◌, ℕ, zero, suc, ◌+◌, ◌<◌, ◌≤◌, ◌≤ℤ◌, pos, ◌+ℤ◌, ◌==◌, ◌||◌, true, false, List, [], ◌∷◌, map, get_or, length, Option, None, Some, refl, sym, ◌∙◌, ap, subst, inl, inr, arith}
+use Rattle.std.proofs.Common.{◌≡◌, ℕ, zero, suc, ◌+◌, ◌<◌, ◌≤◌, ◌≤ℤ◌, ℤ, pos, ◌+ℤ◌, ◌==◌, ◌||◌, true, false, ◌&&◌, not, is_some, List, [], ◌∷◌, map, get_or, length, Option, None, Some, refl, sym, ◌∙◌, ap, subst, inl, inr, arith}
 use Rattle.std.proofs.lemmas.Bool.{both_ways, cases_eq, cond_both}
 use Rattle.std.proofs.lemmas.Int.{ints}
 use Rattle.std.proofs.lemmas.List.{length-map, set-set}
 use Rattle.std.proofs.lemmas.Option.{none-some}
 use Rattle.apex_types.specs.Terms.{Message, Mode, Record, Suspender, Wait}
 use Rattle.apex_types.specs.declared.records.Suspender.TheVariants.{Itself, Other}
-use Rattle.apex_types.specs.declared.records.Wait.TheVariants.{Normal, Start}
+use Rattle.apex_types.specs.declared.records.Wait.TheVariants.{Normal, Start, Mutex}
 use Rattle.apex_types.specs.Roster.{Roster, nobody, record_at, with_record, is_normal}
+use Rattle.apex_types.specs.Owners.{HasOrderlyOwners, is_held}
 use Rattle.apex_types.specs.Running.{is_eligible}
 use Rattle.apex_types.specs.Dues.{IsFrom, HasNoPastDue}
 use Rattle.apex_types.specs.Distinct.{IsStamped}
 use Rattle.apex_types.specs.Waiters.{goes_by_priority, queue_in}
-use Rattle.apex_types.specs.Stamps.{WaitsForOne, HasOrderlyStarts, suspension_awake, newest, readied, reset, begin, start, stop, stopped, is_by_itself, suspend, self_suspended, suspend_self, unsuspended, resume, set_priority, awake, waiting, block, unblock, release, place_newest, without_due, set_mode, set_core, set_step, receive}
+use Rattle.apex_types.specs.Stamps.{WaitsForOne, HasOrderlyStarts, suspension_awake, newest, oldest, readied, is_level, levelled, reset, begin, start, stop, stopped, is_by_itself, suspend, self_suspended, suspend_self, unsuspended, resume, set_priority, awake, waiting, block, unblock, release, place_newest, without_due, set_mode, set_core, set_step, receive}
 use Rattle.apex_types.specs.PartitionServices.{enter_idle}
 use Rattle.apex_types.specs.InTurn.{Changed, next_and, in_turn}
-use Rattle.apex_types.proofs.Rosters.{changes_record, changes_newest, at_record}
-use Rattle.apex_types.proofs.DistinctStamps.{stamped_record, stamped_newest, stamped_set_mode}
+use Rattle.apex_types.proofs.Rosters.{changes_record, changes_newest, changes_oldest, at_record, at_newest}
+use Rattle.apex_types.proofs.DistinctStamps.{stamped_record, stamped_newest, stamped_oldest, stamped_set_mode}
 use Rattle.apex_types.proofs.Dues.{from_now}
+use Rattle.apex_types.proofs.Owners.{IsSameOwner, HasAnother, owners_kept, same_owner}
 use Rattle.apex_types.proofs.Starts.{IsOrderlyIn, orderly_at, orderly_all}
 
--- as many records, the same time, at most so many stamps given; and stamps that differ, dues that are
+-- as many records, the same time, the same ceilings, at most so many stamps given; and stamps that differ, dues that are
 -- not past, processes that wait for one thing at the most, and the order of starts stay so
-pub record Reaches (most : ℕ) (old new : Roster) : Type 0 where
+pub record Moves (most : ℕ) (old new : Roster) : Type 0 where
   pub many : length new.records ≡ length old.records
   pub time : new.now ≡ old.now
+  pub ceilings : new.ceilings ≡ old.ceilings
   pub stamps : new.young ≤ℤ (old.young +ℤ pos most)
   pub older : old.old ≤ℤ (new.old +ℤ pos most)
   pub stamped : IsStamped old → IsStamped new
@@ -32,22 +35,52 @@ pub record Reaches (most : ℕ) (old new : Roster) : Type 0 where
   pub one : WaitsForOne old → WaitsForOne new
   pub starts : HasOrderlyStarts old → HasOrderlyStarts new
 
-pub reaches_none : (most : ℕ) (roster : Roster) → Reaches most roster roster
-reaches_none most roster = record {
-  many = refl;
-  time = refl;
-  stamps = omega (arith, ints);
-  older = omega (arith, ints);
-  stamped = λ h. h;
-  dues = λ h. h;
-  one = λ h. h;
-  starts = λ h. h;
+-- and mutexes that are owned in order are so afterwards
+pub record Reaches (most : ℕ) (old new : Roster) : Type 0 where
+  pub many : length new.records ≡ length old.records
+  pub time : new.now ≡ old.now
+  pub ceilings : new.ceilings ≡ old.ceilings
+  pub stamps : new.young ≤ℤ (old.young +ℤ pos most)
+  pub older : old.old ≤ℤ (new.old +ℤ pos most)
+  pub stamped : IsStamped old → IsStamped new
+  pub dues : HasNoPastDue old → HasNoPastDue new
+  pub one : WaitsForOne old → WaitsForOne new
+  pub starts : HasOrderlyStarts old → HasOrderlyStarts new
+  pub owners : HasOrderlyOwners old → HasOrderlyOwners new
+
+pub reaches_of : {most : ℕ} {old new : Roster} → Moves most old new
+    → (HasOrderlyOwners old → HasOrderlyOwners new) → Reaches most old new
+reaches_of moves owners = record {
+  many = moves.many;
+  time = moves.time;
+  ceilings = moves.ceilings;
+  stamps = moves.stamps;
+  older = moves.older;
+  stamped = moves.stamped;
+  dues = moves.dues;
+  one = moves.one;
+  starts = moves.starts;
+  owners = owners;
 }
 
-pub reaches_then : {first second third : Roster} (n m : ℕ) → Reaches n first second → Reaches m second third → Reaches (n + m) first third
-reaches_then n m g h = record {
+pub moves_of : {most : ℕ} {old new : Roster} → Reaches most old new → Moves most old new
+moves_of reaches = record {
+  many = reaches.many;
+  time = reaches.time;
+  ceilings = reaches.ceilings;
+  stamps = reaches.stamps;
+  older = reaches.older;
+  stamped = reaches.stamped;
+  dues = reaches.dues;
+  one = reaches.one;
+  starts = reaches.starts;
+}
+
+pub moves_then : {first second third : Roster} (n m : ℕ) → Moves n first second → Moves m second third → Moves (n + m) first third
+moves_then n m g h = record {
   many = h.many ∙ g.many;
   time = h.time ∙ g.time;
+  ceilings = h.ceilings ∙ g.ceilings;
   stamps = omega (arith, ints, g.stamps, h.stamps);
   older = omega (arith, ints, g.older, h.older);
   stamped = λ s. h.stamped (g.stamped s);
@@ -56,10 +89,11 @@ reaches_then n m g h = record {
   starts = λ o. h.starts (g.starts o);
 }
 
-pub reaches_more : {old new : Roster} (n m : ℕ) → n ≤ m → Reaches n old new → Reaches m old new
-reaches_more n m few g = record {
+pub moves_more : {old new : Roster} (n m : ℕ) → n ≤ m → Moves n old new → Moves m old new
+moves_more n m few g = record {
   many = g.many;
   time = g.time;
+  ceilings = g.ceilings;
   stamps = omega (arith, ints, g.stamps, few);
   older = omega (arith, ints, g.older, few);
   stamped = g.stamped;
@@ -67,6 +101,27 @@ reaches_more n m few g = record {
   one = g.one;
   starts = g.starts;
 }
+
+pub reaches_none : (most : ℕ) (roster : Roster) → Reaches most roster roster
+reaches_none most roster = record {
+  many = refl;
+  time = refl;
+  ceilings = refl;
+  stamps = omega (arith, ints);
+  older = omega (arith, ints);
+  stamped = λ h. h;
+  dues = λ h. h;
+  one = λ h. h;
+  starts = λ h. h;
+  owners = λ h. h;
+}
+
+pub reaches_then : {first second third : Roster} (n m : ℕ) → Reaches n first second → Reaches m second third → Reaches (n + m) first third
+reaches_then n m g h =
+    reaches_of (moves_then n m (moves_of g) (moves_of h)) (λ o. h.owners (g.owners o))
+
+pub reaches_more : {old new : Roster} (n m : ℕ) → n ≤ m → Reaches n old new → Reaches m old new
+reaches_more n m few g = reaches_of (moves_more n m few (moves_of g)) g.owners
 
 -- a record of which all holds that holds of every record of the roster
 pub record Fits (roster : Roster) (r : Record) : Type 0 where
@@ -94,12 +149,13 @@ module _ (roster : Roster) (p : ℕ) (known : p < length roster.records) where
   starts_stay r fits before =
       orderly_all (with_record roster p r) (all_stay (IsOrderlyIn roster.mode) r (orderly_at roster before) (fits.starts before))
 
-  pub reaches_record : (r : Record) → r.since ≡ (record_at roster p).since → Fits roster r → Reaches 0 roster (with_record roster p r)
-  reaches_record r same fits =
+  pub moves_record : (r : Record) → r.since ≡ (record_at roster p).since → Fits roster r → Moves 0 roster (with_record roster p r)
+  moves_record r same fits =
       let changes = changes_record roster p r in
       record {
         many = changes.count;
         time = refl;
+        ceilings = refl;
         stamps = omega (arith, ints);
         older = omega (arith, ints);
         stamped = λ stamped. stamped_record roster p known stamped r same;
@@ -108,18 +164,23 @@ module _ (roster : Roster) (p : ℕ) (known : p < length roster.records) where
         starts = starts_stay r fits;
       }
 
-  pub reaches_newest : (r : Record) → Fits roster r → Reaches 1 roster (newest roster p r)
-  reaches_newest r fits =
+  -- of the record's stamp no law but that of stamps speaks
+  fits_stamped : (r : Record) (since : ℤ) → Fits roster r → Fits roster (record r { since = since })
+  fits_stamped r since fits = record {
+    due = fits.due;
+    one = fits.one;
+    starts = λ before. let is = fits.starts before in record { dormant = is.dormant; early = is.early; undue = is.undue };
+  }
+
+  pub moves_newest : (r : Record) → Fits roster r → Moves 1 roster (newest roster p r)
+  moves_newest r fits =
       let changes = changes_newest roster p r in
       let young : Record = record r { since = roster.young } in
-      let fits_so : Fits roster young = record {
-        due = fits.due;
-        one = fits.one;
-        starts = λ before. let is = fits.starts before in record { dormant = is.dormant; early = is.early; undue = is.undue };
-      } in
+      let fits_so = fits_stamped r roster.young fits in
       record {
         many = changes.count;
         time = refl;
+        ceilings = refl;
         stamps = changes.one_more;
         older = omega (arith, ints);
         stamped = λ stamped. stamped_newest roster p known stamped r;
@@ -128,10 +189,61 @@ module _ (roster : Roster) (p : ℕ) (known : p < length roster.records) where
         starts = λ before. let after = starts_stay young fits_so before in record { dormant = after.dormant; early = after.early; undue = after.undue };
       }
 
-  pub reaches_readied : (r : Record) → r.since ≡ (record_at roster p).since → Fits roster r → Reaches 1 roster (readied roster p r)
-  reaches_readied r same fits =
+  pub moves_oldest : (r : Record) → Fits roster r → Moves 1 roster (oldest roster p r)
+  moves_oldest r fits =
+      let changes = changes_oldest roster p r in
+      let aged : Record = record r { since = roster.old } in
+      let fits_so = fits_stamped r roster.old fits in
+      record {
+        many = changes.count;
+        time = refl;
+        ceilings = refl;
+        stamps = changes.one_more;
+        older = omega (arith, ints);
+        stamped = λ stamped. stamped_oldest roster p known stamped r;
+        dues = dues_stay aged fits_so;
+        one = one_stays aged fits_so;
+        starts = λ before. let after = starts_stay aged fits_so before in record { dormant = after.dormant; early = after.early; undue = after.undue };
+      }
+
+  pub moves_readied : (r : Record) → r.since ≡ (record_at roster p).since → Fits roster r → Moves 1 roster (readied roster p r)
+  moves_readied r same fits =
+      cond_both {A = Roster} (is_eligible roster.mode r) _ _ (Moves 1 roster)
+      (λ _. moves_newest r fits) (λ _. moves_more 0 1 (omega arith) (moves_record r same fits))
+
+  pub moves_levelled : (r : Record) → r.since ≡ (record_at roster p).since → Fits roster r → Moves 1 roster (levelled roster p r)
+  moves_levelled r same fits =
+      cond_both {A = Roster} (is_level r (record_at roster p)) _ _ (Moves 1 roster)
+      (λ _. moves_more 0 1 (omega arith) (moves_record r same fits)) (λ _. moves_oldest r fits)
+
+  -- the process has another record, and the others keep theirs
+  pub another_record : (r : Record) → HasAnother roster (with_record roster p r) p r
+  another_record r = record { ceilings = refl; here = at_record roster p known r; others = (changes_record roster p r).others }
+
+  pub another_newest : (r : Record) → HasAnother roster (newest roster p r) p (record r { since = roster.young })
+  another_newest r = record { ceilings = refl; here = at_newest roster p known r; others = (changes_newest roster p r).others }
+
+  pub another_oldest : (r : Record) → HasAnother roster (oldest roster p r) p (record r { since = roster.old })
+  another_oldest r = record { ceilings = refl; here = at_record roster p known (record r { since = roster.old }); others = (changes_oldest roster p r).others }
+
+  pub reaches_record : (r : Record) → r.since ≡ (record_at roster p).since → Fits roster r → IsSameOwner roster p r
+      → Reaches 0 roster (with_record roster p r)
+  reaches_record r same fits owner =
+      reaches_of (moves_record r same fits)
+      (owners_kept roster (with_record roster p r) (same_owner roster (with_record roster p r) p r (another_record r) owner))
+
+  pub reaches_newest : (r : Record) → Fits roster r → IsSameOwner roster p r → Reaches 1 roster (newest roster p r)
+  reaches_newest r fits owner =
+      let young : Record = record r { since = roster.young } in
+      reaches_of (moves_newest r fits)
+      (owners_kept roster (newest roster p r)
+      (same_owner roster (newest roster p r) p young (another_newest r) (record { owned = owner.owned; mutex = owner.mutex })))
+
+  pub reaches_readied : (r : Record) → r.since ≡ (record_at roster p).since → Fits roster r → IsSameOwner roster p r
+      → Reaches 1 roster (readied roster p r)
+  reaches_readied r same fits owner =
       cond_both {A = Roster} (is_eligible roster.mode r) _ _ (Reaches 1 roster)
-      (λ _. reaches_newest r fits) (λ _. reaches_more 0 1 (omega arith) (reaches_record r same fits))
+      (λ _. reaches_newest r fits owner) (λ _. reaches_more 0 1 (omega arith) (reaches_record r same fits owner))
 
   -- a record that is not suspended by itself
   awake_one : (suspended : Option Suspender) → is_by_itself (suspension_awake suspended) ≡ true → ⊥
@@ -140,7 +252,7 @@ module _ (roster : Roster) (p : ℕ) (known : p < length roster.records) where
   awake_one (Some Other) h = both_ways false refl h
 
   -- the process's own record, but for what no law is about
-  own_fits : (r : Record) → r.started ≡ (record_at roster p).started → r.wait ≡ (record_at roster p).wait
+  pub own_fits : (r : Record) → r.started ≡ (record_at roster p).started → r.wait ≡ (record_at roster p).wait
       → r.due ≡ (record_at roster p).due → (is_by_itself r.suspended ≡ true → is_by_itself (record_at roster p).suspended ≡ true) → Fits roster r
   own_fits r started wait due suspended = record {
     due = λ before. rw due (before p);
@@ -152,7 +264,15 @@ module _ (roster : Roster) (p : ℕ) (known : p < length roster.records) where
     };
   }
 
-  awake_fits : (r : Record) → (is_normal roster.mode ≡ false → ⊥) → Fits roster (awake r)
+  -- the process's own mutex, and its own wait
+  own_mutex : (r : Record) → r.owned ≡ (record_at roster p).owned → r.wait ≡ (record_at roster p).wait → IsSameOwner roster p r
+  own_mutex r owned wait = record { owned = owned; mutex = λ m is. sym wait ∙ is }
+
+  -- its own mutex, and a wait for none
+  no_wait : (r : Record) → r.owned ≡ (record_at roster p).owned → ((m : ℕ) → r.wait ≡ Some (Mutex m) → ⊥) → IsSameOwner roster p r
+  no_wait r owned idle = record { owned = owned; mutex = λ m is. absurd (idle m is) }
+
+  pub awake_fits : (r : Record) → (is_normal roster.mode ≡ false → ⊥) → Fits roster (awake r)
   awake_fits r normal = record {
     due = λ before t e. absurd (none-some t e);
     one = λ before h. refl;
@@ -167,20 +287,29 @@ module _ (roster : Roster) (p : ℕ) (known : p < length roster.records) where
   }
 
   pub reaches_unblock : (is_normal roster.mode ≡ false → ⊥) → Reaches 1 roster (unblock roster p)
-  reaches_unblock normal = reaches_readied (awake (record_at roster p)) refl (awake_fits (record_at roster p) normal)
+  reaches_unblock normal =
+      reaches_readied (awake (record_at roster p)) refl (awake_fits (record_at roster p) normal)
+      (no_wait _ refl (λ m is. none-some (Mutex m) is))
 
   pub reaches_release : (is_normal roster.mode ≡ false → ⊥) → Reaches 1 roster (release roster p)
   reaches_release = reaches_unblock
 
+  pub moves_block : (wait : Wait) (due : Option ℕ) → IsFrom roster.now due → (record_at roster p).started ≡ true → (is_normal roster.mode ≡ false → ⊥)
+      → Moves 1 roster (block roster p wait due)
+  moves_block wait due later begun normal =
+      moves_newest (waiting (record_at roster p) wait due) (waiting_fits (record_at roster p) wait due later begun normal)
+
+  -- a wait for another thing than a mutex
   pub reaches_block : (wait : Wait) (due : Option ℕ) → IsFrom roster.now due → (record_at roster p).started ≡ true → (is_normal roster.mode ≡ false → ⊥)
-      → Reaches 1 roster (block roster p wait due)
-  reaches_block wait due later begun normal =
+      → ((m : ℕ) → Some wait ≡ Some (Mutex m) → ⊥) → Reaches 1 roster (block roster p wait due)
+  reaches_block wait due later begun normal other =
       reaches_newest (waiting (record_at roster p) wait due) (waiting_fits (record_at roster p) wait due later begun normal)
+      (no_wait _ refl other)
 
   pub reaches_begin : (delay : ℕ) → (record_at roster p).started ≡ true → (is_normal roster.mode ≡ false → ⊥) → Reaches 1 roster (begin roster p delay)
   reaches_begin delay begun normal =
       cond_both {A = Roster} (delay == 0) (release roster p) (block roster p Start (Some (roster.now + delay))) (Reaches 1 roster)
-      (λ _. reaches_release normal) (λ _. reaches_block Start (Some (roster.now + delay)) (from_now roster.now delay) begun normal)
+      (λ _. reaches_release normal) (λ _. reaches_block Start (Some (roster.now + delay)) (from_now roster.now delay) begun normal (λ m is. cc))
 
   -- of two changes of one record the later one stands
   newest_twice : (r s : Record) → newest (with_record roster p r) p s ≡ newest roster p s
@@ -217,19 +346,28 @@ module _ (roster : Roster) (p : ℕ) (known : p < length roster.records) where
       let due = Some (roster.now + delay) in
       cond_both {A = Roster} (is_normal roster.mode) (begin fresh p delay) (block fresh p (Normal delay) None) (Reaches 1 roster)
       (λ normal. cond_both {A = Roster} (delay == 0) (release fresh p) (block fresh p Start due) (Reaches 1 roster)
-      (λ _. subst (Reaches 1 roster) (sym fresh_released) (reaches_readied (awake r) refl (awake_fits r (late normal))))
-      (λ _. subst (Reaches 1 roster) (sym (fresh_blocked Start due)) (reaches_newest (waiting r Start due) (waiting_fits r Start due (from_now roster.now delay) refl (late normal)))))
-      (λ _. subst (Reaches 1 roster) (sym (fresh_blocked (Normal delay) None)) (reaches_newest (waiting r (Normal delay) None) (early_fits delay)))
+      (λ _. subst (Reaches 1 roster) (sym fresh_released) (reaches_readied (awake r) refl (awake_fits r (late normal)) (no_wait _ refl (λ m is. none-some (Mutex m) is))))
+      (λ _. subst (Reaches 1 roster) (sym (fresh_blocked Start due)) (reaches_newest (waiting r Start due) (waiting_fits r Start due (from_now roster.now delay) refl (late normal)) (no_wait _ refl (λ m is. cc)))))
+      (λ _. subst (Reaches 1 roster) (sym (fresh_blocked (Normal delay) None)) (reaches_newest (waiting r (Normal delay) None) (early_fits delay) (no_wait _ refl (λ m is. cc))))
 
-  pub reaches_stop : Reaches 1 roster (stop roster p)
-  reaches_stop = reaches_more 0 1 (omega arith) (reaches_record _ refl (record {
+  stopped_fits : Fits roster (stopped (record_at roster p))
+  stopped_fits = record {
     due = λ before t e. absurd (none-some t e);
     one = λ before h. refl;
     starts = λ before. record { dormant = λ e. refl; early = λ e h. absurd (both_ways false refl h); undue = λ e. refl };
-  }))
+  }
+
+  pub moves_stop : Moves 0 roster (stop roster p)
+  moves_stop = moves_record (stopped (record_at roster p)) refl stopped_fits
+
+  -- a stop of who owns no mutex
+  pub reaches_stop : (record_at roster p).owned ≡ None → Reaches 0 roster (stop roster p)
+  reaches_stop free =
+      reaches_record (stopped (record_at roster p)) refl stopped_fits (no_wait _ (sym free) (λ m is. none-some (Mutex m) is))
 
   pub reaches_suspend : Reaches 0 roster (suspend roster p)
-  reaches_suspend = reaches_record _ refl (own_fits _ refl refl refl (λ h. absurd (both_ways false refl h)))
+  reaches_suspend =
+      reaches_record _ refl (own_fits _ refl refl refl (λ h. absurd (both_ways false refl h))) (own_mutex _ refl refl)
 
   pub reaches_suspend_self : (due : Option ℕ) → IsFrom roster.now due → (record_at roster p).started ≡ true → (is_normal roster.mode ≡ false → ⊥)
       → Reaches 1 roster (suspend_self roster p due)
@@ -237,39 +375,43 @@ module _ (roster : Roster) (p : ℕ) (known : p < length roster.records) where
     due = λ before. later;
     one = λ before h. refl;
     starts = λ before. record { dormant = λ e. refl; early = λ e. absurd (normal e); undue = λ e. absurd (normal e) };
-  })
+  }) (no_wait _ refl (λ m is. none-some (Mutex m) is))
 
   pub reaches_resume : (is_by_itself (record_at roster p).suspended ≡ true → is_normal roster.mode ≡ false → ⊥) → Reaches 1 roster (resume roster p)
   reaches_resume normal =
       cond_both {A = Roster} (is_by_itself (record_at roster p).suspended) _ _ (Reaches 1 roster)
       (λ by. reaches_unblock (normal by))
-      (λ _. reaches_readied (unsuspended (record_at roster p)) refl (own_fits _ refl refl refl (λ h. absurd (both_ways false refl h))))
+      (λ _. reaches_readied (unsuspended (record_at roster p)) refl (own_fits _ refl refl refl (λ h. absurd (both_ways false refl h)))
+      (own_mutex _ refl refl))
 
   pub reaches_set_priority : (base : ℕ) → Reaches 1 roster (set_priority roster p base)
   reaches_set_priority base =
       let r = record_at roster p in
-      let fits : Fits roster (record r { base = base }) = own_fits _ refl refl refl (λ h. h) in
-      cond_both {A = Roster} (is_eligible roster.mode r || goes_by_priority roster (queue_in r)) _ _ (Reaches 1 roster)
-      (λ _. reaches_newest (record r { base = base }) fits) (λ _. reaches_more 0 1 (omega arith) (reaches_record (record r { base = base }) refl fits))
+      let changed : Record = record r { base = base } in
+      let fits : Fits roster changed = own_fits _ refl refl refl (λ h. h) in
+      let same : IsSameOwner roster p changed = own_mutex _ refl refl in
+      let stays = is_some r.owned && is_level changed r in
+      cond_both {A = Roster} ((is_eligible roster.mode r && not stays) || goes_by_priority roster (queue_in r)) _ _ (Reaches 1 roster)
+      (λ _. reaches_newest changed fits same) (λ _. reaches_more 0 1 (omega arith) (reaches_record changed refl fits same))
 
   pub reaches_place_newest : Reaches 1 roster (place_newest roster p)
-  reaches_place_newest = reaches_newest (record_at roster p) (own_fits _ refl refl refl (λ h. h))
+  reaches_place_newest = reaches_newest (record_at roster p) (own_fits _ refl refl refl (λ h. h)) (own_mutex _ refl refl)
 
   pub reaches_without_due : Reaches 0 roster (without_due roster p)
   reaches_without_due = reaches_record _ refl (record {
     due = λ before t e. absurd (none-some t e);
     one = λ before. before p;
     starts = λ before. record { dormant = before.dormant p; early = λ e. before.early e p; undue = λ e. refl };
-  })
+  }) (own_mutex _ refl refl)
 
   pub reaches_set_core : (core : ℕ) → Reaches 0 roster (set_core roster p core)
-  reaches_set_core core = reaches_record _ refl (own_fits _ refl refl refl (λ h. h))
+  reaches_set_core core = reaches_record _ refl (own_fits _ refl refl refl (λ h. h)) (own_mutex _ refl refl)
 
   pub reaches_set_step : (step : ℕ) → Reaches 0 roster (set_step roster p step)
-  reaches_set_step step = reaches_record _ refl (own_fits _ refl refl refl (λ h. h))
+  reaches_set_step step = reaches_record _ refl (own_fits _ refl refl refl (λ h. h)) (own_mutex _ refl refl)
 
   pub reaches_receive : (message : Message) → Reaches 0 roster (receive roster p message)
-  reaches_receive message = reaches_record _ refl (own_fits _ refl refl refl (λ h. h))
+  reaches_receive message = reaches_record _ refl (own_fits _ refl refl refl (λ h. h)) (own_mutex _ refl refl)
 
 -- a start that begins leaves the mode
 mode_readied : (roster : Roster) (p : ℕ) (r : Record) → (readied roster p r).mode ≡ roster.mode
@@ -286,12 +428,14 @@ pub reaches_set_mode : (roster : Roster) (mode : Mode) → is_normal mode ≡ tr
 reaches_set_mode roster mode normal = record {
   many = refl;
   time = refl;
+  ceilings = refl;
   stamps = omega (arith, ints);
   older = omega (arith, ints);
   stamped = λ stamped. stamped_set_mode roster stamped mode;
   dues = λ before p t e. before p t e;
   one = λ before p h. before p h;
   starts = λ before. record { dormant = before.dormant; early = λ e. absurd (both_ways _ e normal); undue = λ e. absurd (both_ways _ e normal) };
+  owners = owners_kept roster (set_mode roster mode) (record { ceilings = refl; owned = λ q. refl; mutex = λ q m is. is });
 }
 
 -- every process is stopped, and no mode but IDLE follows
@@ -306,10 +450,12 @@ reaches_enter_idle roster =
     let at = stopped_at roster.records in
     let same : (p : ℕ) → (record_at (enter_idle roster) p).since ≡ (record_at roster p).since = λ p. ap (λ (r : Record). r.since) (at p) in
     let free : (p : ℕ) → (record_at (enter_idle roster) p).wait ≡ None = λ p. ap (λ (r : Record). r.wait) (at p) in
+    let unowned : (p : ℕ) → (record_at (enter_idle roster) p).owned ≡ None = λ p. ap (λ (r : Record). r.owned) (at p) in
     let undue : (p : ℕ) → (record_at (enter_idle roster) p).due ≡ None = λ p. ap (λ (r : Record). r.due) (at p) in
     record {
       many = many;
       time = refl;
+      ceilings = refl;
       stamps = omega (arith, ints);
       older = omega (arith, ints);
       stamped = λ stamped. record {
@@ -325,6 +471,11 @@ reaches_enter_idle roster =
         dormant = λ p e. free p;
         early = λ e p h. absurd (both_ways _ (ap (λ (r : Record). r.started) (at p)) h);
         undue = λ e p. undue p;
+      };
+      owners = λ before. record {
+        holdings = λ p holding is. absurd (none-some holding (sym (unowned p) ∙ is));
+        one = λ m p q first second. absurd (both_ways false refl (sym (ap (is_held m) (unowned p)) ∙ first));
+        waiters = λ p m is. absurd (none-some (Mutex m) (sym (free p) ∙ is));
       };
     }
 

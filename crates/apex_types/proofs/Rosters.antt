@@ -4,7 +4,7 @@ use Rattle.std.proofs.lemmas.Int.{ints}
 use Rattle.std.proofs.lemmas.List.{get_or-set_other, get_or-set_same, length-set}
 use Rattle.apex_types.specs.Terms.{Record}
 use Rattle.apex_types.specs.Roster.{Roster, nobody, record_at, with_record}
-use Rattle.apex_types.specs.Stamps.{newest, without_due}
+use Rattle.apex_types.specs.Stamps.{newest, oldest, without_due}
 
 -- of the records process p's alone may be another, and at most one stamp is given
 pub record ChangesOne (before after : Roster) (p : ℕ) : Type 0 where
@@ -27,6 +27,13 @@ module _ (roster : Roster) (p : ℕ) where
   changes_newest r = record {
     count = length-set roster.records p (record r { since = roster.young });
     others = other_stays (record r { since = roster.young });
+    one_more = omega (arith, ints);
+  }
+
+  pub changes_oldest : (r : Record) → ChangesOne roster (oldest roster p r) p
+  changes_oldest r = record {
+    count = length-set roster.records p (record r { since = roster.old });
+    others = other_stays (record r { since = roster.old });
     one_more = omega (arith, ints);
   }
 

@@ -4,7 +4,7 @@ use Rattle.std.proofs.lemmas.Bool.{and_parts, both_ways, eqb-true, eq-eqb}
 use Rattle.std.proofs.lemmas.Option.{none-some, same_Some}
 use Rattle.apex_types.specs.Terms.{Message, Mode, Queue, Record, Wait}
 use Rattle.apex_types.specs.declared.records.Queue.TheVariants as queues
-use Rattle.apex_types.specs.declared.records.Wait.TheVariants.{Normal, Start, Time, Semaphore, Receive, Send, Blackboard, Event}
+use Rattle.apex_types.specs.declared.records.Wait.TheVariants.{Normal, Start, Time, Semaphore, Receive, Send, Blackboard, Event, Mutex}
 use Rattle.apex_types.specs.Roster.{Roster, nobody, record_at, is_normal}
 use Rattle.apex_types.specs.Running.{is_eligible, chosen, runs_on, is_before}
 use Rattle.apex_types.specs.Stamps.{HasOrderlyStarts, ReadiesNobody, is_free, may_wait, receive, set_step}
@@ -109,6 +109,7 @@ same_queue (queues.Semaphore s) (queues.Semaphore t) e = ap queues.Semaphore (eq
 same_queue (queues.Buffer b) (queues.Buffer c) e = ap queues.Buffer (eqb-true b c e)
 same_queue (queues.Blackboard b) (queues.Blackboard c) e = ap queues.Blackboard (eqb-true b c e)
 same_queue (queues.Event s) (queues.Event t) e = ap queues.Event (eqb-true s t e)
+same_queue (queues.Mutex m) (queues.Mutex n) e = ap queues.Mutex (eqb-true m n e)
 same_queue _ _ e = cc
 
 pub queue_itself : (q : Queue) → is_same_queue q q ≡ true
@@ -117,6 +118,7 @@ queue_itself (queues.Semaphore s) = eq-eqb s s refl
 queue_itself (queues.Buffer b) = eq-eqb b b refl
 queue_itself (queues.Blackboard b) = eq-eqb b b refl
 queue_itself (queues.Event e) = eq-eqb e e refl
+queue_itself (queues.Mutex m) = eq-eqb m m refl
 
 is_queue_some : (q : Queue) (found : Option Queue) → is_queue q found ≡ true → found ≡ Some q
 is_queue_some q None e = cc
@@ -131,9 +133,12 @@ unfolding waits_in
 waits_there q r e = rw e (queue_itself q)
 
 -- so does the first waiter
+pub first_waits : (roster : Roster) (q : Queue) (p : ℕ) → first_waiter roster q ≡ Some p → waits_in q (record_at roster p) ≡ true
+first_waits roster q p e = place_passes (waits_in q) (waits_before (discipline_of roster q)) roster.records p nobody e
+
 pub first_stands : (roster : Roster) (q : Queue) (p : ℕ) → first_waiter roster q ≡ Some p → queue_in (record_at roster p) ≡ Some q
 first_stands roster q p e =
-    stands_in q (record_at roster p) (place_passes (waits_in q) (waits_before (discipline_of roster q)) roster.records p nobody e)
+    stands_in q (record_at roster p) (first_waits roster q p e)
 
 pub first_within : (roster : Roster) (q : Queue) (p : ℕ) → first_waiter roster q ≡ Some p → p < length roster.records
 first_within roster q p e = place_within (waits_in q) (waits_before (discipline_of roster q)) roster.records p e
@@ -157,6 +162,7 @@ normal_free (Some (Receive b)) e = cc
 normal_free (Some (Send b message)) e = cc
 normal_free (Some (Blackboard b)) e = cc
 normal_free (Some (Event v)) e = cc
+normal_free (Some (Mutex m)) e = cc
 
 pub first_may_wait : (roster : Roster) → HasOrderlyStarts roster → (p : ℕ) → first_waiter roster queues.Normal ≡ Some p → may_wait (record_at roster p) ≡ true
 first_may_wait roster orderly p e =

@@ -4,13 +4,14 @@ use Rattle.std.specs.Prelude.{ℕ, Bool, true, false, List, [], ◌∷◌, Optio
 use Rattle.apex_types.specs.Terms.{BlackboardService, Caller, Entry, Message, Reply, Timeout}
 use Rattle.apex_types.specs.declared.calls.BlackboardService.TheVariants.{Display, Read, Clear}
 use Rattle.apex_types.specs.declared.entries.Reply.TheVariants.{Status, Message as Gets}
-use Rattle.apex_types.specs.declared.entries.ReturnCode.TheVariants.{InvalidParam}
+use Rattle.apex_types.specs.declared.entries.ReturnCode.TheVariants.{InvalidParam, InvalidMode}
 use Rattle.apex_types.specs.declared.records.Queue.TheVariants as queues
 use Rattle.apex_types.specs.declared.records.Wait.TheVariants as wait
 use Rattle.apex_types.specs.Calls.{created_blackboard}
 use Rattle.apex_types.specs.History.{is_created}
 use Rattle.apex_types.specs.Messages.{is_unfit}
 use Rattle.apex_types.specs.Objects.{KindOf}
+use Rattle.apex_types.specs.Owners.{is_waiting_owner}
 use Rattle.apex_types.specs.Roster.{Roster}
 use Rattle.apex_types.specs.Rows.{Outcome, told, accepted, accepted_with, guarded, ◌⟶◌, by_process}
 use Rattle.apex_types.specs.Satisfied.{blackboard_message}
@@ -42,7 +43,8 @@ read_shown roster blackboard b p timeout (Some message) = told (receive roster p
 -- READ_BLACKBOARD
 abbrev pub read_blackboard : Roster → BlackboardObject → ℕ → Caller → Timeout → Outcome BlackboardObject
 read_blackboard roster blackboard b caller timeout =
-    guarded roster blackboard (not blackboard.created ⟶ InvalidParam ∷ [])
+    guarded roster blackboard
+    (not blackboard.created ⟶ InvalidParam ∷ is_waiting_owner roster caller timeout ⟶ InvalidMode ∷ [])
     (by_process roster blackboard caller (λ p. read_shown roster blackboard b p timeout blackboard.message))
 
 -- CLEAR_BLACKBOARD

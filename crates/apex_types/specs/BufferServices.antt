@@ -4,13 +4,14 @@ use Rattle.std.specs.Prelude.{ℕ, Bool, true, false, List, [], ◌∷◌, ◌++
 use Rattle.apex_types.specs.Terms.{BufferService, Caller, Entry, Message, Reply, Timeout, Wait}
 use Rattle.apex_types.specs.declared.calls.BufferService.TheVariants.{Send, Receive}
 use Rattle.apex_types.specs.declared.entries.Reply.TheVariants.{Status, Message as Gets}
-use Rattle.apex_types.specs.declared.entries.ReturnCode.TheVariants.{NoError, InvalidParam}
+use Rattle.apex_types.specs.declared.entries.ReturnCode.TheVariants.{NoError, InvalidParam, InvalidMode}
 use Rattle.apex_types.specs.declared.records.Queue.TheVariants as queues
 use Rattle.apex_types.specs.declared.records.Wait.TheVariants as wait
 use Rattle.apex_types.specs.Calls.{created_buffer}
 use Rattle.apex_types.specs.History.{is_created}
 use Rattle.apex_types.specs.Messages.{is_unfit}
 use Rattle.apex_types.specs.Objects.{KindOf}
+use Rattle.apex_types.specs.Owners.{is_waiting_owner}
 use Rattle.apex_types.specs.Roster.{Roster, record_at}
 use Rattle.apex_types.specs.Rows.{Outcome, told, accepted, answered_with, accepted_with, guarded, ◌⟶◌, by_process}
 use Rattle.apex_types.specs.Satisfied.{buffer_content}
@@ -60,7 +61,9 @@ send_past roster buffer b p message timeout (Some q) =
 abbrev pub send_buffer : Roster → BufferObject → ℕ → Caller → Message → Timeout → Outcome BufferObject
 send_buffer roster buffer b caller message timeout =
     guarded roster buffer
-    (not buffer.created ⟶ InvalidParam ∷ is_unfit buffer.longest message ⟶ InvalidParam ∷ [])
+    (not buffer.created ⟶ InvalidParam
+    ∷ is_unfit buffer.longest message ⟶ InvalidParam
+    ∷ is_waiting_owner roster caller timeout ⟶ InvalidMode ∷ [])
     (by_process roster buffer caller (λ p.
     send_past roster buffer b p message timeout (first_waiter roster (queues.Buffer b))))
 
@@ -85,7 +88,8 @@ receive_first roster buffer b p timeout (message ∷ later) =
 -- RECEIVE_BUFFER
 abbrev pub receive_buffer : Roster → BufferObject → ℕ → Caller → Timeout → Outcome BufferObject
 receive_buffer roster buffer b caller timeout =
-    guarded roster buffer (not buffer.created ⟶ InvalidParam ∷ [])
+    guarded roster buffer
+    (not buffer.created ⟶ InvalidParam ∷ is_waiting_owner roster caller timeout ⟶ InvalidMode ∷ [])
     (by_process roster buffer caller (λ p. receive_first roster buffer b p timeout buffer.messages))
 
 -- the services that buffers alone have

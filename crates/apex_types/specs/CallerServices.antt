@@ -1,13 +1,15 @@
 -- The services of process management that a process asks for itself (ARINC 653 Part 1, process
 -- management; the guards are this profile's).
-use Rattle.std.specs.Prelude.{ℕ, ◌+◌, []}
+use Rattle.std.specs.Prelude.{ℕ, ◌+◌, [], ◌∷◌, is_some}
 use Rattle.apex_types.specs.Terms.{Caller, CallerCall, Timeout}
 use Rattle.apex_types.specs.declared.calls.CallerCall.TheVariants.{StopSelf, SuspendSelf, GetMyId, GetMyProcessorCoreId}
 use Rattle.apex_types.specs.declared.calls.Timeout.TheVariants.{Poll, Ticks, Infinite}
 use Rattle.apex_types.specs.declared.entries.Reply.TheVariants.{Value, Blocked, Gone}
+use Rattle.apex_types.specs.declared.entries.ReturnCode.TheVariants.{InvalidMode}
 use Rattle.apex_types.specs.Dues.{due_after}
+use Rattle.apex_types.specs.Handovers.{halted}
 use Rattle.apex_types.specs.Roster.{Roster, record_at}
-use Rattle.apex_types.specs.Rows.{Outcome, told, accepted, by_process}
+use Rattle.apex_types.specs.Rows.{Outcome, told, accepted, answered_with, by_process, guarded, ◌⟶◌}
 use Rattle.apex_types.specs.Stamps as stamps
 
 -- process p suspends itself for so long
@@ -15,15 +17,21 @@ abbrev pub suspended_for : {X : Type 0} → Roster → X → ℕ → Timeout →
 suspended_for roster objects p timeout =
     told (stamps.suspend_self roster p (due_after roster timeout)) objects Blocked
 
--- SUSPEND_SELF by process p: for no time at all it changes nothing
+-- a suspension of process p by itself: for no time at all it changes nothing
+abbrev pub self_suspension : {X : Type 0} → Roster → X → ℕ → Timeout → Outcome X
+self_suspension roster objects p Poll = accepted roster objects []
+self_suspension roster objects p (Ticks n) = suspended_for roster objects p (Ticks n)
+self_suspension roster objects p Infinite = suspended_for roster objects p Infinite
+
+-- SUSPEND_SELF by process p
 abbrev pub suspend_self : {X : Type 0} → Roster → X → ℕ → Timeout → Outcome X
-suspend_self roster objects p Poll = accepted roster objects []
-suspend_self roster objects p (Ticks n) = suspended_for roster objects p (Ticks n)
-suspend_self roster objects p Infinite = suspended_for roster objects p Infinite
+suspend_self roster objects p timeout =
+    guarded roster objects (is_some (record_at roster p).owned ⟶ InvalidMode ∷ [])
+    (self_suspension roster objects p timeout)
 
 -- a service that process p asks for itself
 abbrev pub service_by : {X : Type 0} → Roster → X → CallerCall → ℕ → Outcome X
-service_by roster objects StopSelf p = told (stamps.stop roster p) objects Gone
+service_by roster objects StopSelf p = answered_with Gone objects (halted roster p)
 service_by roster objects (SuspendSelf timeout) p = suspend_self roster objects p timeout
 service_by roster objects GetMyId p = told roster objects (Value (p + 1))
 service_by roster objects GetMyProcessorCoreId p = told roster objects (Value (record_at roster p).core)

@@ -3,7 +3,7 @@ use Rattle.std.specs.Prelude.{ℕ, Bool, true, false, Option, None, Some, ◌==�
 use Rattle.apex_types.specs.Terms.{Call, Message, Named, ObjectCall, Origin, Queue}
 use Rattle.apex_types.specs.declared.calls.BlackboardService.TheVariants.{Display, Clear}
 use Rattle.apex_types.specs.declared.calls.BufferService.TheVariants.{Send, Receive}
-use Rattle.apex_types.specs.declared.calls.Call.TheVariants.{Partition, Process, Caller, Time, Semaphore, Buffer, Blackboard, Event}
+use Rattle.apex_types.specs.declared.calls.Call.TheVariants.{Partition, Process, Caller, Time, Semaphore, Buffer, Blackboard, Event, Mutex}
 use Rattle.apex_types.specs.declared.calls.EventService.TheVariants.{Set, Reset}
 use Rattle.apex_types.specs.declared.calls.Named.TheVariants.{Known, Unknown}
 use Rattle.apex_types.specs.declared.calls.ObjectCall.TheVariants.{Create, GetId, GetStatus, Own}
@@ -50,6 +50,7 @@ origin_of (Semaphore call) = object_origin call
 origin_of (Buffer call) = object_origin call
 origin_of (Blackboard call) = object_origin call
 origin_of (Event call) = object_origin call
+origin_of (Mutex call) = object_origin call
 
 -- the message that the call gives: what SEND_BUFFER sends and DISPLAY_BLACKBOARD displays
 abbrev pub message_in : Call → Option Message
@@ -87,12 +88,18 @@ abbrev pub created_event : Call → Option ℕ
 created_event (Event call) = creation_of call
 created_event _ = None
 
+-- the mutex that the call creates
+abbrev pub created_mutex : Call → Option ℕ
+created_mutex (Mutex call) = creation_of call
+created_mutex _ = None
+
 -- the object that the call names, by its queue
 abbrev pub queue_named : Call → Option Queue
 queue_named (Semaphore call) = option_map queues.Semaphore (object_of call)
 queue_named (Buffer call) = option_map queues.Buffer (object_of call)
 queue_named (Blackboard call) = option_map queues.Blackboard (object_of call)
 queue_named (Event call) = option_map queues.Event (object_of call)
+queue_named (Mutex call) = option_map queues.Mutex (object_of call)
 queue_named _ = None
 
 -- the call names the object of this queue

@@ -4,12 +4,13 @@ use Rattle.std.specs.Prelude.{ℕ, Bool, true, false, List, [], ◌∷◌, None,
 use Rattle.apex_types.specs.Terms.{Caller, Entry, EventService, Reply, Timeout}
 use Rattle.apex_types.specs.declared.calls.EventService.TheVariants.{Set, Reset, Wait}
 use Rattle.apex_types.specs.declared.entries.Reply.TheVariants.{Status}
-use Rattle.apex_types.specs.declared.entries.ReturnCode.TheVariants.{InvalidParam}
+use Rattle.apex_types.specs.declared.entries.ReturnCode.TheVariants.{InvalidParam, InvalidMode}
 use Rattle.apex_types.specs.declared.records.Queue.TheVariants as queues
 use Rattle.apex_types.specs.declared.records.Wait.TheVariants as wait
 use Rattle.apex_types.specs.Calls.{created_event}
 use Rattle.apex_types.specs.History.{is_created}
 use Rattle.apex_types.specs.Objects.{KindOf}
+use Rattle.apex_types.specs.Owners.{is_waiting_owner}
 use Rattle.apex_types.specs.Roster.{Roster}
 use Rattle.apex_types.specs.Rows.{Outcome, accepted, accepted_with, guarded, ◌⟶◌, by_process}
 use Rattle.apex_types.specs.Satisfied.{is_up}
@@ -38,7 +39,8 @@ reset_event roster event =
 -- WAIT_EVENT: the process waits where the event is down
 abbrev pub wait_event : Roster → EventObject → ℕ → Caller → Timeout → Outcome EventObject
 wait_event roster event e caller timeout =
-    guarded roster event (not event.created ⟶ InvalidParam ∷ [])
+    guarded roster event
+    (not event.created ⟶ InvalidParam ∷ is_waiting_owner roster caller timeout ⟶ InvalidMode ∷ [])
     (by_process roster event caller (λ p.
     if event.up then accepted roster event [] else wait_for roster event p (wait.Event e) timeout))
 

@@ -8,10 +8,12 @@ pub mod Places
 pub mod Roster
 pub mod Choice
 pub mod Running
+pub mod Owners
 pub mod Waiters
 pub mod Dues
 pub mod Stamps
 pub mod InTurn
+pub mod Handovers
 pub mod Waking
 pub mod Messages
 pub mod Ticks
@@ -26,6 +28,7 @@ pub mod SemaphoreServices
 pub mod BufferServices
 pub mod BlackboardServices
 pub mod EventServices
+pub mod MutexServices
 pub mod ProcessServices
 pub mod CallerServices
 pub mod TimeServices

@@ -49,6 +49,10 @@ most_notices = 64
 abbrev pub most_priority : ℕ
 most_priority = 239
 
+-- how often an owner may acquire its mutex
+abbrev pub most_depth : ℕ
+most_depth = 32
+
 -- a semaphore's maximum
 abbrev pub most_value : ℕ
 most_value = 32767

@@ -1,12 +1,13 @@
 -- The lines of a history: what is printed of each entry (this profile).
 use Rattle.std.specs.Prelude.{ℕ, ◌+◌, ◌/◌, ◌%◌, false, List, [], ◌∷◌, ◌++◌, flat_map, Option, None, Some, IfSome, codes, decimal}
 use Rattle.std.specs.Fmt.{digit_glyph}
-use Rattle.apex_types.specs.Terms.{BlackboardService, BufferService, Call, Caller, CallerCall, Entry, EventService, Message, Named, Notice, ObjectCall, Origin, PartitionCall, ProcessService, Reply, RequestedMode, ReturnCode, SemaphoreService, TimeCall, Timeout, Who}
+use Rattle.apex_types.specs.Terms.{BlackboardService, BufferService, Call, Caller, CallerCall, Entry, EventService, Message, MutexService, Named, Notice, ObjectCall, Origin, PartitionCall, ProcessService, Reply, RequestedMode, ReturnCode, SemaphoreService, TimeCall, Timeout, Who}
 use Rattle.apex_types.specs.declared.calls.BlackboardService.TheVariants.{Display, Read, Clear}
 use Rattle.apex_types.specs.declared.calls.BufferService.TheVariants.{Send, Receive}
-use Rattle.apex_types.specs.declared.calls.Call.TheVariants.{Partition, Process, Caller as ToCaller, Time, Semaphore, Buffer, Blackboard, Event}
+use Rattle.apex_types.specs.declared.calls.Call.TheVariants.{Partition, Process, Caller as ToCaller, Time, Semaphore, Buffer, Blackboard, Event, Mutex}
 use Rattle.apex_types.specs.declared.calls.CallerCall.TheVariants.{StopSelf, SuspendSelf, GetMyId, GetMyProcessorCoreId}
 use Rattle.apex_types.specs.declared.calls.EventService.TheVariants.{Set, Reset, Wait as WaitFor}
+use Rattle.apex_types.specs.declared.calls.MutexService.TheVariants.{Acquire, Release}
 use Rattle.apex_types.specs.declared.calls.Named.TheVariants.{Known, Unknown}
 use Rattle.apex_types.specs.declared.calls.ObjectCall.TheVariants.{Create, GetId, GetStatus, Own}
 use Rattle.apex_types.specs.declared.calls.PartitionCall.TheVariants.{SetPartitionMode, GetPartitionStatus}
@@ -20,7 +21,7 @@ use Rattle.apex_types.specs.declared.entries.Notice.TheVariants.{Woken, Released
 use Rattle.apex_types.specs.declared.entries.Reply.TheVariants.{Code, Value, Status, Message as Gets, Blocked, Gone, Idle as IdleTurn, Advanced}
 use Rattle.apex_types.specs.declared.entries.ReturnCode.TheVariants.{NoError, NoAction, NotAvailable, InvalidParam, InvalidConfig, InvalidMode, TimedOut}
 use Rattle.apex_types.specs.declared.entries.Who.TheVariants.{Core, Ticker}
-use Rattle.apex_types.specs.Table.{Table, process_config, semaphore_config, buffer_config, blackboard_config, event_config, literal_text, message_bytes, IsKnown}
+use Rattle.apex_types.specs.Table.{Table, process_config, semaphore_config, buffer_config, blackboard_config, event_config, mutex_config, literal_text, message_bytes, IsKnown}
 
 -- the id of a process as users see it: its place in the table, counted from 1
 abbrev pub id_text : ℕ → List ℕ
@@ -66,6 +67,10 @@ blackboard_name table b = (blackboard_config table b).name
 -- the name that the table gives an event
 abbrev pub event_name : Table → ℕ → List ℕ
 event_name table e = (event_config table e).name
+
+-- the name that the table gives a mutex
+abbrev pub mutex_name : Table → ℕ → List ℕ
+mutex_name table m = (mutex_config table m).name
 
 -- a byte as two digits, 0 to 9 and a to f
 abbrev pub byte_text : ℕ → List ℕ
@@ -148,6 +153,11 @@ event_service_text name Set = codes "SET_EVENT " ++ name
 event_service_text name Reset = codes "RESET_EVENT " ++ name
 event_service_text name (WaitFor timeout) = codes "WAIT_EVENT " ++ name ++ codes " " ++ timeout_text timeout
 
+-- a service of the mutex of this name
+abbrev pub mutex_service_text : List ℕ → MutexService → List ℕ
+mutex_service_text name (Acquire timeout) = codes "ACQUIRE_MUTEX " ++ name ++ codes " " ++ timeout_text timeout
+mutex_service_text name Release = codes "RELEASE_MUTEX " ++ name
+
 -- a step as the table writes it
 abbrev pub call_text : Table → Call → List ℕ
 call_text table (Partition call) = partition_call_text call
@@ -163,6 +173,8 @@ call_text table (Blackboard call) =
     object_call_text (codes "BLACKBOARD") (blackboard_name table) (literal_text table) (blackboard_service_text table) call
 call_text table (Event call) =
     object_call_text (codes "EVENT") (event_name table) (literal_text table) event_service_text call
+call_text table (Mutex call) =
+    object_call_text (codes "MUTEX") (mutex_name table) (literal_text table) mutex_service_text call
 
 -- what stands in the place of a step: how many ticks were asked for, or nothing at an idle turn
 abbrev pub no_call_text : Reply → List ℕ

@@ -2,7 +2,7 @@
 -- each entry.
 use Rattle.std.specs.Prelude.{ℕ, ◌+◌, ◌-◌, List, [], ◌∷◌, ◌++◌, length, map, Option, None, Some, ◌==◌, nat_lt, ◌&&◌, if◌then◌else◌}
 use Rattle.apex_types.specs.Terms.{Call, Caller, Entry, Event, Reply, Who}
-use Rattle.apex_types.specs.declared.calls.Call.TheVariants.{Partition, Process as ToProcess, Caller as ToCaller, Time, Semaphore, Buffer, Blackboard, Event as ToEvent}
+use Rattle.apex_types.specs.declared.calls.Call.TheVariants.{Partition, Process as ToProcess, Caller as ToCaller, Time, Semaphore, Buffer, Blackboard, Event as ToEvent, Mutex}
 use Rattle.apex_types.specs.declared.calls.CallerCall.TheVariants.{StopSelf}
 use Rattle.apex_types.specs.declared.entries.Caller.TheVariants.{Process, Init, Nobody}
 use Rattle.apex_types.specs.declared.entries.Event.TheVariants.{Turn, Tick}
@@ -20,6 +20,7 @@ use Rattle.apex_types.specs.SemaphoreServices.{SemaphoreObject, semaphore_kind}
 use Rattle.apex_types.specs.BufferServices.{BufferObject, buffer_kind}
 use Rattle.apex_types.specs.BlackboardServices.{BlackboardObject, blackboard_kind}
 use Rattle.apex_types.specs.EventServices.{EventObject, event_kind}
+use Rattle.apex_types.specs.MutexServices.{MutexObject, mutex_kind}
 use Rattle.apex_types.specs.CallerServices.{caller_service}
 use Rattle.apex_types.specs.TimeServices.{time_service}
 use Rattle.apex_types.specs.PartitionServices.{partition_service}
@@ -38,6 +39,7 @@ pub record Objects : Type 0 where
   pub buffers : List BufferObject
   pub blackboards : List BlackboardObject
   pub events : List EventObject
+  pub mutexes : List MutexObject
 
 -- all objects, read off the whole history
 abbrev pub objects_after : Table → List Entry → Objects
@@ -47,6 +49,7 @@ objects_after table history = record {
   buffers = objects_of buffer_kind history table.buffers;
   blackboards = objects_of blackboard_kind history table.blackboards;
   events = objects_of event_kind history table.events;
+  mutexes = objects_of mutex_kind history table.mutexes;
 }
 
 -- the objects, with these of one kind
@@ -65,6 +68,9 @@ with_blackboards objects blackboards = record objects { blackboards = blackboard
 abbrev pub with_events : Objects → List EventObject → Objects
 with_events objects events = record objects { events = events }
 
+abbrev pub with_mutexes : Objects → List MutexObject → Objects
+with_mutexes objects mutexes = record objects { mutexes = mutexes }
+
 -- service: what the caller's call does
 abbrev pub service : Roster → Objects → Caller → Call → Outcome Objects
 service roster objects caller (Partition call) = partition_service roster objects call
@@ -80,6 +86,8 @@ service roster objects caller (Blackboard call) =
     within (with_blackboards objects) (object_deed blackboard_kind roster objects.blackboards caller call)
 service roster objects caller (ToEvent call) =
     within (with_events objects) (object_deed event_kind roster objects.events caller call)
+service roster objects caller (Mutex call) =
+    within (with_mutexes objects) (object_deed mutex_kind roster objects.mutexes caller call)
 
 -- a call that was carried out, or none at an idle turn and a tick
 pub record Deed : Type 0 where

@@ -11,10 +11,11 @@ use Rattle.apex_types.specs.declared.entries.ReturnCode.TheVariants.{NoError, No
 use Rattle.apex_types.specs.declared.records.State.TheVariants as state
 use Rattle.apex_types.specs.Callers.{is_by_process}
 use Rattle.apex_types.specs.Calls.{created_process}
+use Rattle.apex_types.specs.Handovers.{halted}
 use Rattle.apex_types.specs.History.{is_created}
 use Rattle.apex_types.specs.Objects.{KindOf}
 use Rattle.apex_types.specs.Roster.{Roster, record_at, is_normal}
-use Rattle.apex_types.specs.Rows.{Outcome, Guard, accepted, guarded, ◌⟶◌}
+use Rattle.apex_types.specs.Rows.{Outcome, Guard, accepted, accepted_with, guarded, ◌⟶◌}
 use Rattle.apex_types.specs.Running.{current_priority, process_state}
 use Rattle.apex_types.specs.Stamps as stamps
 use Rattle.apex_types.specs.Table.{ProcessConfig}
@@ -75,7 +76,7 @@ abbrev pub stop_process : Roster → ProcessObject → ℕ → Caller → Outcom
 stop_process roster process p caller =
     guarded roster process
     (of_another caller process p (not (record_at roster p).started ⟶ NoAction ∷ []))
-    (accepted (stamps.stop roster p) process [])
+    (accepted_with process (halted roster p))
 
 -- SUSPEND
 abbrev pub suspend_process : Roster → ProcessObject → ℕ → Caller → Outcome ProcessObject
@@ -83,7 +84,8 @@ suspend_process roster process p caller =
     guarded roster process
     (of_another caller process p
     (not (record_at roster p).started ⟶ InvalidMode
-    ∷ is_some (record_at roster p).suspended ⟶ NoAction ∷ []))
+    ∷ is_some (record_at roster p).suspended ⟶ NoAction
+    ∷ is_some (record_at roster p).owned ⟶ InvalidMode ∷ []))
     (accepted (stamps.suspend roster p) process [])
 
 -- RESUME wakes a process that suspended itself

@@ -3,7 +3,7 @@
 use Rattle.std.specs.Prelude.{Bool, true, false, Option, None, Some, ◌==◌}
 use Rattle.apex_types.specs.Terms.{Queue, Wait}
 use Rattle.apex_types.specs.declared.records.Queue.TheVariants as queues
-use Rattle.apex_types.specs.declared.records.Wait.TheVariants.{Normal, Start, Time, Semaphore, Receive, Send, Blackboard, Event}
+use Rattle.apex_types.specs.declared.records.Wait.TheVariants.{Normal, Start, Time, Semaphore, Receive, Send, Blackboard, Event, Mutex}
 
 -- the queue in which a wait stands: a wait for an instant stands in none, and receivers and senders
 -- stand in the one queue of their buffer
@@ -16,6 +16,7 @@ queue_of (Receive b) = Some (queues.Buffer b)
 queue_of (Send b message) = Some (queues.Buffer b)
 queue_of (Blackboard b) = Some (queues.Blackboard b)
 queue_of (Event e) = Some (queues.Event e)
+queue_of (Mutex m) = Some (queues.Mutex m)
 
 -- the two queues are the same
 abbrev pub is_same_queue : Queue → Queue → Bool
@@ -24,6 +25,7 @@ is_same_queue (queues.Semaphore s) (queues.Semaphore t) = s == t
 is_same_queue (queues.Buffer b) (queues.Buffer c) = b == c
 is_same_queue (queues.Blackboard b) (queues.Blackboard c) = b == c
 is_same_queue (queues.Event e) (queues.Event f) = e == f
+is_same_queue (queues.Mutex m) (queues.Mutex n) = m == n
 is_same_queue _ _ = false
 
 -- there is a queue, and it is this one

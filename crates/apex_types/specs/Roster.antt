@@ -3,15 +3,16 @@ use Rattle.std.specs.Prelude.{ℕ, ◌+◌, Bool, true, false, List, length, map
 use Rattle.apex_types.specs.Terms.{Discipline, Mode, Record}
 use Rattle.apex_types.specs.declared.records.Mode.TheVariants.{Idle, ColdStart, Normal}
 use Rattle.apex_types.specs.Places.{map_places}
-use Rattle.apex_types.specs.Table.{Table, ProcessConfig, SemaphoreConfig, BufferConfig}
+use Rattle.apex_types.specs.Table.{Table, ProcessConfig, SemaphoreConfig, BufferConfig, MutexConfig}
 
--- the disciplines of the queues of semaphores and of buffers
+-- the disciplines of the queues of semaphores, of buffers and of mutexes
 pub record Disciplines : Type 0 where
   pub semaphores : List Discipline
   pub buffers : List Discipline
+  pub mutexes : List Discipline
 
--- the processes of a partition at one moment, and what stays: how many cores it has, and the
--- disciplines of its queues
+-- the processes of a partition at one moment, and what stays: how many cores it has, the disciplines of
+-- its queues, and the ceilings of its mutexes
 pub record Roster : Type 0 where
   pub cores : ℕ
   pub mode : Mode
@@ -20,6 +21,7 @@ pub record Roster : Type 0 where
   pub young : ℤ
   pub old : ℤ
   pub disciplines : Disciplines
+  pub ceilings : List ℕ
 
 -- a record that no process has, for a place past the end
 abbrev pub nobody : Record
@@ -32,6 +34,7 @@ nobody = record {
   wait = None;
   since = pos 0;
   due = None;
+  owned = None;
   step = 0;
   inbox = None;
 }
@@ -67,6 +70,7 @@ opening_record p entry = record {
   wait = None;
   since = pos (p + 1);
   due = None;
+  owned = None;
   step = 0;
   inbox = None;
 }
@@ -76,7 +80,12 @@ abbrev pub disciplines_of : Table → Disciplines
 disciplines_of table = record {
   semaphores = map (λ (s : SemaphoreConfig). s.discipline) table.semaphores;
   buffers = map (λ (b : BufferConfig). b.discipline) table.buffers;
+  mutexes = map (λ (m : MutexConfig). m.discipline) table.mutexes;
 }
+
+-- the ceilings that the table gives
+abbrev pub ceilings_of : Table → List ℕ
+ceilings_of table = map (λ (m : MutexConfig). m.ceiling) table.mutexes
 
 -- the roster before any event
 abbrev pub opening_roster : Table → Roster
@@ -88,4 +97,5 @@ opening_roster table = record {
   young = pos (length table.processes + 1);
   old = pos 0;
   disciplines = disciplines_of table;
+  ceilings = ceilings_of table;
 }

@@ -4,12 +4,13 @@ use Rattle.std.specs.Prelude.{ℕ, ◌+◌, ◌-◌, Bool, true, false, List, []
 use Rattle.apex_types.specs.Terms.{Caller, Entry, Reply, SemaphoreService, Timeout}
 use Rattle.apex_types.specs.declared.calls.SemaphoreService.TheVariants.{Wait, Signal}
 use Rattle.apex_types.specs.declared.entries.Reply.TheVariants.{Status}
-use Rattle.apex_types.specs.declared.entries.ReturnCode.TheVariants.{NoAction, InvalidParam}
+use Rattle.apex_types.specs.declared.entries.ReturnCode.TheVariants.{NoAction, InvalidParam, InvalidMode}
 use Rattle.apex_types.specs.declared.records.Queue.TheVariants as queues
 use Rattle.apex_types.specs.declared.records.Wait.TheVariants as wait
 use Rattle.apex_types.specs.Calls.{created_semaphore}
 use Rattle.apex_types.specs.History.{is_created}
 use Rattle.apex_types.specs.Objects.{KindOf}
+use Rattle.apex_types.specs.Owners.{is_waiting_owner}
 use Rattle.apex_types.specs.Roster.{Roster}
 use Rattle.apex_types.specs.Rows.{Outcome, accepted, accepted_with, guarded, ◌⟶◌, by_process}
 use Rattle.apex_types.specs.Satisfied.{semaphore_value}
@@ -27,7 +28,8 @@ pub record SemaphoreObject : Type 0 where
 -- WAIT_SEMAPHORE: takes one of the value, else waits
 abbrev pub wait_semaphore : Roster → SemaphoreObject → ℕ → Caller → Timeout → Outcome SemaphoreObject
 wait_semaphore roster semaphore s caller timeout =
-    guarded roster semaphore (not semaphore.created ⟶ InvalidParam ∷ [])
+    guarded roster semaphore
+    (not semaphore.created ⟶ InvalidParam ∷ is_waiting_owner roster caller timeout ⟶ InvalidMode ∷ [])
     (by_process roster semaphore caller (λ p.
     if nat_lt 0 semaphore.value then
     accepted roster (record semaphore { value = semaphore.value - 1 }) []

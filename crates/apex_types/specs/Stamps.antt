@@ -1,12 +1,12 @@
 -- How records change and when a process takes a new stamp (this profile).
-use Rattle.std.specs.Prelude.{◌≡◌, ℕ, ◌+◌, Bool, true, false, Option, None, Some, pos, ◌+ℤ◌, ◌<ℤ◌, ◌==◌, ◌&&◌, ◌||◌, slice_set, if◌then◌else◌}
+use Rattle.std.specs.Prelude.{◌≡◌, ℕ, ◌+◌, Bool, true, false, Option, None, Some, pos, ◌+ℤ◌, ◌-ℤ◌, ◌<ℤ◌, is_some, not, ◌==◌, ◌&&◌, ◌||◌, slice_set, if◌then◌else◌}
 use Rattle.apex_types.specs.Limits.{most_stamps}
-use Rattle.apex_types.specs.Terms.{Message, Mode, Record, Suspender, Wait}
+use Rattle.apex_types.specs.Terms.{Holding, Message, Mode, Record, Suspender, Wait}
 use Rattle.apex_types.specs.declared.records.Queue.TheVariants as queues
 use Rattle.apex_types.specs.declared.records.Suspender.TheVariants.{Itself, Other}
 use Rattle.apex_types.specs.declared.records.Wait.TheVariants.{Normal, Start}
 use Rattle.apex_types.specs.Roster.{Roster, record_at, with_record, is_normal}
-use Rattle.apex_types.specs.Running.{is_eligible}
+use Rattle.apex_types.specs.Running.{current_priority, is_eligible}
 use Rattle.apex_types.specs.Waiters.{goes_by_priority, queue_in}
 use Rattle.apex_types.specs.Dues.{first_due}
 
@@ -25,6 +25,13 @@ abbrev pub newest : Roster → ℕ → Record → Roster
 newest roster p r = record roster {
   records = slice_set roster.records p (record r { since = roster.young });
   young = roster.young +ℤ pos 1;
+}
+
+-- process p has this record with the next stamp downwards: it is the oldest
+abbrev pub oldest : Roster → ℕ → Record → Roster
+oldest roster p r = record roster {
+  records = slice_set roster.records p (record r { since = roster.old });
+  old = roster.old -ℤ pos 1;
 }
 
 -- process p has this record, and is the newest where that makes it eligible
@@ -88,9 +95,10 @@ start roster p delay =
     let fresh = with_record roster p (reset (record_at roster p)) in
     if is_normal roster.mode then begin fresh p delay else block fresh p (Normal delay) None
 
--- a stop: not started, not suspended, waits for nothing, at the first step, with an empty inbox
+-- a stop: not started, not suspended, waits for nothing, owns nothing, at the first step, with an empty
+-- inbox
 abbrev pub stopped : Record → Record
-stopped r = record r { started = false; suspended = None; wait = None; due = None; step = 0; inbox = None }
+stopped r = record r { started = false; suspended = None; wait = None; due = None; owned = None; step = 0; inbox = None }
 
 -- the process is stopped; this stamps nobody
 abbrev pub stop : Roster → ℕ → Roster
@@ -118,14 +126,32 @@ resume roster p =
     let r = record_at roster p in
     if is_by_itself r.suspended then unblock roster p else readied roster p (unsuspended r)
 
--- rule "set priority": the process has this base priority, and becomes the newest where it is eligible
--- or waits in a queue in which the more urgent comes first
+-- two records of one current priority
+abbrev pub is_level : Record → Record → Bool
+is_level r s = current_priority r == current_priority s
+
+-- rule "set priority": the process has this base priority, and becomes the newest where it waits in a
+-- queue in which the more urgent comes first, or is eligible; but an owner of a mutex keeps its stamp
+-- where its current priority stays
 abbrev pub set_priority : Roster → ℕ → ℕ → Roster
 set_priority roster p base =
     let r = record_at roster p in
     let changed : Record = record r { base = base } in
-    let moves = is_eligible roster.mode r || goes_by_priority roster (queue_in r) in
+    let stays = is_some r.owned && is_level changed r in
+    let moves = (is_eligible roster.mode r && not stays) || goes_by_priority roster (queue_in r) in
     if moves then newest roster p changed else with_record roster p changed
+
+-- process p has this record, and is the oldest where that changes its current priority
+abbrev pub levelled : Roster → ℕ → Record → Roster
+levelled roster p r = if is_level r (record_at roster p) then with_record roster p r else oldest roster p r
+
+-- process p owns this mutex from now on, at this depth, or none
+abbrev pub own : Roster → ℕ → Option Holding → Roster
+own roster p owned = levelled roster p (record (record_at roster p) { owned = owned })
+
+-- process p, which waited for this mutex, owns it and wakes
+abbrev pub inherit : Roster → ℕ → Holding → Roster
+inherit roster p holding = readied roster p (awake (record (record_at roster p) { owned = Some holding }))
 
 -- the process goes behind all others of its priority
 abbrev pub place_newest : Roster → ℕ → Roster

@@ -4,7 +4,7 @@ use Rattle.apex_types.specs.Limits.{most_cores, most_entries, most_init_steps, m
 use Rattle.std.specs.List.{IsDistinct}
 use Rattle.std.specs.Str.{bytes_eq}
 use Rattle.apex_types.specs.Terms.{Call, Discipline, Message, Named, ObjectCall, Origin}
-use Rattle.apex_types.specs.declared.calls.Call.TheVariants.{Partition, Process, Caller, Time, Semaphore, Buffer, Blackboard, Event}
+use Rattle.apex_types.specs.declared.calls.Call.TheVariants.{Partition, Process, Caller, Time, Semaphore, Buffer, Blackboard, Event, Mutex}
 use Rattle.apex_types.specs.declared.calls.CallerCall.TheVariants.{StopSelf}
 use Rattle.apex_types.specs.declared.calls.Named.TheVariants.{Known, Unknown}
 use Rattle.apex_types.specs.declared.calls.ObjectCall.TheVariants.{Create, GetId, GetStatus, Own}
@@ -50,6 +50,12 @@ pub record BlackboardConfig : Type 0 where
 pub record EventConfig : Type 0 where
   pub name : List ℕ
 
+-- a mutex as the table gives it: the priority to which it raises its owner
+pub record MutexConfig : Type 0 where
+  pub name : List ℕ
+  pub ceiling : ℕ
+  pub discipline : Discipline
+
 -- a partition table; the limit is how many entries its history may have
 pub record Table : Type 0 where
   pub cores : ℕ
@@ -59,6 +65,7 @@ pub record Table : Type 0 where
   pub buffers : List BufferConfig
   pub blackboards : List BlackboardConfig
   pub events : List EventConfig
+  pub mutexes : List MutexConfig
   pub init : List Step
 
 -- an entry that no table has, for a place past the end
@@ -77,6 +84,9 @@ no_blackboard = record { name = []; length = 0 }
 abbrev pub no_event : EventConfig
 no_event = record { name = [] }
 
+abbrev pub no_mutex : MutexConfig
+no_mutex = record { name = []; ceiling = 0; discipline = Fifo }
+
 -- the entry at a place, counted from 0
 abbrev pub process_config : Table → ℕ → ProcessConfig
 process_config table p = slice_index_or table.processes p no_process
@@ -92,6 +102,9 @@ blackboard_config table b = slice_index_or table.blackboards b no_blackboard
 
 abbrev pub event_config : Table → ℕ → EventConfig
 event_config table e = slice_index_or table.events e no_event
+
+abbrev pub mutex_config : Table → ℕ → MutexConfig
+mutex_config table m = slice_index_or table.mutexes m no_mutex
 
 -- what stands past the end of every script: STOP_SELF
 abbrev pub no_step : Step
@@ -136,6 +149,7 @@ IsKnown table (Semaphore call) = IsKnownObject (length table.semaphores) call
 IsKnown table (Buffer call) = IsKnownObject (length table.buffers) call
 IsKnown table (Blackboard call) = IsKnownObject (length table.blackboards) call
 IsKnown table (Event call) = IsKnownObject (length table.events) call
+IsKnown table (Mutex call) = IsKnownObject (length table.mutexes) call
 
 -- the message is that of the step of this origin, which has this literal
 pub record IsMessageOf (origin : Origin) (literal : List ℕ) (message : Message) : Type 0 where
@@ -185,6 +199,11 @@ pub record IsLawfulBlackboard (entry : BlackboardConfig) : Type 0 where
 pub record IsLawfulEvent (entry : EventConfig) : Type 0 where
   pub name : IsTrue (is_name entry.name)
 
+-- what holds of a mutex of an accepted table
+pub record IsLawfulMutex (entry : MutexConfig) : Type 0 where
+  pub name : IsTrue (is_name entry.name)
+  pub ceiling : (1 ≤ entry.ceiling) × (entry.ceiling ≤ most_priority)
+
 -- what holds of an accepted table: ranges and references
 pub record IsLawful (table : Table) : Type 0 where
   pub cores : (1 ≤ table.cores) × (table.cores ≤ most_cores)
@@ -194,15 +213,18 @@ pub record IsLawful (table : Table) : Type 0 where
   pub buffer_count : length table.buffers ≤ most_objects
   pub blackboard_count : length table.blackboards ≤ most_objects
   pub event_count : length table.events ≤ most_objects
+  pub mutex_count : length table.mutexes ≤ most_objects
   pub init_count : length table.init ≤ most_init_steps
   pub processes : (p : ℕ) → p < length table.processes → IsLawfulProcess table p (process_config table p)
   pub semaphores : (s : ℕ) → s < length table.semaphores → IsLawfulSemaphore (semaphore_config table s)
   pub buffers : (b : ℕ) → b < length table.buffers → IsLawfulBuffer (buffer_config table b)
   pub blackboards : (b : ℕ) → b < length table.blackboards → IsLawfulBlackboard (blackboard_config table b)
   pub events : (e : ℕ) → e < length table.events → IsLawfulEvent (event_config table e)
+  pub mutexes : (m : ℕ) → m < length table.mutexes → IsLawfulMutex (mutex_config table m)
   pub init : (k : ℕ) → k < length table.init → IsLawfulStep table (Init k) (step_at table.init k)
   pub process_names : IsDistinct bytes_eq (map (λ (e : ProcessConfig). e.name) table.processes)
   pub semaphore_names : IsDistinct bytes_eq (map (λ (e : SemaphoreConfig). e.name) table.semaphores)
   pub buffer_names : IsDistinct bytes_eq (map (λ (e : BufferConfig). e.name) table.buffers)
   pub blackboard_names : IsDistinct bytes_eq (map (λ (e : BlackboardConfig). e.name) table.blackboards)
   pub event_names : IsDistinct bytes_eq (map (λ (e : EventConfig). e.name) table.events)
+  pub mutex_names : IsDistinct bytes_eq (map (λ (e : MutexConfig). e.name) table.mutexes)

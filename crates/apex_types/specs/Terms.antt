@@ -5,6 +5,7 @@ pub use Rattle.apex_types.specs.declared.calls.Call.{Call}
 pub use Rattle.apex_types.specs.declared.calls.CallerCall.{CallerCall}
 pub use Rattle.apex_types.specs.declared.calls.EventService.{EventService}
 pub use Rattle.apex_types.specs.declared.calls.Message.{Message}
+pub use Rattle.apex_types.specs.declared.calls.MutexService.{MutexService}
 pub use Rattle.apex_types.specs.declared.calls.Named.{Named}
 pub use Rattle.apex_types.specs.declared.calls.ObjectCall.{ObjectCall}
 pub use Rattle.apex_types.specs.declared.calls.Origin.{Origin}
@@ -22,6 +23,7 @@ pub use Rattle.apex_types.specs.declared.entries.Reply.{Reply}
 pub use Rattle.apex_types.specs.declared.entries.ReturnCode.{ReturnCode}
 pub use Rattle.apex_types.specs.declared.entries.Who.{Who}
 pub use Rattle.apex_types.specs.declared.records.Discipline.{Discipline}
+pub use Rattle.apex_types.specs.declared.records.Holding.{Holding}
 pub use Rattle.apex_types.specs.declared.records.Mode.{Mode}
 pub use Rattle.apex_types.specs.declared.records.Queue.{Queue}
 pub use Rattle.apex_types.specs.declared.records.Record.{Record}

@@ -1,14 +1,15 @@
 -- The services of time management, row by row: the first guard that holds answers and changes nothing
 -- (ARINC 653 Part 1, time management; the guards are this profile's).
-use Rattle.std.specs.Prelude.{ℕ, []}
+use Rattle.std.specs.Prelude.{ℕ, [], ◌∷◌}
 use Rattle.apex_types.specs.Terms.{Caller, TimeCall, Timeout}
 use Rattle.apex_types.specs.declared.calls.TimeCall.TheVariants.{TimedWait, GetTime}
 use Rattle.apex_types.specs.declared.calls.Timeout.TheVariants.{Poll, Ticks, Infinite}
 use Rattle.apex_types.specs.declared.entries.Reply.TheVariants.{Value}
-use Rattle.apex_types.specs.declared.entries.ReturnCode.TheVariants.{InvalidParam}
+use Rattle.apex_types.specs.declared.entries.ReturnCode.TheVariants.{InvalidMode, InvalidParam}
 use Rattle.apex_types.specs.declared.records.Wait.TheVariants as wait
+use Rattle.apex_types.specs.Owners.{is_owner}
 use Rattle.apex_types.specs.Roster.{Roster}
-use Rattle.apex_types.specs.Rows.{Outcome, told, refused, accepted, by_process}
+use Rattle.apex_types.specs.Rows.{Outcome, told, refused, accepted, by_process, guarded, ◌⟶◌}
 use Rattle.apex_types.specs.Stamps.{place_newest}
 use Rattle.apex_types.specs.Waiting.{blocked}
 
@@ -18,8 +19,13 @@ timed_wait roster objects Poll p = accepted (place_newest roster p) objects []
 timed_wait roster objects (Ticks n) p = blocked roster objects p wait.Time (Ticks n)
 timed_wait roster objects Infinite p = refused roster objects InvalidParam
 
+-- TIMED_WAIT
+abbrev pub timed_wait_service : {X : Type 0} → Roster → X → Caller → Timeout → Outcome X
+timed_wait_service roster objects caller timeout =
+    guarded roster objects (is_owner roster caller ⟶ InvalidMode ∷ [])
+    (by_process roster objects caller (timed_wait roster objects timeout))
+
 -- any service of time management
 abbrev pub time_service : {X : Type 0} → Roster → X → Caller → TimeCall → Outcome X
-time_service roster objects caller (TimedWait timeout) =
-    by_process roster objects caller (timed_wait roster objects timeout)
+time_service roster objects caller (TimedWait timeout) = timed_wait_service roster objects caller timeout
 time_service roster objects caller GetTime = told roster objects (Value roster.now)

@@ -22,11 +22,12 @@ abbrev pub is_by_priority : Discipline → Bool
 is_by_priority Fifo = false
 is_by_priority Priority = true
 
--- the discipline of a queue: a semaphore's and a buffer's is the table's; all others are first in,
--- first out
+-- the discipline of a queue: a semaphore's, a buffer's and a mutex's is the table's; all others are
+-- first in, first out
 abbrev pub discipline_of : Roster → Queue → Discipline
 discipline_of roster (queues.Semaphore s) = slice_index_or roster.disciplines.semaphores s Fifo
 discipline_of roster (queues.Buffer b) = slice_index_or roster.disciplines.buffers b Fifo
+discipline_of roster (queues.Mutex m) = slice_index_or roster.disciplines.mutexes m Fifo
 discipline_of roster _ = Fifo
 
 -- whether r comes before s in a queue of this discipline: the longer waiter, or the more urgent one and

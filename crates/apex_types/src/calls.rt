@@ -1,7 +1,7 @@
 ghost use Rattle.std.specs.Prelude.{◌≡◌};
 ghost use Rattle.apex_types.specs.Calls.{known, object_of, unknown, object_origin, origin_of, message_in};
 
-use crate::identifiers::{BlackboardId, BufferId, EventId, ProcessId, SemaphoreId};
+use crate::identifiers::{BlackboardId, BufferId, EventId, MutexId, ProcessId, SemaphoreId};
 
 /// How long a call may wait.
 #[derive(Clone, Copy, Debug, PartialEq, Eq)]
@@ -192,6 +192,16 @@ pub enum EventService {
 /// A call of a service of events.
 pub type EventCall = ObjectCall<EventId, EventService>;
 
+/// A service of mutexes, but for the three that each kind has.
+#[derive(Clone, Copy, Debug, PartialEq, Eq)]
+pub enum MutexService {
+    Acquire(Timeout),
+    Release,
+}
+
+/// A call of a service of mutexes.
+pub type MutexCall = ObjectCall<MutexId, MutexService>;
+
 /// A service with its literal arguments, as a step of a script or of the init list asks for it.
 #[derive(Clone, Copy, Debug, PartialEq, Eq)]
 pub enum Call {
@@ -203,6 +213,7 @@ pub enum Call {
     Buffer(BufferCall),
     Blackboard(BlackboardCall),
     Event(EventCall),
+    Mutex(MutexCall),
 }
 
 impl Call {
@@ -216,6 +227,7 @@ impl Call {
             Call::Buffer(call) => call.origin(),
             Call::Blackboard(call) => call.origin(),
             Call::Event(call) => call.origin(),
+            Call::Mutex(call) => call.origin(),
             Call::Partition(_) | Call::Caller(_) | Call::Time(_) => None,
         }
     }

@@ -106,6 +106,10 @@ pub struct BlackboardKind;
 #[derive(Clone, Copy, Debug, PartialEq, Eq)]
 pub struct EventKind;
 
+/// What an id of a mutex stands for.
+#[derive(Clone, Copy, Debug, PartialEq, Eq)]
+pub struct MutexKind;
+
 /// A process of the partition.
 pub type ProcessId = Id<ProcessKind>;
 
@@ -120,3 +124,6 @@ pub type BlackboardId = Id<BlackboardKind>;
 
 /// An event of APEX, which is up or down. What happens to the partition is an `Event`.
 pub type EventId = Id<EventKind>;
+
+/// A mutex of the partition.
+pub type MutexId = Id<MutexKind>;

@@ -15,15 +15,15 @@ mod steps;
 
 pub use calls::{
     BlackboardCall, BlackboardService, BufferCall, BufferService, Call, CallerCall, EventCall,
-    EventService, Message, Named, ObjectCall, Origin, PartitionCall, ProcessCall, ProcessService,
-    RequestedMode, SemaphoreCall, SemaphoreService, TimeCall, Timeout,
+    EventService, Message, MutexCall, MutexService, Named, ObjectCall, Origin, PartitionCall,
+    ProcessCall, ProcessService, RequestedMode, SemaphoreCall, SemaphoreService, TimeCall, Timeout,
 };
 pub use entries::{Caller, Entry, Event, Full, LentEntry, Notice, Notices, Reply, ReturnCode, Who};
 pub use identifiers::{
-    BlackboardId, BlackboardKind, BufferId, BufferKind, CoreId, EventId, EventKind, Id, ProcessId,
-    ProcessKind, SemaphoreId, SemaphoreKind,
+    BlackboardId, BlackboardKind, BufferId, BufferKind, CoreId, EventId, EventKind, Id, MutexId,
+    MutexKind, ProcessId, ProcessKind, SemaphoreId, SemaphoreKind,
 };
 pub use names::Name;
 pub use numbers::{number, number_at_most};
-pub use records::{Attributes, Discipline, Mode, Queue, Record, State, Suspender, Wait};
+pub use records::{Attributes, Discipline, Holding, Mode, Queue, Record, State, Suspender, Wait};
 pub use steps::{Literal, Step};

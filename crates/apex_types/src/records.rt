@@ -2,11 +2,12 @@ ghost use Rattle.std.specs.Prelude.{◌≡◌};
 ghost use Rattle.apex_types.specs.Roster.{is_normal};
 ghost use Rattle.apex_types.specs.Running.{current_priority, is_eligible};
 ghost use Rattle.apex_types.specs.Stamps.{is_by_itself};
+ghost use Rattle.apex_types.specs.Owners.{owns};
 ghost use Rattle.apex_types.specs.Queues.{queue_of};
 ghost use Rattle.apex_types.specs.Waiters.{queue_in};
 
 use crate::calls::Message;
-use crate::identifiers::{BlackboardId, BufferId, CoreId, EventId, SemaphoreId};
+use crate::identifiers::{BlackboardId, BufferId, CoreId, EventId, MutexId, SemaphoreId};
 
 /// The partition's operating mode (ARINC 653 Part 1, partition management).
 #[derive(Clone, Copy, Debug, PartialEq, Eq)]
@@ -51,6 +52,8 @@ pub enum Wait {
     Blackboard(BlackboardId),
     /// That the event is up.
     Event(EventId),
+    /// That the mutex is free.
+    Mutex(MutexId),
 }
 
 /// Where processes stand one behind the other while they wait.
@@ -63,6 +66,7 @@ pub enum Queue {
     Buffer(BufferId),
     Blackboard(BlackboardId),
     Event(EventId),
+    Mutex(MutexId),
 }
 
 impl Wait {
@@ -76,6 +80,7 @@ impl Wait {
             Wait::Receive(buffer) | Wait::Send(buffer, _) => Some(Queue::Buffer(*buffer)),
             Wait::Blackboard(blackboard) => Some(Queue::Blackboard(*blackboard)),
             Wait::Event(event) => Some(Queue::Event(*event)),
+            Wait::Mutex(mutex) => Some(Queue::Mutex(*mutex)),
             Wait::Start | Wait::Time => None,
         }
     }
@@ -88,7 +93,7 @@ pub enum Suspender {
     Other,
 }
 
-/// Who comes first in the queue of a semaphore or of a buffer (ARINC 653 Part 1, intrapartition
+/// Who comes first in the queue of a semaphore, a buffer or a mutex (ARINC 653 Part 1, intrapartition
 /// communication).
 #[derive(Clone, Copy, Debug, PartialEq, Eq)]
 pub enum Discipline {
@@ -96,6 +101,16 @@ pub enum Discipline {
     Fifo,
     /// The most urgent, and among equals who waits longest.
     Priority,
+}
+
+/// What a process has of the mutex that it owns (this profile).
+#[derive(Clone, Copy, Debug, PartialEq, Eq)]
+pub struct Holding {
+    pub mutex: MutexId,
+    /// The priority to which the mutex raises its owner, 1 to 239.
+    pub ceiling: u8,
+    /// How often the process acquired it and has not released it yet, 1 to 32.
+    pub depth: u8,
 }
 
 /// What the table gives a process for good.
@@ -120,6 +135,8 @@ pub struct Record {
     /// The instant in ticks at which its wait, or its suspension of itself, ends if it does so of its
     /// own.
     pub due: Option<u64>,
+    /// The mutex that it owns, if it owns one.
+    pub owned: Option<Holding>,
     /// The place of its next step in its script, counted from 0.
     pub step: u8,
     /// The last message that it received.
@@ -134,11 +151,25 @@ impl Record {
         mode.is_normal() && self.started && self.suspended.is_none() && self.wait.is_none()
     }
 
-    /// The current priority; a greater one is more urgent.
+    /// The current priority: the greater of the base priority and the ceiling of the mutex that the
+    /// process owns. A greater one is more urgent.
     pub fn current_priority(&self) -> u8
         ensures { result ≡ current_priority self.now }
     {
-        self.base
+        match &self.owned {
+            Some(holding) if holding.ceiling > self.base => holding.ceiling,
+            _ => self.base,
+        }
+    }
+
+    /// The process owns this mutex.
+    pub fn owns(&self, mutex: MutexId) -> bool
+        ensures { result ≡ owns mutex self.now }
+    {
+        match &self.owned {
+            Some(holding) => holding.mutex == mutex,
+            None => false,
+        }
     }
 
     /// The queue in which the process stands, if it stands in one.

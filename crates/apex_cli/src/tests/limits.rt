@@ -135,6 +135,33 @@ fn eight_cores_and_sixteen_semaphores(rt: HostRuntime) -> Result<(), Fail> {
     Ok(())
 }
 
+// An owner that goes 32 deep, and asks once more.
+fn nesting(alloc: Global) -> Result<String, Fail> {
+    let mut outline = String::new(alloc);
+    let steps = times(alloc, 33, "ACQUIRE_MUTEX M infinite; ")?;
+    writeln!(outline, "process A 10 0 start: {steps}GET_MUTEX_STATUS M")?;
+    writeln!(outline, "mutex M 50 FIFO")?;
+    table_of(alloc, outline.as_str())
+}
+
+#[test]
+fn mutex_33rd_nesting_is_refused(rt: HostRuntime) -> Result<(), Fail> {
+    let table = nesting(rt.alloc())?;
+    let limit = Limit {
+        name: "mutex_33rd_nesting",
+        table: table.as_str(),
+        schedule: "0*39",
+        status: 0,
+        fault: "",
+        lines: "36 0 core0 1 ACQUIRE_MUTEX M infinite -> NO_ERROR
+37 0 core0 1 ACQUIRE_MUTEX M infinite -> NO_ERROR
+38 0 core0 1 ACQUIRE_MUTEX M infinite -> INVALID_MODE
+39 0 core0 1 GET_MUTEX_STATUS M -> STATUS 1 32
+",
+    };
+    check_limit(&rt, rt.alloc(), &limit)
+}
+
 // 32 processes with names of 30 bytes and 64 steps each.
 fn greatest_processes(alloc: Global) -> Result<String, Fail> {
     let mut outline = String::new(alloc);
@@ -174,7 +201,7 @@ fn thirty_two_processes_of_64_steps(rt: HostRuntime) -> Result<(), Fail> {
     Ok(())
 }
 
-// 16 buffers, 16 blackboards and 16 events, all of the greatest size, and one process.
+// 16 buffers, 16 blackboards, 16 events and 16 mutexes, all of the greatest size, and one process.
 fn greatest_objects(alloc: Global, steps: &str) -> Result<String, Fail> {
     let mut outline = String::new(alloc);
     writeln!(outline, "process A 10 0 start: {steps}")?;
@@ -182,6 +209,7 @@ fn greatest_objects(alloc: Global, steps: &str) -> Result<String, Fail> {
         writeln!(outline, "buffer Q{number} 64 16 FIFO")?;
         writeln!(outline, "blackboard L{number} 64")?;
         writeln!(outline, "event E{number}")?;
+        writeln!(outline, "mutex M{number} 239 PRIORITY")?;
     }
     table_of(alloc, outline.as_str())
 }
@@ -193,14 +221,14 @@ fn sixteen_objects_of_each_kind(rt: HostRuntime) -> Result<(), Fail> {
     let rest = rest.as_str();
     let mut steps = String::new(rt.alloc());
     let mut lines = String::new(rt.alloc());
-    for (number, line) in (1u8..=16).zip(53u8..=68) {
+    for (number, line) in (1u8..=16).zip(69u8..=84) {
         write!(steps, "SEND_BUFFER Q16 {number:02}{rest} 0; ")?;
         let call = "core0 1 SEND_BUFFER Q16";
         writeln!(lines, "{line} 0 {call} {number:02}{rest} 0 -> NO_ERROR")?;
     }
     steps.push_str("SEND_BUFFER Q16 17 0; ")?;
-    lines.push_str("69 0 core0 1 SEND_BUFFER Q16 17 0 -> NOT_AVAILABLE\n")?;
-    for (number, line) in (1u8..=16).zip(70u8..=85) {
+    lines.push_str("85 0 core0 1 SEND_BUFFER Q16 17 0 -> NOT_AVAILABLE\n")?;
+    for (number, line) in (1u8..=16).zip(86u8..=101) {
         steps.push_str("RECEIVE_BUFFER Q16 0; ")?;
         let call = "core0 1 RECEIVE_BUFFER Q16 0";
         writeln!(lines, "{line} 0 {call} -> MESSAGE {number:02}{rest}")?;
@@ -209,23 +237,27 @@ fn sixteen_objects_of_each_kind(rt: HostRuntime) -> Result<(), Fail> {
         steps,
         "DISPLAY_BLACKBOARD L16 99{rest}; READ_BLACKBOARD L16 0; READ_BLACKBOARD L15 0; "
     )?;
-    let call = "86 0 core0 1 DISPLAY_BLACKBOARD L16";
+    let call = "102 0 core0 1 DISPLAY_BLACKBOARD L16";
     writeln!(lines, "{call} 99{rest} -> NO_ERROR")?;
-    let call = "87 0 core0 1 READ_BLACKBOARD L16 0";
+    let call = "103 0 core0 1 READ_BLACKBOARD L16 0";
     writeln!(lines, "{call} -> MESSAGE 99{rest}")?;
-    steps.push_str("SET_EVENT E16; WAIT_EVENT E16 0; WAIT_EVENT E15 0")?;
+    steps.push_str("SET_EVENT E16; WAIT_EVENT E16 0; WAIT_EVENT E15 0; ")?;
+    steps.push_str("ACQUIRE_MUTEX M16 0; GET_MUTEX_STATUS M16; GET_PROCESS_STATUS A")?;
     lines.push_str(
-        "88 0 core0 1 READ_BLACKBOARD L15 0 -> NOT_AVAILABLE
-89 0 core0 1 SET_EVENT E16 -> NO_ERROR
-90 0 core0 1 WAIT_EVENT E16 0 -> NO_ERROR
-91 0 core0 1 WAIT_EVENT E15 0 -> NOT_AVAILABLE
+        "104 0 core0 1 READ_BLACKBOARD L15 0 -> NOT_AVAILABLE
+105 0 core0 1 SET_EVENT E16 -> NO_ERROR
+106 0 core0 1 WAIT_EVENT E16 0 -> NO_ERROR
+107 0 core0 1 WAIT_EVENT E15 0 -> NOT_AVAILABLE
+108 0 core0 1 ACQUIRE_MUTEX M16 0 -> NO_ERROR
+109 0 core0 1 GET_MUTEX_STATUS M16 -> STATUS 1 1
+110 0 core0 1 GET_PROCESS_STATUS A -> STATUS 2 239
 ",
     )?;
     let table = greatest_objects(rt.alloc(), steps.as_str())?;
     let limit = Limit {
         name: "sixteen_objects_of_each_kind",
         table: table.as_str(),
-        schedule: "0*91",
+        schedule: "0*110",
         status: 0,
         fault: "",
         lines: lines.as_str(),
@@ -271,6 +303,52 @@ fn thirty_one_waiters_are_released_at_once(rt: HostRuntime) -> Result<(), Fail> 
         check_limit(&rt, rt.alloc(), &limit)?;
     }
     Ok(())
+}
+
+// A process that goes as deep as it may and comes out again, and one that looks at it.
+fn deepest_owner(alloc: Global) -> Result<String, Fail> {
+    let acquire = times(alloc, 32, "ACQUIRE_MUTEX M 0; ")?;
+    let acquire = acquire.as_str();
+    let release = times(alloc, 32, "RELEASE_MUTEX M; ")?;
+    let release = release.as_str();
+    let mut outline = String::new(alloc);
+    outline.push_str("cores 2\nmutex M 239 FIFO\n")?;
+    writeln!(outline, "process A 1 0 start: {acquire}{release}")?;
+    let steps = "GET_MUTEX_STATUS M; GET_PROCESS_STATUS A";
+    writeln!(outline, "process B 1 1 start loop: {steps}")?;
+    table_of(alloc, outline.as_str())
+}
+
+#[test]
+fn thirty_two_releases_free_a_mutex(rt: HostRuntime) -> Result<(), Fail> {
+    let table = deepest_owner(rt.alloc())?;
+    let mut lines = String::new(rt.alloc());
+    lines.push_str(
+        "40 0 core0 1 ACQUIRE_MUTEX M 0 -> NO_ERROR
+41 0 core1 2 GET_MUTEX_STATUS M -> STATUS 1 32
+42 0 core1 2 GET_PROCESS_STATUS A -> STATUS 2 239
+",
+    )?;
+    for number in 43u8..=73 {
+        writeln!(lines, "{number} 0 core0 1 RELEASE_MUTEX M -> NO_ERROR")?;
+    }
+    lines.push_str(
+        "74 0 core1 2 GET_MUTEX_STATUS M -> STATUS 1 1
+75 0 core1 2 GET_PROCESS_STATUS A -> STATUS 2 239
+76 0 core0 1 RELEASE_MUTEX M -> NO_ERROR
+77 0 core1 2 GET_MUTEX_STATUS M -> STATUS 0 0
+78 0 core1 2 GET_PROCESS_STATUS A -> STATUS 2 1
+",
+    )?;
+    let limit = Limit {
+        name: "thirty_two_releases",
+        table: table.as_str(),
+        schedule: "0*40 1*2 0*31 1*2 0 1*2",
+        status: 0,
+        fault: "",
+        lines: lines.as_str(),
+    };
+    check_limit(&rt, rt.alloc(), &limit)
 }
 
 #[test]

@@ -1,5 +1,5 @@
-// Buffers, blackboards and events: whole histories, and tables that are refused.
-use super::{IDLER, SEMAPHORE, TWO_CORES, check, played, refused};
+// Buffers, blackboards and events: whole histories, and tables with objects that are refused.
+use super::{IDLER, MUTEX, SEMAPHORE, TWO_CORES, check, played, refused};
 use std::test::Fail;
 
 // The first sender, with its first message between these.
@@ -347,11 +347,87 @@ const FAULTS: &[(&str, &str, &str)] = &[
         "apex: table refused: WrongType in event 1",
     ),
     (
+        "mutex_with_an_unknown_key",
+        r#"mutex = [{ name = "M", ceiling = 50, discipline = "FIFO", depth = 32 }]"#,
+        "apex: table refused: UnknownKey in mutex 1",
+    ),
+    (
+        "mutex_without_name",
+        r#"mutex = [{ ceiling = 50, discipline = "FIFO" }]"#,
+        "apex: table refused: MissingKey in mutex 1",
+    ),
+    (
+        "mutex_of_a_bad_name",
+        r#"mutex = [{ name = "M 2", ceiling = 50, discipline = "FIFO" }]"#,
+        "apex: table refused: BadName in mutex 1",
+    ),
+    (
+        "two_mutexes_of_one_name",
+        r#"mutex = [
+  { name = "M", ceiling = 50, discipline = "FIFO" },
+  { name = "M", ceiling = 0, discipline = "FIFO" },
+]"#,
+        "apex: table refused: DoubleName in mutex 2",
+    ),
+    (
+        "mutex_without_ceiling",
+        r#"mutex = [
+  { name = "M", ceiling = 50, discipline = "FIFO" },
+  { name = "N", discipline = "FIFO" },
+]"#,
+        "apex: table refused: MissingKey in mutex 2",
+    ),
+    (
+        "mutex_with_a_text_as_ceiling",
+        r#"mutex = [{ name = "M", ceiling = "50", discipline = "FIFO" }]"#,
+        "apex: table refused: WrongType in mutex 1",
+    ),
+    (
+        "mutex_of_ceiling_0_without_discipline",
+        r#"mutex = [{ name = "M", ceiling = 0 }]"#,
+        "apex: table refused: OutOfRange in mutex 1",
+    ),
+    (
+        "mutex_of_ceiling_240",
+        r#"mutex = [{ name = "M", ceiling = 240, discipline = "FIFO" }]"#,
+        "apex: table refused: OutOfRange in mutex 1",
+    ),
+    (
+        "mutex_without_discipline",
+        r#"mutex = [{ name = "M", ceiling = 239 }]"#,
+        "apex: table refused: MissingKey in mutex 1",
+    ),
+    (
+        "mutex_of_another_discipline",
+        r#"mutex = [{ name = "M", ceiling = 1, discipline = "CEILING" }]"#,
+        "apex: table refused: OutOfRange in mutex 1",
+    ),
+    (
+        "mutex_that_is_no_table",
+        r#"mutex = ["M"]"#,
+        "apex: table refused: WrongType in mutex 1",
+    ),
+    (
+        "mutexes_that_are_no_array",
+        r#"mutex = { name = "M", ceiling = 50, discipline = "FIFO" }"#,
+        "apex: table refused: WrongType in mutex 0",
+    ),
+    (
         "sections_in_another_order",
         r#"event = [{}]
 blackboard = [{ name = "L" }]
 buffer = [{ name = "B", length = 4, capacity = 16, discipline = "FIFO" }]"#,
         "apex: table refused: MissingKey in blackboard 1",
+    ),
+    (
+        "mutex_and_event_in_another_order",
+        "mutex = [{}]\nevent = [{}]",
+        "apex: table refused: MissingKey in event 1",
+    ),
+    (
+        "mutex_and_an_init_list_of_numbers",
+        "init = [1]\nmutex = [{}]",
+        "apex: table refused: MissingKey in mutex 1",
     ),
     (
         "init_step_that_sends",
@@ -377,6 +453,23 @@ blackboard = [{ name = "L", length = 4 }]"#,
 event = [{ name = "E" }]"#,
         "apex: table refused: BadInitStep in init 1",
     ),
+    (
+        "init_step_that_acquires",
+        r#"init = ["CREATE_MUTEX M", "GET_MUTEX_STATUS M", "ACQUIRE_MUTEX M 0"]
+mutex = [{ name = "M", ceiling = 50, discipline = "FIFO" }]"#,
+        "apex: table refused: BadInitStep in init 3",
+    ),
+    (
+        "init_step_that_releases",
+        r#"init = ["GET_MUTEX_ID M", "RELEASE_MUTEX M"]
+mutex = [{ name = "M", ceiling = 50, discipline = "FIFO" }]"#,
+        "apex: table refused: BadInitStep in init 2",
+    ),
+    (
+        "init_step_that_acquires_what_is_not_there",
+        r#"init = ["ACQUIRE_MUTEX M 0"]"#,
+        "apex: table refused: UnknownName in init 1",
+    ),
 ];
 
 #[test]
@@ -389,6 +482,7 @@ fn sections_are_refused(rt: HostRuntime) -> Result<(), Fail> {
         (BUFFER, "apex: table refused: TooMany in buffer 0"),
         (BLACKBOARD, "apex: table refused: TooMany in blackboard 0"),
         (EVENT, "apex: table refused: TooMany in event 0"),
+        (MUTEX, "apex: table refused: TooMany in mutex 0"),
     ];
     for (section, fault) in kinds {
         let mut seventeen = [section; 19];
@@ -400,7 +494,7 @@ fn sections_are_refused(rt: HostRuntime) -> Result<(), Fail> {
 }
 
 // How a table is refused, and steps for which it is, where it has a semaphore S, a buffer B, a
-// blackboard L and an event E.
+// blackboard L, an event E and a mutex M.
 const STEPS: &[(&str, &[&str])] = &[
     (
         "apex: table refused: UnknownName in process 1",
@@ -412,6 +506,10 @@ const STEPS: &[(&str, &[&str])] = &[
             "READ_BLACKBOARD E 4294967296",
             "SET_EVENT L",
             "WAIT_EVENT A infinite",
+            "ACQUIRE_MUTEX S 0",
+            "ACQUIRE_MUTEX N 4294967296",
+            "RELEASE_MUTEX A",
+            "GET_MUTEX_STATUS E",
         ],
     ),
     (
@@ -429,6 +527,15 @@ const STEPS: &[(&str, &[&str])] = &[
             "CLEAR_BLACKBOARD L 0",
             "SET_EVENT E 0",
             "WAIT_EVENT E 00",
+            "ACQUIRE_MUTEX M",
+            "ACQUIRE_MUTEX M -1",
+            "ACQUIRE_MUTEX M 0 0",
+            "ACQUIRE_MUTEX N 01",
+            "RELEASE_MUTEX",
+            "RELEASE_MUTEX M 0",
+            "RESET_MUTEX M",
+            "CREATE_MUTEX",
+            "GET_MUTEX_STATUS M 0",
         ],
     ),
     (
@@ -438,6 +545,14 @@ const STEPS: &[(&str, &[&str])] = &[
             "RECEIVE_BUFFER B 4294967296",
             "READ_BLACKBOARD L 4294967296",
             "WAIT_EVENT E 4294967296",
+            "ACQUIRE_MUTEX M 4294967296",
+        ],
+    ),
+    (
+        "apex: table refused: BadName in process 1",
+        &[
+            "CREATE_MUTEX MMMMMMMMMMMMMMMMMMMMMMMMMMMMMMM",
+            "GET_MUTEX_ID MMMMMMMMMMMMMMMMMMMMMMMMMMMMMMM",
         ],
     ),
 ];
@@ -453,7 +568,7 @@ fn steps_are_refused(rt: HostRuntime) -> Result<(), Fail> {
     for (fault, steps) in STEPS {
         for step in *steps {
             let table = [
-                TWO_CORES, ONE_STEP, *step, "\"]\n", SEMAPHORE, BUFFER, BLACKBOARD, EVENT,
+                TWO_CORES, ONE_STEP, *step, "\"]\n", SEMAPHORE, BUFFER, BLACKBOARD, EVENT, MUTEX,
             ];
             check(&rt, rt.alloc(), &refused(step, &table, fault))?;
         }

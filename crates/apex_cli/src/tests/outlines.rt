@@ -14,6 +14,7 @@ use std::test::Fail;
 //     buffer NAME LENGTH CAPACITY DISCIPLINE
 //     blackboard NAME LENGTH
 //     event NAME
+//     mutex NAME CEILING DISCIPLINE
 //     schedule ITEM ITEM
 //     NUMBER NOW WHO PROCESS CALL -> REPLY
 //
@@ -61,6 +62,7 @@ impl<'a> Outline<'a> {
             ("buffer", buffer) => put_buffer(&mut self.sections, buffer)?,
             ("blackboard", blackboard) => put_blackboard(&mut self.sections, blackboard)?,
             ("event", name) => writeln!(self.sections, "[[event]]\nname = \"{name}\"")?,
+            ("mutex", mutex) => put_mutex(&mut self.sections, mutex)?,
             ("schedule", schedule) => self.schedule = schedule,
             ("", _) => {}
             _ => writeln!(self.lines, "{line}")?,
@@ -140,6 +142,17 @@ fn put_buffer(text: &mut String, buffer: &str) -> Result<(), Fail> {
 fn put_blackboard(text: &mut String, blackboard: &str) -> Result<(), Fail> {
     let (name, length) = blackboard.split_once(' ').ok_or("no length")?;
     writeln!(text, "[[blackboard]]\nname = \"{name}\"\nlength = {length}")?;
+    Ok(())
+}
+
+// Writes the section of a mutex, told as `NAME CEILING DISCIPLINE`.
+fn put_mutex(text: &mut String, mutex: &str) -> Result<(), Fail> {
+    let mut words = mutex.split(' ');
+    let name = words.next().ok_or("no name")?;
+    let ceiling = words.next().ok_or("no ceiling")?;
+    let discipline = words.next().ok_or("no discipline")?;
+    writeln!(text, "[[mutex]]\nname = \"{name}\"\nceiling = {ceiling}")?;
+    writeln!(text, "discipline = \"{discipline}\"")?;
     Ok(())
 }
 

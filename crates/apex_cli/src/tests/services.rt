@@ -4,6 +4,7 @@ mod blackboard;
 mod buffer;
 mod event;
 mod kinds;
+mod mutex;
 mod partition;
 mod process;
 mod rows;
@@ -14,7 +15,7 @@ use super::outlines::check_outline;
 use rows::{Row, rows};
 use std::test::Fail;
 
-const CASES: [&[&str]; 8] = [
+const CASES: [&[&str]; 9] = [
     partition::CASES,
     process::CASES,
     time::CASES,
@@ -22,6 +23,7 @@ const CASES: [&[&str]; 8] = [
     buffer::CASES,
     blackboard::CASES,
     event::CASES,
+    mutex::CASES,
     kinds::CASES,
 ];
 

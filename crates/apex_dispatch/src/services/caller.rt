@@ -1,17 +1,18 @@
 //! The services of process management that a process asks for itself.
 
-ghost use Rattle.std.specs.Prelude.{◌≡◌, []};
+ghost use Rattle.std.specs.Prelude.{◌≡◌, ◌<◌, [], length};
 ghost use Rattle.apex_types.specs.CallerServices as services;
 ghost use Rattle.apex_types.specs.Callers.{IsReady, IsReadyCaller};
 ghost use Rattle.apex_types.specs.Dues.{HasTime};
+ghost use Rattle.apex_types.specs.Limits.{most_notices};
 ghost use Rattle.apex_types.specs.Rows.{Leaves};
 ghost use Rattle.apex_types.specs.Stamps.{HasStamps};
 
 use crate::objects::Objects;
-use apex_store::{Store, due_after};
-use apex_types::{Caller, CallerCall, ProcessId, Reply, ReturnCode, Timeout};
+use apex_store::{Store, due_after, halt};
+use apex_types::{Caller, CallerCall, Notices, ProcessId, Reply, ReturnCode, Timeout};
 
-/// SUSPEND_SELF by a process.
+/// SUSPEND_SELF by a process. INVALID_MODE where it owns a mutex.
 fn suspend_self<S: Store>(
     store: &mut S,
     objects: &Objects,
@@ -24,6 +25,9 @@ fn suspend_self<S: Store>(
     ensures { Leaves (services.suspend_self (S.roster store.old) objects.now process timeout)
         (S.roster store.new) objects.now result [] [] }
 {
+    if store.record(process).owned.is_some() {
+        return Reply::Code(ReturnCode::InvalidMode);
+    }
     match timeout {
         Timeout::Poll => Reply::Code(ReturnCode::NoError),
         Timeout::Ticks(_) | Timeout::Infinite => {
@@ -40,16 +44,18 @@ fn serve_itself<S: Store>(
     objects: &Objects,
     process: ProcessId,
     call: &CallerCall,
+    notices: &mut Notices,
 ) -> Reply
     requires ready { IsReady (S.roster store.old) process }
     requires stamps { HasStamps (S.roster store.old) }
     requires time { HasTime (S.roster store.old) }
+    requires room { length notices.old < most_notices }
     ensures { Leaves (services.service_by (S.roster store.old) objects.now call.now process)
-        (S.roster store.new) objects.now result [] [] }
+        (S.roster store.new) objects.now result notices.old notices.new }
 {
     match call {
         CallerCall::StopSelf => {
-            store.stop(process);
+            halt(store, process, notices);
             Reply::Gone
         }
         CallerCall::SuspendSelf(timeout) => suspend_self(store, objects, process, *timeout),
@@ -66,15 +72,17 @@ pub(crate) fn serve<S: Store>(
     objects: &Objects,
     caller: &Caller,
     call: &CallerCall,
+    notices: &mut Notices,
 ) -> Reply
     requires caller { IsReadyCaller (S.roster store.old) caller.now }
     requires stamps { HasStamps (S.roster store.old) }
     requires time { HasTime (S.roster store.old) }
+    requires room { length notices.old < most_notices }
     ensures { Leaves (services.caller_service (S.roster store.old) objects.now caller.now call.now)
-        (S.roster store.new) objects.now result [] [] }
+        (S.roster store.new) objects.now result notices.old notices.new }
 {
     match caller {
-        Caller::Process(process) => serve_itself(store, objects, *process, call),
+        Caller::Process(process) => serve_itself(store, objects, *process, call, notices),
         Caller::Init | Caller::Nobody => Reply::Code(ReturnCode::InvalidMode),
     }
 }

@@ -9,7 +9,7 @@ ghost use Rattle.apex_types.specs.Roster.{Roster};
 ghost use Rattle.apex_types.specs.Rows.{Leaves};
 ghost use Rattle.apex_types.specs.Stamps.{HasManyStamps, HasStamps};
 
-use apex_store::{Object, Store};
+use apex_store::{Object, Store, halt};
 use apex_types::{
     Caller, CoreId, Notice, Notices, ProcessId, ProcessKind, ProcessService, Reply, ReturnCode,
     State, Timeout,
@@ -135,12 +135,20 @@ impl ProcessObject {
         Reply::Code(ReturnCode::NoError)
     }
 
-    /// STOP of another process. INVALID_PARAM where it is the caller or isn't created, NO_ACTION
-    /// where it is dormant.
-    fn stop<S: Store>(&self, store: &mut S, id: ProcessId, caller: &Caller) -> Reply
+    /// STOP of another process, whose mutex goes to the first who waits for it. INVALID_PARAM where
+    /// it is the caller or isn't created, NO_ACTION where it is dormant.
+    fn stop<S: Store>(
+        &self,
+        store: &mut S,
+        id: ProcessId,
+        caller: &Caller,
+        notices: &mut Notices,
+    ) -> Reply
         requires known { id < length (S.roster store.old).records }
+        requires stamps { HasStamps (S.roster store.old) }
+        requires room { length notices.old < most_notices }
         ensures { Leaves (services.stop_process (S.roster store.old) self.now id caller.now)
-            (S.roster store.new) self.now result [] [] }
+            (S.roster store.new) self.now result notices.old notices.new }
     {
         if is_by_process(id, caller) || !self.created {
             return Reply::Code(ReturnCode::InvalidParam);
@@ -148,12 +156,13 @@ impl ProcessObject {
         if !store.record(id).started {
             return Reply::Code(ReturnCode::NoAction);
         }
-        store.stop(id);
+        halt(store, id, notices);
         Reply::Code(ReturnCode::NoError)
     }
 
     /// SUSPEND of another process. INVALID_PARAM where it is the caller or isn't created,
-    /// INVALID_MODE where it is dormant, NO_ACTION where it is suspended.
+    /// INVALID_MODE where it is dormant, NO_ACTION where it is suspended, INVALID_MODE where it owns
+    /// a mutex.
     fn suspend<S: Store>(&self, store: &mut S, id: ProcessId, caller: &Caller) -> Reply
         requires known { id < length (S.roster store.old).records }
         ensures { Leaves (services.suspend_process (S.roster store.old) self.now id caller.now)
@@ -168,6 +177,9 @@ impl ProcessObject {
         }
         if row.suspended.is_some() {
             return Reply::Code(ReturnCode::NoAction);
+        }
+        if row.owned.is_some() {
+            return Reply::Code(ReturnCode::InvalidMode);
         }
         store.suspend(id);
         Reply::Code(ReturnCode::NoError)
@@ -262,7 +274,7 @@ impl Object for ProcessObject {
             ProcessService::SetPriority(priority) => self.set_priority(store, id, *priority),
             ProcessService::Start => self.start(store, id, Timeout::Poll, notices),
             ProcessService::DelayedStart(delay) => self.start(store, id, *delay, notices),
-            ProcessService::Stop => self.stop(store, id, caller),
+            ProcessService::Stop => self.stop(store, id, caller, notices),
             ProcessService::Suspend => self.suspend(store, id, caller),
             ProcessService::Resume => self.resume(store, id, caller, notices),
         }

@@ -8,7 +8,7 @@ ghost use Rattle.apex_types.specs.Stamps.{HasStamps};
 ghost use Rattle.apex_types.specs.TimeServices as services;
 
 use crate::objects::Objects;
-use apex_store::{Store, due_after};
+use apex_store::{Store, due_after, is_owner};
 use apex_types::{Caller, ProcessId, Reply, ReturnCode, TimeCall, Timeout, Wait};
 
 /// TIMED_WAIT by a process. INVALID_PARAM where the time is infinite.
@@ -39,8 +39,29 @@ fn timed_wait<S: Store>(
     }
 }
 
-/// Carries out a call of a service of time management. INVALID_MODE where TIMED_WAIT has no process
-/// that calls.
+/// TIMED_WAIT. INVALID_MODE where the caller owns a mutex or no process calls.
+fn serve_timed_wait<S: Store>(
+    store: &mut S,
+    objects: &Objects,
+    caller: &Caller,
+    timeout: Timeout,
+) -> Reply
+    requires caller { IsReadyCaller (S.roster store.old) caller.now }
+    requires stamps { HasStamps (S.roster store.old) }
+    requires time { HasTime (S.roster store.old) }
+    ensures { Leaves (services.timed_wait_service (S.roster store.old) objects.now caller.now timeout)
+        (S.roster store.new) objects.now result [] [] }
+{
+    if is_owner(store, caller) {
+        return Reply::Code(ReturnCode::InvalidMode);
+    }
+    match caller {
+        Caller::Process(process) => timed_wait(store, objects, *process, timeout),
+        Caller::Init | Caller::Nobody => Reply::Code(ReturnCode::InvalidMode),
+    }
+}
+
+/// Carries out a call of a service of time management.
 pub(crate) fn serve<S: Store>(
     store: &mut S,
     objects: &Objects,
@@ -54,10 +75,7 @@ pub(crate) fn serve<S: Store>(
         (S.roster store.new) objects.now result [] [] }
 {
     match call {
-        TimeCall::TimedWait(timeout) => match caller {
-            Caller::Process(process) => timed_wait(store, objects, *process, *timeout),
-            Caller::Init | Caller::Nobody => Reply::Code(ReturnCode::InvalidMode),
-        },
+        TimeCall::TimedWait(timeout) => serve_timed_wait(store, objects, caller, *timeout),
         TimeCall::GetTime => Reply::Value(store.now()),
     }
 }

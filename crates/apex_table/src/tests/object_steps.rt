@@ -3,7 +3,8 @@ use crate::tests::objects::OBJECTS;
 use crate::tests::{fault_of, repeated};
 use apex_types::{
     BlackboardCall, BlackboardId, BlackboardService, BufferCall, BufferId, BufferService, Call,
-    EventCall, EventId, EventService, Message, Named, Origin, ProcessId, Timeout,
+    EventCall, EventId, EventService, Message, MutexCall, MutexId, MutexService, Named, Origin,
+    ProcessId, Timeout,
 };
 use std::alloc::{AllocError, Global};
 use std::process::Abort;
@@ -65,6 +66,21 @@ const FAULTS: &[(&str, &[&str])] = &[
             "GET_EVENT_STATUS",
             "GET_BLACKBOARD_ID D D",
             "GET_BUFFER B",
+            "ACQUIRE_MUTEX",
+            "ACQUIRE_MUTEX M",
+            "ACQUIRE_MUTEX M M",
+            "ACQUIRE_MUTEX M 00",
+            "ACQUIRE_MUTEX M 0 0",
+            "ACQUIRE_MUTEX X -1",
+            "RELEASE_MUTEX",
+            "RELEASE_MUTEX M 0",
+            "RELEASE_MUTEX X infinite",
+            "RESET_MUTEX M",
+            "CREATE_MUTEX",
+            "CREATE_MUTEX M 239",
+            "GET_MUTEX_ID",
+            "GET_MUTEX_STATUS M M",
+            "GET_MUTEX M",
         ],
     ),
     (
@@ -86,6 +102,11 @@ const FAULTS: &[(&str, &[&str])] = &[
             "GET_EVENT_STATUS abcdefghijklmnopqrstuvwxyz01234",
             "SIGNAL_SEMAPHORE E",
             "START B",
+            "ACQUIRE_MUTEX S 0",
+            "ACQUIRE_MUTEX X 4294967296",
+            "RELEASE_MUTEX m",
+            "GET_MUTEX_STATUS E",
+            "SET_EVENT M",
         ],
     ),
     (
@@ -95,6 +116,7 @@ const FAULTS: &[(&str, &[&str])] = &[
             "RECEIVE_BUFFER B 18446744073709551616",
             "READ_BLACKBOARD D 4294967296",
             "WAIT_EVENT E 4294967296",
+            "ACQUIRE_MUTEX M 4294967296",
         ],
     ),
     (
@@ -103,6 +125,8 @@ const FAULTS: &[(&str, &[&str])] = &[
             "CREATE_BUFFER \u{e9}",
             "GET_BLACKBOARD_ID abcdefghijklmnopqrstuvwxyz01234",
             "CREATE_EVENT \\u007f",
+            "CREATE_MUTEX \u{e9}",
+            "GET_MUTEX_ID abcdefghijklmnopqrstuvwxyz01234",
         ],
     ),
 ];
@@ -114,6 +138,9 @@ const SCRIPT_STEPS: &[&str] = &[
     "RECEIVE_BUFFER B 0",
     "READ_BLACKBOARD D 0",
     "WAIT_EVENT E 0",
+    "ACQUIRE_MUTEX M 0",
+    "ACQUIRE_MUTEX M infinite",
+    "RELEASE_MUTEX M",
 ];
 
 /// Steps with more than 64 bytes between a beginning and an end, by how many digits they have.
@@ -312,6 +339,29 @@ fn a_step_of_an_event_is_read_as_its_call(rt: HostRuntime) -> Result<(), Fail> {
 }
 
 #[test]
+fn a_step_of_a_mutex_is_read_as_its_call(rt: HostRuntime) -> Result<(), Fail> {
+    let m = MutexId::at(0);
+    for (step, call) in [
+        (
+            "ACQUIRE_MUTEX M 0",
+            MutexCall::Own(m, MutexService::Acquire(Timeout::Poll)),
+        ),
+        (
+            "ACQUIRE_MUTEX M infinite",
+            MutexCall::Own(m, MutexService::Acquire(Timeout::Infinite)),
+        ),
+        ("RELEASE_MUTEX M", MutexCall::Own(m, MutexService::Release)),
+        ("CREATE_MUTEX M", MutexCall::Create(Named::Known(m))),
+        ("CREATE_MUTEX B", MutexCall::Create(Named::Unknown(of_p()))),
+        ("GET_MUTEX_ID M", MutexCall::GetId(Named::Known(m))),
+        ("GET_MUTEX_STATUS M", MutexCall::GetStatus(m)),
+    ] {
+        is_read(&rt, rt.alloc(), step, Call::Mutex(call))?;
+    }
+    Ok(())
+}
+
+#[test]
 fn a_message_or_an_unknown_name_is_the_literal_of_its_step(rt: HostRuntime) -> Result<(), Fail> {
     for (step, literal) in [
         ("SEND_BUFFER B - 0", b"".as_slice()),
@@ -390,12 +440,36 @@ fn an_init_step_of_an_object_is_read_as_its_call(rt: HostRuntime) -> Result<(), 
 }
 
 #[test]
+fn an_init_step_of_a_mutex_is_read_as_its_call(rt: HostRuntime) -> Result<(), Fail> {
+    let m = MutexId::at(0);
+    let list = "[\"CREATE_MUTEX M\", \"GET_MUTEX_ID Q\", \"GET_MUTEX_STATUS M\"]";
+    let text = with_init(rt.alloc(), list)?;
+    let table = read_table(rt.alloc(), text.as_bytes())?;
+    for (place, call) in [
+        MutexCall::Create(Named::Known(m)),
+        MutexCall::GetId(Named::Unknown(Origin::Init(1))),
+        MutexCall::GetStatus(m),
+    ]
+    .iter()
+    .enumerate()
+    {
+        assert_eq!(rt;
+            table.init_call(place),
+            Some(Call::Mutex(*call)),
+            "init step {place}"
+        );
+    }
+    assert_eq!(rt; table.literal(Origin::Init(1)), b"Q".as_slice());
+    Ok(())
+}
+
+#[test]
 fn one_name_may_stand_in_every_section(rt: HostRuntime) -> Result<(), Fail> {
     let steps =
-        "SIGNAL_SEMAPHORE N\", \"RECEIVE_BUFFER N 0\", \"CLEAR_BLACKBOARD N\", \"SET_EVENT N\", \"START N";
+        "SIGNAL_SEMAPHORE N\", \"RECEIVE_BUFFER N 0\", \"CLEAR_BLACKBOARD N\", \"SET_EVENT N\", \"RELEASE_MUTEX N\", \"START N";
     let text = with_step(rt.alloc(), steps)?;
     let mut text = text.replacen(rt.alloc(), "\"P\"", "\"N\"", 1)?;
-    for name in ["\"S\"", "\"B\"", "\"D\"", "\"E\""] {
+    for name in ["\"S\"", "\"B\"", "\"D\"", "\"E\"", "\"M\""] {
         let told = fault_of(rt.alloc(), text.as_bytes())?;
         assert_eq!(rt; told.as_str(), "UnknownName in process 1", "before {name}");
         text = text.replacen(rt.alloc(), name, "\"N\"", 1)?;

@@ -2,13 +2,18 @@ use crate::reading::read_table;
 use crate::tests::{fault_of, repeated};
 use apex_types::{
     BlackboardCall, BlackboardId, BufferCall, BufferId, Call, Discipline, EventCall, EventId,
-    Named, PartitionCall, ProcessCall, ProcessId, ProcessService, RequestedMode, SemaphoreCall,
-    SemaphoreId,
+    MutexCall, MutexId, Named, PartitionCall, ProcessCall, ProcessId, ProcessService,
+    RequestedMode, SemaphoreCall, SemaphoreId,
 };
 use std::test::Fail;
 
 /// A table with an object of each kind, the kinds in another order than that of the checks.
 pub const OBJECTS: &str = r#"cores = 1
+
+[[mutex]]
+name = "M"
+ceiling = 239
+discipline = "FIFO"
 
 [[event]]
 name = "E"
@@ -127,6 +132,48 @@ const CHANGES: &[(&str, &str, &str)] = &[
         "name = \"E\"\n[[event]]\nname = \"F\"\n[[event]]\nname = \"E\"",
         "DoubleName in event 3",
     ),
+    ("name = \"M\"", "", "MissingKey in mutex 1"),
+    ("name = \"M\"", "name = true", "WrongType in mutex 1"),
+    (
+        "name = \"M\"\nceiling = 239",
+        "name = \"M M\"\nceiling = 240",
+        "BadName in mutex 1",
+    ),
+    (
+        "name = \"M\"",
+        "name = \"\"\ncapacity = 1",
+        "UnknownKey in mutex 1",
+    ),
+    ("ceiling = 239", "", "MissingKey in mutex 1"),
+    ("ceiling = 239", "ceiling = \"239\"", "WrongType in mutex 1"),
+    ("ceiling = 239", "ceiling = 239.0", "WrongType in mutex 1"),
+    ("ceiling = 239", "ceiling = 0", "OutOfRange in mutex 1"),
+    ("ceiling = 239", "ceiling = -1", "OutOfRange in mutex 1"),
+    ("ceiling = 239", "ceiling = 240", "OutOfRange in mutex 1"),
+    ("ceiling = 239", "ceiling = 239", "none"),
+    ("ceiling = 239", "ceiling = 1", "none"),
+    (
+        "ceiling = 239\ndiscipline = \"FIFO\"",
+        "ceiling = 240",
+        "OutOfRange in mutex 1",
+    ),
+    ("discipline = \"FIFO\"", "", "MissingKey in mutex 1"),
+    (
+        "discipline = \"FIFO\"",
+        "discipline = 1",
+        "WrongType in mutex 1",
+    ),
+    (
+        "discipline = \"FIFO\"",
+        "discipline = \"fifo\"",
+        "OutOfRange in mutex 1",
+    ),
+    ("discipline = \"FIFO\"", "discipline = \"PRIORITY\"", "none"),
+    (
+        "discipline = \"FIFO\"",
+        "discipline = \"FIFO\"\n[[mutex]]\nname = \"M\"\nceiling = 0",
+        "DoubleName in mutex 2",
+    ),
 ];
 
 /// What stands in place of sections of objects, and its fault.
@@ -144,9 +191,11 @@ const SECTIONS: &[(&str, &str)] = &[
         "WrongType in blackboard 0",
     ),
     (
-        "init = 5\nevent = 5\nblackboard = []",
+        "mutex = 5\nevent = 5\nblackboard = []",
         "WrongType in event 0",
     ),
+    ("init = 5\nmutex = 5\nevent = []", "WrongType in mutex 0"),
+    ("init = 5\nmutex = []", "WrongType in init 0"),
     ("event = {name = \"E\"}", "WrongType in event 0"),
     ("buffer = [{}, 5]", "MissingKey in buffer 1"),
     (
@@ -154,9 +203,12 @@ const SECTIONS: &[(&str, &str)] = &[
         "WrongType in blackboard 2",
     ),
     ("event = [5]", "WrongType in event 1"),
+    ("mutex = {name = \"M\"}", "WrongType in mutex 0"),
+    ("mutex = [{}, 5]", "MissingKey in mutex 1"),
     ("events = []", "UnknownKey in top 0"),
+    ("mutexes = []", "UnknownKey in top 0"),
     (
-        "buffer = []\nblackboard = []\nevent = []",
+        "buffer = []\nblackboard = []\nevent = []\nmutex = []",
         "BadStep in process 1",
     ),
 ];
@@ -192,6 +244,8 @@ fn seventeen_objects_of_a_kind_are_too_many(rt: HostRuntime) -> Result<(), Fail>
         ("blackboard = [", 16, "WrongType in blackboard 1"),
         ("event = [", 17, "TooMany in event 0"),
         ("event = [", 16, "WrongType in event 1"),
+        ("mutex = [", 17, "TooMany in mutex 0"),
+        ("mutex = [", 16, "WrongType in mutex 1"),
     ] {
         let text = repeated(rt.alloc(), begin, "5,", many, end)?;
         let told = fault_of(rt.alloc(), text.as_bytes())?;
@@ -238,12 +292,30 @@ fn objects_are_read_field_by_field(rt: HostRuntime) -> Result<(), Fail> {
 }
 
 #[test]
+fn a_mutex_is_read_field_by_field(rt: HostRuntime) -> Result<(), Fail> {
+    let more = "[[mutex]]\nname = \"N\"\nceiling = 1\ndiscipline = \"PRIORITY\"\n";
+    let text = format!(in rt.alloc(); "{OBJECTS}{more}")?;
+    let table = read_table(rt.alloc(), text.as_bytes())?;
+    assert_eq!(rt; table.mutex_count(), 2);
+    let first = table.mutex(MutexId::at(0));
+    assert_eq!(rt; first.name().as_bytes(), b"M".as_slice());
+    assert_eq!(rt; first.ceiling(), 239);
+    assert_eq!(rt; first.discipline(), Discipline::Fifo);
+    let second = table.mutex(MutexId::at(1));
+    assert_eq!(rt; second.name().as_bytes(), b"N".as_slice());
+    assert_eq!(rt; second.ceiling(), 1);
+    assert_eq!(rt; second.discipline(), Discipline::Priority);
+    Ok(())
+}
+
+#[test]
 fn an_absent_section_has_no_object(rt: HostRuntime) -> Result<(), Fail> {
     let text = b"process = [{name = \"P\", priority = 1, script = []}]\ncores = 1\nbuffer = []";
     let table = read_table(rt.alloc(), text)?;
     assert_eq!(rt; table.buffer_count(), 0);
     assert_eq!(rt; table.blackboard_count(), 0);
     assert_eq!(rt; table.event_count(), 0);
+    assert_eq!(rt; table.mutex_count(), 0);
     Ok(())
 }
 
@@ -261,6 +333,7 @@ fn the_default_init_list_creates_kind_by_kind(rt: HostRuntime) -> Result<(), Fai
         Call::Blackboard(BlackboardCall::Create(Named::Known(BlackboardId::at(0)))),
         Call::Event(EventCall::Create(Named::Known(EventId::at(0)))),
         Call::Event(EventCall::Create(Named::Known(EventId::at(1)))),
+        Call::Mutex(MutexCall::Create(Named::Known(MutexId::at(0)))),
         Call::Process(ProcessCall::Create(Named::Known(p))),
         Call::Process(ProcessCall::Own(p, ProcessService::InitializeCoreAffinity(0))),
         Call::Partition(PartitionCall::SetPartitionMode(RequestedMode::Normal)),
@@ -270,6 +343,6 @@ fn the_default_init_list_creates_kind_by_kind(rt: HostRuntime) -> Result<(), Fai
     {
         assert_eq!(rt; table.init_call(place), Some(*call), "init step {place}");
     }
-    assert_eq!(rt; table.init_call(9), None);
+    assert_eq!(rt; table.init_call(10), None);
     Ok(())
 }

@@ -272,6 +272,41 @@ schedule 0*6
 5 0 core0 1 WAIT_EVENT E 5 -> INVALID_PARAM
 6 0 core0 1 WAIT_EVENT E infinite -> INVALID_PARAM
 
+case WAIT_EVENT: not created, and the caller owns a mutex
+init CREATE_MUTEX M; CREATE_PROCESS A; START A; SET_PARTITION_MODE NORMAL
+process A 10 0: ACQUIRE_MUTEX M 0; WAIT_EVENT E 5; WAIT_EVENT E infinite
+event E
+mutex M 50 FIFO
+schedule 0*7
+5 0 core0 1 ACQUIRE_MUTEX M 0 -> NO_ERROR
+6 0 core0 1 WAIT_EVENT E 5 -> INVALID_PARAM
+7 0 core0 1 WAIT_EVENT E infinite -> INVALID_PARAM
+
+case WAIT_EVENT: the caller owns a mutex, and the timeout is not 0
+process A 10 0 start: SET_EVENT E; ACQUIRE_MUTEX M 0; WAIT_EVENT E 5; WAIT_EVENT E infinite; WAIT_EVENT F 5; WAIT_EVENT F infinite; GET_EVENT_STATUS F
+event E
+event F
+mutex M 50 FIFO
+schedule 0*14
+8 0 core0 1 SET_EVENT E -> NO_ERROR
+9 0 core0 1 ACQUIRE_MUTEX M 0 -> NO_ERROR
+10 0 core0 1 WAIT_EVENT E 5 -> INVALID_MODE
+11 0 core0 1 WAIT_EVENT E infinite -> INVALID_MODE
+12 0 core0 1 WAIT_EVENT F 5 -> INVALID_MODE
+13 0 core0 1 WAIT_EVENT F infinite -> INVALID_MODE
+14 0 core0 1 GET_EVENT_STATUS F -> STATUS 0 0
+
+case WAIT_EVENT: with 0, the caller owns a mutex
+process A 10 0 start: SET_EVENT E; ACQUIRE_MUTEX M 0; WAIT_EVENT E 0; WAIT_EVENT F 0
+event E
+event F
+mutex M 50 FIFO
+schedule 0*11
+8 0 core0 1 SET_EVENT E -> NO_ERROR
+9 0 core0 1 ACQUIRE_MUTEX M 0 -> NO_ERROR
+10 0 core0 1 WAIT_EVENT E 0 -> NO_ERROR
+11 0 core0 1 WAIT_EVENT F 0 -> NOT_AVAILABLE
+
 case WAIT_EVENT: it is up, and stays up
 process A 10 0 start: SET_EVENT E; WAIT_EVENT E 0; WAIT_EVENT E 5; WAIT_EVENT E infinite; GET_EVENT_STATUS E
 process B 10 0 start:

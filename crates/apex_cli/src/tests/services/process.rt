@@ -343,6 +343,17 @@ schedule 0*8 t2 t5 0
 10 3 ticker - tick 5 -> ADVANCED 1 | released 2
 11 3 core0 2 GET_TIME -> VALUE 3
 
+case DELAYED_START: it waits for its start, and the caller owns a mutex
+process A 10 0 start: ACQUIRE_MUTEX M 0; DELAYED_START B 3; GET_PROCESS_STATUS B
+process B 60 0: GET_TIME
+mutex M 50 FIFO
+schedule 0*10 t5 0
+8 0 core0 1 ACQUIRE_MUTEX M 0 -> NO_ERROR
+9 0 core0 1 DELAYED_START B 3 -> NO_ERROR
+10 0 core0 1 GET_PROCESS_STATUS B -> STATUS 3 60
+11 3 ticker - tick 5 -> ADVANCED 3 | released 2
+12 3 core0 2 GET_TIME -> VALUE 3
+
 case DELAYED_START: with the priority of the table
 cores 2
 process A 10 0 start: SET_PRIORITY B 30; STOP B; DELAYED_START B 3; GET_PROCESS_STATUS B
@@ -621,6 +632,17 @@ schedule 0*17
 ";
 
 const SUSPEND_SELF: &str = "
+case SUSPEND_SELF: the caller owns a mutex
+process A 10 0 start: ACQUIRE_MUTEX M 0; SUSPEND_SELF 0; SUSPEND_SELF 5; SUSPEND_SELF infinite; GET_PROCESS_STATUS A
+mutex M 50 FIFO
+schedule 0*10 t9
+6 0 core0 1 ACQUIRE_MUTEX M 0 -> NO_ERROR
+7 0 core0 1 SUSPEND_SELF 0 -> INVALID_MODE
+8 0 core0 1 SUSPEND_SELF 5 -> INVALID_MODE
+9 0 core0 1 SUSPEND_SELF infinite -> INVALID_MODE
+10 0 core0 1 GET_PROCESS_STATUS A -> STATUS 2 50
+11 9 ticker - tick 9 -> ADVANCED 9
+
 case SUSPEND_SELF: with 0 nothing changes
 process A 10 0 start: SUSPEND_SELF 0; GET_MY_ID
 process B 10 0 start:

@@ -8,7 +8,7 @@ pub struct Row {
 
 /// All rows, in the order of the services.
 // Each list is a function's, since the proof of a function that names all of them would be too long.
-pub fn rows() -> [&'static [Row]; 9] {
+pub fn rows() -> [&'static [Row]; 10] {
     [
         general(),
         creates(),
@@ -19,6 +19,7 @@ pub fn rows() -> [&'static [Row]; 9] {
         stops(),
         semaphores(),
         flags(),
+        mutexes(),
     ]
 }
 
@@ -38,7 +39,7 @@ const GENERAL: &[Row] = &[
         guards: &[],
         effects: &[
             "the default list creates them kind by kind, in the order of the table",
-            "one of five of one name is created",
+            "one of six of one name is created",
             "of one name, the ids are counted kind by kind",
             "of one name, each service is that of its own kind",
             "of one name, the waiters of one do not wait for another",
@@ -109,6 +110,17 @@ const CREATES: &[Row] = &[
         ],
         effects: &["it is down"],
     },
+    Row {
+        service: "CREATE_MUTEX",
+        guards: &[
+            "the mode is NORMAL",
+            "the mode is NORMAL, and no entry has the name",
+            "the mode is NORMAL, and it is created",
+            "no entry has the name",
+            "it is created",
+        ],
+        effects: &["it is free"],
+    },
 ];
 
 fn creates() -> &'static [Row] {
@@ -141,6 +153,11 @@ const IDS: &[Row] = &[
         service: "GET_EVENT_ID",
         guards: &["no entry has the name", "not created"],
         effects: &["the event's id"],
+    },
+    Row {
+        service: "GET_MUTEX_ID",
+        guards: &["no entry has the name", "not created"],
+        effects: &["the mutex's id"],
     },
 ];
 
@@ -179,6 +196,14 @@ const STATUSES: &[Row] = &[
         effects: &["1 where it is up, and how many wait"],
     },
     Row {
+        service: "GET_MUTEX_STATUS",
+        guards: &["not created"],
+        effects: &[
+            "its owner's id, and how deep it is owned",
+            "those that wait are not counted",
+        ],
+    },
+    Row {
         service: "GET_PARTITION_STATUS",
         guards: &[],
         effects: &["before NORMAL", "in NORMAL"],
@@ -204,6 +229,7 @@ const PARTITION: &[Row] = &[
         guards: &[],
         effects: &[
             "every process is stopped, and every turn is idle",
+            "the mutex of the caller goes to nobody",
             "as an init step",
         ],
     },
@@ -255,6 +281,10 @@ const PROCESSES: &[Row] = &[
             "the running process is the newest, also with the same priority",
             "a ready process is the newest",
             "a ready process takes the core",
+            "an owner whose current priority stays keeps its place",
+            "an owner that gives itself a priority up to the ceiling keeps its place",
+            "an owner whose current priority rises is the newest",
+            "an owner whose current priority falls is the newest",
             "a waiter of the PRIORITY discipline is the newest",
             "a suspended waiter of the PRIORITY discipline is the newest",
             "a waiter of the FIFO discipline keeps its place",
@@ -265,6 +295,8 @@ const PROCESSES: &[Row] = &[
             "a receiver that waits by the FIFO discipline keeps its place",
             "a reader of a blackboard keeps its place",
             "a waiter for an event keeps its place",
+            "a waiter for a mutex by the PRIORITY discipline is the newest",
+            "a waiter for a mutex by the FIFO discipline keeps its place",
             "a process that waits for NORMAL keeps its place",
         ],
     },
@@ -290,6 +322,7 @@ const PROCESSES: &[Row] = &[
         effects: &[
             "with 0 it is released",
             "it waits for its start",
+            "it waits for its start, and the caller owns a mutex",
             "with the priority of the table",
             "before NORMAL it waits, and the delay begins with NORMAL",
             "with 0 before NORMAL",
@@ -319,6 +352,10 @@ const STOPS: &[Row] = &[
             "a receiver that waits leaves its queue, and has no due",
             "a reader of a blackboard is woken no more, and has no due",
             "a waiter for an event is woken no more, and has no due",
+            "a waiter for a mutex leaves its queue, and has no due",
+            "the mutex of an owner goes to the first waiter, at depth 1",
+            "the mutex of an owner is free where nobody waits",
+            "the mutex of a suspended owner goes to the first waiter",
             "it is suspended no more",
             "before NORMAL it does not wait for it any more",
         ],
@@ -329,6 +366,9 @@ const STOPS: &[Row] = &[
         effects: &[
             "the caller is dormant, and begins at its first step once it is started",
             "at the end of a script",
+            "the mutex of the caller goes to the first waiter",
+            "at the end of a script the mutex of the caller goes to the first waiter",
+            "the mutex of the caller is free where nobody waits",
         ],
     },
     Row {
@@ -339,13 +379,16 @@ const STOPS: &[Row] = &[
             "dormant",
             "dormant, and suspended before it was stopped",
             "suspended by another process",
+            "suspended by another process, and it owns a mutex",
             "suspended by itself",
+            "it owns a mutex",
         ],
         effects: &[
             "it loses its core",
             "a wait for time ends while it is suspended",
             "a wait for a semaphore ends while it is suspended",
             "a wait for a buffer ends while it is suspended",
+            "a wait for a mutex ends while it is suspended",
             "it is released while it is suspended",
         ],
     },
@@ -356,12 +399,13 @@ const STOPS: &[Row] = &[
             "one that suspended itself is woken, and has no due",
             "one that suspended itself is the newest",
             "one that another process suspended is the newest",
+            "one that got a mutex while it was suspended is the newest",
             "a waiter goes on to wait, and keeps its place",
         ],
     },
     Row {
         service: "SUSPEND_SELF",
-        guards: &[],
+        guards: &["the caller owns a mutex"],
         effects: &[
             "with 0 nothing changes",
             "with a due",
@@ -371,7 +415,11 @@ const STOPS: &[Row] = &[
     },
     Row {
         service: "TIMED_WAIT",
-        guards: &["infinite"],
+        guards: &[
+            "the caller owns a mutex",
+            "the caller owns a mutex, and infinite",
+            "infinite",
+        ],
         effects: &[
             "with 0 the caller is the newest",
             "until its due",
@@ -388,12 +436,18 @@ fn stops() -> &'static [Row] {
 const SEMAPHORES: &[Row] = &[
     Row {
         service: "WAIT_SEMAPHORE",
-        guards: &["not created"],
+        guards: &[
+            "not created",
+            "not created, and the caller owns a mutex",
+            "the caller owns a mutex, and the timeout is not 0",
+        ],
         effects: &[
             "the value is positive",
             "with 0, the value is 0",
             "until its due",
             "infinite",
+            "with 0, the caller owns a mutex",
+            "another process owns a mutex",
         ],
     },
     Row {
@@ -413,11 +467,15 @@ const SEMAPHORES: &[Row] = &[
         guards: &[
             "not created",
             "not created, and the message does not fit",
+            "not created, and the caller owns a mutex",
             "the message is empty",
             "the message is empty, and a receiver waits",
             "the message is above the length",
             "the message is above the length, and a receiver waits",
             "the message does not fit, and the buffer is full",
+            "the message does not fit, and the caller owns a mutex",
+            "the caller owns a mutex, and the timeout is not 0",
+            "the caller owns a mutex, the timeout is not 0, and a receiver waits",
         ],
         effects: &[
             "a receiver that waits is woken, and has no due",
@@ -433,11 +491,16 @@ const SEMAPHORES: &[Row] = &[
             "full, with 0",
             "full, until its due",
             "full, infinite",
+            "with 0, the caller owns a mutex",
         ],
     },
     Row {
         service: "RECEIVE_BUFFER",
-        guards: &["not created"],
+        guards: &[
+            "not created",
+            "not created, and the caller owns a mutex",
+            "the caller owns a mutex, and the timeout is not 0",
+        ],
         effects: &[
             "the first message is taken away",
             "messages of different lengths between sends",
@@ -452,6 +515,7 @@ const SEMAPHORES: &[Row] = &[
             "empty, with 0",
             "empty, until its due",
             "empty, infinite",
+            "with 0, the caller owns a mutex",
         ],
     },
 ];
@@ -482,12 +546,17 @@ const FLAGS: &[Row] = &[
     },
     Row {
         service: "READ_BLACKBOARD",
-        guards: &["not created"],
+        guards: &[
+            "not created",
+            "not created, and the caller owns a mutex",
+            "the caller owns a mutex, and the timeout is not 0",
+        ],
         effects: &[
             "it holds a message, which stays",
             "empty, with 0",
             "empty, until its due",
             "empty, infinite",
+            "with 0, the caller owns a mutex",
         ],
     },
     Row {
@@ -525,17 +594,88 @@ const FLAGS: &[Row] = &[
     },
     Row {
         service: "WAIT_EVENT",
-        guards: &["not created"],
+        guards: &[
+            "not created",
+            "not created, and the caller owns a mutex",
+            "the caller owns a mutex, and the timeout is not 0",
+        ],
         effects: &[
             "it is up, and stays up",
             "down, with 0",
             "down, until its due",
             "down, infinite",
             "waiters of one due end by number",
+            "with 0, the caller owns a mutex",
         ],
     },
 ];
 
 fn flags() -> &'static [Row] {
     FLAGS
+}
+
+// Mutexes.
+const MUTEXES: &[Row] = &[
+    Row {
+        service: "ACQUIRE_MUTEX",
+        guards: &[
+            "not created",
+            "not created, and the caller owns another one",
+            "not created, and the base is above the ceiling",
+            "the caller owns another one",
+            "the caller owns another one, and this one is owned too",
+            "the base is above the ceiling",
+            "the base is above the ceiling, and another process owns it",
+            "the base is above the ceiling, and the caller owns it",
+            "the caller owns it at depth 32",
+        ],
+        effects: &[
+            "the caller owns it, with any timeout",
+            "free, with any timeout",
+            "the caller is raised to the ceiling",
+            "a process above the ceiling takes the core from the owner",
+            "the ceiling is the base, and the caller keeps its place",
+            "another process owns it, with 0",
+            "another process owns it, until its due",
+            "another process owns it, infinite",
+        ],
+    },
+    Row {
+        service: "RELEASE_MUTEX",
+        guards: &[
+            "not created",
+            "not created, and the caller owns another one",
+            "nobody owns it",
+            "nobody owns it any more",
+            "another process owns it",
+            "the caller owns another one",
+        ],
+        effects: &[
+            "one less deep, the ceiling stays",
+            "one less deep, those that wait go on to wait",
+            "at depth 0 it is free, and the caller is back at its base",
+            "at depth 0 a more urgent process takes the core",
+            "at depth 0 the caller may wait again",
+            "at depth 0 the caller may acquire another one",
+            "the caller goes before its equals",
+            "the caller is the oldest, also where it had become the newest",
+            "a base above the ceiling stays, and the caller keeps its place",
+            "the first waiter owns it at depth 1, is raised, and has no due",
+            "one after the other gets it",
+            "by the FIFO discipline the first waiter is the oldest",
+            "by the PRIORITY discipline the first waiter has the highest priority",
+            "by the PRIORITY discipline the oldest of equals",
+            "those that wait for another one wait on",
+            "a waiter whose due came does not get it",
+            "a waiter whose base is above the ceiling gets it",
+            "a suspended waiter gets it, and stays WAITING",
+            "a suspended waiter keeps its place",
+            "who gets it is the newest of the ceiling",
+            "who gets it takes the core from the caller",
+        ],
+    },
+];
+
+fn mutexes() -> &'static [Row] {
+    MUTEXES
 }

@@ -8,6 +8,25 @@ schedule 0*9
 8 0 core0 1 TIMED_WAIT infinite -> INVALID_PARAM
 9 0 core0 1 GET_MY_ID -> VALUE 1
 
+case TIMED_WAIT: the caller owns a mutex
+process A 10 0 start: ACQUIRE_MUTEX M 0; START B; TIMED_WAIT 0; TIMED_WAIT 5; GET_MY_ID
+process B 50 0:
+mutex M 50 FIFO
+schedule 0*12 t9
+8 0 core0 1 ACQUIRE_MUTEX M 0 -> NO_ERROR
+9 0 core0 1 START B -> NO_ERROR | released 2
+10 0 core0 1 TIMED_WAIT 0 -> INVALID_MODE
+11 0 core0 1 TIMED_WAIT 5 -> INVALID_MODE
+12 0 core0 1 GET_MY_ID -> VALUE 1
+13 9 ticker - tick 9 -> ADVANCED 9
+
+case TIMED_WAIT: the caller owns a mutex, and infinite
+process A 10 0 start: ACQUIRE_MUTEX M 0; TIMED_WAIT infinite
+mutex M 50 FIFO
+schedule 0*7
+6 0 core0 1 ACQUIRE_MUTEX M 0 -> NO_ERROR
+7 0 core0 1 TIMED_WAIT infinite -> INVALID_MODE
+
 case TIMED_WAIT: with 0 the caller is the newest
 process A 10 0 start: TIMED_WAIT 0
 process B 10 0 start: GET_MY_ID

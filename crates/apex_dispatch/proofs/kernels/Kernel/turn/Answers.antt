@@ -26,6 +26,7 @@ carry_out-deed-requires-clause-objects g c = rw c.self.invariant.objects (record
   buffers = length-map_places _ 0 c.self.inside.table.buffers;
   blackboards = length-map_places _ 0 c.self.inside.table.blackboards;
   events = length-map_places _ 0 c.self.inside.table.events;
+  mutexes = length-map_places _ 0 c.self.inside.table.mutexes;
 })
 
 pub carry_out-deed-requires-clause-starts : goal.carry_out-deed-requires-clause-starts

@@ -1,10 +1,26 @@
-use Rattle.std.proofs.Common.{◌≡◌, Some, arith, sym, length-append}
-use Rattle.apex_types.specs.PartitionServices.{first_to_start, begin_waiter}
-use Rattle.apex_types.proofs.Reaches.{reaches_then}
+use Rattle.std.proofs.Common.{◌≡◌, Some, refl, length, arith, sym, length-append}
+use Rattle.apex_types.specs.PartitionServices.{first_to_start, begin_waiter, enter_normal}
+use Rattle.apex_types.specs.declared.Mode.TheVariants.{Normal}
+use Rattle.apex_types.proofs.Reaches.{reaches_then, reaches_set_mode}
 use Rattle.apex_types.proofs.Starts.{first_may_wait}
-use Rattle.apex_dispatch.proofs.Begun.{reach_begin_waiter, stays_begun, few_starts}
+use Rattle.apex_dispatch.proofs.Begun.{reach_begin_waiter, stays_begun, few_starts, begun_normal}
 use Rattle.apex_types.proofs.Loops.{made_by_none, made_by_all, leads_on}
 use Rattle.apex_dispatch.proofs.services.partition.enter_normal.Goals as goal
+
+pub loop-turn-init : goal.loop-turn-init
+unfolding enter_normal
+loop-turn-init g c =
+    let old = g.S.Store.roster c.args.store.now in
+    let entered = c.set_mode.ensures in
+    record {
+      rest = λ left e.
+          let all : left ≡ length old.records = omega (arith, e, rw entered at c.process_count-turn-end.ensures) in
+          rw (entered, all) refl;
+      reaches = rw entered (reaches_set_mode old Normal refl);
+      begun = rw entered (begun_normal old c.requires.starts);
+      end = rw entered at c.process_count-turn-end.ensures;
+      room = omega (arith, c.requires.room);
+    }
 
 pub returns-in-None : goal.returns-in-None
 returns-in-None g c =

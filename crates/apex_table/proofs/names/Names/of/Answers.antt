@@ -9,8 +9,10 @@ returns c =
       c.in_ok-listed-3.ensures,
       c.in_ok-listed-4.ensures,
       c.in_ok-listed-5.ensures,
+      c.in_ok-listed-6.ensures,
       c.deref.ensures.value,
       c.deref-2.ensures.value,
       c.deref-3.ensures.value,
       c.deref-4.ensures.value,
+      c.deref-5.ensures.value,
     )

@@ -1,0 +1,47 @@
+//! Who owns a mutex.
+
+ghost use Rattle.std.specs.Prelude.{◌≡◌, ◌<◌, ◌≤◌, length, position, IfSome};
+ghost use Rattle.apex_types.specs.Callers.{IsReadyCaller};
+ghost use Rattle.apex_types.specs.Limits.{most_processes};
+ghost use Rattle.apex_types.specs.Owners.{is_owner, is_waiting_owner, owns};
+
+use crate::store::Store;
+use apex_types::{Caller, MutexId, ProcessId, Record, Timeout};
+
+/// The place of the first record that owns the mutex.
+fn place_owning(mutex: MutexId, records: &[Record]) -> Option<usize>
+    ensures { result ≡ position (owns mutex) records.now }
+{
+    records.iter().position(|row| row.owns(mutex))
+}
+
+/// The process of the lowest number that owns the mutex.
+pub fn first_owner(mutex: MutexId, records: &[Record]) -> Option<ProcessId>
+    requires { length records.now ≤ most_processes }
+    ensures value { result ≡ position (owns mutex) records.now }
+    ensures known { IfSome result (λ p. p < length records.now) }
+{
+    match place_owning(mutex, records) {
+        Some(place) => Some(ProcessId::at(place as u8)),
+        None => None,
+    }
+}
+
+/// The caller owns a mutex.
+pub fn is_owner<S: Store>(store: &S, caller: &Caller) -> bool
+    requires { IsReadyCaller (S.roster store.now) caller.now }
+    ensures { result ≡ is_owner (S.roster store.now) caller.now }
+{
+    match caller {
+        Caller::Process(process) => store.record(*process).owned.is_some(),
+        Caller::Init | Caller::Nobody => false,
+    }
+}
+
+/// The caller owns a mutex, and would wait.
+pub fn is_waiting_owner<S: Store>(store: &S, caller: &Caller, timeout: Timeout) -> bool
+    requires { IsReadyCaller (S.roster store.now) caller.now }
+    ensures { result ≡ is_waiting_owner (S.roster store.now) caller.now timeout }
+{
+    timeout != Timeout::Poll && is_owner(store, caller)
+}

@@ -1,0 +1,29 @@
+-- The kind of mutexes.
+use Rattle.std.specs.Prelude.{codes, ℕ, List, [], ◌∷◌, map, Result, Ok}
+use Rattle.toml.specs.Data.{Members}
+use Rattle.apex_types.specs.Limits.{most_objects, most_priority}
+use Rattle.apex_types.specs.Table.{MutexConfig}
+use Rattle.apex_table.specs.Terms.{Place, TableFault}
+use Rattle.apex_table.specs.declared.fault.Section.TheVariants.{Mutex}
+use Rattle.apex_table.specs.Outcome.{◌>>=◌}
+use Rattle.apex_table.specs.Keys.{number_at, discipline_at}
+use Rattle.apex_table.specs.Sections.{KindOf}
+
+-- the names of mutexes
+abbrev pub mutex_names : List MutexConfig → List (List ℕ)
+mutex_names mutexes = map (λ (m : MutexConfig). m.name) mutexes
+
+-- a mutex of a name
+unfoldable pub mutex : Place → List ℕ → Members → Result MutexConfig TableFault
+mutex at name ms = do
+  ceiling ← number_at at 1 most_priority (codes "ceiling") ms
+  discipline ← discipline_at at ms
+  Ok (record { name = name; ceiling = ceiling; discipline = discipline })
+
+-- the kind of mutexes
+abbrev pub mutexes : KindOf MutexConfig
+mutexes = record {
+  head = record { section = Mutex; most = most_objects; keys = codes "name" ∷ codes "ceiling" ∷ codes "discipline" ∷ [] };
+  name_of = λ m. m.name;
+  read = mutex;
+}

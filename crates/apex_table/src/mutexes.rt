@@ -1,0 +1,51 @@
+ghost use Rattle.apex_table.specs.Mutexes.{mutexes};
+
+use crate::configs::MutexConfig;
+use crate::fault::{Place, Section, TableFault};
+use crate::keys;
+use crate::named::Named;
+use crate::sections::{Head, Kind};
+use apex_types::Name;
+use std::alloc::Global;
+use toml::Table;
+
+impl Named for MutexConfig {
+    ghost name_of = { λ m. m.name };
+
+    fn name(&self) -> &Name {
+        MutexConfig::name(self)
+    }
+}
+
+/// The kind of mutexes.
+#[derive(Drop)]
+pub struct Mutexes;
+
+impl<'a> Kind<'a> for Mutexes {
+    type Entry = MutexConfig;
+
+    ghost head = { λ _. mutexes.head };
+
+    ghost read = { λ _. mutexes.read };
+
+    fn head(&self) -> Head<'static> {
+        Head {
+            section: Section::Mutex,
+            most: 16,
+            keys: &["name", "ceiling", "discipline"],
+        }
+    }
+
+    #[tactic(auto, unfolding(crate::specs::Mutexes::mutex))]
+    fn entry(
+        &self,
+        _alloc: Global,
+        at: Place,
+        name: Name,
+        table: &'a Table,
+    ) -> Result<MutexConfig, TableFault> {
+        let ceiling = keys::number_at(at, 1, 239, table, "ceiling")?;
+        let discipline = keys::discipline_at(at, table)?;
+        Ok(MutexConfig::new(name, ceiling as u8, discipline))
+    }
+}
