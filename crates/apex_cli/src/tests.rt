@@ -4,6 +4,7 @@ mod limits;
 mod messages;
 mod mutexes;
 mod outlines;
+mod periods;
 mod processes;
 mod services;
 mod ticks;

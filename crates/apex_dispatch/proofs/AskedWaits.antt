@@ -10,9 +10,9 @@ use Rattle.apex_dispatch.specs.Terms.{Call, Caller, Message, Queue, Record, Susp
 use Rattle.apex_types.specs.declared.Caller.TheVariants.{Process}
 use Rattle.apex_types.specs.declared.Suspender.TheVariants.{Itself, Other}
 use Rattle.apex_types.specs.declared.Queue.TheVariants as queues
-use Rattle.apex_types.specs.declared.Wait.TheVariants.{Normal, Start, Time, Semaphore, Receive, Send, Blackboard, Event, Mutex}
+use Rattle.apex_types.specs.declared.Wait.TheVariants.{Normal, Start, Time, Period, Semaphore, Receive, Send, Blackboard, Event, Mutex}
 use Rattle.apex_types.specs.Roster.{Roster, nobody, record_at, with_record}
-use Rattle.apex_types.specs.Stamps.{is_by_itself, suspension_awake, awake, waiting, block, unblock, newest, readied, receive}
+use Rattle.apex_types.specs.Stamps.{is_by_itself, suspension_awake, awake, waiting, block, unblock, release, released_at, newest, readied, receive}
 use Rattle.apex_types.specs.Waking.{first_in, granted, grant_all}
 use Rattle.apex_types.specs.Calls.{queue_named}
 use Rattle.apex_types.specs.Queues.{queue_of, is_same_queue, is_queue}
@@ -61,6 +61,7 @@ stands_by queue apart r (Some (Normal delay)) is h =
     absurd (both_ways _ apart (ap (is_same_queue queues.Normal) (sym (same_Some queues.Normal queue h))))
 stands_by queue apart r (Some Start) is h = absurd (none-some queue h)
 stands_by queue apart r (Some Time) is h = absurd (none-some queue h)
+stands_by queue apart r (Some Period) is h = absurd (none-some queue h)
 stands_by queue apart r (Some (Semaphore s)) is h = stands_for queue r (Semaphore s) refl is h
 stands_by queue apart r (Some (Receive b)) is h = stands_for queue r (Receive b) refl is h
 stands_by queue apart r (Some (Send b message)) is h = stands_for queue r (Send b message) refl is h
@@ -88,6 +89,7 @@ awaited_stands None by_itself w queue h is = absurd (stands_suspended by_itself 
 awaited_stands (Some (Normal delay)) by_itself w queue h is = absurd (stands_suspended by_itself w queue h is)
 awaited_stands (Some Start) by_itself w queue h is = absurd (stands_suspended by_itself w queue h is)
 awaited_stands (Some Time) by_itself w queue h is = absurd (none-some queue (ap queue_of (same_Some Time w h) ∙ is))
+awaited_stands (Some Period) by_itself w queue h is = absurd (stands_suspended by_itself w queue h is)
 awaited_stands (Some (Semaphore s)) by_itself w queue h is = ap queue_of (same_Some (Semaphore s) w h) ∙ is
 awaited_stands (Some (Receive b)) by_itself w queue h is = ap queue_of (same_Some (Receive b) w h) ∙ is
 awaited_stands (Some (Send b message)) by_itself w queue h is = ap queue_of (same_Some (Send b message) w h) ∙ is
@@ -139,6 +141,11 @@ awake_free (Some Other) = refl
 pub frees_unblock : (roster : Roster) (p : ℕ) → Frees roster (unblock roster p)
 frees_unblock roster p =
     frees_lessened roster p (awake (record_at roster p))
+    (λ w h. absurd (none-some w (sym (awake_free (record_at roster p).suspended) ∙ h)))
+
+pub frees_release : (roster : Roster) (p : ℕ) → Frees roster (release roster p)
+frees_release roster p =
+    frees_lessened roster p (released_at roster.now (record_at roster p))
     (λ w h. absurd (none-some w (sym (awake_free (record_at roster p).suspended) ∙ h)))
 
 -- a change by which nobody waits who did not wait before

@@ -9,7 +9,7 @@ use Rattle.apex_types.specs.PartitionServices.{first_to_start, begin_waiter, del
 use Rattle.apex_types.specs.Roster.{Roster, record_at, is_normal}
 use Rattle.apex_types.specs.Stamps.{HasOrderlyStarts, set_mode}
 use Rattle.apex_types.proofs.Reaches.{Reaches, reaches_then, reaches_more, reaches_begin, reaches_set_mode, reaches_in_turn, mode_begin}
-use Rattle.apex_types.proofs.Starts.{first_stands, first_within, queued_started}
+use Rattle.apex_types.proofs.Starts.{first_awaits, first_stands, first_within, queued_started}
 
 -- while the starts begin, the mode is NORMAL and starts are in order
 pub record IsBegun (roster : Roster) : Type 0 where
@@ -21,7 +21,7 @@ pub reach_begin_waiter : (roster : Roster) (p : ℕ) → IsBegun roster → firs
 reach_begin_waiter roster p begun is =
     let stands = first_stands roster queues.Normal p is in
     reaches_begin roster p (first_within roster queues.Normal p is) (delay_of (record_at roster p).wait)
-    (queued_started roster begun.starts p queues.Normal stands) (λ e. both_ways _ e begun.normal)
+    (queued_started roster begun.starts p queues.Normal stands) (first_awaits roster p is) (λ e. both_ways _ e begun.normal)
 
 pub stays_begun : (roster : Roster) (p : ℕ) → IsBegun roster → first_to_start roster ≡ Some p
     → IsBegun (begin_waiter roster p).roster

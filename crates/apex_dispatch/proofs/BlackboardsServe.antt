@@ -28,13 +28,13 @@ use Rattle.apex_types.specs.Stamps.{receive}
 use Rattle.apex_types.specs.Table.{BlackboardConfig, no_blackboard}
 use Rattle.apex_types.specs.Waiting.{blocked, wait_for}
 use Rattle.apex_types.specs.Waking.{grant_all}
-use Rattle.apex_types.proofs.Reaches.{reaches_more, reaches_receive}
+use Rattle.apex_types.proofs.Reaches.{reaches_receive}
 use Rattle.apex_types.proofs.Rows.{by_guard, by_caller}
 use Rattle.apex_types.proofs.Waking.{none_left, reach_grant_all}
 use Rattle.apex_dispatch.specs.AskedWaits.{AreAsked, AreHeldBack, begins}
 use Rattle.apex_dispatch.proofs.AskedWaits.{all_granted, asks_freed, frees_moved, held_asking, held_nobody, held_still, still_freed}
 use Rattle.apex_dispatch.proofs.Satisfied.{all_named, far_answered, filter_all, handed}
-use Rattle.apex_dispatch.proofs.Serving.{Scene, ServesBy, serves_same, serves_blocked, serves_freed}
+use Rattle.apex_dispatch.proofs.Serving.{Scene, ServesBy, serves_same, serves_blocked, serves_freed, arrives_by}
 use Rattle.apex_dispatch.proofs.ObjectsServe.{LawsOf, ServesOne, IsQuiet, IsRead, elsewhere, quiet_told}
 use Rattle.apex_dispatch.proofs.Truths.{or_false, or_true, other}
 use Rattle.apex_dispatch.proofs.Values.{created-push, fold_stays, folded-push}
@@ -114,7 +114,7 @@ module _ (history : List Entry) (roster : Roster) (caller : Caller) (b : ℕ) (c
       let answered = flat_map (answered_by history) all.notices in
       record {
         serves = record {
-          reaches = reaches_more _ 64 scene.few (reach_grant_all (queues.Blackboard b) (Some message) roster refl scene.starts);
+          arrives = arrives_by _ scene.few (reach_grant_all (queues.Blackboard b) (Some message) roster refl scene.starts);
           asks = asks_freed caller (Some display) roster all.roster granted.frees;
           woken = λ q woken. inl (granted.waited q woken);
         };
@@ -142,7 +142,7 @@ module _ (history : List Entry) (roster : Roster) (caller : Caller) (b : ℕ) (c
         let frees = frees_moved roster after p r refl (λ w h. h) in
         record {
           serves = serves_freed roster caller (asks_for (Read timeout)) at after []
-              (reaches_more 0 64 (lit≤ tt) (reaches_receive roster p ready.known message)) frees (λ q. refl);
+              (arrives_by 0 (lit≤ tt) (reaches_receive roster p ready.known message)) frees (λ q. refl);
           read = λ number now who. after_calls roster history _ b config keeps after (asks_for (Read timeout) ∷ []) blackboard.message blackboard.created
               (rw (eq-eqb b b refl) refl) (or_false blackboard.created) refl
               (held_still (IsEmpty b history) (queues.Blackboard b) roster after keeps.held (still_freed (queues.Blackboard b) roster after frees));

@@ -29,14 +29,14 @@ use Rattle.apex_types.specs.Table.{BufferConfig, no_buffer}
 use Rattle.apex_types.specs.Waiters.{first_waiter}
 use Rattle.apex_types.specs.Waiting.{blocked, wait_for}
 use Rattle.apex_types.specs.Waking.{granted, woken}
-use Rattle.apex_types.proofs.Reaches.{reaches_more, reaches_receive, reaches_then}
+use Rattle.apex_types.proofs.Reaches.{reaches_receive, reaches_then}
 use Rattle.apex_types.proofs.Rows.{by_guard, by_caller}
 use Rattle.apex_types.proofs.Waking.{none_waits, reach_granted}
 use Rattle.apex_dispatch.specs.AskedWaits.{AreAsked, AreHeldBack, LacksMessage, asked_of, awaited, begins}
 use Rattle.apex_dispatch.proofs.AskedWaits.{Frees, asks_freed, awaits_at, first_awaits, frees_granted, frees_moved, frees_then, held_asking, held_nobody, held_still, still_freed, waits_in_queue}
 use Rattle.apex_dispatch.proofs.Delivered.{IsDelivered, delivered_content, delivered_none, delivered_received, delivered_sent}
 use Rattle.apex_dispatch.proofs.Satisfied.{begins_receive, begins_send, calls-push, far_answered, filter_all, handed_one, names_begun, woken_alone}
-use Rattle.apex_dispatch.proofs.Serving.{Scene, ServesBy, few, serves_same, serves_blocked, serves_freed}
+use Rattle.apex_dispatch.proofs.Serving.{Scene, ServesBy, few, serves_same, serves_blocked, serves_freed, arrives_by}
 use Rattle.apex_dispatch.proofs.ObjectsServe.{LawsOf, ServesOne, IsQuiet, IsRead, elsewhere, quiet_told}
 use Rattle.apex_dispatch.proofs.Truths.{or_false, or_true, other}
 use Rattle.apex_dispatch.proofs.Values.{created-push}
@@ -200,7 +200,7 @@ module _ (history : List Entry) (roster : Roster) (caller : Caller) (b : ℕ) (c
           (delivered_received (all_calls ++ sends ∷ []) message [] c one receive_so.0 receive_so.1) in
           record {
             serves = record {
-              reaches = few (reach_granted (Some message) roster q (queues.Buffer b) refl scene.starts is);
+              arrives = few (reach_granted (Some message) roster q (queues.Buffer b) refl scene.starts is);
               asks = asks_freed caller (Some sends) roster after frees;
               woken = λ r waking. rw (woken_alone r q waking) (inl (awaits_at stands));
             };
@@ -278,7 +278,7 @@ module _ (history : List Entry) (roster : Roster) (caller : Caller) (b : ℕ) (c
           → Served (service.Receive timeout) (told after left (Gets message))
       served_alone held = record {
         serves = serves_freed roster caller receives at after []
-            (reaches_more 0 64 (lit≤ tt) (reaches_receive roster p ready.known message)) frees_after (λ q. refl);
+            (arrives_by 0 (lit≤ tt) (reaches_receive roster p ready.known message)) frees_after (λ q. refl);
         read = λ number now who. after_calls roster history _ b config keeps after (receives ∷ []) later buffer.created
             (rw (eq-eqb b b refl) refl) (or_false buffer.created) delivered_so (omega (arith, fits_so)) held;
       }
@@ -308,7 +308,7 @@ module _ (history : List Entry) (roster : Roster) (caller : Caller) (b : ℕ) (c
           (delivered_sent (all_calls ++ receives ∷ []) later c sent delivered_so send_so.0 send_so.1) in
           record {
             serves = record {
-              reaches = reaches_more 1 64 (lit≤ tt)
+              arrives = arrives_by 1 (lit≤ tt)
                   (reaches_then 0 1 got (reach_granted None after q (queues.Buffer b) refl (got.starts scene.starts) is));
               asks = asks_freed caller (Some receives) roster new frees;
               woken = λ r waking. rw (woken_alone r q waking) (inl (w, before, stands.queued));

@@ -17,7 +17,7 @@ use Rattle.apex_types.specs.Roster.{Roster, record_at}
 use Rattle.apex_types.specs.Rows.{Outcome}
 use Rattle.apex_types.specs.SemaphoreServices.{SemaphoreObject, semaphore_kind}
 use Rattle.apex_types.specs.Table.{Table, IsKnown, semaphore_config, buffer_config, blackboard_config, event_config}
-use Rattle.apex_types.proofs.Reaches.{Reaches}
+use Rattle.apex_types.proofs.Reaches.{Arrives}
 use Rattle.apex_dispatch.specs.AskedWaits.{AreAsked}
 use Rattle.apex_dispatch.proofs.AskedWaits.{Frees, asks_freed, still_freed}
 use Rattle.apex_dispatch.proofs.BlackboardsServe.{KeepsBlackboard, blackboard_laws}
@@ -27,7 +27,7 @@ use Rattle.apex_dispatch.proofs.MutexesServe.{mutex_laws}
 use Rattle.apex_dispatch.proofs.ObjectsServe.{AreRead, all_elsewhere, all_served, all_stay, quiet_uncalled, queue_at, entry_with}
 use Rattle.apex_dispatch.proofs.OthersServe.{ServesNone, served_partition, served_caller, served_time}
 use Rattle.apex_dispatch.proofs.ProcessesServe.{process_laws}
-use Rattle.apex_dispatch.proofs.Satisfied.{AwaitsAt, IsIdle, asked-push, far_answered, names_begun, wakes}
+use Rattle.apex_dispatch.proofs.Satisfied.{IsIdle, WokenAt, asked-push, far_answered, wakes}
 use Rattle.apex_dispatch.proofs.SemaphoresServe.{semaphore_laws}
 use Rattle.apex_dispatch.proofs.Serving.{Scene, Serves}
 use Rattle.apex_dispatch.proofs.Values.{KeepsSemaphore}
@@ -69,9 +69,9 @@ pub record IsExact (table : Table) (history : List Entry) (e : Entry) (left : Ob
   pub objects : objects_after table (history ++ e ∷ []) ≡ left
   pub kept : AreKept table roster (history ++ e ∷ [])
 
--- what a service owes: it reaches the roster that it leaves, and is exact
+-- what a service owes: it arrives at the roster that it leaves, and is exact
 pub record ServesCall (table : Table) (history : List Entry) (roster : Roster) (caller : Caller) (call : Call) (o : Outcome Objects) : Type 0 where
-  pub reaches : Reaches 64 roster o.roster
+  pub arrives : Arrives 64 roster o.roster
   pub exact : (number now : ℕ) (who : Who)
       → IsExact table history (entry_with number now who caller call o.reply o.notices) o.object o.roster
 
@@ -188,7 +188,7 @@ module _ (table : Table) (history : List Entry) (roster : Roster) (kept : AreKep
         → created_mutex call ≡ None
         → ServesCall table history roster caller call o
     serves_none call o none unnamed no_process no_semaphore no_buffer no_blackboard no_event no_mutex = record {
-      reaches = none.serves.reaches;
+      arrives = none.serves.arrives;
       exact = λ number now who.
           let e = entry_with number now who caller call o.reply o.notices in
           rw none.stays (exact_from e before o.roster (record {
@@ -213,7 +213,7 @@ module _ (table : Table) (history : List Entry) (roster : Roster) (kept : AreKep
         (λ p inside. rw many inside) call (object_of call) refl known in
         let target = object_of call in
         record {
-          reaches = all.serves.reaches;
+          arrives = all.serves.arrives;
           exact = λ number now who. exact_from _ _ _ (record {
             processes = all.read number now who;
             semaphores = semaphores_stay (ToProcess call) _ _ _ _ all.serves refl (λ j. refl) (far_process queues.Semaphore target) number now who;
@@ -230,7 +230,7 @@ module _ (table : Table) (history : List Entry) (roster : Roster) (kept : AreKep
         let target = object_of call in
         let own = queues.Semaphore in
         record {
-          reaches = all.serves.reaches;
+          arrives = all.serves.arrives;
           exact = λ number now who. exact_from _ _ _ (record {
             processes = processes_stay (ToSemaphore call) _ _ _ _ all.serves refl number now who;
             semaphores = all.read number now who;
@@ -247,7 +247,7 @@ module _ (table : Table) (history : List Entry) (roster : Roster) (kept : AreKep
         let target = object_of call in
         let own = queues.Buffer in
         record {
-          reaches = all.serves.reaches;
+          arrives = all.serves.arrives;
           exact = λ number now who. exact_from _ _ _ (record {
             processes = processes_stay (ToBuffer call) _ _ _ _ all.serves refl number now who;
             semaphores = semaphores_stay (ToBuffer call) _ _ _ _ all.serves refl (far_named queues.Semaphore own (λ j i. refl) target) (far_at queues.Semaphore own (λ j i. refl) target) number now who;
@@ -264,7 +264,7 @@ module _ (table : Table) (history : List Entry) (roster : Roster) (kept : AreKep
         let target = object_of call in
         let own = queues.Blackboard in
         record {
-          reaches = all.serves.reaches;
+          arrives = all.serves.arrives;
           exact = λ number now who. exact_from _ _ _ (record {
             processes = processes_stay (ToBlackboard call) _ _ _ _ all.serves refl number now who;
             semaphores = semaphores_stay (ToBlackboard call) _ _ _ _ all.serves refl (far_named queues.Semaphore own (λ j i. refl) target) (far_at queues.Semaphore own (λ j i. refl) target) number now who;
@@ -281,7 +281,7 @@ module _ (table : Table) (history : List Entry) (roster : Roster) (kept : AreKep
         let target = object_of call in
         let own = queues.Event in
         record {
-          reaches = all.serves.reaches;
+          arrives = all.serves.arrives;
           exact = λ number now who. exact_from _ _ _ (record {
             processes = processes_stay (ToEvent call) _ _ _ _ all.serves refl number now who;
             semaphores = semaphores_stay (ToEvent call) _ _ _ _ all.serves refl (far_named queues.Semaphore own (λ j i. refl) target) (far_at queues.Semaphore own (λ j i. refl) target) number now who;
@@ -298,7 +298,7 @@ module _ (table : Table) (history : List Entry) (roster : Roster) (kept : AreKep
         let target = object_of call in
         let own = queues.Mutex in
         record {
-          reaches = all.serves.reaches;
+          arrives = all.serves.arrives;
           exact = λ number now who. exact_from _ _ _ (record {
             processes = processes_stay (ToMutex call) _ _ _ _ all.serves refl number now who;
             semaphores = semaphores_stay (ToMutex call) _ _ _ _ all.serves refl (far_named queues.Semaphore own (λ j i. refl) target) (far_mutex queues.Semaphore target) number now who;
@@ -312,7 +312,7 @@ module _ (table : Table) (history : List Entry) (roster : Roster) (kept : AreKep
 
   -- an event that asks for no call, leaves all objects, and wakes with NO_ERROR only who waited for time
   pub exact_uncalled : (new : Roster) (e : Entry) → e.call ≡ None → e.process ≡ Nobody
-      → ((p : ℕ) → wakes p e.notices ≡ true → AwaitsAt None (record_at roster p))
+      → ((p : ℕ) → wakes p e.notices ≡ true → WokenAt None (record_at roster p))
       → Frees roster new → IsExact table history e before new
   exact_uncalled new e uncalled nobody woken frees =
       exact_from e before new (record {
@@ -320,16 +320,16 @@ module _ (table : Table) (history : List Entry) (roster : Roster) (kept : AreKep
             (λ j. quiet_uncalled process_laws.names process_laws.creation j history roster e kept.asked uncalled woken (λ c begun. refl))
             (λ j. tt);
         semaphores = all_stay semaphore_kind semaphore_laws history roster table.semaphores kept.semaphores new e
-            (λ j. quiet_uncalled semaphore_laws.names semaphore_laws.creation j history roster e kept.asked uncalled woken (names_begun (queues.Semaphore j) None))
+            (λ j. quiet_uncalled semaphore_laws.names semaphore_laws.creation j history roster e kept.asked uncalled woken (λ c answered. far_answered (queues.Semaphore j) None c (λ m. refl) refl answered))
             (λ j. still_freed (queues.Semaphore j) roster new frees);
         buffers = all_stay buffer_kind buffer_laws history roster table.buffers kept.buffers new e
-            (λ j. quiet_uncalled buffer_laws.names buffer_laws.creation j history roster e kept.asked uncalled woken (names_begun (queues.Buffer j) None))
+            (λ j. quiet_uncalled buffer_laws.names buffer_laws.creation j history roster e kept.asked uncalled woken (λ c answered. far_answered (queues.Buffer j) None c (λ m. refl) refl answered))
             (λ j. still_freed (queues.Buffer j) roster new frees);
         blackboards = all_stay blackboard_kind blackboard_laws history roster table.blackboards kept.blackboards new e
-            (λ j. quiet_uncalled blackboard_laws.names blackboard_laws.creation j history roster e kept.asked uncalled woken (names_begun (queues.Blackboard j) None))
+            (λ j. quiet_uncalled blackboard_laws.names blackboard_laws.creation j history roster e kept.asked uncalled woken (λ c answered. far_answered (queues.Blackboard j) None c (λ m. refl) refl answered))
             (λ j. still_freed (queues.Blackboard j) roster new frees);
         events = all_stay event_kind event_laws history roster table.events kept.events new e
-            (λ j. quiet_uncalled event_laws.names event_laws.creation j history roster e kept.asked uncalled woken (names_begun (queues.Event j) None))
+            (λ j. quiet_uncalled event_laws.names event_laws.creation j history roster e kept.asked uncalled woken (λ c answered. far_answered (queues.Event j) None c (λ m. refl) refl answered))
             (λ j. still_freed (queues.Event j) roster new frees);
         mutexes = all_stay mutex_kind mutex_laws history roster table.mutexes mutex_keeps new e
             (λ j. quiet_uncalled mutex_laws.names mutex_laws.creation j history roster e kept.asked uncalled woken (λ c begun. refl))

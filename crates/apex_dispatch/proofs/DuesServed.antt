@@ -1,36 +1,67 @@
 -- The dues at a tick: the waits that they end.
-use Rattle.std.proofs.Common.{◌≡◌, ℕ, ◌<◌, false, length, Option, Some, refl, sym, ◌∙◌}
+use Rattle.std.proofs.Common.{◌≡◌, ℕ, ◌+◌, ◌<◌, ◌≤◌, true, false, length, ℤ, Option, None, Some, refl, sym, ◌∙◌, ap, subst, arith}
+use Rattle.std.proofs.lemmas.Bool.{both_ways, eq-eqb}
 use Rattle.std.proofs.lemmas.Option.{none-some}
-use Rattle.apex_dispatch.specs.Terms.{Wait}
+use Rattle.apex_dispatch.specs.Premises.{due_count}
+use Rattle.apex_dispatch.specs.Terms.{Record, Wait}
 use Rattle.apex_types.specs.declared.Wait.TheVariants as wait
-use Rattle.apex_types.specs.Dues.{first_due}
+use Rattle.apex_types.specs.Dues.{first_due, is_due_at}
+use Rattle.apex_types.specs.Periods.{AreInTime, IsWholePeriodsAfter, awaits_first}
 use Rattle.apex_types.specs.Roster.{Roster, record_at, is_normal}
-use Rattle.apex_types.specs.Stamps.{HasOrderlyStarts, without_due}
+use Rattle.apex_types.specs.Stamps.{HasOrderlyStarts, awake, release, released_at, without_due}
 use Rattle.apex_types.specs.Ticks.{wait_over, serve_due, serve_dues}
 use Rattle.apex_types.proofs.Dues.{first_due_now, first_due_within}
 use Rattle.apex_types.proofs.Reaches.{Reaches, reaches_then, reaches_unblock, reaches_release, reaches_without_due, reaches_in_turn}
 use Rattle.apex_types.proofs.Rosters.{at_without_due}
-
-reach_wait_over : (roster : Roster) (p : ℕ) → p < length roster.records
-    → (is_normal roster.mode ≡ false → ⊥) → (w : Option Wait)
-    → Reaches 1 roster (wait_over roster p w).roster
-reach_wait_over roster p known normal (Some wait.Time) = reaches_unblock roster p known normal
-reach_wait_over roster p known normal (Some wait.Start) = reaches_release roster p known normal
-reach_wait_over roster p known normal _ = reaches_unblock roster p known normal
+use Rattle.apex_dispatch.proofs.Counts.{count, counted, counted_readied, one_if}
 
 -- before NORMAL nobody has a due
 due_normal : (roster : Roster) → HasOrderlyStarts roster → (p : ℕ) → first_due roster ≡ Some p
     → is_normal roster.mode ≡ false → ⊥
 due_normal roster starts p is e = none-some roster.now (sym (starts.undue e p) ∙ first_due_now roster p is)
 
-pub reach_serve_due : (roster : Roster) (p : ℕ) → HasOrderlyStarts roster → first_due roster ≡ Some p
-    → Reaches 1 roster (serve_due roster p).roster
-reach_serve_due roster p starts is =
-    let known = first_due_within roster p is in
-    let freed = reaches_without_due roster p known in
-    reaches_then 0 1 freed
-    (reach_wait_over (without_due roster p) p (rw freed.many known) (due_normal roster starts p is)
-    (record_at roster p).wait)
+-- what the dues may rely on: starts are in order, and everybody is in time
+pub record IsServable (roster : Roster) : Type 0 where
+  pub starts : HasOrderlyStarts roster
+  pub times : AreInTime roster
+
+-- the wait of process p, which is due now, ends
+module _ (roster : Roster) (p : ℕ) (before : IsServable roster) (is : first_due roster ≡ Some p) where
+  abbrev free : Roster
+  free = without_due roster p
+
+  known : p < length roster.records
+  known = first_due_within roster p is
+
+  here : record_at free p ≡ record (record_at roster p) { due = None }
+  here = at_without_due roster p known
+
+  freed : Reaches 0 roster free
+  freed = reaches_without_due roster p known
+
+  ends_released : (awaits_first (record_at free p).wait ≡ false
+      → IsWholePeriodsAfter (record_at free p).attributes.period (record_at free p).release roster.now)
+      → Reaches 1 free (release free p)
+  ends_released later = reaches_release free p (rw freed.many known) (due_normal roster before.starts p is) later
+
+  ends_woken : Reaches 1 free (wait_over free p None).roster
+  ends_woken = reaches_unblock free p (rw freed.many known) (due_normal roster before.starts p is)
+
+  ends : (w : Option Wait) → (record_at roster p).wait ≡ w → Reaches 1 free (wait_over free p w).roster
+  ends (Some wait.Time) waits = ends_woken
+  ends (Some wait.Start) waits =
+      let late = ap (λ (x : Record). awaits_first x.wait) here ∙ ap awaits_first waits in
+      ends_released (λ e. absurd (both_ways true (sym late ∙ e) refl))
+  ends (Some wait.Period) waits =
+      ends_released (λ _. subst (λ (x : Record). IsWholePeriodsAfter x.attributes.period x.release roster.now) (sym here)
+      ((before.times p).period waits roster.now (first_due_now roster p is)))
+  ends _ waits = ends_woken
+
+  pub reach_serve_due : Reaches 1 roster (serve_due roster p).roster
+  reach_serve_due = reaches_then 0 1 freed (ends (record_at roster p).wait refl)
+
+  pub served_stays : IsServable (serve_due roster p).roster
+  served_stays = record { starts = reach_serve_due.starts before.starts; times = reach_serve_due.times before.times }
 
 -- it tells one notice
 pub one_due : (roster : Roster) (p : ℕ) → length (serve_due roster p).notices ≡ 1
@@ -38,14 +69,52 @@ one_due roster p = one_by (record_at roster p).wait where
   one_by : (w : Option Wait) → length (wait_over (without_due roster p) p w).notices ≡ 1
   one_by (Some wait.Time) = refl
   one_by (Some wait.Start) = refl
+  one_by (Some wait.Period) = refl
   one_by _ = refl
 
-pub reach_serve_dues : (roster : Roster) → HasOrderlyStarts roster
-    → Reaches (length roster.records) roster (serve_dues roster).roster
-reach_serve_dues roster starts =
-    reaches_in_turn first_due serve_due HasOrderlyStarts
-    (λ r p before is. (reach_serve_due r p before is).starts before) reach_serve_due
-    (length roster.records) roster starts
+-- and one process less is due now
+undue : (t : ℕ) (r : Record) → r.due ≡ None → is_due_at t r ≡ false
+unfolding is_due_at
+undue t r e = rw e refl
+
+is_due : (t : ℕ) (r : Record) → r.due ≡ Some t → is_due_at t r ≡ true
+unfolding is_due_at
+is_due t r e = rw e (eq-eqb t t refl)
+
+ageless : (t : ℕ) (r : Record) (since : ℤ) → is_due_at t (record r { since = since }) ≡ is_due_at t r
+unfolding is_due_at
+ageless t r since = refl
+
+module _ (roster : Roster) (p : ℕ) (known : p < length roster.records) (now : ℕ) where
+  ends_count : (w : Option Wait) → (record_at roster p).due ≡ None
+      → count (is_due_at now) (wait_over roster p w).roster ≡ count (is_due_at now) roster
+  unfolding is_due_at
+  ends_count (Some wait.Time) free =
+      let all = counted_readied (is_due_at now) (λ r since. refl) roster p known (awake (record_at roster p)) in omega (arith, rw free at all)
+  ends_count (Some wait.Start) free =
+      let all = counted_readied (is_due_at now) (λ r since. refl) roster p known (released_at roster.now (record_at roster p)) in omega (arith, rw free at all)
+  ends_count (Some wait.Period) free =
+      let all = counted_readied (is_due_at now) (λ r since. refl) roster p known (released_at roster.now (record_at roster p)) in omega (arith, rw free at all)
+  ends_count _ free =
+      let all = counted_readied (is_due_at now) (λ r since. refl) roster p known (awake (record_at roster p)) in omega (arith, rw free at all)
+
+pub one_less : (roster : Roster) (p : ℕ) → IsServable roster → first_due roster ≡ Some p → due_count (serve_due roster p).roster + 1 ≡ due_count roster
+one_less roster p before is =
+    let known = first_due_within roster p is in
+    let free = without_due roster p in
+    let r : Record = record (record_at roster p) { due = None } in
+    let here : record_at free p ≡ r = at_without_due roster p known in
+    let due = is_due roster.now (record_at roster p) (first_due_now roster p is) in
+    let all = counted (is_due_at roster.now) (ageless roster.now) roster p known r in
+    let cleared : count (is_due_at roster.now) free + 1 ≡ count (is_due_at roster.now) roster =
+    omega (arith, rw (due, undue roster.now r refl) at all) in
+    let many : p < length free.records = rw (reaches_without_due roster p known).many known in
+    let ended = ends_count free p many roster.now (record_at roster p).wait (ap (λ (x : Record). x.due) here) in
+    rw (reach_serve_due roster p before is).time (omega (arith, cleared, ended))
+
+pub reach_serve_dues : (roster : Roster) → IsServable roster → Reaches (length roster.records) roster (serve_dues roster).roster
+reach_serve_dues roster before =
+    reaches_in_turn first_due serve_due IsServable served_stays reach_serve_due (length roster.records) roster before
 
 -- the wait of process p is the same without its due
 pub served_is : (old middle : Roster) (p : ℕ) (w : Option Wait) → p < length old.records

@@ -25,13 +25,12 @@ use Rattle.apex_types.specs.Satisfied.{answered_by, is_no_error, is_up, satisfie
 use Rattle.apex_types.specs.Table.{EventConfig, no_event}
 use Rattle.apex_types.specs.Waiting.{blocked, wait_for}
 use Rattle.apex_types.specs.Waking.{grant_all}
-use Rattle.apex_types.proofs.Reaches.{reaches_more}
 use Rattle.apex_types.proofs.Rows.{by_guard, by_caller}
 use Rattle.apex_types.proofs.Waking.{none_left, reach_grant_all}
 use Rattle.apex_dispatch.specs.AskedWaits.{AreAsked, AreHeldBack, begins}
 use Rattle.apex_dispatch.proofs.AskedWaits.{all_granted, asks_freed, held_asking, held_nobody, held_still}
 use Rattle.apex_dispatch.proofs.Satisfied.{all_named, far_answered, filter_all, handed}
-use Rattle.apex_dispatch.proofs.Serving.{Scene, ServesBy, serves_same, serves_blocked}
+use Rattle.apex_dispatch.proofs.Serving.{Scene, ServesBy, serves_same, serves_blocked, arrives_by}
 use Rattle.apex_dispatch.proofs.ObjectsServe.{LawsOf, ServesOne, IsQuiet, IsRead, elsewhere, quiet_told}
 use Rattle.apex_dispatch.proofs.Truths.{or_false, or_true, other}
 use Rattle.apex_dispatch.proofs.Values.{created-push, fold_stays, folded-push}
@@ -108,7 +107,7 @@ module _ (history : List Entry) (roster : Roster) (caller : Caller) (e : ℕ) (c
       let answered = flat_map (answered_by history) all.notices in
       record {
         serves = record {
-          reaches = reaches_more _ 64 scene.few (reach_grant_all (queues.Event e) None roster refl scene.starts);
+          arrives = arrives_by _ scene.few (reach_grant_all (queues.Event e) None roster refl scene.starts);
           asks = asks_freed caller (Some set) roster all.roster granted.frees;
           woken = λ q woken. inl (granted.waited q woken);
         };

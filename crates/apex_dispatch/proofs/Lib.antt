@@ -3,7 +3,9 @@ pub mod Known
 pub mod Satisfied
 pub mod AskedWaits
 pub mod Begun
+pub mod Counts
 pub mod DuesServed
+pub mod MissesServed
 pub mod Serving
 pub mod ObjectsServe
 pub mod Values
@@ -21,6 +23,8 @@ pub mod Turns
 pub mod TickTold
 pub mod Runs
 pub mod Sound
+pub mod InPeriods
+pub mod HardMisses
 pub mod InVain
 pub mod OwnedInOrder
 pub mod States

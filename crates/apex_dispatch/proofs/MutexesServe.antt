@@ -27,14 +27,13 @@ use Rattle.apex_types.specs.Waiting.{blocked, wait_for}
 use Rattle.apex_types.proofs.Dues.{due_later}
 use Rattle.apex_types.proofs.Handovers.{reaches_await, reaches_give_up, reaches_own}
 use Rattle.apex_types.proofs.Owners.{nobody_owns, owner_owns}
-use Rattle.apex_types.proofs.Reaches.{reaches_more}
 use Rattle.apex_types.proofs.Rows.{by_guard, by_caller}
 use Rattle.apex_types.proofs.Starts.{runnable}
 use Rattle.apex_dispatch.proofs.AskedWaits.{asks_freed}
 use Rattle.apex_dispatch.proofs.HandedOver.{gives_up, own_frees}
 use Rattle.apex_dispatch.proofs.ObjectsServe.{LawsOf, ServesOne, IsRead}
 use Rattle.apex_dispatch.proofs.ProcessesServe.{unnamed}
-use Rattle.apex_dispatch.proofs.Serving.{Scene, Serves, few, ready_normal, ready_started, serves_freed, serves_same, serves_waiting}
+use Rattle.apex_dispatch.proofs.Serving.{Scene, Serves, few, ready_normal, ready_started, serves_freed, serves_same, serves_waiting, arrives_by}
 use Rattle.apex_dispatch.proofs.Truths.{or_false, or_true}
 use Rattle.apex_dispatch.proofs.Values.{created-push}
 
@@ -159,7 +158,7 @@ module _ (history : List Entry) (roster : Roster) (caller : Caller) (m : ℕ) (e
         let most = lawful.depth in
         record { ceiling = lawful.ceiling; depth = (omega (arith, more), omega (arith, most)) }))
         (λ _. served Release after.roster (Code NoError) after.notices (record {
-          reaches = reaches_more 2 64 (lit≤ tt) (reaches_give_up roster p ready.known holding held free scene.starts);
+          arrives = arrives_by 2 (lit≤ tt) (reaches_give_up roster p ready.known holding held free scene.starts);
           asks = asks_freed caller (Some (asks_for Release)) roster after.roster hands.frees;
           woken = λ q woken. inr (holding.mutex, hands.woken q woken);
         }))

@@ -140,14 +140,15 @@ quiet_elsewhere names created i history roster at number now who caller call rep
   here true = All-cons P call [] unnamed (All-nil P)
   here false = All-nil P
 
--- an event that asks for no call says nothing of it, where whom it wakes with NO_ERROR waited for time
+-- an event that asks for no call says nothing of it, where whom it wakes with NO_ERROR waited for time, or
+-- for a mutex
 pub quiet_uncalled : (names : ℕ → Call → Bool) (created : Call → Option ℕ) (i : ℕ) (history : List Entry) (roster : Roster)
     (e : Entry) → AreAsked roster history → e.call ≡ None
-    → ((q : ℕ) → wakes q e.notices ≡ true → AwaitsAt None (record_at roster q))
-    → ((c : Call) → BeginsAt None c → names i c ≡ false) → IsQuiet names created i history e
+    → ((q : ℕ) → wakes q e.notices ≡ true → WokenAt None (record_at roster q))
+    → ((c : Call) → AnsweredAt None c → names i c ≡ false) → IsQuiet names created i history e
 quiet_uncalled names created i history roster e asked uncalled woken far = record {
   calls = All-append P (own_call e) (flat_map (answered_by history) e.notices) (rw uncalled (nothing (is_satisfied e.reply)))
-      (All-weaker (BeginsAt None) P far (flat_map (answered_by history) e.notices) (handed roster history e.notices None asked woken));
+      (All-weaker (AnsweredAt None) P far (flat_map (answered_by history) e.notices) (answered_at roster history e.notices None asked woken));
   create = rw uncalled refl;
 } where
   P : Call → Type 0

@@ -1,5 +1,5 @@
 -- The services of no object: those of the partition, of time, and those that a process asks for itself.
-use Rattle.std.proofs.Common.{◌≡◌, ℕ, false, List, [], ◌∷◌, is_some, None, Some, length, map, get_or, zero, suc, lit≤, refl, sym, ◌∙◌}
+use Rattle.std.proofs.Common.{◌≡◌, ℕ, ◌+◌, false, not, List, [], ◌∷◌, is_none, is_some, None, Some, length, map, get_or, zero, suc, lit≤, refl, sym, ◌∙◌}
 use Rattle.std.proofs.lemmas.Bool.{both_ways}
 use Rattle.std.proofs.lemmas.List.Folds.{list_any-append}
 use Rattle.std.proofs.lemmas.Option.{none-some}
@@ -11,33 +11,35 @@ use Rattle.apex_types.specs.declared.Mode.TheVariants as mode
 use Rattle.apex_types.specs.declared.PartitionCall.TheVariants.{SetPartitionMode, GetPartitionStatus}
 use Rattle.apex_types.specs.declared.RequestedMode.TheVariants as requested
 use Rattle.apex_types.specs.declared.Reply.TheVariants.{Code}
-use Rattle.apex_types.specs.declared.TimeCall.TheVariants.{TimedWait, GetTime}
+use Rattle.apex_types.specs.declared.TimeCall.TheVariants.{TimedWait, PeriodicWait, Replenish, GetTime}
 use Rattle.apex_types.specs.declared.Timeout.TheVariants.{Poll, Ticks, Infinite}
-use Rattle.apex_types.specs.declared.Wait.TheVariants.{Time}
+use Rattle.apex_types.specs.declared.Wait.TheVariants.{Time, Period}
 use Rattle.apex_types.specs.Callers.{IsReady}
 use Rattle.apex_types.specs.CallerServices as callers
 use Rattle.apex_types.specs.Dues.{due_after}
 use Rattle.apex_types.specs.Handovers.{halted}
 use Rattle.apex_types.specs.Owners.{is_owner}
 use Rattle.apex_types.specs.PartitionServices as partitions
+use Rattle.apex_types.specs.Periods.{is_beyond, is_periodic}
 use Rattle.apex_types.specs.Roster.{Roster, nobody, record_at, is_normal}
 use Rattle.apex_types.specs.Rows.{Outcome, told, refused}
 use Rattle.apex_types.specs.Satisfied.{is_no_error}
 use Rattle.apex_types.specs.Stamps as stamps
 use Rattle.apex_types.specs.Ticks.{begin_notices}
 use Rattle.apex_types.specs.TimeServices as times
-use Rattle.apex_types.proofs.Dues.{due_later}
+use Rattle.apex_types.proofs.Dues.{due_later, from_now}
 use Rattle.apex_types.proofs.Handovers.{reaches_halted}
 use Rattle.apex_types.proofs.InTurn.{holds_in_turn}
-use Rattle.apex_types.proofs.Reaches.{reaches_more, reaches_suspend_self, reaches_place_newest, reaches_enter_idle}
+use Rattle.apex_types.proofs.Periods.{release_later, release_whole}
+use Rattle.apex_types.proofs.Reaches.{arrives_of, reaches_await_release, reaches_set_deadline, reaches_suspend_self, reaches_place_newest, reaches_enter_idle}
 use Rattle.apex_types.proofs.Rows.{by_guard, by_caller}
 use Rattle.apex_dispatch.specs.AskedWaits.{awaited}
 use Rattle.apex_dispatch.proofs.Begun.{reach_enter_normal}
 use Rattle.apex_dispatch.proofs.AskedWaits.{Frees, asks_freed, frees_then, frees_moved, asks_waiting}
 use Rattle.apex_dispatch.proofs.HandedOver.{halts}
-use Rattle.apex_dispatch.proofs.ProcessesServe.{begin_frees, begin_quiet}
+use Rattle.apex_dispatch.proofs.ProcessesServe.{begin_frees, begin_quiet, blocked_frees}
 use Rattle.apex_dispatch.proofs.Satisfied.{is_waking}
-use Rattle.apex_dispatch.proofs.Serving.{Scene, Serves, ServesBy, AreQuiet, few, ready_started, ready_normal, serves_freed, serves_same, serves_blocked}
+use Rattle.apex_dispatch.proofs.Serving.{Scene, Serves, ServesBy, AreQuiet, few, ready_started, ready_normal, serves_freed, serves_same, serves_blocked, arrives_by}
 
 -- the entry into NORMAL wakes nobody, and nobody waits afterwards for what he asked for who did not before
 record Spares (old new : Roster) (notices : List Notice) : Type 0 where
@@ -57,6 +59,13 @@ enter_spares roster =
     })
     (length roster.records) (stamps.set_mode roster mode.Normal) []
     (record { frees = record { still = λ q w h. h }; quiet = λ q. refl })
+
+-- so it is where a periodic process waits for its next release
+await_frees : (roster : Roster) (p : ℕ) → Frees roster (stamps.await_release roster p)
+await_frees roster p =
+    let r : Record = record (record_at roster p) { deadline = None } in
+    let cleared = stamps.set_deadline roster p None in
+    frees_then (frees_moved roster cleared p r refl (λ w h. h)) (blocked_frees cleared p Period _ refl)
 
 -- in IDLE nobody waits
 stopped_free : (rs : List Record) (p : ℕ) → awaited (get_or (map stamps.stopped rs) p nobody) ≡ None
@@ -86,7 +95,7 @@ module _ {X : Type 0} (roster : Roster) (objects : X) (caller : Caller) (scene :
   pub served_partition : (asked : PartitionCall) → Served (call.Partition asked) (partitions.partition_service roster objects asked)
   served_partition (SetPartitionMode requested.Idle) =
       served _ _ _ _ (serves_freed roster caller (call.Partition (SetPartitionMode requested.Idle)) None (partitions.enter_idle roster) []
-      (reaches_more 0 64 (lit≤ tt) (reaches_enter_idle roster))
+      (arrives_by 0 (lit≤ tt) (reaches_enter_idle roster))
       (record { still = λ q w h. absurd (none-some w (sym (stopped_free roster.records q) ∙ h)) }) (λ q. refl))
   served_partition (SetPartitionMode requested.Normal) =
       let asked = call.Partition (SetPartitionMode requested.Normal) in
@@ -94,7 +103,7 @@ module _ {X : Type 0} (roster : Roster) (objects : X) (caller : Caller) (scene :
       let spares = enter_spares roster in
       by_guard roster objects (Served asked) (served_refused asked) (is_normal roster.mode) _ _ refl (λ _.
       served _ _ _ _ (serves_freed roster caller asked None entered.roster entered.notices
-      (reach_enter_normal roster scene.starts scene.few) spares.frees spares.quiet))
+      (arrives_of (reach_enter_normal roster scene.starts scene.few)) spares.frees spares.quiet))
   served_partition GetPartitionStatus = same (call.Partition GetPartitionStatus) _
 
   -- a process that asks
@@ -104,7 +113,7 @@ module _ {X : Type 0} (roster : Roster) (objects : X) (caller : Caller) (scene :
         let due = due_after roster timeout in
         let r : Record = record (stamps.self_suspended (record_at roster p) due) { since = roster.young } in
         served _ _ _ _ (record {
-          reaches = few (reaches_suspend_self roster p ready.known due (due_later roster timeout)
+          arrives = few (reaches_suspend_self roster p ready.known due (due_later roster timeout)
               (ready_started roster p ready) (ready_normal roster p ready));
           asks = rw by (asks_waiting p (call.Caller (SuspendSelf timeout)) Time r roster
               (stamps.suspend_self roster p due) refl refl refl);
@@ -120,14 +129,15 @@ module _ {X : Type 0} (roster : Roster) (objects : X) (caller : Caller) (scene :
     served_itself StopSelf =
         let halts_so = halts roster p in
         served _ _ _ _ (record {
-          reaches = few (reaches_halted roster p ready.known scene.starts);
+          arrives = few (reaches_halted roster p ready.known scene.starts);
           asks = asks_freed caller (Some (call.Caller StopSelf)) roster (halted roster p).roster halts_so.frees;
           woken = halts_so.woken;
         })
     served_itself (SuspendSelf timeout) =
         let asked = call.Caller (SuspendSelf timeout) in
-        by_guard roster objects (Served asked) (served_refused asked) (is_some (record_at roster p).owned) _ _ refl
-        (λ _. served_suspension timeout)
+        by_guard roster objects (Served asked) (served_refused asked) (is_periodic (record_at roster p)) _ _ refl (λ _.
+        by_guard roster objects (Served asked) (served_refused asked) (is_some (record_at roster p).owned) _ _ refl (λ _.
+        served_suspension timeout))
     served_itself GetMyId = same (call.Caller GetMyId) _
     served_itself GetMyProcessorCoreId = same (call.Caller GetMyProcessorCoreId) _
 
@@ -141,6 +151,29 @@ module _ {X : Type 0} (roster : Roster) (objects : X) (caller : Caller) (scene :
         served _ _ _ _ (rw by (serves_blocked roster p ready (call.Time (TimedWait (Ticks n))) None Time (Ticks n) refl refl (λ m is. cc)))
     served_timed_wait Infinite = same (call.Time (TimedWait Infinite)) _
 
+    -- who waits for its next release waits for nothing that it asked for
+    served_periodic : Served (call.Time PeriodicWait) (times.periodic_wait roster objects p)
+    served_periodic =
+        let asked = call.Time PeriodicWait in
+        by_guard roster objects (Served asked) (served_refused asked) (not (is_periodic (record_at roster p))) _ _ refl (λ _.
+        by_guard roster objects (Served asked) (served_refused asked) (is_some (record_at roster p).owned) _ _ refl (λ _.
+        served _ _ _ _ (serves_freed roster caller asked None (stamps.await_release roster p) []
+        (few (reaches_await_release roster p ready.known (release_later roster.now (record_at roster p) (scene.spans p))
+        (release_whole roster.now (record_at roster p)) (ready_started roster p ready) (ready_normal roster p ready)))
+        (await_frees roster p) (λ q. refl))))
+
+    served_replenish : (budget : ℕ) → Served (call.Time (Replenish budget)) (times.replenish roster objects budget p)
+    served_replenish budget =
+        let asked = call.Time (Replenish budget) in
+        let r = record_at roster p in
+        let deadline = Some (roster.now + budget) in
+        let changed : Record = record r { deadline = deadline } in
+        by_guard roster objects (Served asked) (served_refused asked) (is_none r.attributes.capacity) _ _ refl (λ _.
+        by_guard roster objects (Served asked) (served_refused asked) (is_beyond r.release r.attributes.period (roster.now + budget)) _ _ refl (λ _.
+        served _ _ _ _ (serves_freed roster caller asked None (stamps.set_deadline roster p deadline) []
+        (arrives_by 0 (lit≤ tt) (reaches_set_deadline roster p ready.known deadline (from_now roster.now budget)))
+        (frees_moved roster (stamps.set_deadline roster p deadline) p changed refl (λ w h. h)) (λ q. refl))))
+
   pub served_caller : (asked : CallerCall) → Served (call.Caller asked) (callers.caller_service roster objects caller asked)
   served_caller asked =
       by_caller roster objects (Served (call.Caller asked)) (served_refused (call.Caller asked)) caller _
@@ -151,4 +184,10 @@ module _ {X : Type 0} (roster : Roster) (objects : X) (caller : Caller) (scene :
       by_guard roster objects (Served (call.Time (TimedWait timeout))) (served_refused (call.Time (TimedWait timeout))) (is_owner roster caller) _ _ refl (λ _.
       by_caller roster objects (Served (call.Time (TimedWait timeout))) (served_refused (call.Time (TimedWait timeout))) caller _
       (λ p by. served_timed_wait p by (rw by at scene.ready) timeout))
+  served_time PeriodicWait =
+      by_caller roster objects (Served (call.Time PeriodicWait)) (served_refused (call.Time PeriodicWait)) caller _
+      (λ p by. served_periodic p by (rw by at scene.ready))
+  served_time (Replenish budget) =
+      by_caller roster objects (Served (call.Time (Replenish budget))) (served_refused (call.Time (Replenish budget))) caller _
+      (λ p by. served_replenish p by (rw by at scene.ready) budget)
   served_time GetTime = same (call.Time GetTime) _

@@ -29,16 +29,16 @@ use Rattle.apex_types.specs.Table.{ProcessConfig, no_process}
 use Rattle.apex_types.specs.Ticks.{begin_notices}
 use Rattle.apex_types.specs.Waiters.{queue_in, goes_by_priority}
 use Rattle.apex_types.proofs.Handovers.{reaches_halted}
-use Rattle.apex_types.proofs.Reaches.{Reaches, reaches_more, reaches_set_core, reaches_set_priority, reaches_start, reaches_suspend, reaches_resume}
+use Rattle.apex_types.proofs.Reaches.{Arrives, reaches_set_core, reaches_set_priority, arrives_more, arrives_start, reaches_suspend, reaches_resume}
 use Rattle.apex_types.proofs.Rows.{by_guard}
 use Rattle.apex_types.proofs.Starts.{waitless_queue}
 use Rattle.apex_dispatch.specs.AskedWaits.{asked_of, awaited, or_suspended}
-use Rattle.apex_dispatch.proofs.AskedWaits.{Frees, frees_then, frees_moved, frees_changed, frees_lessened, frees_unblock, asks_freed, awake_free}
+use Rattle.apex_dispatch.proofs.AskedWaits.{Frees, frees_then, frees_moved, frees_changed, frees_lessened, frees_unblock, asks_freed, awake_free, frees_release}
 use Rattle.apex_dispatch.proofs.HandedOver.{halts}
 use Rattle.apex_dispatch.proofs.Satisfied.{WokenAt, wakes, woken_alone}
-use Rattle.apex_dispatch.proofs.Serving.{Scene, Serves, AreQuiet, few, serves_same, serves_freed}
+use Rattle.apex_dispatch.proofs.Serving.{Scene, Serves, AreQuiet, few, serves_same, serves_freed, arrives_by}
 use Rattle.apex_dispatch.proofs.ObjectsServe.{LawsOf, ServesOne, IsRead}
-use Rattle.apex_dispatch.proofs.Truths.{or_false, or_true}
+use Rattle.apex_dispatch.proofs.Truths.{neither, or_false, or_true}
 use Rattle.apex_dispatch.proofs.Values.{created-push}
 
 -- no call names a process of which its object would keep a value
@@ -65,7 +65,7 @@ pub begin_quiet : (p delay : ℕ) → AreQuiet (begin_notices p delay)
 begin_quiet p delay =
     cond_both {A = List Notice} (delay == 0) (Released p ∷ []) [] AreQuiet (λ _ q. refl) (λ _ q. refl)
 
-blocked_frees : (roster : Roster) (p : ℕ) (wait : Wait) (due : Option ℕ) → asked_of (Some wait) ≡ None
+pub blocked_frees : (roster : Roster) (p : ℕ) (wait : Wait) (due : Option ℕ) → asked_of (Some wait) ≡ None
     → Frees roster (stamps.block roster p wait due)
 blocked_frees roster p wait due plain =
     let awake = stamps.suspension_awake (record_at roster p).suspended in
@@ -77,7 +77,7 @@ pub begin_frees : (roster : Roster) (p delay : ℕ) → Frees roster (stamps.beg
 begin_frees roster p delay =
     let due = Some (roster.now + delay) in
     cond_both {A = Roster} (delay == 0) (stamps.release roster p) (stamps.block roster p ForStart due) (Frees roster)
-    (λ _. frees_unblock roster p) (λ _. blocked_frees roster p ForStart due refl)
+    (λ _. frees_release roster p) (λ _. blocked_frees roster p ForStart due refl)
 
 -- who is suspended no longer, or by another, waits for no more than before
 suspended_less : (wait : Option Wait) (by_itself : Bool) (w : Wait)
@@ -137,7 +137,7 @@ module _ (roster : Roster) (p : ℕ) where
 
     serves_resume : Serves roster caller call None (stamps.resume roster p) (services.resume_notices roster p)
     serves_resume = record {
-      reaches = few (reaches_resume roster p known itself_normal);
+      arrives = few (reaches_resume roster p known itself_normal);
       asks = asks_freed caller (Some call) roster (stamps.resume roster p) (resume_asks (stamps.is_by_itself r.suspended) refl);
       woken = resume_woken (stamps.is_by_itself r.suspended) refl;
     }
@@ -163,10 +163,10 @@ module _ (history : List Entry) (roster : Roster) (caller : Caller) (p : ℕ) (e
   }
 
   -- nobody is woken, and nobody waits who did not wait before
-  served_freed : (service : ProcessService) (new : Roster) (notices : List Notice) → Reaches 64 roster new → Frees roster new
+  served_freed : (service : ProcessService) (new : Roster) (notices : List Notice) → Arrives 64 roster new → Frees roster new
       → AreQuiet notices → Served service (accepted new process notices)
-  served_freed service new notices reaches frees quiet =
-      served service new (Code NoError) notices (serves_freed roster caller (asks_for service) None new notices reaches frees quiet)
+  served_freed service new notices arrives frees quiet =
+      served service new (Code NoError) notices (serves_freed roster caller (asks_for service) None new notices arrives frees quiet)
 
   served_refused : (service : ProcessService) (code : ReturnCode) → is_no_error code ≡ false → Served service (refused roster process code)
   served_refused service code bad = served service roster (Code code) [] (serves_same roster caller (asks_for service) None)
@@ -180,10 +180,10 @@ module _ (history : List Entry) (roster : Roster) (caller : Caller) (p : ℕ) (e
   served_start service delay =
       let ticks = services.delay_ticks delay in
       guard service (not process.created) _ _ refl (λ _.
-      guard service (record_at roster p).started _ _ refl (λ _.
-      guard service (services.is_infinite delay) _ _ refl (λ _.
+      guard service (record_at roster p).started _ _ refl (λ dormant.
+      guard service (services.is_unfit_delay (record_at roster p) delay) _ _ refl (λ _.
       served_freed service (stamps.start roster p ticks) (services.start_notices roster p ticks)
-      (few (reaches_start roster p known ticks)) (start_frees roster p ticks) (start_quiet roster p ticks))))
+      (arrives_more 1 64 (lit≤ tt) (arrives_start roster p known ticks dormant)) (start_frees roster p ticks) (start_quiet roster p ticks))))
 
   pub served_own : (service : ProcessService) → Served service (services.process_own roster process p caller service)
   served_own (InitializeCoreAffinity core) =
@@ -193,7 +193,7 @@ module _ (history : List Entry) (roster : Roster) (caller : Caller) (p : ℕ) (e
       guard service (not (nat_lt core roster.cores)) _ _ refl (λ _.
       let r : Record = record (record_at roster p) { core = core } in
       served_freed service (stamps.set_core roster p core) []
-      (reaches_more 0 64 (lit≤ tt) (reaches_set_core roster p known core))
+      (arrives_by 0 (lit≤ tt) (reaches_set_core roster p known core))
       (frees_moved roster (stamps.set_core roster p core) p r refl (λ w h. h)) (λ q. refl))))
   served_own (SetPriority priority) =
       let service = SetPriority priority in
@@ -211,25 +211,25 @@ module _ (history : List Entry) (roster : Roster) (caller : Caller) (p : ℕ) (e
       let after = halted roster p in
       let halts_so = halts roster p in
       served Stop after.roster (Code NoError) after.notices (record {
-        reaches = few (reaches_halted roster p known scene.starts);
+        arrives = few (reaches_halted roster p known scene.starts);
         asks = asks_freed caller (Some (asks_for Stop)) roster after.roster halts_so.frees;
         woken = halts_so.woken;
       }))))
   served_own Suspend =
       guard Suspend (is_by_process p caller) _ _ refl (λ _.
       guard Suspend (not process.created) _ _ refl (λ _.
-      guard Suspend (not (record_at roster p).started) _ _ refl (λ _.
+      guard Suspend (services.is_unsuspendable (record_at roster p)) _ _ refl (λ _.
       guard Suspend (is_some (record_at roster p).suspended) _ _ refl (λ _.
       guard Suspend (is_some (record_at roster p).owned) _ _ refl (λ _.
       served_freed Suspend (stamps.suspend roster p) []
-      (reaches_more 0 64 (lit≤ tt) (reaches_suspend roster p known)) (suspend_frees roster p) (λ q. refl))))))
+      (arrives_by 0 (lit≤ tt) (reaches_suspend roster p known)) (suspend_frees roster p) (λ q. refl))))))
   served_own Resume =
       guard Resume (is_by_process p caller) _ _ refl (λ _.
       guard Resume (not process.created) _ _ refl (λ _.
-      guard Resume (not (record_at roster p).started) _ _ refl (λ active.
+      guard Resume (services.is_unsuspendable (record_at roster p)) _ _ refl (λ able.
       guard Resume (is_none (record_at roster p).suspended) _ _ refl (λ _.
       served Resume (stamps.resume roster p) (Code NoError) (services.resume_notices roster p)
-      (serves_resume roster p caller (asks_for Resume) scene known (not-false _ active))))))
+      (serves_resume roster p caller (asks_for Resume) scene known (not-false _ (neither _ _ able).0))))))
 
 -- processes are objects of a kind
 abbrev pub process_laws : LawsOf process_kind

@@ -11,7 +11,7 @@ use Rattle.apex_types.specs.declared.BufferService.TheVariants as buffer
 use Rattle.apex_types.specs.declared.Call.TheVariants as call
 use Rattle.apex_types.specs.declared.EventService.TheVariants as event
 use Rattle.apex_types.specs.declared.MutexService.TheVariants as mutex
-use Rattle.apex_types.specs.declared.Notice.TheVariants.{Woken, Released}
+use Rattle.apex_types.specs.declared.Notice.TheVariants.{Woken, Released, Missed}
 use Rattle.apex_types.specs.declared.CallerCall.TheVariants.{SuspendSelf}
 use Rattle.apex_types.specs.declared.ObjectCall.TheVariants.{Own}
 use Rattle.apex_types.specs.declared.SemaphoreService.TheVariants as semaphore
@@ -72,6 +72,7 @@ filter_all passes b (c ∷ calls) all =
 abbrev pub is_waking : ℕ → Notice → Bool
 is_waking p (Woken q code) = p == q && is_no_error code
 is_waking p (Released q) = false
+is_waking p (Missed q kind) = false
 
 -- one of the notices does
 abbrev pub wakes : ℕ → List Notice → Bool
@@ -83,6 +84,7 @@ answered_all : (P : Call → Type 0) (history : List Entry) (notices : List Noti
     → All P (flat_map (answered_by history) notices)
 answered_all P history [] holds = All-nil P
 answered_all P history (Released p ∷ notices) holds = answered_all P history notices holds
+answered_all P history (Missed p kind ∷ notices) holds = answered_all P history notices holds
 answered_all P history (Woken p code ∷ notices) holds =
     All-append P (answered_by history (Woken p code)) (flat_map (answered_by history) notices)
     (here (is_no_error code) (latest_call p history)

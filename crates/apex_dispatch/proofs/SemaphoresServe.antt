@@ -115,7 +115,7 @@ module _ (history : List Entry) (roster : Roster) (caller : Caller) (s : ℕ) (e
       names_begun (queues.Semaphore s) at found.0 (w, found.2, first.1.queued) ∙ eq-eqb s s refl in
       record {
         serves = record {
-          reaches = few (reach_granted None roster p (queues.Semaphore s) refl scene.starts is);
+          arrives = few (reach_granted None roster p (queues.Semaphore s) refl scene.starts is);
           asks = asks_freed caller (Some signal) roster (granted None roster p).roster (frees_granted None roster p);
           woken = λ q woken. rw (woken_alone q p woken) (inl (awaits_at first.1));
         };

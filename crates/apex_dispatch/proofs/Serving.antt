@@ -1,17 +1,20 @@
--- What each service keeps of the processes: it reaches the roster that it leaves, who waits afterwards
+-- What each service keeps of the processes: it arrives at the roster that it leaves, who waits afterwards
 -- asked for it, and whom it wakes with NO_ERROR had waited for one thing.
-use Rattle.std.proofs.Common.{◌≡◌, ℕ, ◌≤◌, true, false, List, [], length, Option, Some, lit≤, refl}
+use Rattle.std.proofs.Common.{◌≡◌, ℕ, ◌≤◌, true, false, List, [], length, Option, Some, lit≤, refl, sym, ◌∙◌, ap}
 use Rattle.std.proofs.lemmas.Bool.{both_ways}
+use Rattle.std.proofs.lemmas.Option.{none-some}
 use Rattle.apex_dispatch.specs.Terms.{Call, Caller, Notice, Queue, Timeout, Wait}
 use Rattle.apex_types.specs.declared.Caller.TheVariants.{Process}
-use Rattle.apex_types.specs.declared.Wait.TheVariants.{Mutex}
+use Rattle.apex_types.specs.declared.Wait.TheVariants.{Normal, Start, Time, Period, Semaphore, Receive, Send, Blackboard, Event, Mutex}
 use Rattle.apex_types.specs.Callers.{IsReady, IsReadyCaller}
 use Rattle.apex_types.specs.Dues.{due_after}
+use Rattle.apex_types.specs.Periods.{awaits_first}
 use Rattle.apex_types.specs.Roster.{Roster, record_at, is_normal}
 use Rattle.apex_types.specs.Rows.{Outcome}
 use Rattle.apex_types.specs.Stamps.{HasOrderlyStarts, WaitsForOne, block}
 use Rattle.apex_types.proofs.Dues.{due_later}
-use Rattle.apex_types.proofs.Reaches.{Reaches, reaches_none, reaches_more, reaches_block}
+use Rattle.apex_types.proofs.Periods.{HasSomeTicks}
+use Rattle.apex_types.proofs.Reaches.{Arrives, Reaches, arrives_of, reaches_none, reaches_more, reaches_block}
 use Rattle.apex_types.proofs.Starts.{runnable}
 use Rattle.apex_dispatch.specs.AskedWaits.{begins, asked_of}
 use Rattle.apex_dispatch.proofs.Satisfied.{Asks, WokenAt, wakes}
@@ -22,12 +25,13 @@ pub record Scene (roster : Roster) (caller : Caller) : Type 0 where
   pub starts : HasOrderlyStarts roster
   pub one : WaitsForOne roster
   pub few : length roster.records ≤ 64
+  pub spans : (p : ℕ) → HasSomeTicks (record_at roster p).attributes.period
   pub ready : IsReadyCaller roster caller
 
 -- what a service keeps that leaves this roster and tells these notices; whom it wakes with NO_ERROR had
 -- waited in this queue, or for time where there is none, or for a mutex
 pub record Serves (roster : Roster) (caller : Caller) (call : Call) (at : Option Queue) (new : Roster) (notices : List Notice) : Type 0 where
-  pub reaches : Reaches 64 roster new
+  pub arrives : Arrives 64 roster new
   pub asks : Asks caller (Some call) roster new
   pub woken : (q : ℕ) → wakes q notices ≡ true → WokenAt at (record_at roster q)
 
@@ -39,9 +43,12 @@ ServesBy roster caller call at o = Serves roster caller call at o.roster o.notic
 abbrev pub AreQuiet : List Notice → Type 0
 AreQuiet notices = (p : ℕ) → wakes p notices ≡ false
 
--- one stamp is few
-pub few : {old new : Roster} → Reaches 1 old new → Reaches 64 old new
-few reaches = reaches_more 1 64 (lit≤ tt) reaches
+-- so few stamps are few enough
+pub arrives_by : {old new : Roster} (n : ℕ) → n ≤ 64 → Reaches n old new → Arrives 64 old new
+arrives_by n few reaches = arrives_of (reaches_more n 64 few reaches)
+
+pub few : {old new : Roster} → Reaches 1 old new → Arrives 64 old new
+few = arrives_by 1 (lit≤ tt)
 
 -- a process that is ready is started, and the mode is NORMAL
 pub ready_started : (roster : Roster) (p : ℕ) → IsReady roster p → (record_at roster p).started ≡ true
@@ -52,17 +59,17 @@ ready_normal roster p ready e = both_ways _ e (runnable roster.mode (record_at r
 
 module _ (roster : Roster) (caller : Caller) (call : Call) (at : Option Queue) where
   -- nobody waits who did not wait before, and nobody is woken
-  pub serves_freed : (new : Roster) (notices : List Notice) → Reaches 64 roster new → Frees roster new
+  pub serves_freed : (new : Roster) (notices : List Notice) → Arrives 64 roster new → Frees roster new
       → AreQuiet notices → Serves roster caller call at new notices
-  serves_freed new notices reaches frees quiet = record {
-    reaches = reaches;
+  serves_freed new notices arrives frees quiet = record {
+    arrives = arrives;
     asks = asks_freed caller (Some call) roster new frees;
     woken = λ q woken. absurd (both_ways _ (quiet q) woken);
   }
 
   -- nothing changes
   pub serves_same : Serves roster caller call at roster []
-  serves_same = serves_freed roster [] (reaches_none 64 roster) (frees_none roster) (λ q. refl)
+  serves_same = serves_freed roster [] (arrives_of (reaches_none 64 roster)) (frees_none roster) (λ q. refl)
 
 -- the caller blocks, on what its call waits for
 pub serves_waiting : (roster : Roster) (p : ℕ) (call : Call) (at : Option Queue) (v : Wait) (due : Option ℕ)
@@ -70,10 +77,23 @@ pub serves_waiting : (roster : Roster) (p : ℕ) (call : Call) (at : Option Queu
     → Serves roster (Process p) call at (block roster p v due) []
 serves_waiting roster p call at v due asked begun reaches =
     record {
-      reaches = few reaches;
+      arrives = few reaches;
       asks = asks_blocked p call v due roster asked begun;
       woken = λ q woken. absurd (both_ways false refl woken);
     }
+
+-- who waits for what it asked for was released
+asked_late : (v : Wait) → asked_of (Some v) ≡ Some v → awaits_first (Some v) ≡ false
+asked_late (Normal delay) e = cc
+asked_late Start e = cc
+asked_late Time e = refl
+asked_late Period e = refl
+asked_late (Semaphore s) e = refl
+asked_late (Receive b) e = refl
+asked_late (Send b message) e = refl
+asked_late (Blackboard b) e = refl
+asked_late (Event v) e = refl
+asked_late (Mutex m) e = refl
 
 -- so it does on another thing than a mutex
 pub serves_blocked : (roster : Roster) (p : ℕ) → IsReady roster p → (call : Call) (at : Option Queue) (v : Wait) (timeout : Timeout)
@@ -82,4 +102,5 @@ pub serves_blocked : (roster : Roster) (p : ℕ) → IsReady roster p → (call 
 serves_blocked roster p ready call at v timeout asked begun other =
     let due = due_after roster timeout in
     serves_waiting roster p call at v due asked begun
-    (reaches_block roster p ready.known v due (due_later roster timeout) (ready_started roster p ready) (ready_normal roster p ready) other)
+    (reaches_block roster p ready.known v due (due_later roster timeout) (λ is. absurd (none-some v (ap asked_of (sym is) ∙ asked)))
+    (ready_started roster p ready) (ready_normal roster p ready) other (λ _. asked_late v asked))

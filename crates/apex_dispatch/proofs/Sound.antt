@@ -8,23 +8,24 @@ use Rattle.std.proofs.lemmas.Int.{ints}
 use Rattle.std.proofs.lemmas.Option.{none-some}
 use Rattle.apex_dispatch.specs.Terms.{Event, Record, Wait, Who}
 use Rattle.apex_types.specs.declared.Event.TheVariants.{Turn, Tick}
-use Rattle.apex_types.specs.declared.Wait.TheVariants.{Mutex}
+use Rattle.apex_types.specs.declared.Wait.TheVariants.{Period, Mutex}
 use Rattle.apex_types.specs.declared.Who.TheVariants.{Core, Ticker}
 use Rattle.apex_types.specs.Distinct.{IsStamped}
-use Rattle.apex_types.specs.Dues.{HasNoDueBelow, HasNoPastDue}
 use Rattle.apex_types.specs.History.{init_count}
 use Rattle.apex_types.specs.Lines.{IsPrintable}
 use Rattle.apex_types.specs.Machine.{Machine, Deed, Objects, objects_after, tick_deed, turn_deed, due_init_call, opening, after_deed, turn, tick, happen, accept, run, replay, events_of, event_of, entry_of}
 use Rattle.apex_types.specs.Owners.{is_held}
+use Rattle.apex_types.specs.Periods.{AreInTime}
 use Rattle.apex_types.specs.Places.{map_places}
 use Rattle.apex_types.specs.Roster.{Roster, nobody, opening_record, opening_roster, record_at, is_cold_start}
 use Rattle.apex_types.specs.Stamps.{advance_to}
-use Rattle.apex_types.specs.Table.{Table, ProcessConfig, IsLawful}
+use Rattle.apex_types.specs.Table.{Table, ProcessConfig, IsLawful, no_process}
 use Rattle.apex_types.specs.Ticks.{tick_goal}
 use Rattle.apex_types.proofs.DistinctStamps.{stamped_opening, stamped_advance_to}
-use Rattle.apex_types.proofs.Dues.{goal_forward, goal_near, goal_not_past}
+use Rattle.apex_types.proofs.Dues.{goal_before_deadlines, goal_before_dues, goal_forward, goal_near}
 use Rattle.apex_types.proofs.Owners.{owners_kept}
 use Rattle.apex_types.proofs.Places.{length-map_places}
+use Rattle.apex_types.proofs.Reaches.{in_time_later}
 use Rattle.apex_dispatch.specs.AskedWaits.{awaited}
 use Rattle.apex_dispatch.specs.Events.{IsWithin}
 use Rattle.apex_dispatch.proofs.Known.{known_due}
@@ -42,7 +43,7 @@ deed_at table machine objects (Turn core) =
     turn_deed table machine.roster objects core (due_init_call table machine core)
 deed_at table machine objects (Tick n) = tick_deed machine.roster objects n
 
-abbrev instant_of : Roster → Event → ℕ
+abbrev pub instant_of : Roster → Event → ℕ
 instant_of roster (Turn core) = roster.now
 instant_of roster (Tick n) = tick_goal roster n
 
@@ -80,38 +81,39 @@ IsTimely table machine = All (IsWithin table.cores) (events_of machine.history)
     → machine.roster.now ≤ 1048576 * length machine.history
 
 -- what holds of the machine after every list of events on an accepted table: all is in order, stamps
--- differ, and are left for all that the history's limit still admits, no due that stands is past, the
+-- differ, and are left for all that the history's limit still admits, every process is in time, the
 -- ids of each entry are the table's, the history is within the limit and replays, and time is in range
 pub record IsSound (table : Table) (machine : Machine) : Type 0 where
   pub orderly : IsOrderly table machine.history machine.roster
   pub stamps : machine.roster.young ≤ℤ pos (64 + 64 * length machine.history)
   pub older : pos 0 ≤ℤ (machine.roster.old +ℤ pos (64 * length machine.history))
   pub stamped : IsStamped machine.roster
-  pub dues : HasNoPastDue machine.roster
+  pub times : AreInTime machine.roster
   pub known : All (IsPrintable table) machine.history
   pub within : length machine.history ≤ table.limit
   pub replays : replay table machine.history ≡ machine
   pub time : IsTimely table machine
 
--- time goes forward, past no due, and by 1,048,576 at the most in an event that is in range
-record GoesTo (cores : ℕ) (event : Event) (roster : Roster) (t : ℕ) : Type 0 where
-  forward : roster.now ≤ t
-  near : IsWithin cores event → t ≤ roster.now + 1048576
-  dues : HasNoDueBelow roster t
+-- time goes forward, past no due and no deadline, and by 1,048,576 at the most in an event that is in range
+pub record GoesTo (cores : ℕ) (event : Event) (roster : Roster) (t : ℕ) : Type 0 where
+  pub forward : roster.now ≤ t
+  pub near : IsWithin cores event → t ≤ roster.now + 1048576
+  pub times : AreInTime (advance_to roster t)
 
 module _ (table : Table) (lawful : IsLawful table) (machine : Machine) (sound : IsSound table machine) where
-  goes : (event : Event) → GoesTo table.cores event machine.roster (instant_of machine.roster event)
-  goes (Turn core) = record { forward = omega arith; near = λ _. omega arith; dues = sound.dues }
+  pub goes : (event : Event) → GoesTo table.cores event machine.roster (instant_of machine.roster event)
+  goes (Turn core) = record { forward = omega arith; near = λ _. omega arith; times = sound.times }
   goes (Tick n) =
       let roster = machine.roster in
+      let forward = goal_forward roster n (λ p. (sound.times p).due) (λ p. (sound.times p).deadline) in
       record {
-        forward = goal_forward roster n sound.dues;
+        forward = forward;
         near = λ range. omega (arith, goal_near roster n, range.1);
-        dues = goal_not_past roster n;
+        times = in_time_later roster (tick_goal roster n) sound.times forward (goal_before_dues roster n) (goal_before_deadlines roster n);
       }
 
   -- what the event's deed owes from then on
-  owes : (event : Event)
+  pub owes : (event : Event)
       → Owes table machine.history (advance_to machine.roster (instant_of machine.roster event)) (who_of event)
       (deed_at table machine (objects_after table machine.history) event)
   owes (Turn core) =
@@ -120,7 +122,7 @@ module _ (table : Table) (lawful : IsLawful table) (machine : Machine) (sound : 
       (known_due table (init_count machine.history) lawful (is_cold_start machine.roster.mode && core == 0))
   owes (Tick n) =
       let count = lawful.process_count in
-      tick_owes table machine.history machine.roster sound.orderly (omega (arith, sound.orderly.many, count)) n
+      tick_owes table machine.history machine.roster sound.orderly (omega (arith, sound.orderly.many, count)) n (goes (Tick n)).times
 
   -- the objects are then those that the deed left
   pub objects_happen : (event : Event) → objects_after table (happen table machine event).history
@@ -130,13 +132,13 @@ module _ (table : Table) (lawful : IsLawful table) (machine : Machine) (sound : 
 
   -- time goes forward, and is in range where ticks are
   forward_happen : (event : Event) → machine.roster.now ≤ (happen table machine event).roster.now
-  forward_happen event = rw (happens table machine event, (owes event).reaches.time) (goes event).forward
+  forward_happen event = rw (happens table machine event, (owes event).arrives.moves.time) (goes event).forward
 
   time_happen : (event : Event) → IsTimely table (happen table machine event)
   time_happen event all =
       let is = told table machine event in
       let parts = All-pop (IsWithin table.cores) _ (events_of machine.history) (Some event) is all in
-      let now = ap (λ (m : Machine). m.roster.now) (happens table machine event) ∙ (owes event).reaches.time in
+      let now = ap (λ (m : Machine). m.roster.now) (happens table machine event) ∙ (owes event).arrives.moves.time in
       omega (arith, length-happen table machine event, sound.time parts.0, (goes event).near parts.1, now)
 
   replays_happen : (event : Event) → length machine.history < table.limit
@@ -152,24 +154,26 @@ module _ (table : Table) (lawful : IsLawful table) (machine : Machine) (sound : 
       let is = happens table machine event in
       let longer : length after.history ≡ length machine.history + 1 = rw length-append refl in
       let due = owes event in
-      let reaches = due.reaches in
+      let arrives = due.arrives in
+      let moves = arrives.moves in
       let orderly = sound.orderly in
       let starts = orderly.starts in
       subst (IsSound table) (sym is) (record {
         orderly = record {
-          many = reaches.many ∙ orderly.many;
-          ceilings = reaches.ceilings ∙ orderly.ceilings;
-          one = reaches.one orderly.one;
-          starts = reaches.starts
+          many = moves.many ∙ orderly.many;
+          ceilings = moves.ceilings ∙ orderly.ceilings;
+          attributes = λ p. arrives.attributes p ∙ orderly.attributes p;
+          one = moves.one orderly.one;
+          starts = moves.starts
               (record { dormant = starts.dormant; early = starts.early; undue = starts.undue });
-          owners = reaches.owners (owners_kept machine.roster (advance_to machine.roster (instant_of machine.roster event))
+          owners = arrives.owners (owners_kept machine.roster (advance_to machine.roster (instant_of machine.roster event))
               (record { ceilings = refl; owned = λ q. refl; mutex = λ q m is. is }) orderly.owners);
           kept = due.exact.kept;
         };
-        stamps = rw longer (omega (arith, ints, reaches.stamps, sound.stamps));
-        older = rw longer (omega (arith, ints, reaches.older, sound.older));
-        stamped = reaches.stamped (stamped_advance_to machine.roster sound.stamped (instant_of machine.roster event));
-        dues = reaches.dues (goes event).dues;
+        stamps = rw longer (omega (arith, ints, moves.stamps, sound.stamps));
+        older = rw longer (omega (arith, ints, moves.older, sound.older));
+        stamped = moves.stamped (stamped_advance_to machine.roster sound.stamped (instant_of machine.roster event));
+        times = moves.times (goes event).times;
         known = All-push (IsPrintable table) machine.history _ sound.known due.known;
         within = rw longer (omega (arith, room));
         replays = subst (λ (m : Machine). replay table m.history ≡ m) is (replays_happen event room);
@@ -177,7 +181,7 @@ module _ (table : Table) (lawful : IsLawful table) (machine : Machine) (sound : 
       })
 
   -- so it is where the history may be full
-  sound_accept : (event : Event) → IsSound table (accept table machine event)
+  pub sound_accept : (event : Event) → IsSound table (accept table machine event)
   sound_accept event =
       cond_both {A = Machine} (nat_lt (length machine.history) table.limit) (happen table machine event) machine
       (IsSound table) (λ room. sound_happen event (ltb-true _ _ room)) (λ _. sound)
@@ -202,19 +206,28 @@ forward_after table lawful machine (event ∷ events) sound =
     let first = forward_accept table lawful machine sound event in
     omega (arith, first, forward_after table lawful (accept table machine event) events after)
 
--- at the opening nobody is started, waits, is suspended or has a due
+-- at the opening nobody is started, waits, is suspended or released, has a due or a deadline
 record IsDormant (r : Record) : Type 0 where
   started : r.started ≡ false
   suspended : r.suspended ≡ None
   wait : r.wait ≡ None
   due : r.due ≡ None
+  deadline : r.deadline ≡ None
+  release : r.release ≡ 0
   owned : r.owned ≡ None
 
 opening_dormant : (entries : List ProcessConfig) (q p : ℕ)
     → IsDormant (get_or (map_places opening_record q entries) p nobody)
-opening_dormant [] q p = record { started = refl; suspended = refl; wait = refl; due = refl; owned = refl }
-opening_dormant (e ∷ entries) q zero = record { started = refl; suspended = refl; wait = refl; due = refl; owned = refl }
+opening_dormant [] q p = record { started = refl; suspended = refl; wait = refl; due = refl; deadline = refl; release = refl; owned = refl }
+opening_dormant (e ∷ entries) q zero = record { started = refl; suspended = refl; wait = refl; due = refl; deadline = refl; release = refl; owned = refl }
 opening_dormant (e ∷ entries) q (suc p) = opening_dormant entries (q + 1) p
+
+-- and has the attributes that the table gives it
+opening_attributes : (entries : List ProcessConfig) (q p : ℕ)
+    → (get_or (map_places opening_record q entries) p nobody).attributes ≡ (get_or entries p no_process).attributes
+opening_attributes [] q p = refl
+opening_attributes (e ∷ entries) q zero = refl
+opening_attributes (e ∷ entries) q (suc p) = opening_attributes entries (q + 1) p
 
 sound_opening : (table : Table) → IsLawful table → IsSound table (opening table)
 sound_opening table lawful =
@@ -226,6 +239,7 @@ sound_opening table lawful =
       orderly = record {
         many = length-map_places opening_record 0 table.processes;
         ceilings = refl;
+        attributes = opening_attributes table.processes 0;
         one = λ p h. (dormant p).wait;
         starts = record {
           dormant = λ p e. (dormant p).wait;
@@ -252,7 +266,12 @@ sound_opening table lawful =
       stamps = omega (arith, ints, count);
       older = omega (arith, ints);
       stamped = stamped_opening table;
-      dues = λ p t h. omega arith;
+      times = λ p. record {
+        due = λ t h. omega arith;
+        deadline = λ t h. omega arith;
+        release = omega (arith, (dormant p).release);
+        period = λ h. absurd (none-some Period (sym (dormant p).wait ∙ h));
+      };
       known = All-nil (IsPrintable table);
       within = omega arith;
       replays = refl;

@@ -1,24 +1,29 @@
--- What a tick owes: it leaves all objects as they are, for whom it wakes with NO_ERROR had waited for
--- time alone.
-use Rattle.std.proofs.Common.{◌≡◌, ℕ, ◌≤◌, Bool, true, false, ◌&&◌, ◌==◌, List, [], ◌++◌, length, Option, None, Some, refl, sym, inl, inr}
+-- What a tick owes: it leaves all objects as they are, for whom it wakes with NO_ERROR had waited for time,
+-- or for the mutex of a process that missed a HARD deadline.
+use Rattle.std.proofs.Common.{◌≡◌, ℕ, ◌+◌, ◌≤◌, Bool, true, false, ◌&&◌, ◌==◌, List, [], ◌++◌, length, Option, None, Some, refl, sym, ◌∙◌, inl, inr, arith}
 use Rattle.std.proofs.lemmas.Bool.{cases_Bool, and_parts, eqb-true, both_ways}
 use Rattle.std.proofs.lemmas.List.Folds.{list_any-append}
-use Rattle.apex_dispatch.specs.Terms.{Entry, Notice, Record, Wait}
-use Rattle.apex_types.specs.declared.Wait.TheVariants.{Start, Time}
+use Rattle.apex_dispatch.specs.Terms.{DeadlineType, Entry, Notice, Record, Wait}
+use Rattle.apex_types.specs.declared.DeadlineType.TheVariants.{Soft, Hard}
+use Rattle.apex_types.specs.declared.Wait.TheVariants.{Start, Time, Period}
 use Rattle.apex_types.specs.declared.Who.TheVariants.{Ticker}
+use Rattle.apex_types.specs.InTurn.{Changed, in_turn}
+use Rattle.apex_types.specs.Periods.{AreInTime}
 use Rattle.apex_types.specs.Roster.{Roster, record_at}
-use Rattle.apex_types.specs.Dues.{first_due}
-use Rattle.apex_types.specs.Stamps.{HasOrderlyStarts, unblock, without_due, advance_to}
+use Rattle.apex_types.specs.Dues.{first_due, first_missed}
+use Rattle.apex_types.specs.Stamps.{HasOrderlyStarts, is_by_itself, set_deadline, without_due, advance_to}
 use Rattle.apex_types.specs.Table.{Table}
-use Rattle.apex_types.specs.Ticks.{wait_over, serve_due, serve_dues, tick_goal, pass_time}
+use Rattle.apex_types.specs.Ticks.{miss, serve_missed, serve_deadlines, wait_over, serve_due, serve_dues, serve_instant, tick_goal, pass_time}
 use Rattle.apex_types.specs.Machine.{objects_after, tick_deed}
 use Rattle.apex_types.proofs.InTurn.{holds_in_turn}
-use Rattle.apex_types.proofs.Reaches.{reaches_more}
+use Rattle.apex_types.proofs.Reaches.{Reaches, arrives_of, reaches_more, reaches_then}
 use Rattle.apex_dispatch.specs.AskedWaits.{asked_of, or_suspended}
-use Rattle.apex_dispatch.proofs.DuesServed.{reach_serve_dues}
-use Rattle.apex_dispatch.proofs.AskedWaits.{Frees, frees_none, frees_then, frees_moved, frees_unblock}
+use Rattle.apex_dispatch.proofs.DuesServed.{IsServable, reach_serve_dues}
+use Rattle.apex_dispatch.proofs.MissesServed.{reach_serve_deadlines}
+use Rattle.apex_dispatch.proofs.AskedWaits.{Frees, frees_none, frees_then, frees_moved, frees_release, frees_unblock}
 use Rattle.apex_dispatch.proofs.CallsServe.{exact_uncalled}
-use Rattle.apex_dispatch.proofs.Satisfied.{AwaitsAt, is_waking, wakes}
+use Rattle.apex_dispatch.proofs.HandedOver.{halts}
+use Rattle.apex_dispatch.proofs.Satisfied.{WokenAt, is_waking, wakes}
 use Rattle.apex_dispatch.proofs.Truths.{or_false, and_false}
 use Rattle.apex_dispatch.proofs.Turns.{IsOrderly, Owes}
 
@@ -33,69 +38,121 @@ unfolding is_for_time
 for_time (Some Time) by_itself h = refl
 for_time _ by_itself h = cc
 
--- whatever process p waited for, its wait ends in the same way, and only one for time ends with NO_ERROR
-over_roster : (roster : Roster) (p : ℕ) (wait : Option Wait) → (wait_over roster p wait).roster ≡ unblock roster p
-over_roster roster p (Some Time) = refl
-over_roster roster p (Some Start) = refl
-over_roster roster p _ = refl
+-- whatever process p waited for, nobody waits afterwards who did not wait before, and only a wait for time
+-- ends with NO_ERROR
+over_frees : (roster : Roster) (p : ℕ) (wait : Option Wait) → Frees roster (wait_over roster p wait).roster
+over_frees roster p (Some Time) = frees_unblock roster p
+over_frees roster p (Some Start) = frees_release roster p
+over_frees roster p (Some Period) = frees_release roster p
+over_frees roster p _ = frees_unblock roster p
 
 over_waking : (roster : Roster) (p q : ℕ) (wait : Option Wait)
     → wakes q (wait_over roster p wait).notices ≡ (q == p && is_for_time wait)
 unfolding is_for_time
 over_waking roster p q (Some Time) = or_false (q == p && true)
 over_waking roster p q (Some Start) = sym (and_false (q == p))
+over_waking roster p q (Some Period) = sym (and_false (q == p))
 over_waking roster p q _ = or_false (q == p && false)
 
--- nobody waits who did not wait before, and who was woken with NO_ERROR had waited for time
+-- nobody waits who did not wait before, and who was woken with NO_ERROR had waited for time or for a mutex
 record IsServed (old new : Roster) (notices : List Notice) : Type 0 where
   frees : Frees old new
-  timed : (q : ℕ) → wakes q notices ≡ true → AwaitsAt None (record_at old q)
+  woken : (q : ℕ) → wakes q notices ≡ true → WokenAt None (record_at old q)
 
--- one due more is served
-one_served : (old roster : Roster) (notices : List Notice) (p : ℕ) → IsServed old roster notices
-    → IsServed old (serve_due roster p).roster (notices ++ (serve_due roster p).notices)
-one_served old roster notices p served =
+-- who waits in the one roster waited in the other
+waited_then : (old new : Roster) (q : ℕ) → Frees old new → WokenAt None (record_at new q) → WokenAt None (record_at old q)
+waited_then old new q frees waits = elim waits [
+  | inl timed ↦ inl (timed.0, frees.still q timed.0 timed.1, timed.2)
+  | inr mutex ↦ inr (mutex.0, (mutex.1.0, frees.still q mutex.1.0 mutex.1.1, mutex.1.2))
+]
+
+-- one change more
+served_then : (old roster new : Roster) (before told : List Notice) → IsServed old roster before → IsServed roster new told
+    → IsServed old new (before ++ told)
+served_then old roster new before told first second = record {
+  frees = frees_then first.frees second.frees;
+  woken = λ q h. elim (cases_Bool (wakes q before)) [
+    | inl earlier ↦ first.woken q earlier
+    | inr not_earlier ↦
+        waited_then old roster q first.frees (second.woken q (rw (list_any-append (is_waking q) before told, not_earlier) at h))
+  ];
+}
+
+served_none : (roster : Roster) → IsServed roster roster []
+served_none roster = record { frees = frees_none roster; woken = λ q h. absurd (both_ways false refl h) }
+
+-- one due is served
+due_served : (roster : Roster) (p : ℕ) → IsServed roster (serve_due roster p).roster (serve_due roster p).notices
+due_served roster p =
     let free = without_due roster p in
     let wait = (record_at roster p).wait in
     let r : Record = record (record_at roster p) { due = None } in
     record {
-      frees = frees_then served.frees
-          (frees_then (frees_moved roster free p r refl (λ w h. h))
-          (rw (over_roster free p wait) (frees_unblock free p)));
-      timed = λ q h. elim (cases_Bool (wakes q notices)) [
-        | inl before ↦ served.timed q before
-        | inr not_before ↦
-            let told = list_any-append (is_waking q) notices (serve_due roster p).notices in
-            let waking = over_waking free p q wait in
-            let here = and_parts (q == p) (is_for_time wait) (rw (told, not_before, waking) at h) in
-            let waited = served.frees.still p Time (for_time wait _ here.1) in
-            (Time, rw (← eqb-true q p here.0) at waited, refl)
-      ];
+      frees = frees_then (frees_moved roster free p r refl (λ w h. h)) (over_frees free p wait);
+      woken = λ q h.
+          let here = and_parts (q == p) (is_for_time wait) (sym (over_waking free p q wait) ∙ h) in
+          let waited = for_time wait (is_by_itself (record_at roster p).suspended) here.1 in
+          inl (Time, rw (← eqb-true q p here.0) at waited, refl);
     }
 
--- all dues at now are served
-all_served : (roster : Roster) → IsServed roster (serve_dues roster).roster (serve_dues roster).notices
-all_served roster =
-    holds_in_turn first_due serve_due (IsServed roster)
-    (λ r notices p is served. one_served roster r notices p served)
-    (length roster.records) roster []
-    (record { frees = frees_none roster; timed = λ q h. absurd (both_ways false refl h) })
+-- a miss wakes nobody but who waited for the mutex of who is stopped
+miss_served : (roster : Roster) (p : ℕ) (kind : DeadlineType) → IsServed roster (miss roster p kind).roster (miss roster p kind).notices
+miss_served roster p Soft = served_none roster
+miss_served roster p Hard = let halts_so = halts roster p in record { frees = halts_so.frees; woken = halts_so.woken }
+
+missed_served : (roster : Roster) (p : ℕ) → IsServed roster (serve_missed roster p).roster (serve_missed roster p).notices
+missed_served roster p =
+    let cleared = set_deadline roster p None in
+    let r : Record = record (record_at roster p) { deadline = None } in
+    let kind = (record_at roster p).attributes.deadline in
+    let missed = miss_served cleared p kind in
+    let frees = frees_moved roster cleared p r refl (λ w h. h) in
+    record { frees = frees_then frees missed.frees; woken = λ q h. waited_then roster cleared q frees (missed.woken q h) }
+
+-- all deadlines at now are served, and then all dues
+module _ (next : Roster → Option ℕ) (change : Roster → ℕ → Changed)
+    (serves : (roster : Roster) (p : ℕ) → IsServed roster (change roster p).roster (change roster p).notices) where
+  all_served : (left : ℕ) (roster : Roster) → IsServed roster (in_turn next change left roster).roster (in_turn next change left roster).notices
+  all_served left roster =
+      holds_in_turn next change (IsServed roster)
+      (λ r notices p is served. served_then roster r (change r p).roster notices (change r p).notices served (serves r p))
+      left roster [] (served_none roster)
+
+instant_served : (roster : Roster) → IsServed roster (serve_instant roster).roster (serve_instant roster).notices
+instant_served roster =
+    let first = serve_deadlines roster in
+    let second = serve_dues first.roster in
+    served_then roster first.roster second.roster first.notices second.notices
+    (all_served first_missed serve_missed missed_served (length roster.records) roster)
+    (all_served first_due serve_due due_served (length first.roster.records) first.roster)
+
+-- so many stamps are given at an instant
+pub reach_serve_instant : (roster : Roster) → IsServable roster → length roster.records ≤ 32 → Reaches 64 roster (serve_instant roster).roster
+reach_serve_instant roster before few =
+    let first = reach_serve_deadlines roster before.starts in
+    let after = serve_deadlines roster in
+    let servable : IsServable after.roster = record { starts = first.starts before.starts; times = first.times before.times } in
+    let second = reach_serve_dues after.roster servable in
+    reaches_more (length roster.records + length after.roster.records) 64 (omega (arith, few, first.many))
+    (reaches_then (length roster.records) (length after.roster.records) first second)
 
 -- a tick owes this from the instant at which it halts
 pub tick_owes : (table : Table) (history : List Entry) (roster : Roster) → IsOrderly table history roster
-    → length roster.records ≤ 64 → (n : ℕ)
+    → length roster.records ≤ 32 → (n : ℕ) → AreInTime (advance_to roster (tick_goal roster n))
     → Owes table history (advance_to roster (tick_goal roster n)) Ticker
     (tick_deed roster (objects_after table history) n)
 unfolding pass_time
-tick_owes table history roster orderly few n =
+tick_owes table history roster orderly few n times =
     let advanced = advance_to roster (tick_goal roster n) in
-    let served = all_served advanced in
+    let served = instant_served advanced in
     let starts = orderly.starts in
-    let later : HasOrderlyStarts advanced =
-    record { dormant = starts.dormant; early = starts.early; undue = starts.undue } in
+    let servable : IsServable advanced = record {
+      starts = record { dormant = starts.dormant; early = starts.early; undue = starts.undue };
+      times = times;
+    } in
     record {
-      reaches = reaches_more (length roster.records) 64 few (reach_serve_dues advanced later);
+      arrives = arrives_of (reach_serve_instant advanced servable few);
       known = tt;
-      exact = exact_uncalled table history roster orderly.kept _ _ refl refl served.timed
+      exact = exact_uncalled table history roster orderly.kept _ _ refl refl served.woken
           (record { still = served.frees.still });
     }

@@ -18,6 +18,11 @@ pub and_true : (b : Bool) → (b && true) ≡ b
 and_true true = refl
 and_true false = refl
 
+-- where one of two fails to hold, neither does
+pub neither : (a b : Bool) → (a || b) ≡ false → (a ≡ false) × (b ≡ false)
+neither true b e = cc
+neither false b e = (refl, e)
+
 -- two numbers that differ
 pub other : (a b : ℕ) → a ≢ b → (a == b) ≡ false
 other a b differs =

@@ -1,9 +1,10 @@
--- What a turn owes: it reaches the roster that it leaves, and the running objects are those that the
+-- What a turn owes: it arrives at the roster that it leaves, and the running objects are those that the
 -- history then gives.
-use Rattle.std.proofs.Common.{◌≡◌, ℕ, ◌+◌, ◌≤◌, true, false, List, length, Option, None, Some, is_none, IfSome, refl, sym, ◌∙◌, arith}
+use Rattle.std.proofs.Common.{◌≡◌, ℕ, ◌+◌, ◌≤◌, true, false, List, length, Option, None, Some, is_none, IfSome, refl, sym, ◌∙◌, ap, inl, inr, arith}
 use Rattle.std.proofs.lemmas.Option.{none-some}
-use Rattle.std.proofs.lemmas.Bool.{both_ways, and_parts, eqb-true}
-use Rattle.apex_dispatch.specs.Terms.{Call, Caller, Entry, Mode, Record, Suspender, Wait, Who}
+use Rattle.std.proofs.lemmas.Bool.{both_ways, and_parts, cases_lt, eqb-true}
+use Rattle.std.proofs.lemmas.List.{get_or_past}
+use Rattle.apex_dispatch.specs.Terms.{Attributes, Call, Caller, Entry, Mode, Record, Suspender, Wait, Who}
 use Rattle.apex_types.specs.declared.Call.TheVariants.{Caller as ToCaller}
 use Rattle.apex_types.specs.declared.CallerCall.TheVariants.{StopSelf}
 use Rattle.apex_types.specs.declared.Caller.TheVariants.{Process, Init, Nobody}
@@ -13,8 +14,9 @@ use Rattle.apex_types.specs.Owners.{HasOrderlyOwners}
 use Rattle.apex_types.specs.Roster.{Roster, ceilings_of, record_at}
 use Rattle.apex_types.specs.Running.{is_eligible, chosen}
 use Rattle.apex_types.specs.Stamps.{WaitsForOne, HasOrderlyStarts, is_by_itself, set_step}
-use Rattle.apex_types.specs.Table.{Table, process_config, IsLawful, IsKnown}
-use Rattle.apex_types.proofs.Reaches.{Reaches, reaches_none, reaches_then, reaches_set_step}
+use Rattle.apex_types.specs.Table.{Table, ProcessConfig, no_process, process_config, IsLawful, IsKnown}
+use Rattle.apex_types.proofs.Periods.{HasSomeTicks}
+use Rattle.apex_types.proofs.Reaches.{Arrives, arrives_of, arrives_then, reaches_none, reaches_set_step, started_step}
 use Rattle.apex_types.proofs.Starts.{chosen_ready, ready_step}
 use Rattle.apex_dispatch.specs.AskedWaits.{asked_of, or_suspended, awaited}
 use Rattle.apex_dispatch.proofs.AskedWaits.{frees_moved, frees_none}
@@ -42,19 +44,36 @@ ready_idle roster (Process p) ready q w by h =
 ready_idle roster Init ready q w by h = cc
 ready_idle roster Nobody ready q w by h = cc
 
--- what a deed may rely on: there is a record for each process of the table, and the ceilings are the
--- table's; who suspended itself waits for nothing else; starts and owners are in order, and all is kept
+-- the periods of a table are at least 1
+config_spans : (table : Table) → IsLawful table → (p : ℕ) → HasSomeTicks (process_config table p).attributes.period
+config_spans table lawful p = elim (cases_lt p (length table.processes)) [
+  | inl within ↦ λ n is. ((lawful.processes p within).period n is).0
+  | inr past ↦ λ n is.
+      let none : process_config table p ≡ no_process = get_or_past table.processes p no_process past in
+      absurd (none-some n (sym (ap (λ (entry : ProcessConfig). entry.attributes.period) none) ∙ is))
+]
+
+-- so are those of the processes that have their attributes
+spans_of : (table : Table) → IsLawful table → (roster : Roster)
+    → ((p : ℕ) → (record_at roster p).attributes ≡ (process_config table p).attributes)
+    → (p : ℕ) → HasSomeTicks (record_at roster p).attributes.period
+spans_of table lawful roster same p n is =
+    config_spans table lawful p n (sym (ap (λ (attributes : Attributes). attributes.period) (same p)) ∙ is)
+
+-- what a deed may rely on: there is a record for each process of the table, with the attributes that it
+-- gives, and the ceilings are the table's; who suspended itself waits for nothing else; starts and owners are in order, and all is kept
 pub record IsOrderly (table : Table) (history : List Entry) (roster : Roster) : Type 0 where
   pub many : length roster.records ≡ length table.processes
   pub ceilings : roster.ceilings ≡ ceilings_of table
+  pub attributes : (p : ℕ) → (record_at roster p).attributes ≡ (process_config table p).attributes
   pub one : WaitsForOne roster
   pub starts : HasOrderlyStarts roster
   pub owners : HasOrderlyOwners roster
   pub kept : AreKept table roster history
 
--- what it owes then: it reaches the roster that it leaves, its call is the table's, and all stays kept
+-- what it owes then: it arrives at the roster that it leaves, its call is the table's, and all stays kept
 pub record Owes (table : Table) (history : List Entry) (old : Roster) (who : Who) (deed : Deed) : Type 0 where
-  pub reaches : Reaches 64 old deed.outcome.roster
+  pub arrives : Arrives 64 old deed.outcome.roster
   pub known : IfSome deed.call (IsKnown table)
   pub exact : IsExact table history (entry_of (length history + 1) who deed) deed.outcome.object deed.outcome.roster
 
@@ -68,11 +87,11 @@ module _ (table : Table) (lawful : IsLawful table) (history : List Entry) (who :
       let count = lawful.process_count in
       let few : length roster.records ≤ 64 = omega (arith, orderly.many, count) in
       let scene : Scene roster caller =
-      record { starts = orderly.starts; one = orderly.one; few = few; ready = ready } in
+      record { starts = orderly.starts; one = orderly.one; few = few; spans = spans_of table lawful roster orderly.attributes; ready = ready } in
       let idle = ready_idle roster caller ready in
       let serves = serves_call table history roster orderly.kept caller scene idle orderly.many call known in
       record {
-        reaches = serves.reaches;
+        arrives = serves.arrives;
         known = known;
         exact = serves.exact (length history + 1) (service roster objects caller call).roster.now who;
       }
@@ -91,18 +110,23 @@ module _ (table : Table) (lawful : IsLawful table) (history : List Entry) (who :
         (record {
           many = moves.many ∙ orderly.many;
           ceilings = moves.ceilings ∙ orderly.ceilings;
+          attributes = λ q. (moves.periods q).attributes ∙ orderly.attributes q;
           one = moves.one orderly.one;
           starts = moves.starts orderly.starts;
           owners = moves.owners orderly.owners;
           kept = kept_freed table history roster moved frees orderly.kept;
         })
         (Process p) (ready_step roster p next ready) call (known_script_step table p r.step call lawful is) in
-        record { reaches = reaches_then 0 64 moves owes.reaches; known = owes.known; exact = owes.exact }
+        record {
+          arrives = arrives_then 0 64 moves (λ q. started_step roster p next ready.known q) owes.arrives;
+          known = owes.known;
+          exact = owes.exact;
+        }
 
     chosen_owes : (core : ℕ) (found : Option ℕ) → chosen roster core ≡ found
         → Owes table history roster who (chosen_deed table roster objects found)
     chosen_owes core None is = record {
-      reaches = reaches_none 64 roster;
+      arrives = arrives_of (reaches_none 64 roster);
       known = tt;
       exact = exact_uncalled table history roster orderly.kept roster _ refl refl
           (λ p woken. absurd (both_ways false refl woken)) (frees_none roster);

@@ -2,18 +2,20 @@
 use Rattle.std.specs.Prelude.{◌≡◌, ◌≢◌, ℕ, ◌≤◌, ◌<◌, true, false, List, [], ◌++◌, None, Some, count_by, length}
 use Rattle.std.specs.List.{filter_map}
 use Rattle.apex_dispatch.specs.Terms.{Entry, Event as Happening, Message}
+use Rattle.apex_types.specs.declared.DeadlineType.TheVariants.{Hard}
 use Rattle.apex_types.specs.declared.Queue.TheVariants as queues
 use Rattle.apex_types.specs.declared.Wait.TheVariants.{Receive, Send, Blackboard, Event, Mutex}
 use Rattle.apex_types.specs.Calls.{names, is_receive, sent_message}
-use Rattle.apex_types.specs.Dues.{HasNoPastDue}
+use Rattle.apex_types.specs.Dues.{HasNoPastDeadline, HasNoPastDue}
 use Rattle.apex_types.specs.Limits.{most_depth}
 use Rattle.apex_types.specs.Owners.{depth_of, owner, owns}
+use Rattle.apex_types.specs.Periods.{IsReleased, IsWholePeriodsAfter}
 use Rattle.apex_types.specs.Roster.{record_at}
 use Rattle.apex_types.specs.Running.{current_priority}
 use Rattle.apex_types.specs.SemaphoreServices.{SemaphoreObject}
-use Rattle.apex_types.specs.Table.{Table, semaphore_config, buffer_config, mutex_config}
+use Rattle.apex_types.specs.Table.{Table, process_config, semaphore_config, buffer_config, mutex_config}
 use Rattle.apex_types.specs.Satisfied.{calls_where, semaphore_value, buffer_content, blackboard_message, is_up}
-use Rattle.apex_types.specs.Machine.{Machine, run, opening, events_of}
+use Rattle.apex_types.specs.Machine.{Machine, run, opening, tick, events_of}
 use Rattle.apex_dispatch.specs.AskedWaits.{IsAccounted}
 
 -- the value of semaphore s accounts for all its satisfied calls, so that it never served more waits
@@ -89,10 +91,32 @@ abbrev pub HistoriesReplay : Table → Type 0
 HistoriesReplay table = (events : List Happening) →
     let machine = run table (opening table) events in run table (opening table) (events_of machine.history) ≡ machine
 
--- in every run time never goes back, and no due that stands is below now
+-- in every run time never goes back, and no due and no deadline that stands is below now
 pub record TimeGoesForward (table : Table) : Type 0 where
   pub forward : (first rest : List Happening) → (run table (opening table) first).roster.now ≤ (run table (opening table) (first ++ rest)).roster.now
   pub dues : (events : List Happening) → HasNoPastDue (run table (opening table) events).roster
+  pub deadlines : (events : List Happening) → HasNoPastDeadline (run table (opening table) events).roster
+
+-- from one moment of a run on process p has been released since its start, and isn't stopped
+abbrev pub StaysReleased : Table → List Happening → List Happening → ℕ → Type 0
+StaysReleased table first rest p = (some others : List Happening) → rest ≡ some ++ others
+    → IsReleased (record_at (run table (opening table) (first ++ some)).roster p)
+
+-- in every run a process is released whole periods after the release before, as long as it isn't stopped;
+-- so all its releases since its start lie whole periods behind the first one
+abbrev pub ReleasesLieInPeriods : Table → Type 0
+ReleasesLieInPeriods table = (first rest : List Happening) (p : ℕ) → StaysReleased table first rest p
+    → IsWholePeriodsAfter (process_config table p).attributes.period
+    (record_at (run table (opening table) first).roster p).release
+    (record_at (run table (opening table) (first ++ rest)).roster p).release
+
+-- in every run a process whose deadline is HARD, and passes at a tick, is dormant after that tick
+abbrev pub HardMissesStop : Table → Type 0
+HardMissesStop table = (events : List Happening) (n p t : ℕ) →
+    let before = run table (opening table) events in
+    let after = tick table before n in
+    (process_config table p).attributes.deadline ≡ Hard → (record_at before.roster p).deadline ≡ Some t
+    → t ≤ after.roster.now → (record_at after.roster p).started ≡ false
 
 -- at no moment of the machine's history was time later than it is now
 abbrev pub WasNeverLater : Table → Machine → Type 0

@@ -1,8 +1,11 @@
--- What a service may rely on: what is named is there.
-use Rattle.std.specs.Prelude.{◌≡◌, length}
+-- What a service and a tick may rely on: what is named is there, and stamps are left.
+use Rattle.std.specs.Prelude.{◌≡◌, ℕ, ◌<ℤ◌, ◌+ℤ◌, count_by, length, pos}
 use Rattle.apex_dispatch.specs.Terms.{Call}
 use Rattle.apex_types.specs.declared.Call.TheVariants.{Partition, Process as ToProcess, Caller as ToCaller, Time, Semaphore, Buffer, Blackboard, Event, Mutex}
+use Rattle.apex_types.specs.Dues.{is_due_at}
+use Rattle.apex_types.specs.Limits.{most_stamps}
 use Rattle.apex_types.specs.Machine.{Objects}
+use Rattle.apex_types.specs.Roster.{Roster}
 use Rattle.apex_types.specs.Table.{Table, IsKnownObject}
 
 -- what the call names is one of these objects
@@ -25,3 +28,12 @@ pub record AreOf (table : Table) (objects : Objects) : Type 0 where
   pub blackboards : length objects.blackboards ≡ length table.blackboards
   pub events : length objects.events ≡ length table.events
   pub mutexes : length objects.mutexes ≡ length table.mutexes
+
+-- there are stamps left for every process
+pub record HasStampsForAll (roster : Roster) : Type 0 where
+  pub young : (roster.young +ℤ pos 64) <ℤ pos most_stamps
+  pub old : pos 64 <ℤ (roster.old +ℤ pos most_stamps)
+
+-- how many processes are due now
+abbrev pub due_count : Roster → ℕ
+due_count roster = count_by (is_due_at roster.now) roster.records

@@ -1,7 +1,8 @@
 -- Worked histories: small tables and events, and the lines that the definitions give for them.
-use Rattle.std.specs.Prelude.{◌≡◌, ℕ, true, false, List, [], ◌∷◌, codes, flat_map, map, replicate, ◌++◌}
-use Rattle.apex_dispatch.specs.Terms.{Call, Event}
+use Rattle.std.specs.Prelude.{◌≡◌, ℕ, true, false, Option, None, Some, List, [], ◌∷◌, codes, flat_map, map, replicate, ◌++◌}
+use Rattle.apex_dispatch.specs.Terms.{Attributes, Call, Event}
 use Rattle.apex_types.specs.declared.Call.TheVariants.{Partition, Process, Caller, Time, Semaphore}
+use Rattle.apex_types.specs.declared.DeadlineType.TheVariants.{Soft}
 use Rattle.apex_types.specs.declared.Discipline.TheVariants.{Fifo, Priority}
 use Rattle.apex_types.specs.declared.CallerCall.TheVariants.{SuspendSelf, GetMyId}
 use Rattle.apex_types.specs.declared.Named.TheVariants.{Known, Unknown}
@@ -11,7 +12,7 @@ use Rattle.apex_types.specs.declared.PartitionCall.TheVariants.{SetPartitionMode
 use Rattle.apex_types.specs.declared.RequestedMode.TheVariants.{Idle, Normal}
 use Rattle.apex_types.specs.declared.ProcessService.TheVariants.{InitializeCoreAffinity, SetPriority, Start, DelayedStart, Suspend, Resume}
 use Rattle.apex_types.specs.declared.SemaphoreService.TheVariants.{Wait, Signal}
-use Rattle.apex_types.specs.declared.TimeCall.TheVariants.{TimedWait, GetTime}
+use Rattle.apex_types.specs.declared.TimeCall.TheVariants.{TimedWait, PeriodicWait, GetTime}
 use Rattle.apex_types.specs.declared.Timeout.TheVariants.{Poll, Ticks, Infinite}
 use Rattle.apex_types.specs.declared.Event.TheVariants.{Turn, Tick}
 use Rattle.apex_types.specs.Table.{Table, ProcessConfig, Step}
@@ -23,10 +24,14 @@ use Rattle.apex_table.specs.DefaultInit.{bare}
 abbrev pub bares : List Call → List Step
 bares = map bare
 
+-- the attributes of an aperiodic process of this priority, which has no deadline
+abbrev pub aperiodic : ℕ → Attributes
+aperiodic priority = record { priority = priority; period = None; capacity = None; deadline = Soft }
+
 -- a process that the init list starts, with a script that ends
 abbrev pub starts : List ℕ → ℕ → ℕ → List Call → ProcessConfig
 starts name priority core script =
-    record { name = name; priority = priority; core = core; loops = false; start = true; script = bares script }
+    record { name = name; attributes = aperiodic priority; core = core; loops = false; start = true; script = bares script }
 
 -- a waiter on core 0 and a signaller on core 1, with one semaphore of value 0
 abbrev pub waiter_and_signaller : Table
@@ -190,7 +195,7 @@ delayed_starter = record {
   limit = 4096;
   processes =
       starts (codes "A") 10 0 (Process (Own 1 (DelayedStart (Ticks 3))) ∷ [])
-      ∷ (record { name = codes "B"; priority = 20; core = 0; loops = false; start = false; script = bares (Time GetTime ∷ []) }) ∷ [];
+      ∷ (record { name = codes "B"; attributes = aperiodic 20; core = 0; loops = false; start = false; script = bares (Time GetTime ∷ []) }) ∷ [];
   semaphores = [];
   buffers = [];
   blackboards = [];
@@ -317,6 +322,42 @@ SuspensionOfItselfEnds =
     ∷ codes "5 0 core0 1 SUSPEND_SELF 3 -> BLOCKED"
     ∷ codes "6 3 ticker - tick 3 -> ADVANCED 3 | woken 1 TIMED_OUT"
     ∷ codes "7 3 core0 1 SUSPEND_SELF 0 -> NO_ERROR" ∷ [])
+
+-- a process of period 10 that has 4 ticks for each release
+abbrev pub periodic_process : Table
+periodic_process = record {
+  cores = 1;
+  limit = 4096;
+  processes = (record {
+    name = codes "A";
+    attributes = record { priority = 10; period = Some 10; capacity = Some 4; deadline = Soft };
+    core = 0;
+    loops = false;
+    start = true;
+    script = bares (Time PeriodicWait ∷ Time GetTime ∷ []);
+  }) ∷ [];
+  semaphores = [];
+  buffers = [];
+  blackboards = [];
+  events = [];
+  mutexes = [];
+  init = empty_script.init;
+}
+
+-- a missed deadline is told, and a late wait ends at the next whole period
+abbrev pub MissedDeadlineThenNextRelease : Type 0
+MissedDeadlineThenNextRelease =
+    history_lines periodic_process (replicate 4 (Turn 0) ++ Tick 23 ∷ Tick 19 ∷ Turn 0 ∷ Tick 9 ∷ Turn 0 ∷ [])
+    ≡ text (
+    codes "1 0 core0 init CREATE_PROCESS A -> NO_ERROR"
+    ∷ codes "2 0 core0 init INITIALIZE_PROCESS_CORE_AFFINITY A 0 -> NO_ERROR"
+    ∷ codes "3 0 core0 init START A -> NO_ERROR"
+    ∷ codes "4 0 core0 init SET_PARTITION_MODE NORMAL -> NO_ERROR | released 1"
+    ∷ codes "5 4 ticker - tick 23 -> ADVANCED 4 | missed 1 soft"
+    ∷ codes "6 23 ticker - tick 19 -> ADVANCED 19"
+    ∷ codes "7 23 core0 1 PERIODIC_WAIT -> BLOCKED"
+    ∷ codes "8 30 ticker - tick 9 -> ADVANCED 7 | released 1"
+    ∷ codes "9 30 core0 1 GET_TIME -> VALUE 30" ∷ [])
 
 -- an init list with refused steps, and a process that ends the partition
 abbrev pub own_init_list : Table

@@ -4,6 +4,7 @@ ghost use Rattle.std.specs.Option.{ForSome};
 ghost use Rattle.apex_types.specs.Callers.{IsReady, IsReadyCaller};
 ghost use Rattle.apex_types.specs.Dues.{HasTime};
 ghost use Rattle.apex_types.specs.Machine.{chosen_deed, next_place, served, turn_deed};
+ghost use Rattle.apex_types.specs.Periods.{HasNoFutureRelease};
 ghost use Rattle.apex_types.specs.Stamps.{HasManyStamps, HasOrderlyStarts};
 ghost use Rattle.apex_types.specs.Table.{IsKnown};
 ghost use Rattle.apex_dispatch.specs.Deeds.{Does};
@@ -40,6 +41,7 @@ fn ask<S: Store>(
     requires starts { HasOrderlyStarts (S.roster store.old) }
     requires stamps { HasManyStamps (S.roster store.old) }
     requires time { HasTime (S.roster store.old) }
+    requires releases { HasNoFutureRelease (S.roster store.old) }
     requires room { length notices.old ≤ most_processes }
     ensures { Does (served (S.roster store.old) objects.old caller call)
         result.caller result.call result.reply (S.roster store.new) objects.new notices.old notices.new }
@@ -80,6 +82,7 @@ fn carry_out_step<S: Store>(
     requires starts { HasOrderlyStarts (S.roster store.old) }
     requires stamps { HasManyStamps (S.roster store.old) }
     requires time { HasTime (S.roster store.old) }
+    requires releases { HasNoFutureRelease (S.roster store.old) }
     requires room { length notices.old ≤ most_processes }
     ensures { Does (chosen_deed table.now (S.roster store.old) objects.old (Some process))
         result.caller result.call result.reply (S.roster store.new) objects.new notices.old notices.new }
@@ -118,6 +121,7 @@ pub(crate) fn carry_out<S: Store>(
     requires starts { HasOrderlyStarts (S.roster store.old) }
     requires stamps { HasManyStamps (S.roster store.old) }
     requires time { HasTime (S.roster store.old) }
+    requires releases { HasNoFutureRelease (S.roster store.old) }
     requires room { length notices.old ≤ most_processes }
     ensures { Does (turn_deed table.now (S.roster store.old) objects.old core due)
         result.caller result.call result.reply (S.roster store.new) objects.new notices.old notices.new }

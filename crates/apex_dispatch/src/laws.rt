@@ -2,11 +2,11 @@
 //! nothing.
 
 ghost use Rattle.std.specs.Prelude.{All};
-ghost use Rattle.apex_types.specs.Dues.{HasNoPastDue};
+ghost use Rattle.apex_types.specs.Dues.{HasNoPastDeadline, HasNoPastDue};
 ghost use Rattle.apex_store.specs.Laws.{RunsMostUrgent, FirstWaiterIsFirst};
-ghost use Rattle.apex_dispatch.specs.Laws.{AreInRange, HistoriesReplay, IsWithinItsMaximum, MutexesAreOwnedInOrder, NobodyWaitsInVain, RunsCompose, RunsStayWithin, TimeGoesForward, ValuesStayInRange, WasNeverLater};
+ghost use Rattle.apex_dispatch.specs.Laws.{AreInRange, HardMissesStop, HistoriesReplay, IsWithinItsMaximum, MutexesAreOwnedInOrder, NobodyWaitsInVain, ReleasesLieInPeriods, RunsCompose, RunsStayWithin, TimeGoesForward, ValuesStayInRange, WasNeverLater};
 ghost use Rattle.apex_dispatch.specs.States.{EachHasOneState};
-ghost use Rattle.apex_dispatch.specs.Worked.{SignalWakesWaiter, SignalBeforeWait, EmptyScriptStopsItself, TimedOutWaiterGetsNoSignal, TickHaltsAtTheNextInstant, DelayedStartReleasesAtItsTime, PriorityChangeMovesPriorityWaiter, SuspendedWaiterIsWokenAndStaysWaiting, SuspensionOfItselfEnds, InitListOfTheTable};
+ghost use Rattle.apex_dispatch.specs.Worked.{SignalWakesWaiter, SignalBeforeWait, EmptyScriptStopsItself, TimedOutWaiterGetsNoSignal, TickHaltsAtTheNextInstant, DelayedStartReleasesAtItsTime, PriorityChangeMovesPriorityWaiter, SuspendedWaiterIsWokenAndStaysWaiting, SuspensionOfItselfEnds, MissedDeadlineThenNextRelease, InitListOfTheTable};
 
 use crate::kernels::Kernel;
 use apex_store::Store;
@@ -68,21 +68,37 @@ pub fn histories_replay(table: &Table)
     table.lawful();
 }
 
-/// In every run time never goes back, and no due that stands is below now: no wait outlasts its due
-/// unseen.
+/// In every run time never goes back, and no due and no deadline that stands is below now: no wait
+/// outlasts its due unseen, and no deadline passes unseen.
 pub fn time_goes_forward(table: &Table)
     ensures { TimeGoesForward table.now }
 {
     table.lawful();
 }
 
+/// In every run a process is released whole periods after the release before, as long as it isn't
+/// stopped: so all its releases since its start lie whole periods behind the first one.
+pub fn releases_lie_in_periods(table: &Table)
+    ensures { ReleasesLieInPeriods table.now }
+{
+    table.lawful();
+}
+
+/// In every run a process whose deadline is HARD, and passes at a tick, is dormant after that tick.
+pub fn hard_misses_stop(table: &Table)
+    ensures { HardMissesStop table.now }
+{
+    table.lawful();
+}
+
 /// In every kernel each semaphore's value is from 0 to its maximum, time was never later than it is
-/// now, and no due that stands is below now.
+/// now, and no due and no deadline that stands is below now.
 pub fn values_and_dues_are_in_range<S: Store>(kernel: &Kernel<S>)
     ensures values { AreInRange kernel.now.table kernel.now.machine.history }
     ensures running { All IsWithinItsMaximum kernel.now.objects.semaphores }
     ensures forward { WasNeverLater kernel.now.table kernel.now.machine }
     ensures dues { HasNoPastDue kernel.now.machine.roster }
+    ensures deadlines { HasNoPastDeadline kernel.now.machine.roster }
 {
     kernel.holds();
     values_stay_in_range(kernel.table());
@@ -116,5 +132,6 @@ pub fn worked_histories()
     ensures priority_change_moves_priority_waiter { PriorityChangeMovesPriorityWaiter }
     ensures suspended_waiter_is_woken_and_stays_waiting { SuspendedWaiterIsWokenAndStaysWaiting }
     ensures suspension_of_itself_ends { SuspensionOfItselfEnds }
+    ensures missed_deadline_then_next_release { MissedDeadlineThenNextRelease }
     ensures init_list_of_the_table { InitListOfTheTable }
 {}

@@ -12,7 +12,8 @@ mod ticks;
 
 pub use kernels::Kernel;
 pub use laws::{
-    each_has_one_state, first_waiter_is_first, histories_replay, most_urgent_runs,
-    mutexes_are_owned_in_order, nobody_waits_in_vain, runs_compose, runs_stay_within,
-    time_goes_forward, values_and_dues_are_in_range, values_stay_in_range, worked_histories,
+    each_has_one_state, first_waiter_is_first, hard_misses_stop, histories_replay,
+    most_urgent_runs, mutexes_are_owned_in_order, nobody_waits_in_vain, releases_lie_in_periods,
+    runs_compose, runs_stay_within, time_goes_forward, values_and_dues_are_in_range,
+    values_stay_in_range, worked_histories,
 };

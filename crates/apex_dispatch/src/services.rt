@@ -5,6 +5,7 @@ ghost use Rattle.apex_types.specs.Limits.{most_processes};
 ghost use Rattle.apex_types.specs.Callers.{IsReadyCaller};
 ghost use Rattle.apex_types.specs.Dues.{HasTime};
 ghost use Rattle.apex_types.specs.Machine.{service};
+ghost use Rattle.apex_types.specs.Periods.{HasNoFutureRelease};
 ghost use Rattle.apex_types.specs.Rows.{Leaves};
 ghost use Rattle.apex_types.specs.Stamps.{HasManyStamps, HasOrderlyStarts};
 ghost use Rattle.apex_dispatch.specs.Premises.{IsKnownTo};
@@ -37,6 +38,7 @@ pub(crate) fn serve<S: Store>(
     requires starts { HasOrderlyStarts (S.roster store.old) }
     requires stamps { HasManyStamps (S.roster store.old) }
     requires time { HasTime (S.roster store.old) }
+    requires releases { HasNoFutureRelease (S.roster store.old) }
     requires room { length notices.old ≤ most_processes }
     ensures { Leaves (service (S.roster store.old) objects.old caller.now call.now)
         (S.roster store.new) objects.new result notices.old notices.new }

@@ -1,12 +1,15 @@
-ghost use Rattle.std.specs.Prelude.{◌≡◌, ◌+◌, ◌-◌, ◌<◌, ◌≤◌, ◌^◌, [], ◌++◌, length};
+ghost use Rattle.std.specs.Prelude.{◌≡◌, ◌+◌, ◌-◌, ◌<◌, ◌≤◌, ◌^◌, [], ◌∷◌, ◌++◌, length};
 ghost use Rattle.apex_types.specs.Limits.{latest, most_notices, most_processes};
-ghost use Rattle.apex_types.specs.Dues.{HasNoPastDue, HasTime};
-ghost use Rattle.apex_types.specs.InTurn.{Makes};
+ghost use Rattle.apex_types.specs.declared.Notice.TheVariants.{Missed};
+ghost use Rattle.apex_types.specs.Dues.{HasTime};
+ghost use Rattle.apex_types.specs.InTurn.{Makes, behind};
+ghost use Rattle.apex_types.specs.Periods.{AreInTime};
 ghost use Rattle.apex_types.specs.Stamps.{HasManyStamps, HasOrderlyStarts, HasStamps};
 ghost use Rattle.apex_types.specs.Ticks as ticks;
+ghost use Rattle.apex_dispatch.specs.Premises.{HasStampsForAll, due_count};
 
-use apex_store::Store;
-use apex_types::{Notice, Notices, ProcessId, ReturnCode, Wait};
+use apex_store::{Store, halt};
+use apex_types::{DeadlineType, Notice, Notices, ProcessId, ReturnCode, Wait};
 
 /// The smaller of an instant and the next one, where there is one.
 fn not_beyond(instant: u64, next: Option<u64>) -> u64
@@ -26,11 +29,47 @@ fn tick_goal<S: Store>(store: &S, n: u32) -> u64
     not_beyond(store.now() + u64::from(n), store.next_instant())
 }
 
+/// The process missed its deadline: a HARD one stops it, and a mutex that it owned goes on at once.
+fn miss<S: Store>(store: &mut S, process: ProcessId, deadline: DeadlineType, notices: &mut Notices)
+    requires known { process < length (S.roster store.old).records }
+    requires stamps { HasStamps (S.roster store.old) }
+    requires room { length notices.old + 1 < most_notices }
+    ensures { Makes (behind (Missed process deadline ∷ []) (ticks.miss (S.roster store.old) process deadline))
+        (S.roster store.new) notices.old notices.new }
+{
+    notices.push(Notice::Missed(process, deadline));
+    match deadline {
+        DeadlineType::Soft => {}
+        DeadlineType::Hard => halt(store, process, notices),
+    }
+}
+
+/// The deadlines at now, by process number.
+fn serve_deadlines<S: Store>(store: &mut S, notices: &mut Notices)
+    requires few { length (S.roster store.old).records ≤ most_processes }
+    requires starts { HasOrderlyStarts (S.roster store.old) }
+    requires stamps { HasManyStamps (S.roster store.old) }
+    requires room { notices.old ≡ [] }
+    ensures { Makes (ticks.serve_deadlines (S.roster store.old))
+        (S.roster store.new) notices.old notices.new }
+{
+    for turn in 0..store.process_count() {
+        match store.take_missed() {
+            Some(process) => {
+                let deadline = store.record(process).attributes.deadline;
+                miss(store, process, deadline, notices);
+            }
+            None => return,
+        }
+    }
+}
+
 /// The wait of a process ends at its due, by what it waited for; where it waits for nothing, its
 /// suspension of itself ends.
 fn wait_over<S: Store>(store: &mut S, process: ProcessId, wait: Option<Wait>, notices: &mut Notices)
     requires known { process < length (S.roster store.old).records }
     requires stamps { HasStamps (S.roster store.old) }
+    requires time { HasTime (S.roster store.old) }
     requires room { length notices.old < most_notices }
     ensures { Makes (ticks.wait_over (S.roster store.old) process wait)
         (S.roster store.new) notices.old notices.new }
@@ -40,7 +79,7 @@ fn wait_over<S: Store>(store: &mut S, process: ProcessId, wait: Option<Wait>, no
             store.unblock(process);
             notices.push(Notice::Woken(process, ReturnCode::NoError));
         }
-        Some(Wait::Start) => {
+        Some(Wait::Start | Wait::Period) => {
             store.release(process);
             notices.push(Notice::Released(process));
         }
@@ -55,8 +94,10 @@ fn wait_over<S: Store>(store: &mut S, process: ProcessId, wait: Option<Wait>, no
 fn serve_dues<S: Store>(store: &mut S, notices: &mut Notices)
     requires few { length (S.roster store.old).records ≤ most_processes }
     requires starts { HasOrderlyStarts (S.roster store.old) }
-    requires stamps { HasManyStamps (S.roster store.old) }
-    requires room { length notices.old ≤ most_processes }
+    requires instants { AreInTime (S.roster store.old) }
+    requires stamps { HasStampsForAll (S.roster store.old) }
+    requires time { HasTime (S.roster store.old) }
+    requires room { length notices.old + due_count (S.roster store.old) ≤ most_notices }
     ensures { Makes (ticks.serve_dues (S.roster store.old))
         (S.roster store.new) notices.old notices.new }
 {
@@ -71,16 +112,31 @@ fn serve_dues<S: Store>(store: &mut S, notices: &mut Notices)
     }
 }
 
-/// Time goes on by a tick of `n`, and the waits that are due then end. Answers how far it went, in
-/// ticks.
+/// What is at now: the deadlines first, and then the dues.
+fn serve_instant<S: Store>(store: &mut S, notices: &mut Notices)
+    requires few { length (S.roster store.old).records ≤ most_processes }
+    requires starts { HasOrderlyStarts (S.roster store.old) }
+    requires instants { AreInTime (S.roster store.old) }
+    requires stamps { HasManyStamps (S.roster store.old) }
+    requires time { HasTime (S.roster store.old) }
+    requires room { notices.old ≡ [] }
+    ensures { Makes (ticks.serve_instant (S.roster store.old))
+        (S.roster store.new) notices.old notices.new }
+{
+    serve_deadlines(store, notices);
+    serve_dues(store, notices);
+}
+
+/// Time goes on by a tick of `n`, and what is at that instant is served: the deadlines, and then the
+/// dues. Answers how far time went, in ticks.
 #[tactic(auto, unfolding(apex_types::specs::Ticks::pass_time))]
 pub(crate) fn pass_time<S: Store>(store: &mut S, n: u32, notices: &mut Notices) -> u32
     requires few { length (S.roster store.old).records ≤ most_processes }
     requires starts { HasOrderlyStarts (S.roster store.old) }
+    requires instants { AreInTime (S.roster store.old) }
     requires stamps { HasManyStamps (S.roster store.old) }
     requires near { (S.roster store.old).now + n ≤ latest }
-    requires dues { HasNoPastDue (S.roster store.old) }
-    requires room { length notices.old ≤ most_processes }
+    requires room { notices.old ≡ [] }
     ensures changes { Makes (ticks.pass_time (S.roster store.old) n)
         (S.roster store.new) notices.old notices.new }
     ensures went { result ≡ ticks.tick_goal (S.roster store.old) n - (S.roster store.old).now }
@@ -88,6 +144,6 @@ pub(crate) fn pass_time<S: Store>(store: &mut S, n: u32, notices: &mut Notices) 
     let before = store.now();
     let goal = tick_goal(store, n);
     store.advance_to(goal);
-    serve_dues(store, notices);
+    serve_instant(store, notices);
     (goal - before) as u32
 }

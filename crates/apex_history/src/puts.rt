@@ -2,7 +2,7 @@ ghost use Rattle.std.specs.Prelude.{◌≡◌, ◌+◌, ◌<◌, ◌≤◌, ◌+
 ghost use Rattle.apex_types.specs.Limits.{most_notices};
 ghost use Rattle.arrayvec.specs.ArrayVec.{array_vec_len};
 ghost use Rattle.apex_types.specs.Table.{IsKnown};
-ghost use Rattle.apex_types.specs.Lines.{id_text, code_text, timeout_text, call_text, no_call_text, asked_text, who_text, caller_text, reply_text, notice_text, noticed_text, line_of, IsPrintable};
+ghost use Rattle.apex_types.specs.Lines.{id_text, code_text, deadline_text, timeout_text, call_text, no_call_text, asked_text, who_text, caller_text, reply_text, notice_text, noticed_text, line_of, IsPrintable};
 
 mod blackboard;
 mod buffer;
@@ -18,7 +18,7 @@ mod time;
 
 use apex_table::Table;
 use apex_types::{
-    Call, Caller, LentEntry, Name, Notice, ProcessId, Reply, ReturnCode, Timeout, Who,
+    Call, Caller, DeadlineType, LentEntry, Name, Notice, ProcessId, Reply, ReturnCode, Timeout, Who,
 };
 use arrayvec::ArrayVec;
 use caller::put_caller_call;
@@ -324,6 +324,16 @@ fn put_reply(line: &mut Lines, table: &Table, reply: &Reply)
     }
 }
 
+fn deadline_name(deadline: &DeadlineType) -> &'static str
+    ensures value { result.now ≡ deadline_text deadline.now }
+    ensures short { length result.now ≤ 4 }
+{
+    match deadline {
+        DeadlineType::Soft => "soft",
+        DeadlineType::Hard => "hard",
+    }
+}
+
 #[tactic(auto, using(std::proofs::Common::append_assoc))]
 fn put_notice(line: &mut Lines, notice: &Notice)
     requires { array_vec_len line.old + 34 ≤ 8192 }
@@ -340,6 +350,12 @@ fn put_notice(line: &mut Lines, notice: &Notice)
         Notice::Released(process) => {
             put(line, "released ");
             put_id(line, *process);
+        }
+        Notice::Missed(process, deadline) => {
+            put(line, "missed ");
+            put_id(line, *process);
+            put(line, " ");
+            put(line, deadline_name(deadline));
         }
     }
 }

@@ -1,5 +1,6 @@
 pub mod TheLeast
 pub mod Queues
+pub mod NextRelease
 pub mod Urgency
 pub mod States
 pub mod Stamps

@@ -1,11 +1,12 @@
 -- What the choices of a store mean, in the standard's own words.
-use Rattle.std.specs.Prelude.{◌≡◌, ◌≢◌, ℕ, ◌<◌, ◌≤◌, ◌<ℤ◌, ◌⊎◌, Bool, true, false, List, length, Option, None, Some, slice_get}
+use Rattle.std.specs.Prelude.{◌≡◌, ◌≢◌, ℕ, ◌+◌, ◌*◌, ◌<◌, ◌≤◌, ◌<ℤ◌, ◌⊎◌, Bool, true, false, List, length, Option, None, Some, slice_get}
 use Rattle.apex_store.specs.Terms.{Holding, Message, Mode, Queue, Record, Wait}
 use Rattle.apex_types.specs.declared.records.State.TheVariants.{Running}
 use Rattle.apex_types.specs.Roster.{Roster, record_at}
 use Rattle.apex_types.specs.Choice.{IsLeast}
 use Rattle.apex_types.specs.Distinct.{IsStamped}
-use Rattle.apex_types.specs.Dues.{first_due, next_instant}
+use Rattle.apex_types.specs.Dues.{IsAwaited, first_due, first_missed, next_instant}
+use Rattle.apex_types.specs.Periods.{release_after}
 use Rattle.apex_types.specs.Running.{chosen, current_priority, is_before, is_eligible, process_state, runs_on}
 use Rattle.apex_types.specs.Stamps as stamps
 use Rattle.apex_types.specs.Waiters.{discipline_of, first_waiter, next_waiter, queue_in, waits_before, waits_behind, waits_in}
@@ -68,12 +69,12 @@ pub record RunningIsChosen (roster : Roster) (p : ℕ) : Type 0 where
   pub running : (core : ℕ) → chosen roster core ≡ Some p → process_state roster p ≡ Running
   pub bound : (core : ℕ) → chosen roster core ≡ Some p → (record_at roster p).core ≡ core
 
--- the next instant is the due of a process and no later than any other due, and there is none only where
--- no process has a due
+-- the next instant is the due or the deadline of a process and no later than any other one, and there is
+-- none only where no process has a due or a deadline
 pub record NextInstantIsLeast (roster : Roster) : Type 0 where
-  pub due : (t : ℕ) → next_instant roster ≡ Some t → (p : ℕ) × (p < length roster.records) × ((record_at roster p).due ≡ Some t)
-  pub least : (t : ℕ) → next_instant roster ≡ Some t → (q u : ℕ) → (record_at roster q).due ≡ Some u → t ≤ u
-  pub none : next_instant roster ≡ None → (q : ℕ) → (record_at roster q).due ≡ None
+  pub awaited : (t : ℕ) → next_instant roster ≡ Some t → (p : ℕ) × (p < length roster.records) × IsAwaited (record_at roster p) t
+  pub least : (t : ℕ) → next_instant roster ≡ Some t → (q u : ℕ) → IsAwaited (record_at roster q) u → t ≤ u
+  pub none : next_instant roster ≡ None → (q u : ℕ) → ¬ (IsAwaited (record_at roster q) u)
 
 -- who is due first is due now and has the lowest number of those who are, and nobody is only where no
 -- process is due now
@@ -81,6 +82,24 @@ pub record FirstDueIsLowest (roster : Roster) : Type 0 where
   pub now : (p : ℕ) → first_due roster ≡ Some p → (record_at roster p).due ≡ Some roster.now
   pub lowest : (p q : ℕ) → first_due roster ≡ Some p → (record_at roster q).due ≡ Some roster.now → p ≤ q
   pub none : first_due roster ≡ None → (q : ℕ) → (record_at roster q).due ≢ Some roster.now
+
+-- who misses a deadline first misses it now and has the lowest number of those who do, and nobody does
+-- only where no deadline is now
+pub record FirstMissedIsLowest (roster : Roster) : Type 0 where
+  pub now : (p : ℕ) → first_missed roster ≡ Some p → (record_at roster p).deadline ≡ Some roster.now
+  pub lowest : (p q : ℕ) → first_missed roster ≡ Some p → (record_at roster q).deadline ≡ Some roster.now → p ≤ q
+  pub none : first_missed roster ≡ None → (q : ℕ) → (record_at roster q).deadline ≢ Some roster.now
+
+-- this instant is above now and so many periods after the release, at least one, and none such is sooner
+pub record IsNextRelease (now release period t : ℕ) : Type 0 where
+  pub later : now < t
+  pub whole : (k : ℕ) × (1 ≤ k) × (t ≡ release + k * period)
+  pub least : (k : ℕ) → 1 ≤ k → now < release + k * period → t ≤ release + k * period
+
+-- the next release of process p, where it has a period
+abbrev pub NextReleaseIsLeast : Roster → ℕ → Type 0
+NextReleaseIsLeast roster p = (period t : ℕ) → 1 ≤ period → (record_at roster p).attributes.period ≡ Some period
+    → release_after roster.now (record_at roster p) ≡ Some t → IsNextRelease roster.now (record_at roster p).release period t
 
 -- whatever is asked of a store, no two of its processes come to have the same stamp
 pub record StampsStayDistinct (roster : Roster) : Type 0 where
@@ -97,6 +116,8 @@ pub record StampsStayDistinct (roster : Roster) : Type 0 where
   pub inherit : (p : ℕ) (holding : Holding) → p < length roster.records → IsStamped (stamps.inherit roster p holding)
   pub place_newest : (p : ℕ) → p < length roster.records → IsStamped (stamps.place_newest roster p)
   pub advance_to : (t : ℕ) → IsStamped (stamps.advance_to roster t)
+  pub set_deadline : (p : ℕ) (deadline : Option ℕ) → p < length roster.records → IsStamped (stamps.set_deadline roster p deadline)
+  pub take_missed : IsStamped (stamps.take_missed roster)
   pub take_due : IsStamped (stamps.take_due roster)
   pub set_mode : (mode : Mode) → IsStamped (stamps.set_mode roster mode)
   pub set_core : (p core : ℕ) → p < length roster.records → IsStamped (stamps.set_core roster p core)

@@ -1,9 +1,9 @@
-//! When waits end by themselves.
+//! When waits end by themselves and deadlines pass.
 ghost use Rattle.std.specs.Prelude.{◌≡◌, ◌<◌, ◌≤◌, length, position, IfSome};
 ghost use Rattle.apex_types.specs.Limits.{most_processes};
-ghost use Rattle.apex_types.specs.Dues.{HasTime, IsFrom, due_after, earliest_due, is_due_at, sooner};
+ghost use Rattle.apex_types.specs.Dues.{HasTime, IsFrom, due_after, earliest, is_due_at, is_missed_at, sooner};
 
-use crate::orders::is_due_at;
+use crate::orders::{is_due_at, is_missed_at};
 use crate::store::Store;
 use apex_types::{ProcessId, Record, Timeout};
 
@@ -18,13 +18,14 @@ fn sooner(one: Option<u64>, other: Option<u64>) -> Option<u64>
     }
 }
 
-/// The least due of the records, by a scan from the last one down.
-pub fn earliest_due(records: &[Record]) -> Option<u64>
-    ensures { result ≡ earliest_due records.now }
+/// The least due or deadline of the records, by a scan from the last one down.
+pub fn earliest(records: &[Record]) -> Option<u64>
+    ensures { result ≡ earliest records.now }
 {
     let mut earliest: Option<u64> = None;
     for place in (0..records.len()).rev() {
-        earliest = sooner(records[place].due, earliest);
+        let row = &records[place];
+        earliest = sooner(row.due, sooner(row.deadline, earliest));
     }
     earliest
 }
@@ -43,6 +44,25 @@ pub fn first_due(instant: u64, records: &[Record]) -> Option<ProcessId>
     ensures known { IfSome result (λ p. p < length records.now) }
 {
     match place_due(instant, records) {
+        Some(place) => Some(ProcessId::at(place as u8)),
+        None => None,
+    }
+}
+
+/// The place of the first record whose deadline is this instant.
+fn place_missed(instant: u64, records: &[Record]) -> Option<usize>
+    ensures { result ≡ position (is_missed_at instant) records.now }
+{
+    records.iter().position(|row| is_missed_at(instant, row))
+}
+
+/// The process of the lowest number whose deadline is this instant.
+pub fn first_missed(instant: u64, records: &[Record]) -> Option<ProcessId>
+    requires { length records.now ≤ most_processes }
+    ensures value { result ≡ position (is_missed_at instant) records.now }
+    ensures known { IfSome result (λ p. p < length records.now) }
+{
+    match place_missed(instant, records) {
         Some(place) => Some(ProcessId::at(place as u8)),
         None => None,
     }

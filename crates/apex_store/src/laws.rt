@@ -49,8 +49,8 @@ pub fn waits_in_one_queue<S: Store>(store: &S, process: ProcessId)
     ensures { laws.WaitsInOneQueue (record_at (S.roster store.now) process) }
 {}
 
-/// The next instant is the least due of all processes, and there is none only where no process has a
-/// due.
+/// The next instant is the least due or deadline of all processes, and there is none only where no
+/// process has either.
 pub fn next_instant_is_least<S: Store>(store: &S)
     ensures { laws.NextInstantIsLeast (S.roster store.now) }
 {}
@@ -59,6 +59,18 @@ pub fn next_instant_is_least<S: Store>(store: &S)
 /// process is due now.
 pub fn first_due_is_lowest<S: Store>(store: &S)
     ensures { laws.FirstDueIsLowest (S.roster store.now) }
+{}
+
+/// Who misses a deadline first has the lowest number of those whose deadline is now, and nobody does
+/// only where no deadline is now.
+pub fn first_missed_is_lowest<S: Store>(store: &S)
+    ensures { laws.FirstMissedIsLowest (S.roster store.now) }
+{}
+
+/// The next release of a periodic process is the least instant above now that is one or more whole
+/// periods after its last release.
+pub fn next_release_is_least<S: Store>(store: &S, process: ProcessId)
+    ensures { laws.NextReleaseIsLeast (S.roster store.now) process }
 {}
 
 /// The processes of a table open with distinct stamps.

@@ -5,9 +5,7 @@ ghost use Rattle.apex_types.specs.Roster.{ceilings_of, opening_record};
 ghost use Rattle.apex_types.specs.Table.{BufferConfig, MutexConfig, SemaphoreConfig};
 
 use apex_table::{ProcessConfig, Table};
-use apex_types::{
-    Attributes, BufferId, CoreId, Discipline, MutexId, ProcessId, Record, SemaphoreId,
-};
+use apex_types::{BufferId, CoreId, Discipline, MutexId, ProcessId, Record, SemaphoreId};
 use std::alloc::{AllocError, Global};
 
 /// Adds the record of a process before any event: dormant on core 0, and as old as its place says.
@@ -18,16 +16,18 @@ fn push_opening(records: &mut Vec<Record>, place: usize, process: &ProcessConfig
     ensures many { vec_len records.new ≡ vec_len records.old + 1 }
     ensures room { vec_capacity records.new ≡ vec_capacity records.old }
 {
-    let priority = process.priority();
+    let base = process.attributes().priority;
     records.push_reserved(Record {
-        attributes: Attributes { priority },
+        attributes: process.attributes(),
         core: CoreId::new(0),
-        base: priority,
+        base,
         started: false,
         suspended: None,
         wait: None,
         since: place as i64 + 1,
         due: None,
+        deadline: None,
+        release: 0,
         owned: None,
         step: 0,
         inbox: None,

@@ -1,6 +1,6 @@
 ghost use Rattle.std.specs.Prelude.{◌≡◌};
 ghost use Rattle.apex_types.specs.Running.{is_before, is_older, runs_on};
-ghost use Rattle.apex_types.specs.Dues.{is_due_at};
+ghost use Rattle.apex_types.specs.Dues.{is_due_at, is_missed_at};
 ghost use Rattle.apex_types.specs.Queues.{is_queue, is_same_queue};
 ghost use Rattle.apex_types.specs.Waiters.{waits_before, waits_behind, waits_in};
 
@@ -71,6 +71,17 @@ pub fn is_due_at(instant: u64, row: &Record) -> bool
 {
     match row.due {
         Some(due) => instant == due,
+        None => false,
+    }
+}
+
+/// The process's deadline is this instant, in ticks.
+#[tactic(auto, unfolding(apex_types::specs::Dues::is_missed_at))]
+pub fn is_missed_at(instant: u64, row: &Record) -> bool
+    ensures { result ≡ is_missed_at instant row.now }
+{
+    match row.deadline {
+        Some(deadline) => instant == deadline,
         None => false,
     }
 }

@@ -1,13 +1,14 @@
 ghost use Rattle.std.specs.Prelude.{◌≡◌, ◌<◌, ◌≤◌, count_by, length, slice_index_or, IfOk};
-ghost use Rattle.apex_types.specs.Limits.{most_processes};
+ghost use Rattle.apex_types.specs.Limits.{latest, most_processes};
 ghost use Rattle.apex_types.specs.Roster.{opening_roster, with_record};
 ghost use Rattle.apex_types.specs.Dues.{HasTime};
+ghost use Rattle.apex_types.specs.Periods.{deadline_from};
 ghost use Rattle.apex_types.specs.declared.records.Discipline.TheVariants.{Fifo};
 ghost use Rattle.apex_types.specs.Running.{is_process};
 ghost use Rattle.apex_types.specs.Stamps as stamps;
 ghost use Rattle.apex_types.specs.Waiters.{discipline_of, goes_by_priority, waits_in};
 
-use crate::dues::{earliest_due, first_due};
+use crate::dues::{earliest, first_due, first_missed};
 use crate::opening::{
     buffer_disciplines, ceilings, mutex_disciplines, opening_records, semaphore_disciplines,
 };
@@ -80,6 +81,32 @@ fn awake(row: Record) -> Record
         wait: None,
         due: None,
         ..row
+    }
+}
+
+/// The instant at which the process's deadline passes where it begins to run at this one, in ticks.
+/// None where its capacity is infinite.
+fn deadline_from(instant: u64, row: &Record) -> Option<u64>
+    requires { instant ≤ latest }
+    ensures { result ≡ deadline_from instant row.now }
+{
+    match row.attributes.capacity {
+        Some(capacity) => Some(instant + u64::from(capacity.ticks())),
+        None => None,
+    }
+}
+
+/// The record of a process that is released at this instant, in ticks: it waits for nothing, and its
+/// deadline begins to run.
+fn released_at(instant: u64, row: Record) -> Record
+    requires { instant ≤ latest }
+    ensures { result ≡ stamps.released_at instant row }
+{
+    let deadline = deadline_from(instant, &row);
+    Record {
+        release: instant,
+        deadline,
+        ..awake(row)
     }
 }
 
@@ -327,7 +354,7 @@ impl Store for PlainStore {
     }
 
     fn next_instant(&self) -> Option<u64> {
-        earliest_due(&self.records)
+        earliest(&self.records)
     }
 
     fn waiting(&self, queue: Queue) -> u32 {
@@ -351,6 +378,7 @@ impl Store for PlainStore {
             suspended: None,
             wait: None,
             due: None,
+            deadline: None,
             owned: None,
             step: 0,
             inbox: None,
@@ -370,7 +398,7 @@ impl Store for PlainStore {
 
     fn release(&mut self, process: ProcessId) {
         let row = self.record(process);
-        self.put_readied(process, awake(row));
+        self.put_readied(process, released_at(self.time, row));
     }
 
     fn suspend(&mut self, process: ProcessId) {
@@ -443,6 +471,16 @@ impl Store for PlainStore {
 
     fn advance_to(&mut self, instant: u64) {
         self.time = instant;
+    }
+
+    fn set_deadline(&mut self, process: ProcessId, deadline: Option<u64>) {
+        self.records[process.place()].deadline = deadline;
+    }
+
+    fn take_missed(&mut self) -> Option<ProcessId> {
+        let process = first_missed(self.time, &self.records)?;
+        self.records[process.place()].deadline = None;
+        Some(process)
     }
 
     fn take_due(&mut self) -> Option<ProcessId> {

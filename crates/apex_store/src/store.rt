@@ -4,7 +4,7 @@ ghost use Rattle.apex_types.specs.Roster.{Roster, record_at};
 ghost use Rattle.apex_types.specs.Running.{chosen, process_state, IsEligible, IsIneligible};
 ghost use Rattle.apex_types.specs.Waiters.{first_waiter, next_waiter, waiter_count, waits_in};
 ghost use Rattle.apex_types.specs.Owners.{ceiling_of, owner};
-ghost use Rattle.apex_types.specs.Dues.{next_instant, first_due, HasNoDueBelow, HasTime, IsFrom};
+ghost use Rattle.apex_types.specs.Dues.{next_instant, first_due, first_missed, HasNoDeadlineBelow, HasNoDueBelow, HasTime, IsFrom};
 ghost use Rattle.apex_types.specs.Stamps as stamps;
 ghost use Rattle.apex_types.specs.declared.records.Queue.TheVariants as queues;
 
@@ -72,7 +72,8 @@ pub trait Store: Drop {
         ensures value { result ≡ owner (roster self.now) mutex }
         ensures known { IfSome result (λ p. p < length (roster self.now).records) };
 
-    /// The next instant at which a wait ends by itself: the least due of all processes.
+    /// The next instant at which a wait ends by itself or a deadline passes: the least due or deadline
+    /// of all processes.
     fn next_instant(&self) -> Option<u64>
         ensures { result ≡ next_instant (roster self.now) };
 
@@ -103,10 +104,12 @@ pub trait Store: Drop {
         requires stamps { stamps.HasStamps (roster self.old) }
         ensures { roster self.new ≡ stamps.unblock (roster self.old) process };
 
-    /// Releases a process that waits for its start or for NORMAL.
+    /// Releases a process that waits for its start, for NORMAL or for its next release. Its deadline
+    /// begins to run.
     fn release(&mut self, process: ProcessId)
         requires known { process < length (roster self.old).records }
         requires stamps { stamps.HasStamps (roster self.old) }
+        requires time { HasTime (roster self.old) }
         ensures { roster self.new ≡ stamps.release (roster self.old) process };
 
     /// Another process suspends the process; a wait goes on.
@@ -158,12 +161,25 @@ pub trait Store: Drop {
         requires stamps { stamps.HasStamps (roster self.old) }
         ensures { roster self.new ≡ stamps.place_newest (roster self.old) process };
 
-    /// Time goes on to this instant, in ticks, and passes over no due.
+    /// Time goes on to this instant, in ticks, and passes over no due and no deadline.
     fn advance_to(&mut self, instant: u64)
         requires forward { (roster self.old).now ≤ instant }
         requires near { instant ≤ latest }
         requires dues { HasNoDueBelow (roster self.old) instant }
+        requires deadlines { HasNoDeadlineBelow (roster self.old) instant }
         ensures { roster self.new ≡ stamps.advance_to (roster self.old) instant };
+
+    /// The deadline of the process is this instant, in ticks, from now on, or it has none.
+    fn set_deadline(&mut self, process: ProcessId, deadline: Option<u64>)
+        requires known { process < length (roster self.old).records }
+        requires later { IsFrom (roster self.old).now deadline }
+        ensures { roster self.new ≡ stamps.set_deadline (roster self.old) process deadline };
+
+    /// The process of the lowest number whose deadline is now; it has no deadline afterwards.
+    fn take_missed(&mut self) -> Option<ProcessId>
+        ensures value { result ≡ first_missed (roster self.old) }
+        ensures known { IfSome result (λ p. p < length (roster self.old).records) }
+        ensures taken { roster self.new ≡ stamps.take_missed (roster self.old) };
 
     /// The process of the lowest number whose due is now; it has no due afterwards.
     fn take_due(&mut self) -> Option<ProcessId>

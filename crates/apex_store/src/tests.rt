@@ -1,6 +1,6 @@
 ghost use Rattle.std.specs.Prelude.{◌≡◌, ◌<◌, ◌≤◌, ◌^◌, true, length, IfOk};
 ghost use Rattle.apex_types.specs.Distinct.{IsStamped};
-ghost use Rattle.apex_types.specs.Dues.{IsFrom};
+ghost use Rattle.apex_types.specs.Dues.{HasTime, IsFrom};
 ghost use Rattle.apex_types.specs.Stamps as stamps;
 ghost use Rattle.apex_types.specs.Waiters.{next_waiter};
 ghost use Rattle.apex_store.specs.Opened.{IsEarly, IsJustOpened};
@@ -189,8 +189,8 @@ fn opens_dormant(rt: HostRuntime) -> Result<(), Fail> {
     Ok(())
 }
 
-/// Both are started before NORMAL and released with the entry into it: they run by priority.
-fn released_run_by_priority<S: Store>(rt: &impl Abort, store: &mut S)
+/// Who is started before NORMAL waits for it, in the order of the starts.
+fn started_early_wait_in_order<S: Store>(rt: &impl Abort, store: &mut S)
     requires { IsJustOpened (S.roster store.old) }
 {
     store.start(slow(), 0);
@@ -203,10 +203,31 @@ fn released_run_by_priority<S: Store>(rt: &impl Abort, store: &mut S)
     );
     assert_eq!(rt; next_after(rt, store, &Queue::Normal, urgent()), None);
     assert_eq!(rt; store.waiting(Queue::Normal), 2);
+}
+
+/// The process is released, and a stamp is left for another one.
+fn release<S: Store>(store: &mut S, process: ProcessId)
+    requires known { process < length (S.roster store.old).records }
+    requires stamps { stamps.HasManyStamps (S.roster store.old) }
+    requires time { HasTime (S.roster store.old) }
+    ensures many { length (S.roster store.new).records ≡ length (S.roster store.old).records }
+    ensures stamps { stamps.HasStamps (S.roster store.new) }
+    ensures now { (S.roster store.new).now ≡ (S.roster store.old).now }
+{
+    store.release(process);
+}
+
+/// Who is released with the entry into NORMAL runs by priority.
+fn released_run_by_priority<S: Store>(rt: &impl Abort, store: &mut S)
+    requires { IsJustOpened (S.roster store.old) }
+{
+    store.start(slow(), 0);
+    store.start(urgent(), 0);
     enter_normal(rt, store);
-    store.release(slow());
+    release(store, slow());
     store.release(urgent());
     assert_eq!(rt; store.chosen(CoreId::new(0)), Some(urgent()));
+    assert_eq!(rt; store.process_count(), 2);
     assert_eq!(rt; store.state(urgent()), State::Running);
     assert_eq!(rt; store.state(slow()), State::Ready);
 }
@@ -324,9 +345,8 @@ fn suspension_outlasts_a_wake<S: Store>(rt: &impl Abort, store: &mut S)
     assert_eq!(rt; store.state(urgent()), State::Running);
 }
 
-/// A suspension of itself ends with a RESUME, a wake or a START, and the core goes to another one
-/// meanwhile.
-fn suspension_of_itself_ends<S: Store>(rt: &impl Abort, store: &mut S)
+/// A process that suspends itself leaves its core to another one until it is resumed.
+fn resume_ends_a_suspension_of_itself<S: Store>(rt: &impl Abort, store: &mut S)
     requires { IsJustOpened (S.roster store.old) }
 {
     enter_normal(rt, store);
@@ -344,9 +364,25 @@ fn suspension_of_itself_ends<S: Store>(rt: &impl Abort, store: &mut S)
         (store.state(urgent()), store.next_instant()),
         (State::Running, None)
     );
+}
+
+/// A wake ends a suspension of itself as well.
+fn wake_ends_a_suspension_of_itself<S: Store>(rt: &impl Abort, store: &mut S)
+    requires { IsJustOpened (S.roster store.old) }
+{
+    enter_normal(rt, store);
+    store.start(urgent(), 0);
     suspend_self(rt, store, urgent(), None);
     store.unblock(urgent());
     assert_eq!(rt; store.state(urgent()), State::Running);
+}
+
+/// A suspension does not outlast a stop: the next START runs the process.
+fn start_after_a_stop_ends_a_suspension<S: Store>(rt: &impl Abort, store: &mut S)
+    requires { IsJustOpened (S.roster store.old) }
+{
+    enter_normal(rt, store);
+    store.start(urgent(), 0);
     store.suspend(urgent());
     store.stop(urgent());
     store.start(urgent(), 0);
@@ -371,8 +407,8 @@ fn base_decides_until_a_start<S: Store>(rt: &impl Abort, store: &mut S)
     assert_eq!(rt; store.chosen(CoreId::new(0)), Some(urgent()));
 }
 
-/// Who waits longest is first in a FIFO queue, and the more urgent in a PRIORITY queue.
-fn queues_have_their_disciplines<S: Store>(rt: &impl Abort, store: &mut S)
+/// Who waits longest is first in a FIFO queue.
+fn longest_waiter_is_first<S: Store>(rt: &impl Abort, store: &mut S)
     requires { IsJustOpened (S.roster store.old) }
 {
     enter_normal(rt, store);
@@ -385,8 +421,15 @@ fn queues_have_their_disciplines<S: Store>(rt: &impl Abort, store: &mut S)
         next_after(rt, store, &Queue::Semaphore(in_turn()), slow()),
         Some(urgent())
     );
-    store.unblock(slow());
-    store.unblock(urgent());
+}
+
+/// The more urgent is first in a PRIORITY queue, whoever came first.
+fn most_urgent_waiter_is_first<S: Store>(rt: &impl Abort, store: &mut S)
+    requires { IsJustOpened (S.roster store.old) }
+{
+    enter_normal(rt, store);
+    store.start(slow(), 0);
+    store.start(urgent(), 0);
     block(rt, store, slow(), Wait::Semaphore(ranked()), None);
     block(rt, store, urgent(), Wait::Semaphore(ranked()), None);
     assert_eq!(rt; store.first(Queue::Semaphore(ranked())), Some(urgent()));
@@ -424,6 +467,7 @@ fn priorities_leave_fifo_waiters<S: Store>(rt: &impl Abort, store: &mut S)
 
 #[test]
 fn plain_store_serves_the_trait(rt: HostRuntime) -> Result<(), Fail> {
+    started_early_wait_in_order(&rt, &mut two_processes(&rt, rt.alloc())?);
     released_run_by_priority(&rt, &mut two_processes(&rt, rt.alloc())?);
     cores_go_to_the_next(&rt, &mut two_processes(&rt, rt.alloc())?);
     runs_on_its_core(&rt, &mut two_processes(&rt, rt.alloc())?);
@@ -431,9 +475,12 @@ fn plain_store_serves_the_trait(rt: HostRuntime) -> Result<(), Fail> {
     delays_run_in_normal(&rt, &mut two_processes(&rt, rt.alloc())?);
     newest_goes_last(&rt, &mut two_processes(&rt, rt.alloc())?);
     suspension_outlasts_a_wake(&rt, &mut two_processes(&rt, rt.alloc())?);
-    suspension_of_itself_ends(&rt, &mut two_processes(&rt, rt.alloc())?);
+    resume_ends_a_suspension_of_itself(&rt, &mut two_processes(&rt, rt.alloc())?);
+    wake_ends_a_suspension_of_itself(&rt, &mut two_processes(&rt, rt.alloc())?);
+    start_after_a_stop_ends_a_suspension(&rt, &mut two_processes(&rt, rt.alloc())?);
     base_decides_until_a_start(&rt, &mut two_processes(&rt, rt.alloc())?);
-    queues_have_their_disciplines(&rt, &mut two_processes(&rt, rt.alloc())?);
+    longest_waiter_is_first(&rt, &mut two_processes(&rt, rt.alloc())?);
+    most_urgent_waiter_is_first(&rt, &mut two_processes(&rt, rt.alloc())?);
     priorities_place_ranked_waiters(&rt, &mut two_processes(&rt, rt.alloc())?);
     priorities_leave_fifo_waiters(&rt, &mut two_processes(&rt, rt.alloc())?);
     Ok(())

@@ -4,13 +4,15 @@ use Rattle.std.proofs.lemmas.Bool.Decides.{nat_tests}
 use Rattle.std.specs.Prelude.{codes}
 use Rattle.std.specs.List.{list_any}
 use Rattle.std.specs.Str.{bytes_eq}
+use Rattle.std.proofs.lemmas.Option.{none-some, same_Some}
 use Rattle.std.proofs.lemmas.Result.{IfOk-at_ok}
-use Rattle.toml.specs.Data.{Data, Members, get_member, as_integer}
+use Rattle.toml.specs.Data.{Data, Members, get_member, as_integer, as_str}
 use Rattle.apex_types.specs.Name.{is_name}
+use Rattle.apex_types.specs.Table.{IsSpan}
 use Rattle.apex_table.specs.Terms.{Place, TableFault}
 use Rattle.apex_table.specs.declared.fault.TableFault.TheVariants.{WrongType, OutOfRange, BadName, DoubleName, TooMany}
 use Rattle.apex_table.specs.Outcome.{some_or}
-use Rattle.apex_table.specs.Keys.{required, optional, text_at, in_range, number, number_at, number_or, at_most, well_formed, name_at}
+use Rattle.apex_table.specs.Keys.{required, optional, text_at, in_range, number, number_at, number_or, span_of, span_or_infinite, at_most, well_formed, name_at}
 use Rattle.apex_table.proofs.Results.{ok_then, ok_if, ok_unless}
 
 within : (low n high : ℕ) → (nat_le low n && nat_le n high) ≡ true → (low ≤ n) × (n ≤ high)
@@ -35,6 +37,25 @@ optional_law default read P here there (Some d) = there d
 pub number_or_law : (at : Place) (default low high : ℕ) (key : List ℕ) (ms : Members) → (low ≤ default) × (default ≤ high) → IfOk (number_or at default low high key ms) (λ n. (low ≤ n) × (n ≤ high))
 number_or_law at default low high key ms here =
     optional_law default (number at low high) (λ n. (low ≤ n) × (n ≤ high)) here (number_law at low high) (get_member key ms)
+
+no_span : IsSpan None
+no_span ticks e = absurd (none-some ticks e)
+
+some_span : (n : ℕ) → (1 ≤ n) × (n ≤ 4294967295) → IsSpan (Some n)
+some_span n bounds ticks e =
+    let same : n ≡ ticks = same_Some n ticks e in
+    let low : 1 ≤ n = bounds.0 in
+    let high : n ≤ 4294967295 = bounds.1 in
+    (omega arith, omega arith)
+
+span_of_law : (at : Place) (d : Data) (o : Option (List ℕ)) → IfOk (span_of at d o) IsSpan
+span_of_law at d (Some t) = ok_if (bytes_eq t (codes "infinite")) (OutOfRange at) None IsSpan (λ _. no_span)
+span_of_law at d None =
+    ok_then (number at 1 4294967295 d) _ IsSpan (λ n e.
+    some_span n (IfOk-at_ok (λ n. (1 ≤ n) × (n ≤ 4294967295)) e (number_law at 1 4294967295 d)))
+
+pub span_or_infinite_law : (at : Place) (key : List ℕ) (ms : Members) → IfOk (span_or_infinite at key ms) IsSpan
+span_or_infinite_law at key ms = optional_law None _ IsSpan no_span (λ d. span_of_law at d (as_str d)) (get_member key ms)
 
 pub at_most_law : (at : Place) (most : ℕ) (ds : List Data) → IfOk (at_most at most ds) (λ xs. length xs ≤ most)
 at_most_law at most ds = ok_if (nat_le (length ds) most) (TooMany at) ds (λ xs. length xs ≤ most) (λ e. grind (arith, nat_tests))

@@ -4,11 +4,12 @@ use Rattle.std.specs.Prelude.{codes}
 use Rattle.std.proofs.lemmas.Result.{IfOk-at_ok, IfOk-weaker}
 use Rattle.toml.specs.Data.{Data, Members}
 use Rattle.apex_types.specs.Name.{is_name}
+use Rattle.apex_types.specs.Table.{IsSpan}
 use Rattle.apex_table.specs.Terms.{Place}
-use Rattle.apex_table.specs.Keys.{text, array_at, at_most, number_at, number_or, truth_or}
+use Rattle.apex_table.specs.Keys.{text, array_at, at_most, number_at, number_or, span_or_infinite, truth_or, deadline_or_soft}
 use Rattle.apex_table.specs.Processes.{ProcessDraft, some_process, texts, some_step, script_at, process, processes}
 use Rattle.apex_table.proofs.Results.{ok_then, each_length}
-use Rattle.apex_table.proofs.KeyLaws.{number_at_law, number_or_law, at_most_law}
+use Rattle.apex_table.proofs.KeyLaws.{number_at_law, number_or_law, span_or_infinite_law, at_most_law}
 use Rattle.apex_table.proofs.SectionLaws.{IsRead, ReadsSound}
 
 pub some_process_law : (ps : List ProcessDraft) → IfOk (some_process ps) (λ xs. (ps ≡ xs) × (1 ≤ length xs))
@@ -43,8 +44,10 @@ script_at_law at loops ms =
 -- what holds of a process whose script is still text
 pub record IsSoundDraft (cores : ℕ) (draft : ProcessDraft) : Type 0 where
   pub name : IsTrue (is_name draft.name)
-  pub priority : (1 ≤ draft.priority) × (draft.priority ≤ 239)
+  pub priority : (1 ≤ draft.attributes.priority) × (draft.attributes.priority ≤ 239)
   pub core : draft.core < cores
+  pub period : IsSpan draft.attributes.period
+  pub capacity : IsSpan draft.attributes.capacity
   pub script : IsScript draft.loops draft.script
 
 pub process_law : (cores : ℕ) → 1 ≤ cores → ReadsSound (processes cores) (IsSoundDraft cores)
@@ -53,6 +56,9 @@ process_law cores some at name ms good =
     let Read : ProcessDraft → Type 0 = IsRead (processes cores) (IsSoundDraft cores) name in
     ok_then (number_at at 1 239 (codes "priority") ms) _ Read (λ priority ep.
     ok_then (number_or at 0 0 (cores - 1) (codes "core") ms) _ Read (λ core ec.
+    ok_then (span_or_infinite at (codes "period") ms) _ Read (λ period et.
+    ok_then (span_or_infinite at (codes "capacity") ms) _ Read (λ capacity eb.
+    ok_then (deadline_or_soft at ms) _ Read (λ deadline _.
     ok_then (truth_or at false (codes "loop") ms) _ Read (λ loops _.
     ok_then (truth_or at false (codes "start") ms) _ Read (λ start _.
     ok_then (script_at at loops ms) _ Read (λ script es.
@@ -62,7 +68,9 @@ process_law cores some at name ms good =
         name = good;
         priority = IfOk-at_ok (λ n. (1 ≤ n) × (n ≤ 239)) ep (number_at_law at 1 239 (codes "priority") ms);
         core = omega arith;
+        period = IfOk-at_ok IsSpan et (span_or_infinite_law at (codes "period") ms);
+        capacity = IfOk-at_ok IsSpan eb (span_or_infinite_law at (codes "capacity") ms);
         script = IfOk-at_ok (IsScript loops) es (script_at_law at loops ms);
       };
       named = refl;
-    })))))
+    }))))))))

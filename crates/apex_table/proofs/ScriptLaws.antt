@@ -27,6 +27,8 @@ module _ (table : Table) (names : Names) (same : AreNamesOf table names) where
         name = sound.name;
         priority = sound.priority;
         core = sound.core;
+        period = sound.period;
+        capacity = sound.capacity;
         steps = kept.few;
         looping = kept.some;
         script = λ k below. all_from_start (λ k step. IsLawfulStep table (Script p k) step) steps lawful k no_step below;

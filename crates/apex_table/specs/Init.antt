@@ -11,7 +11,7 @@ use Rattle.apex_types.specs.declared.calls.ProcessService.TheVariants.{Initializ
 use Rattle.apex_types.specs.declared.calls.SemaphoreService.TheVariants.{Wait, Signal}
 use Rattle.apex_types.specs.declared.calls.BlackboardService.TheVariants.{Display, Read, Clear}
 use Rattle.apex_types.specs.declared.calls.EventService.TheVariants.{Set, Reset, Wait as WaitFor}
-use Rattle.apex_types.specs.declared.calls.TimeCall.TheVariants.{TimedWait, GetTime}
+use Rattle.apex_types.specs.declared.calls.TimeCall.TheVariants.{TimedWait, PeriodicWait, Replenish, GetTime}
 use Rattle.apex_table.specs.declared.fault.Section.TheVariants.{Init}
 use Rattle.apex_table.specs.declared.fault.TableFault.TheVariants.{BadInitStep}
 use Rattle.apex_table.specs.Outcome.{◌>>=◌, each, place}
@@ -86,6 +86,8 @@ is_init_object_call own (Own i service) = own service
 -- the calls of time management that an init list may have
 abbrev pub is_init_time_call : TimeCall → Bool
 is_init_time_call (TimedWait timeout) = false
+is_init_time_call PeriodicWait = false
+is_init_time_call (Replenish budget) = false
 is_init_time_call GetTime = true
 
 -- the calls that an init list may have

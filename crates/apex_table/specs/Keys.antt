@@ -3,8 +3,10 @@ use Rattle.std.specs.Prelude.{codes, ℕ, ℤ, pos, negsuc, Bool, true, ◌&&◌
 use Rattle.std.specs.List.{list_any}
 use Rattle.std.specs.Str.{bytes_eq}
 use Rattle.toml.specs.Data.{Data, Items, no_items, item, Members, no_members, member, get_member, as_str, as_integer, as_bool, as_array, as_table}
+use Rattle.apex_types.specs.Limits.{most_span}
 use Rattle.apex_types.specs.Name.{is_name}
-use Rattle.apex_table.specs.Terms.{Discipline, Place, TableFault}
+use Rattle.apex_table.specs.Terms.{DeadlineType, Discipline, Place, TableFault}
+use Rattle.apex_types.specs.declared.records.DeadlineType.TheVariants.{Soft, Hard}
 use Rattle.apex_types.specs.declared.records.Discipline.TheVariants.{Fifo, Priority}
 use Rattle.apex_table.specs.declared.fault.TableFault.TheVariants.{MissingKey, WrongType, OutOfRange, BadName, DoubleName, UnknownKey, TooMany}
 use Rattle.apex_table.specs.Outcome.{◌>>=◌, some_or}
@@ -73,6 +75,23 @@ number_at at low high key ms = required at key ms >>= number at low high
 abbrev pub number_or : Place → ℕ → ℕ → ℕ → List ℕ → Members → Result ℕ TableFault
 number_or at default low high key ms = optional default (number at low high) (get_member key ms)
 
+-- a span of time without an end, by its word
+abbrev pub infinite : Place → List ℕ → Result (Option ℕ) TableFault
+infinite at t = if bytes_eq t (codes "infinite") then Ok None else Err (OutOfRange at)
+
+-- a span of time by the text that the value is, or else by its number of ticks
+abbrev pub span_of : Place → Data → Option (List ℕ) → Result (Option ℕ) TableFault
+span_of at d (Some t) = infinite at t
+span_of at d None = number at 1 most_span d >>= λ ticks. Ok (Some ticks)
+
+-- a value that is a span of time, which may be infinite
+abbrev pub span : Place → Data → Result (Option ℕ) TableFault
+span at d = span_of at d (as_str d)
+
+-- the span of time at a key whose default is infinite
+abbrev pub span_or_infinite : Place → List ℕ → Members → Result (Option ℕ) TableFault
+span_or_infinite at key ms = optional None (span at) (get_member key ms)
+
 -- the truth value at a key with a default
 abbrev pub truth_or : Place → Bool → List ℕ → Members → Result Bool TableFault
 truth_or at default key ms = optional default (truth at) (get_member key ms)
@@ -80,6 +99,20 @@ truth_or at default key ms = optional default (truth at) (get_member key ms)
 -- the text at a key without a default
 abbrev pub text_at : Place → List ℕ → Members → Result (List ℕ) TableFault
 text_at at key ms = required at key ms >>= text at
+
+-- the type of a deadline by its word
+abbrev pub deadline_type : Place → List ℕ → Result DeadlineType TableFault
+deadline_type at t =
+    if bytes_eq t (codes "SOFT") then Ok Soft else
+    if bytes_eq t (codes "HARD") then Ok Hard else Err (OutOfRange at)
+
+-- a value that is the type of a deadline
+abbrev pub deadline : Place → Data → Result DeadlineType TableFault
+deadline at d = text at d >>= deadline_type at
+
+-- the type of a deadline, at its key, whose default is SOFT
+abbrev pub deadline_or_soft : Place → Members → Result DeadlineType TableFault
+deadline_or_soft at ms = optional Soft (deadline at) (get_member (codes "deadline") ms)
 
 -- the discipline of a queue by its word
 abbrev pub discipline : Place → List ℕ → Result Discipline TableFault

@@ -3,16 +3,16 @@ use Rattle.std.specs.Prelude.{codes, ℕ, ◌-◌, Bool, true, false, List, [], 
 use Rattle.toml.specs.Data.{Data, Members}
 use Rattle.apex_types.specs.Limits.{most_priority, most_processes, most_steps}
 use Rattle.apex_table.specs.declared.fault.Section.TheVariants.{Process}
-use Rattle.apex_table.specs.Terms.{Place, TableFault}
+use Rattle.apex_table.specs.Terms.{Attributes, Place, TableFault}
 use Rattle.apex_table.specs.declared.fault.TableFault.TheVariants.{MissingKey, OutOfRange}
 use Rattle.apex_table.specs.Outcome.{◌>>=◌, each, place}
-use Rattle.apex_table.specs.Keys.{text, array_at, at_most, number_at, number_or, truth_or}
+use Rattle.apex_table.specs.Keys.{text, array_at, at_most, number_at, number_or, span_or_infinite, truth_or, deadline_or_soft}
 use Rattle.apex_table.specs.Sections.{KindOf}
 
 -- a process whose script is still text
 pub record ProcessDraft : Type 0 where
   pub name : List ℕ
-  pub priority : ℕ
+  pub attributes : Attributes
   pub core : ℕ
   pub loops : Bool
   pub start : Bool
@@ -45,15 +45,32 @@ unfoldable pub process : ℕ → Place → List ℕ → Members → Result Proce
 process cores at name ms = do
   priority ← number_at at 1 most_priority (codes "priority") ms
   core ← number_or at 0 0 (cores - 1) (codes "core") ms
+  period ← span_or_infinite at (codes "period") ms
+  capacity ← span_or_infinite at (codes "capacity") ms
+  deadline ← deadline_or_soft at ms
   loops ← truth_or at false (codes "loop") ms
   start ← truth_or at false (codes "start") ms
   script ← script_at at loops ms
-  Ok (record { name = name; priority = priority; core = core; loops = loops; start = start; script = script })
+  Ok (record {
+    name = name;
+    attributes = record { priority = priority; period = period; capacity = capacity; deadline = deadline };
+    core = core;
+    loops = loops;
+    start = start;
+    script = script;
+  })
+
+-- the keys of a process
+abbrev pub process_keys : List (List ℕ)
+process_keys =
+    codes "name" ∷ codes "priority" ∷ codes "core"
+    ∷ codes "period" ∷ codes "capacity" ∷ codes "deadline"
+    ∷ codes "loop" ∷ codes "start" ∷ codes "script" ∷ []
 
 -- the kind of processes
 abbrev pub processes : ℕ → KindOf ProcessDraft
 processes cores = record {
-  head = record { section = Process; most = most_processes; keys = codes "name" ∷ codes "priority" ∷ codes "core" ∷ codes "loop" ∷ codes "start" ∷ codes "script" ∷ [] };
+  head = record { section = Process; most = most_processes; keys = process_keys };
   name_of = λ p. p.name;
   read = process cores;
 }

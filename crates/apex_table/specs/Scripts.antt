@@ -17,7 +17,7 @@ script at p names texts = each (λ before t. step at (Script p (length before)) 
 unfoldable pub next_entry : Names → List ProcessConfig → ProcessDraft → Result ProcessConfig TableFault
 next_entry names before draft = do
   steps ← script (place Process (length before + 1)) (length before) names draft.script
-  Ok (record { name = draft.name; priority = draft.priority; core = draft.core; loops = draft.loops; start = draft.start; script = steps })
+  Ok (record { name = draft.name; attributes = draft.attributes; core = draft.core; loops = draft.loops; start = draft.start; script = steps })
 
 -- all processes with the steps of their scripts
 abbrev pub with_scripts : Names → List ProcessDraft → Result (List ProcessConfig) TableFault

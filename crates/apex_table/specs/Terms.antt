@@ -1,9 +1,11 @@
 -- The terms in which the definitions and proofs of this crate speak: the values of a partition, and the
 -- faults of a table.
+pub use Rattle.apex_types.specs.declared.Attributes.{Attributes}
 pub use Rattle.apex_types.specs.declared.BlackboardService.{BlackboardService}
 pub use Rattle.apex_types.specs.declared.BufferService.{BufferService}
 pub use Rattle.apex_types.specs.declared.Call.{Call}
 pub use Rattle.apex_types.specs.declared.CallerCall.{CallerCall}
+pub use Rattle.apex_types.specs.declared.DeadlineType.{DeadlineType}
 pub use Rattle.apex_types.specs.declared.Discipline.{Discipline}
 pub use Rattle.apex_types.specs.declared.EventService.{EventService}
 pub use Rattle.apex_types.specs.declared.Message.{Message}

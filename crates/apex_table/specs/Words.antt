@@ -1,10 +1,10 @@
 -- The words of a step's text: what stands between single spaces, the forms that a word may have, and
 -- what a word of the right form means.
-use Rattle.std.specs.Prelude.{codes, ℕ, ◌+◌, ◌*◌, ◌%◌, ◌==◌, ◌||◌, ◌&&◌, nat_le, Bool, true, false, if◌then◌else◌, List, [], ◌∷◌, length, Option, Some, None, Result, Ok, is_some, option_and_then}
+use Rattle.std.specs.Prelude.{codes, ℕ, ◌+◌, ◌*◌, ◌%◌, ◌==◌, ◌||◌, ◌&&◌, nat_le, Bool, true, false, if◌then◌else◌, List, [], ◌∷◌, length, Option, Some, None, Result, Ok, Err, is_some, option_and_then}
 use Rattle.std.specs.Char.{digit_value, is_ascii_digit}
 use Rattle.std.specs.List.{list_all, slice_split, position_from}
 use Rattle.std.specs.Str.{bytes_eq}
-use Rattle.apex_types.specs.Limits.{most_message}
+use Rattle.apex_types.specs.Limits.{most_message, most_span}
 use Rattle.apex_table.specs.Terms.{Message, Origin, Place, TableFault, Timeout}
 use Rattle.apex_types.specs.declared.calls.Timeout.TheVariants.{Poll, Ticks, Infinite}
 use Rattle.apex_types.specs.Numbers.{number_of, at_most}
@@ -38,6 +38,14 @@ timeout at word =
     if bytes_eq word (codes "0") then Ok Poll else
     if bytes_eq word (codes "infinite") then Ok Infinite else
     number at 4294967295 word >>= λ n. Ok (Ticks n)
+
+-- this number, where it is not 0
+abbrev pub some_ticks : Place → ℕ → Result ℕ TableFault
+some_ticks at n = if n == 0 then Err (OutOfRange at) else Ok n
+
+-- a span of time: 1 to 4,294,967,295 ticks
+abbrev pub span : Place → List ℕ → Result ℕ TableFault
+span at word = number at most_span word >>= some_ticks at
 
 -- a digit of a message: 0 to 9, a to f
 abbrev pub is_digit : ℕ → Bool

@@ -3,14 +3,14 @@ ghost use Rattle.apex_types.specs.Limits.{most_literal};
 ghost use Rattle.apex_types.specs.Table.{step_at, call_in};
 
 use crate::listed::{call_in, literal_in};
-use apex_types::{Call, CoreId, Discipline, Name, Step};
+use apex_types::{Attributes, Call, CoreId, Discipline, Name, Step};
 use std::marker::Model;
 
 /// A process as the table gives it (ARINC 653 Part 1, process management).
 #[derive(Debug, Drop)]
 pub struct ProcessConfig {
     name: Name,
-    priority: u8,
+    attributes: Attributes,
     core: CoreId,
     loops: bool,
     starts: bool,
@@ -22,23 +22,23 @@ impl Model for ProcessConfig {
 
     ghost Value = { ProcessConfig };
 
-    ghost view = { λ p. record { name = p.name; priority = p.priority; core = p.core; loops = p.loops; start = p.starts; script = p.script.items } };
+    ghost view = { λ p. record { name = p.name; attributes = p.attributes; core = p.core; loops = p.loops; start = p.starts; script = p.script.items } };
 }
 
 impl ProcessConfig {
     pub(crate) fn new(
         name: Name,
-        priority: u8,
+        attributes: Attributes,
         core: CoreId,
         loops: bool,
         starts: bool,
         script: Vec<Step>,
     ) -> ProcessConfig
-        ensures { result ≡ record { name = name; priority = priority; core = core; loops = loops; start = starts; script = script.items } }
+        ensures { result ≡ record { name = name; attributes = attributes; core = core; loops = loops; start = starts; script = script.items } }
     {
         ProcessConfig {
             name,
-            priority,
+            attributes,
             core,
             loops,
             starts,
@@ -52,11 +52,10 @@ impl ProcessConfig {
         &self.name
     }
 
-    /// The base priority; a greater one is more urgent.
-    pub fn priority(&self) -> u8
-        ensures { result ≡ self.now.priority }
+    pub fn attributes(&self) -> Attributes
+        ensures { result ≡ self.now.attributes }
     {
-        self.priority
+        self.attributes
     }
 
     /// The core that the default init list gives the process.

@@ -107,7 +107,7 @@ fn is_init_time_call(call: &TimeCall) -> bool
     ensures { result ≡ is_init_time_call call.now }
 {
     match call {
-        TimeCall::TimedWait(_) => false,
+        TimeCall::TimedWait(_) | TimeCall::PeriodicWait | TimeCall::Replenish(_) => false,
         TimeCall::GetTime => true,
     }
 }

@@ -4,11 +4,11 @@ ghost use Rattle.std.specs.Str.{bytes_eq};
 ghost use Rattle.toml.specs.Data.{get_member};
 ghost use Rattle.toml.specs.View.{view, table_view};
 ghost use Rattle.apex_table.specs.Outcome.{Gives};
-ghost use Rattle.apex_table.specs.Keys.{has_only, known, required, text, truth, table, array, array_at, at_most, number, number_at, number_or, truth_or, text_at, discipline, discipline_at, well_formed, name_at};
+ghost use Rattle.apex_table.specs.Keys.{has_only, known, required, text, truth, table, array, array_at, at_most, number, number_at, number_or, span, span_or_infinite, truth_or, text_at, deadline_type, deadline, deadline_or_soft, discipline, discipline_at, well_formed, name_at};
 
 use crate::fault::{Place, TableFault};
 use crate::named::{Named, has_name};
-use apex_types::{Discipline, Name};
+use apex_types::{DeadlineType, Discipline, Name, Span};
 use toml::{Table, Value};
 
 fn is_one_of(names: &[&str], name: &str) -> bool
@@ -151,6 +151,27 @@ pub fn number_or(
     }
 }
 
+/// A span of time, or none where it is infinite.
+fn span(at: Place, value: &Value) -> Result<Option<Span>, TableFault>
+    ensures { Gives (λ s. s) result (span at (view value.now)) }
+{
+    match value.as_str() {
+        Some("infinite") => Ok(None),
+        Some(_) => Err(TableFault::OutOfRange(at)),
+        None => Ok(Some(Span::of(number(at, 1, u32::MAX, value)?))),
+    }
+}
+
+/// The span of time at a key whose default is infinite.
+pub fn span_or_infinite(at: Place, table: &Table, name: &str) -> Result<Option<Span>, TableFault>
+    ensures { Gives (λ s. s) result (span_or_infinite at name.now (table_view table.now)) }
+{
+    match key(table, name) {
+        Some(value) => span(at, value),
+        None => Ok(None),
+    }
+}
+
 /// The truth value at a key with a default.
 pub fn truth_or(at: Place, default: bool, table: &Table, name: &str) -> Result<bool, TableFault>
     ensures { Gives (λ b. b) result (truth_or at default name.now (table_view table.now)) }
@@ -175,6 +196,33 @@ fn text_at<'a>(at: Place, table: &'a Table, name: &str) -> Result<&'a str, Table
 {
     let value = required(at, table, name)?;
     text(at, value)
+}
+
+fn deadline_type(at: Place, word: &str) -> Result<DeadlineType, TableFault>
+    ensures { Gives (λ d. d) result (deadline_type at word.now) }
+{
+    match word {
+        "SOFT" => Ok(DeadlineType::Soft),
+        "HARD" => Ok(DeadlineType::Hard),
+        _ => Err(TableFault::OutOfRange(at)),
+    }
+}
+
+fn deadline(at: Place, value: &Value) -> Result<DeadlineType, TableFault>
+    ensures { Gives (λ d. d) result (deadline at (view value.now)) }
+{
+    let word = text(at, value)?;
+    deadline_type(at, word)
+}
+
+/// The type of a deadline, at its key, whose default is SOFT.
+pub fn deadline_or_soft(at: Place, table: &Table) -> Result<DeadlineType, TableFault>
+    ensures { Gives (λ d. d) result (deadline_or_soft at (table_view table.now)) }
+{
+    match key(table, "deadline") {
+        Some(value) => deadline(at, value),
+        None => Ok(DeadlineType::Soft),
+    }
 }
 
 fn discipline(at: Place, word: &str) -> Result<Discipline, TableFault>

@@ -9,7 +9,7 @@ use crate::fault::{Place, Section, TableFault};
 use crate::keys;
 use crate::named::Named;
 use crate::sections::{Head, Kind};
-use apex_types::{CoreId, Name};
+use apex_types::{Attributes, CoreId, Name};
 use std::alloc::Global;
 use std::marker::Model;
 use toml::{Table, Value};
@@ -18,7 +18,7 @@ use toml::{Table, Value};
 #[derive(Drop)]
 pub struct Draft<'a> {
     pub name: Name,
-    pub priority: u8,
+    pub attributes: Attributes,
     pub core: CoreId,
     pub loops: bool,
     pub starts: bool,
@@ -33,7 +33,7 @@ impl<'a> Model for Draft<'a> {
 
     ghost Value = { ProcessDraft };
 
-    ghost view = { λ d. record { name = d.name; priority = d.priority; core = d.core; loops = d.loops; start = d.starts; script = map (λ t. t.now) d.script.items } };
+    ghost view = { λ d. record { name = d.name; attributes = d.attributes; core = d.core; loops = d.loops; start = d.starts; script = map (λ t. t.now) d.script.items } };
 
     ghost invariant = { λ d. length d.script.items ≤ most_steps };
 }
@@ -83,6 +83,10 @@ fn script_at<'a>(
     texts(alloc, at, items)
 }
 
+const PROCESS_KEYS: &[&str] = &[
+    "name", "priority", "core", "period", "capacity", "deadline", "loop", "start", "script",
+];
+
 /// The kind of processes, on so many cores.
 #[derive(Drop)]
 pub struct Processes {
@@ -104,7 +108,7 @@ impl<'a> Kind<'a> for Processes {
         Head {
             section: Section::Process,
             most: 32,
-            keys: &["name", "priority", "core", "loop", "start", "script"],
+            keys: PROCESS_KEYS,
         }
     }
 
@@ -118,12 +122,20 @@ impl<'a> Kind<'a> for Processes {
     ) -> Result<Draft<'a>, TableFault> {
         let priority = keys::number_at(at, 1, 239, table, "priority")?;
         let core = keys::number_or(at, 0, 0, self.cores - 1, table, "core")?;
+        let period = keys::span_or_infinite(at, table, "period")?;
+        let capacity = keys::span_or_infinite(at, table, "capacity")?;
+        let deadline = keys::deadline_or_soft(at, table)?;
         let loops = keys::truth_or(at, false, table, "loop")?;
         let starts = keys::truth_or(at, false, table, "start")?;
         let script = script_at(alloc, at, loops, table)?;
         Ok(Draft {
             name,
-            priority: priority as u8,
+            attributes: Attributes {
+                priority: priority as u8,
+                period,
+                capacity,
+                deadline,
+            },
             core: CoreId::new(core as u8),
             loops,
             starts,

@@ -44,7 +44,7 @@ fn next_entry(
     let script = script(alloc, at, process, names, &draft.script)?;
     Ok(ProcessConfig::new(
         draft.name,
-        draft.priority,
+        draft.attributes,
         draft.core,
         draft.loops,
         draft.starts,

@@ -1,3 +1,4 @@
+mod attributes;
 mod init;
 mod object_steps;
 mod objects;
@@ -67,11 +68,6 @@ const CHANGES: &[(&str, &str, &str)] = &[
     (
         "name = \"P1\"",
         "name = \"P1\"\nloops = true",
-        "UnknownKey in process 1",
-    ),
-    (
-        "name = \"P1\"",
-        "name = \"P1\"\nperiod = 5",
         "UnknownKey in process 1",
     ),
     ("name = \"P2\"", "name = 2", "WrongType in process 2"),
@@ -326,7 +322,7 @@ fn an_accepted_table_is_read_field_by_field(rt: HostRuntime) -> Result<(), Fail>
     ] {
         let process = table.process(ProcessId::at(place));
         assert_eq!(rt; process.name().as_bytes(), name.as_bytes());
-        assert_eq!(rt; process.priority(), priority);
+        assert_eq!(rt; process.attributes().priority, priority);
         assert_eq!(rt; process.core().number(), place);
         assert!(rt; process.starts() && !process.loops());
         assert_eq!(rt; process.step_count(), 1);

@@ -7,10 +7,10 @@ use Rattle.apex_types.specs.Terms.{Mode, Record}
 use Rattle.apex_types.specs.Roster.{Roster, record_at, with_record, nobody, opening_record, opening_roster}
 use Rattle.apex_types.specs.Table.{Table, no_process}
 use Rattle.apex_types.specs.Running.{is_eligible}
-use Rattle.apex_types.specs.Stamps.{newest, oldest, readied, awake, unsuspended, is_by_itself, resume, advance_to, without_due_of, take_due, set_mode}
+use Rattle.apex_types.specs.Stamps.{newest, oldest, readied, awake, unsuspended, is_by_itself, resume, advance_to, without_due_of, without_deadline_of, take_due, take_missed, set_mode}
 use Rattle.apex_types.specs.Distinct.{IsStamped}
-use Rattle.apex_types.specs.Dues.{first_due}
-use Rattle.apex_types.proofs.Dues.{first_due_within}
+use Rattle.apex_types.specs.Dues.{first_due, first_missed}
+use Rattle.apex_types.proofs.Dues.{first_due_within, first_missed_within}
 use Rattle.apex_types.proofs.Places.{length-map_places, get_or-map_places}
 use Rattle.apex_types.proofs.Rosters.{changes_record, changes_newest, changes_oldest, at_record, at_newest}
 
@@ -151,6 +151,15 @@ stamped_due_of roster stamped (Some p) known = stamped_record roster p (known p 
 pub stamped_take_due : (roster : Roster) → IsStamped roster → IsStamped (take_due roster)
 stamped_take_due roster stamped =
     stamped_due_of roster stamped (first_due roster) (first_due_within roster)
+
+stamped_deadline_of : (roster : Roster) → IsStamped roster → (found : Option ℕ) → ((p : ℕ) → found ≡ Some p → p < length roster.records)
+    → IsStamped (without_deadline_of roster found)
+stamped_deadline_of roster stamped None known = stamped
+stamped_deadline_of roster stamped (Some p) known = stamped_record roster p (known p refl) stamped _ refl
+
+pub stamped_take_missed : (roster : Roster) → IsStamped roster → IsStamped (take_missed roster)
+stamped_take_missed roster stamped =
+    stamped_deadline_of roster stamped (first_missed roster) (first_missed_within roster)
 
 opening_since : (table : Table) (p : ℕ) → p < length table.processes → (record_at (opening_roster table) p).since ≡ pos (p + 1)
 opening_since table p within =

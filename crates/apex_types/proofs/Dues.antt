@@ -1,15 +1,18 @@
--- Laws of the dues: the next instant is the least of them, who is due first has the lowest number, and
--- no due is passed over by time that goes no further than the next instant.
-use Rattle.std.proofs.Common.{◌≡◌, ◌≢◌, ℕ, zero, suc, ◌+◌, ◌≤◌, ◌<◌, ◌⊎◌, inl, inr, Bool, true, false, not, min, List, [], ◌∷◌, length, get_or, position, Option, None, Some, refl, sym, ◌∙◌, ap, arith}
+-- Laws of dues and deadlines: the next instant is the least of them, who is due first and who misses a
+-- deadline first have the lowest number, and none is passed over by time that goes no further than the
+-- next instant.
+use Rattle.std.proofs.Common.{◌≡◌, ◌≢◌, ℕ, zero, suc, ◌+◌, ◌≤◌, ◌<◌, ◌⊎◌, inl, inr, Bool, true, false, not, min, List, [], ◌∷◌, length, get_or, position, Option, None, Some, option_map, refl, sym, ◌∙◌, ap, arith}
 use Rattle.std.specs.List.{position_or_len}
 use Rattle.std.proofs.lemmas.Bool.{eqb-true, eq-eqb, cases_lt, both_ways, lt-ltb, not-true}
+use Rattle.std.proofs.lemmas.List.{get_or_past}
 use Rattle.std.proofs.lemmas.List.Quantifiers.{position-Some}
 use Rattle.std.proofs.lemmas.List.Sums.{prefix_len_passes}
 use Rattle.std.proofs.lemmas.Option.{none-some, same_Some}
 use Rattle.apex_types.specs.Terms.{Record, Timeout}
 use Rattle.apex_types.specs.Roster.{Roster, nobody, record_at}
 use Rattle.apex_types.specs.declared.calls.Timeout.TheVariants.{Poll, Ticks, Infinite}
-use Rattle.apex_types.specs.Dues.{sooner, earliest_due, next_instant, is_instant, is_due_at, first_due, due_after, IsFrom, HasNoDueBelow, HasNoPastDue}
+use Rattle.apex_types.specs.Dues.{sooner, earliest, next_instant, is_instant, is_due_at, is_missed_at, first_due, first_missed, due_after, IsAwaited, IsFrom, HasNoDueBelow, HasNoPastDue, HasNoDeadlineBelow, HasNoPastDeadline}
+use Rattle.apex_types.specs.Periods.{deadline_from}
 use Rattle.apex_types.specs.Ticks.{not_beyond, tick_goal}
 
 -- the sooner of two is no later than the one
@@ -35,49 +38,67 @@ sooner_among (Some s) (Some u) t e =
       | inr above ↦ let here : u ≡ t = omega arith in inr (ap Some here)
     ]
 
--- where a process has a due there is an earliest one, and it is no later
-pub earliest_is_least : (rs : List Record) (p u : ℕ) → (get_or rs p nobody).due ≡ Some u → (t : ℕ) × (earliest_due rs ≡ Some t) × (t ≤ u)
-earliest_is_least [] p u e = absurd (none-some u e)
-earliest_is_least (r ∷ rs) zero u e = sooner_than_one r.due (earliest_due rs) u e
+-- where an instant is awaited there is an earliest one, and it is no later
+pub earliest_is_least : (rs : List Record) (p u : ℕ) → IsAwaited (get_or rs p nobody) u → (t : ℕ) × (earliest rs ≡ Some t) × (t ≤ u)
+earliest_is_least [] p u (inl e) = absurd (none-some u e)
+earliest_is_least [] p u (inr e) = absurd (none-some u e)
+earliest_is_least (r ∷ rs) zero u (inl e) = sooner_than_one r.due (sooner r.deadline (earliest rs)) u e
+earliest_is_least (r ∷ rs) zero u (inr e) =
+    let one = sooner_than_one r.deadline (earliest rs) u e in
+    let both = sooner_than_other r.due (sooner r.deadline (earliest rs)) one.0 one.1 in
+    (both.0, both.1, omega (arith, both.2, one.2))
 earliest_is_least (r ∷ rs) (suc p) u e =
     let rest = earliest_is_least rs p u e in
-    let both = sooner_than_other r.due (earliest_due rs) rest.0 rest.1 in (both.0, both.1, omega (arith, both.2, rest.2))
+    let one = sooner_than_other r.deadline (earliest rs) rest.0 rest.1 in
+    let both = sooner_than_other r.due (sooner r.deadline (earliest rs)) one.0 one.1 in
+    (both.0, both.1, omega (arith, both.2, one.2, rest.2))
 
--- the earliest due is that of a process
-pub earliest_among : (rs : List Record) (t : ℕ) → earliest_due rs ≡ Some t → (p : ℕ) × (p < length rs) × ((get_or rs p nobody).due ≡ Some t)
+-- the earliest instant is one that a process awaits
+pub earliest_among : (rs : List Record) (t : ℕ) → earliest rs ≡ Some t → (p : ℕ) × (p < length rs) × IsAwaited (get_or rs p nobody) t
 earliest_among [] t e = absurd (none-some t e)
 earliest_among (r ∷ rs) t e =
-    elim (sooner_among r.due (earliest_due rs) t e) [
-      | inl here ↦ (0, omega arith, here)
-      | inr there ↦ let rest = earliest_among rs t there in (suc rest.0, omega (arith, rest.1), rest.2)
+    elim (sooner_among r.due (sooner r.deadline (earliest rs)) t e) [
+      | inl here ↦ (0, omega arith, inl here)
+      | inr others ↦ elim (sooner_among r.deadline (earliest rs) t others) [
+        | inl here ↦ (0, omega arith, inr here)
+        | inr there ↦ let rest = earliest_among rs t there in (suc rest.0, omega (arith, rest.1), rest.2)
+      ]
     ]
 
--- no due is below the earliest
-pub earliest_below : (rs : List Record) (t : ℕ) → earliest_due rs ≡ Some t → (p u : ℕ) → (get_or rs p nobody).due ≡ Some u → t ≤ u
-earliest_below rs t e p u due =
-    let least = earliest_is_least rs p u due in
+-- no instant that is awaited is below the earliest
+pub earliest_below : (rs : List Record) (t : ℕ) → earliest rs ≡ Some t → (p u : ℕ) → IsAwaited (get_or rs p nobody) u → t ≤ u
+earliest_below rs t e p u awaited =
+    let least = earliest_is_least rs p u awaited in
     omega (arith, least.2, same_Some t least.0 (sym e ∙ least.1))
 
--- where there is no earliest due, no process has one
-pub earliest_none : (rs : List Record) → earliest_due rs ≡ None → (p : ℕ) → (get_or rs p nobody).due ≡ None
-earliest_none rs e p = none_of (get_or rs p nobody).due refl where
-  none_of : (due : Option ℕ) → (get_or rs p nobody).due ≡ due → due ≡ None
-  none_of None is = refl
-  none_of (Some u) is =
-      let least = earliest_is_least rs p u is in absurd (none-some least.0 (sym e ∙ least.1))
+-- where there is no earliest instant, none is awaited
+pub earliest_none : (rs : List Record) → earliest rs ≡ None → (p u : ℕ) → IsAwaited (get_or rs p nobody) u → ⊥
+earliest_none rs e p u awaited =
+    let least = earliest_is_least rs p u awaited in none-some least.0 (sym e ∙ least.1)
 
--- where every due is at least m, the earliest one is
-pub earliest_at_least : (rs : List Record) (m : ℕ) → ((p u : ℕ) → (get_or rs p nobody).due ≡ Some u → m ≤ u) → (t : ℕ) → earliest_due rs ≡ Some t → m ≤ t
-earliest_at_least rs m all t e = let found = earliest_among rs t e in all found.0 t found.2
+-- so such an instant is none
+pub none_awaited : (instant : Option ℕ) → ((u : ℕ) → instant ≡ Some u → ⊥) → instant ≡ None
+none_awaited None never = refl
+none_awaited (Some u) never = absurd (never u refl)
 
 -- the next instant is not past
-pub next_not_past : (roster : Roster) → HasNoPastDue roster → (t : ℕ) → next_instant roster ≡ Some t → roster.now ≤ t
-next_not_past roster not_past = earliest_at_least roster.records roster.now not_past
+pub next_not_past : (roster : Roster) → HasNoPastDue roster → HasNoPastDeadline roster
+    → (t : ℕ) → next_instant roster ≡ Some t → roster.now ≤ t
+next_not_past roster dues deadlines t e =
+    let found = earliest_among roster.records t e in
+    elim found.2 [ inl due ↦ dues found.0 t due | inr deadline ↦ deadlines found.0 t deadline ]
 
--- time that goes no further than the next instant, if there is one, passes over no due
-pub advanced_not_past : (roster : Roster) (t : ℕ) → ((next : ℕ) → next_instant roster ≡ Some next → t ≤ next) → HasNoDueBelow roster t
-advanced_not_past roster t within p u due =
-    let least = earliest_is_least roster.records p u due in omega (arith, least.2, within least.0 least.1)
+-- time that goes no further than the next instant, if there is one, passes over nothing that is awaited
+pub advanced_not_past : (roster : Roster) (t : ℕ) → ((next : ℕ) → next_instant roster ≡ Some next → t ≤ next)
+    → (p u : ℕ) → IsAwaited (record_at roster p) u → t ≤ u
+advanced_not_past roster t within p u awaited =
+    let least = earliest_is_least roster.records p u awaited in omega (arith, least.2, within least.0 least.1)
+
+pub advanced_before_dues : (roster : Roster) (t : ℕ) → ((next : ℕ) → next_instant roster ≡ Some next → t ≤ next) → HasNoDueBelow roster t
+advanced_before_dues roster t within p u due = advanced_not_past roster t within p u (inl due)
+
+pub advanced_before_deadlines : (roster : Roster) (t : ℕ) → ((next : ℕ) → next_instant roster ≡ Some next → t ≤ next) → HasNoDeadlineBelow roster t
+advanced_before_deadlines roster t within p u deadline = advanced_not_past roster t within p u (inr deadline)
 
 -- the smaller of an instant and the next one
 at_most_forward : (now t : ℕ) (next : Option ℕ) → now ≤ t → ((u : ℕ) → next ≡ Some u → now ≤ u) → now ≤ not_beyond t next
@@ -93,18 +114,22 @@ at_most_next t None u e = absurd (none-some u e)
 at_most_next t (Some s) u e = omega (arith, same_Some s u e)
 
 -- a tick never goes back
-pub goal_forward : (roster : Roster) (n : ℕ) → HasNoPastDue roster → roster.now ≤ tick_goal roster n
-goal_forward roster n not_past =
-    at_most_forward roster.now (roster.now + n) (next_instant roster) (omega arith) (next_not_past roster not_past)
+pub goal_forward : (roster : Roster) (n : ℕ) → HasNoPastDue roster → HasNoPastDeadline roster → roster.now ≤ tick_goal roster n
+goal_forward roster n dues deadlines =
+    at_most_forward roster.now (roster.now + n) (next_instant roster) (omega arith) (next_not_past roster dues deadlines)
 
 -- a tick of n goes n on at the most
 pub goal_near : (roster : Roster) (n : ℕ) → tick_goal roster n ≤ roster.now + n
 goal_near roster n = at_most_near (roster.now + n) (next_instant roster)
 
--- a tick passes over no due
-pub goal_not_past : (roster : Roster) (n : ℕ) → HasNoDueBelow roster (tick_goal roster n)
-goal_not_past roster n =
-    advanced_not_past roster (tick_goal roster n) (at_most_next (roster.now + n) (next_instant roster))
+-- a tick passes over no due and no deadline
+pub goal_before_dues : (roster : Roster) (n : ℕ) → HasNoDueBelow roster (tick_goal roster n)
+goal_before_dues roster n =
+    advanced_before_dues roster (tick_goal roster n) (at_most_next (roster.now + n) (next_instant roster))
+
+pub goal_before_deadlines : (roster : Roster) (n : ℕ) → HasNoDeadlineBelow roster (tick_goal roster n)
+goal_before_deadlines roster n =
+    advanced_before_deadlines roster (tick_goal roster n) (at_most_next (roster.now + n) (next_instant roster))
 
 -- an instant from now on
 pub from_now : (now n : ℕ) → IsFrom now (Some (now + n))
@@ -116,19 +141,20 @@ due_later roster Poll t e = absurd (none-some t e)
 due_later roster (Ticks n) t e = from_now roster.now n t e
 due_later roster Infinite t e = absurd (none-some t e)
 
--- a due that is this instant
-due_of_test : (t : ℕ) (due : Option ℕ) → is_instant t due ≡ true → due ≡ Some t
-due_of_test t None e = cc
-due_of_test t (Some u) e = ap Some (sym (eqb-true t u e))
+-- a deadline that begins to run now
+pub deadline_later : (now : ℕ) (r : Record) → IsFrom now (deadline_from now r)
+deadline_later now r = later r.attributes.capacity where
+  later : (capacity : Option ℕ) → IsFrom now (option_map (λ ticks. now + ticks) capacity)
+  later None t e = absurd (none-some t e)
+  later (Some ticks) t e = from_now now ticks t e
 
-test_of_due : (t : ℕ) (due : Option ℕ) → due ≡ Some t → is_instant t due ≡ true
-test_of_due t due e = rw e (eq-eqb t t refl)
+-- an instant that is this one
+instant_of_test : (t : ℕ) (instant : Option ℕ) → is_instant t instant ≡ true → instant ≡ Some t
+instant_of_test t None e = cc
+instant_of_test t (Some u) e = ap Some (sym (eqb-true t u e))
 
--- who has a due is one of the records
-due_within : (rs : List Record) (p u : ℕ) → (get_or rs p nobody).due ≡ Some u → p < length rs
-due_within [] p u e = absurd (none-some u e)
-due_within (r ∷ rs) zero u e = omega arith
-due_within (r ∷ rs) (suc p) u e = omega (arith, due_within rs p u e)
+test_of_instant : (t : ℕ) (instant : Option ℕ) → instant ≡ Some t → is_instant t instant ≡ true
+test_of_instant t instant e = rw e (eq-eqb t t refl)
 
 -- where no first place passes, no record does
 pub position_none : (passes : Record → Bool) (rs : List Record) → position passes rs ≡ None
@@ -139,34 +165,77 @@ position_none passes rs e q within =
       | inr beyond ↦ not-true _ (prefix_len_passes (λ r. not (passes r)) rs q nobody (omega (arith, within, beyond)))
     ]
 
--- who is due first is one of the processes, its due is now, and whoever is before it is not due now
-due_first : (roster : Roster) (p : ℕ) → first_due roster ≡ Some p → (p < length roster.records)
-    × (is_due_at roster.now (record_at roster p) ≡ true)
-    × ((q : ℕ) → q < p → is_due_at roster.now (record_at roster q) ≡ false)
-due_first roster p e = position-Some (is_due_at roster.now) roster.records p nobody e
+-- the first of the processes that have one of two instants now, the due or the deadline
+module _ (instant_of : Record → Option ℕ) (of_nobody : instant_of nobody ≡ None) (t : ℕ) (rs : List Record) where
+  abbrev is_then : Record → Bool
+  is_then r = is_instant t (instant_of r)
+
+  then_now : (p : ℕ) → position is_then rs ≡ Some p → instant_of (get_or rs p nobody) ≡ Some t
+  then_now p e = instant_of_test t (instant_of (get_or rs p nobody)) (position-Some is_then rs p nobody e).1
+
+  then_within : (p : ℕ) → position is_then rs ≡ Some p → p < length rs
+  then_within p e = (position-Some is_then rs p nobody e).0
+
+  then_lowest : (p q : ℕ) → position is_then rs ≡ Some p → instant_of (get_or rs q nobody) ≡ Some t → p ≤ q
+  then_lowest p q e here =
+      elim (cases_lt q p) [
+        | inl below ↦
+            absurd (both_ways _ ((position-Some is_then rs p nobody e).2 q below) (test_of_instant t (instant_of (get_or rs q nobody)) here))
+        | inr above ↦ above
+      ]
+
+  -- who has such an instant is one of the records
+  has_within : (q u : ℕ) → instant_of (get_or rs q nobody) ≡ Some u → q < length rs
+  has_within q u here =
+      elim (cases_lt q (length rs)) [
+        | inl within ↦ within
+        | inr past ↦ absurd (none-some u (sym of_nobody ∙ sym (ap instant_of (get_or_past rs q nobody past)) ∙ here))
+      ]
+
+  then_none : position is_then rs ≡ None → (q : ℕ) → instant_of (get_or rs q nobody) ≢ Some t
+  then_none e q here =
+      both_ways _ (position_none is_then rs e q (has_within q t here)) (test_of_instant t (instant_of (get_or rs q nobody)) here)
+
+abbrev due_of : Record → Option ℕ
+due_of r = r.due
+
+abbrev deadline_of : Record → Option ℕ
+deadline_of r = r.deadline
 
 -- who is due first is due now
 pub first_due_now : (roster : Roster) (p : ℕ) → first_due roster ≡ Some p → (record_at roster p).due ≡ Some roster.now
 unfolding is_due_at
-first_due_now roster p e = due_of_test roster.now (record_at roster p).due (due_first roster p e).1
+first_due_now roster p e = then_now due_of refl roster.now roster.records p e
 
 -- who is due first is one of the processes
 pub first_due_within : (roster : Roster) (p : ℕ) → first_due roster ≡ Some p → p < length roster.records
-first_due_within roster p e = (due_first roster p e).0
+unfolding is_due_at
+first_due_within roster p e = then_within due_of refl roster.now roster.records p e
 
 -- whoever is due now has no lower number than who is due first
 pub first_due_lowest : (roster : Roster) (p q : ℕ) → first_due roster ≡ Some p → (record_at roster q).due ≡ Some roster.now → p ≤ q
 unfolding is_due_at
-first_due_lowest roster p q e due =
-    elim (cases_lt q p) [
-      | inl below ↦
-          absurd (both_ways _ ((due_first roster p e).2 q below) (test_of_due roster.now (record_at roster q).due due))
-      | inr above ↦ above
-    ]
+first_due_lowest roster p q e due = then_lowest due_of refl roster.now roster.records p q e due
 
 -- where nobody is due first, nobody is due now
 pub first_due_none : (roster : Roster) → first_due roster ≡ None → (q : ℕ) → (record_at roster q).due ≢ Some roster.now
 unfolding is_due_at
-first_due_none roster e q due =
-    both_ways _ (position_none (is_due_at roster.now) roster.records e q (due_within roster.records q roster.now due))
-    (test_of_due roster.now (record_at roster q).due due)
+first_due_none roster e q = then_none due_of refl roster.now roster.records e q
+
+-- the same of deadlines: who misses one first misses it now, is one of the processes, and has the lowest
+-- number; and where nobody does, no deadline is now
+pub first_missed_now : (roster : Roster) (p : ℕ) → first_missed roster ≡ Some p → (record_at roster p).deadline ≡ Some roster.now
+unfolding is_missed_at
+first_missed_now roster p e = then_now deadline_of refl roster.now roster.records p e
+
+pub first_missed_within : (roster : Roster) (p : ℕ) → first_missed roster ≡ Some p → p < length roster.records
+unfolding is_missed_at
+first_missed_within roster p e = then_within deadline_of refl roster.now roster.records p e
+
+pub first_missed_lowest : (roster : Roster) (p q : ℕ) → first_missed roster ≡ Some p → (record_at roster q).deadline ≡ Some roster.now → p ≤ q
+unfolding is_missed_at
+first_missed_lowest roster p q e deadline = then_lowest deadline_of refl roster.now roster.records p q e deadline
+
+pub first_missed_none : (roster : Roster) → first_missed roster ≡ None → (q : ℕ) → (record_at roster q).deadline ≢ Some roster.now
+unfolding is_missed_at
+first_missed_none roster e q = then_none deadline_of refl roster.now roster.records e q

@@ -5,7 +5,7 @@ use Rattle.std.proofs.lemmas.Bool.{both_ways, cond_both}
 use Rattle.std.proofs.lemmas.Option.{none-some}
 use Rattle.apex_types.specs.Terms.{Holding, Queue, Record, Wait}
 use Rattle.apex_types.specs.declared.records.Queue.TheVariants as queues
-use Rattle.apex_types.specs.declared.records.Wait.TheVariants.{Normal, Start, Time, Semaphore, Receive, Send, Blackboard, Event, Mutex}
+use Rattle.apex_types.specs.declared.records.Wait.TheVariants.{Normal, Start, Time, Period, Semaphore, Receive, Send, Blackboard, Event, Mutex}
 use Rattle.apex_types.specs.Dues.{IsFrom}
 use Rattle.apex_types.specs.Handovers.{hand_over, hand_to, halted, hand_on}
 use Rattle.apex_types.specs.Owners.{HasOrderlyOwners, IsLawfulHolding, is_held, owns}
@@ -15,16 +15,18 @@ use Rattle.apex_types.specs.Running.{is_eligible}
 use Rattle.apex_types.specs.Stamps.{HasOrderlyStarts, awake, block, is_level, newest, oldest, own, stop, stopped, waiting}
 use Rattle.apex_types.specs.Waiters.{first_waiter}
 use Rattle.apex_types.proofs.Owners.{AreOwnedBut, HasAnother, but_for, none_waiting, owners_waiting, freed_but, freed_nobody, owners_owning, lawful_still}
-use Rattle.apex_types.proofs.Reaches.{Moves, Reaches, moves_of, moves_then, moves_readied, moves_levelled, moves_stop, moves_block, reaches_none, reaches_more, reaches_of, reaches_stop, another_record, another_newest, another_oldest, awake_fits, own_fits}
+use Rattle.apex_types.proofs.Reaches.{Moves, Reaches, moves_of, moves_then, moves_readied, moves_levelled, moves_stop, moves_block, periods_newest, periods_oldest, periods_record, periods_stop, own_stays, reaches_none, reaches_more, reaches_of, reaches_stop, another_record, another_newest, another_oldest, awake_fits, own_fits}
+use Rattle.apex_types.proofs.Periods.{KeepsPeriods, stays_same, stays_then}
 use Rattle.apex_types.proofs.Starts.{first_stands, first_within, queued_normal, waits_there}
 use Rattle.apex_types.proofs.Waking.{none_waits}
 
 -- who stands in the queue of a mutex waits for it
-mutex_wait : (w : Option Wait) (m : ℕ) → option_and_then queue_of w ≡ Some (queues.Mutex m) → w ≡ Some (Mutex m)
+pub mutex_wait : (w : Option Wait) (m : ℕ) → option_and_then queue_of w ≡ Some (queues.Mutex m) → w ≡ Some (Mutex m)
 mutex_wait None m e = cc
 mutex_wait (Some (Normal delay)) m e = cc
 mutex_wait (Some Start) m e = cc
 mutex_wait (Some Time) m e = cc
+mutex_wait (Some Period) m e = cc
 mutex_wait (Some (Semaphore s)) m e = cc
 mutex_wait (Some (Receive b)) m e = cc
 mutex_wait (Some (Send b message)) m e = cc
@@ -46,7 +48,19 @@ module _ (roster : Roster) (holding : Holding) where
       let r : Record = record (record_at roster q) { owned = Some first } in
       let known = first_within roster queue q is in
       moves_readied roster q known (awake r) refl
-      (awake_fits roster q known r (queued_normal roster starts q queue (first_stands roster queue q is) refl))
+      (awake_fits roster q known r refl refl (queued_normal roster starts q queue (first_stands roster queue q is) refl))
+
+  periods_to : (found : Option ℕ) → first_waiter roster queue ≡ found → KeepsPeriods roster (hand_to roster holding found).roster
+  periods_to None is = λ p. stays_same (record_at roster p)
+  periods_to (Some q) is =
+      let r : Record = awake (record (record_at roster q) { owned = Some first }) in
+      let known = first_within roster queue q is in
+      let stays = own_stays roster q known r refl refl refl (λ _. refl) in
+      cond_both {A = Roster} (is_eligible roster.mode r) (newest roster q r) (with_record roster q r) (KeepsPeriods roster)
+      (λ _. periods_newest roster q known r stays) (λ _. periods_record roster q known r stays)
+
+  pub periods_hand_over : KeepsPeriods roster (hand_over roster holding).roster
+  periods_hand_over = periods_to (first_waiter roster queue) refl
 
   pub moves_hand_over : HasOrderlyStarts roster → Moves 1 roster (hand_over roster holding).roster
   moves_hand_over = moves_to (first_waiter roster queue) refl
@@ -77,7 +91,15 @@ module _ (roster : Roster) (p : ℕ) (known : p < length roster.records) where
   pub moves_own : (owned : Option Holding) → Moves 1 roster (own roster p owned)
   moves_own owned =
       let r : Record = record (record_at roster p) { owned = owned } in
-      moves_levelled roster p known r refl (own_fits roster p known r refl refl refl (λ h. h))
+      moves_levelled roster p known r refl (own_fits roster p known r
+      (record { attributes = refl; started = refl; wait = refl; due = refl; deadline = refl; release = refl }) (λ h. h))
+
+  periods_own : (owned : Option Holding) → KeepsPeriods roster (own roster p owned)
+  periods_own owned =
+      let r : Record = record (record_at roster p) { owned = owned } in
+      let stays = own_stays roster p known r refl refl refl (λ e. e) in
+      cond_both {A = Roster} (is_level r (record_at roster p)) (with_record roster p r) (oldest roster p r) (KeepsPeriods roster)
+      (λ _. periods_record roster p known r stays) (λ _. periods_oldest roster p known r stays)
 
   -- process p gives the mutex up that it held so
   module _ (holding : Holding) (held : (record_at roster p).owned ≡ Some holding) (free : (record_at roster p).wait ≡ None) where
@@ -105,6 +127,7 @@ module _ (roster : Roster) (p : ℕ) (known : p < length roster.records) where
     reaches_give_up starts =
         let given = moves_own None in
         reaches_of (moves_then 1 1 given (moves_hand_over (own roster p None) holding (given.starts starts))) owned_given_up
+        (λ q. stays_then (periods_own None q) (periods_hand_over (own roster p None) holding q))
 
   -- process p owns this mutex, which no other one owns
   pub reaches_own : (holding : Holding) → (record_at roster p).wait ≡ None
@@ -122,6 +145,7 @@ module _ (roster : Roster) (p : ℕ) (known : p < length roster.records) where
       (record { ceiling = still.ceiling; depth = still.depth }) refl idle (alone orderly) stays)
       (λ _. owners_owning roster (oldest roster p r) p aged (another_oldest roster p known r) holding (but_for holding.mutex roster orderly)
       (record { ceiling = still.ceiling; depth = still.depth }) refl idle (alone orderly) stays))
+      (periods_own (Some holding))
 
   -- process p is stopped, and a mutex that it owned goes on
   owned_stopped : (holding : Holding) → (record_at roster p).owned ≡ Some holding → HasOrderlyOwners roster
@@ -141,6 +165,7 @@ module _ (roster : Roster) (p : ℕ) (known : p < length roster.records) where
   halted_from (Some holding) held starts =
       let stops = moves_stop roster p known in
       reaches_of (moves_then 0 1 stops (moves_hand_over (stop roster p) holding (stops.starts starts))) (owned_stopped holding held)
+      (λ q. stays_then (periods_stop roster p known q) (periods_hand_over (stop roster p) holding q))
 
   pub reaches_halted : HasOrderlyStarts roster → Reaches 1 roster (halted roster p).roster
   reaches_halted = halted_from (record_at roster p).owned refl
@@ -151,6 +176,8 @@ module _ (roster : Roster) (p : ℕ) (known : p < length roster.records) where
       → Reaches 1 roster (block roster p (Mutex m) due)
   reaches_await m due later begun normal without other owning =
       let r : Record = record (waiting (record_at roster p) (Mutex m) due) { since = roster.young } in
-      reaches_of (moves_block roster p known (Mutex m) due later begun normal) (λ orderly.
-      owners_waiting roster (block roster p (Mutex m) due) p r (another_newest roster p known (waiting (record_at roster p) (Mutex m) due)) m
+      let blocked = waiting (record_at roster p) (Mutex m) due in
+      reaches_of (moves_block roster p known (Mutex m) due later (λ e. cc) begun normal) (λ orderly.
+      owners_waiting roster (block roster p (Mutex m) due) p r (another_newest roster p known blocked) m
       orderly refl without refl other owning)
+      (periods_newest roster p known blocked (own_stays roster p known blocked refl refl refl (λ _. refl)))

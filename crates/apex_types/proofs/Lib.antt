@@ -6,6 +6,7 @@ pub mod Orders
 pub mod DistinctStamps
 pub mod Starts
 pub mod Owners
+pub mod Periods
 pub mod Reaches
 pub mod Rows
 pub mod Dues

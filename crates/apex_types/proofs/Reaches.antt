@@ -1,29 +1,31 @@
 -- From one roster to another by changes of single processes at one instant: what such changes keep.
-use Rattle.std.proofs.Common.{◌≡◌, ℕ, zero, suc, ◌+◌, ◌<◌, ◌≤◌, ◌≤ℤ◌, ℤ, pos, ◌+ℤ◌, ◌==◌, ◌||◌, true, false, ◌&&◌, not, is_some, List, [], ◌∷◌, map, get_or, length, Option, None, Some, refl, sym, ◌∙◌, ap, subst, inl, inr, arith}
+use Rattle.std.proofs.Common.{◌≡◌, ◌≢◌, ℕ, zero, suc, ◌+◌, ◌<◌, ◌≤◌, ◌≤ℤ◌, ℤ, pos, ◌+ℤ◌, ◌==◌, ◌||◌, true, false, ◌&&◌, not, is_some, List, [], ◌∷◌, map, get_or, length, Option, None, Some, refl, sym, ◌∙◌, ap, subst, inl, inr, arith}
 use Rattle.std.proofs.lemmas.Bool.{both_ways, cases_eq, cond_both}
 use Rattle.std.proofs.lemmas.Int.{ints}
 use Rattle.std.proofs.lemmas.List.{length-map, set-set}
 use Rattle.std.proofs.lemmas.Option.{none-some}
 use Rattle.apex_types.specs.Terms.{Message, Mode, Record, Suspender, Wait}
 use Rattle.apex_types.specs.declared.records.Suspender.TheVariants.{Itself, Other}
-use Rattle.apex_types.specs.declared.records.Wait.TheVariants.{Normal, Start, Mutex}
+use Rattle.apex_types.specs.declared.records.Wait.TheVariants.{Normal, Start, Period, Mutex}
 use Rattle.apex_types.specs.Roster.{Roster, nobody, record_at, with_record, is_normal}
 use Rattle.apex_types.specs.Owners.{HasOrderlyOwners, is_held}
 use Rattle.apex_types.specs.Running.{is_eligible}
-use Rattle.apex_types.specs.Dues.{IsFrom, HasNoPastDue}
+use Rattle.apex_types.specs.Dues.{HasNoDeadlineBelow, HasNoDueBelow, IsFrom}
+use Rattle.apex_types.specs.Periods.{AreInTime, HasNoFutureRelease, IsInTime, IsReleased, IsWholePeriodsAfter, awaits_first, release_after}
 use Rattle.apex_types.specs.Distinct.{IsStamped}
 use Rattle.apex_types.specs.Waiters.{goes_by_priority, queue_in}
-use Rattle.apex_types.specs.Stamps.{WaitsForOne, HasOrderlyStarts, suspension_awake, newest, oldest, readied, is_level, levelled, reset, begin, start, stop, stopped, is_by_itself, suspend, self_suspended, suspend_self, unsuspended, resume, set_priority, awake, waiting, block, unblock, release, place_newest, without_due, set_mode, set_core, set_step, receive}
+use Rattle.apex_types.specs.Stamps.{WaitsForOne, HasOrderlyStarts, suspension_awake, newest, oldest, readied, is_level, levelled, reset, begin, released_at, start, stop, stopped, is_by_itself, suspend, self_suspended, suspend_self, unsuspended, resume, set_priority, awake, waiting, block, unblock, release, place_newest, without_due, set_deadline, await_release, advance_to, set_mode, set_core, set_step, receive}
 use Rattle.apex_types.specs.PartitionServices.{enter_idle}
 use Rattle.apex_types.specs.InTurn.{Changed, next_and, in_turn}
 use Rattle.apex_types.proofs.Rosters.{changes_record, changes_newest, changes_oldest, at_record, at_newest}
 use Rattle.apex_types.proofs.DistinctStamps.{stamped_record, stamped_newest, stamped_oldest, stamped_set_mode}
-use Rattle.apex_types.proofs.Dues.{from_now}
+use Rattle.apex_types.proofs.Dues.{deadline_later, from_now}
+use Rattle.apex_types.proofs.Periods.{KeepsPeriods, StaysInPeriod, no_period, periods_then, stays_same, stays_then}
 use Rattle.apex_types.proofs.Owners.{IsSameOwner, HasAnother, owners_kept, same_owner}
 use Rattle.apex_types.proofs.Starts.{IsOrderlyIn, orderly_at, orderly_all}
 
--- as many records, the same time, the same ceilings, at most so many stamps given; and stamps that differ, dues that are
--- not past, processes that wait for one thing at the most, and the order of starts stay so
+-- as many records, the same time, the same ceilings, at most so many stamps given; and stamps that differ, processes
+-- that are in time and wait for one thing at the most, and the order of starts stay so
 pub record Moves (most : ℕ) (old new : Roster) : Type 0 where
   pub many : length new.records ≡ length old.records
   pub time : new.now ≡ old.now
@@ -31,11 +33,11 @@ pub record Moves (most : ℕ) (old new : Roster) : Type 0 where
   pub stamps : new.young ≤ℤ (old.young +ℤ pos most)
   pub older : old.old ≤ℤ (new.old +ℤ pos most)
   pub stamped : IsStamped old → IsStamped new
-  pub dues : HasNoPastDue old → HasNoPastDue new
+  pub times : AreInTime old → AreInTime new
   pub one : WaitsForOne old → WaitsForOne new
   pub starts : HasOrderlyStarts old → HasOrderlyStarts new
 
--- and mutexes that are owned in order are so afterwards
+-- and mutexes that are owned in order are so afterwards, and releases follow each other by whole periods
 pub record Reaches (most : ℕ) (old new : Roster) : Type 0 where
   pub many : length new.records ≡ length old.records
   pub time : new.now ≡ old.now
@@ -43,24 +45,26 @@ pub record Reaches (most : ℕ) (old new : Roster) : Type 0 where
   pub stamps : new.young ≤ℤ (old.young +ℤ pos most)
   pub older : old.old ≤ℤ (new.old +ℤ pos most)
   pub stamped : IsStamped old → IsStamped new
-  pub dues : HasNoPastDue old → HasNoPastDue new
+  pub times : AreInTime old → AreInTime new
   pub one : WaitsForOne old → WaitsForOne new
   pub starts : HasOrderlyStarts old → HasOrderlyStarts new
   pub owners : HasOrderlyOwners old → HasOrderlyOwners new
+  pub periods : KeepsPeriods old new
 
 pub reaches_of : {most : ℕ} {old new : Roster} → Moves most old new
-    → (HasOrderlyOwners old → HasOrderlyOwners new) → Reaches most old new
-reaches_of moves owners = record {
+    → (HasOrderlyOwners old → HasOrderlyOwners new) → KeepsPeriods old new → Reaches most old new
+reaches_of moves owners periods = record {
   many = moves.many;
   time = moves.time;
   ceilings = moves.ceilings;
   stamps = moves.stamps;
   older = moves.older;
   stamped = moves.stamped;
-  dues = moves.dues;
+  times = moves.times;
   one = moves.one;
   starts = moves.starts;
   owners = owners;
+  periods = periods;
 }
 
 pub moves_of : {most : ℕ} {old new : Roster} → Reaches most old new → Moves most old new
@@ -71,7 +75,7 @@ moves_of reaches = record {
   stamps = reaches.stamps;
   older = reaches.older;
   stamped = reaches.stamped;
-  dues = reaches.dues;
+  times = reaches.times;
   one = reaches.one;
   starts = reaches.starts;
 }
@@ -84,7 +88,7 @@ moves_then n m g h = record {
   stamps = omega (arith, ints, g.stamps, h.stamps);
   older = omega (arith, ints, g.older, h.older);
   stamped = λ s. h.stamped (g.stamped s);
-  dues = λ d. h.dues (g.dues d);
+  times = λ t. h.times (g.times t);
   one = λ o. h.one (g.one o);
   starts = λ o. h.starts (g.starts o);
 }
@@ -97,7 +101,7 @@ moves_more n m few g = record {
   stamps = omega (arith, ints, g.stamps, few);
   older = omega (arith, ints, g.older, few);
   stamped = g.stamped;
-  dues = g.dues;
+  times = g.times;
   one = g.one;
   starts = g.starts;
 }
@@ -110,22 +114,71 @@ reaches_none most roster = record {
   stamps = omega (arith, ints);
   older = omega (arith, ints);
   stamped = λ h. h;
-  dues = λ h. h;
+  times = λ h. h;
   one = λ h. h;
   starts = λ h. h;
   owners = λ h. h;
+  periods = λ p. stays_same (record_at roster p);
 }
 
 pub reaches_then : {first second third : Roster} (n m : ℕ) → Reaches n first second → Reaches m second third → Reaches (n + m) first third
 reaches_then n m g h =
-    reaches_of (moves_then n m (moves_of g) (moves_of h)) (λ o. h.owners (g.owners o))
+    reaches_of (moves_then n m (moves_of g) (moves_of h)) (λ o. h.owners (g.owners o)) (λ p. stays_then (g.periods p) (h.periods p))
 
 pub reaches_more : {old new : Roster} (n m : ℕ) → n ≤ m → Reaches n old new → Reaches m old new
-reaches_more n m few g = reaches_of (moves_more n m few (moves_of g)) g.owners
+reaches_more n m few g = reaches_of (moves_more n m few (moves_of g)) g.owners g.periods
+
+-- what an event reaches: the same, but that it may start a process that was dormant
+pub record Arrives (most : ℕ) (old new : Roster) : Type 0 where
+  pub moves : Moves most old new
+  pub owners : HasOrderlyOwners old → HasOrderlyOwners new
+  pub attributes : (p : ℕ) → (record_at new p).attributes ≡ (record_at old p).attributes
+  pub released : (p : ℕ) → IsReleased (record_at old p)
+      → IsWholePeriodsAfter (record_at old p).attributes.period (record_at old p).release (record_at new p).release
+
+pub arrives_of : {most : ℕ} {old new : Roster} → Reaches most old new → Arrives most old new
+arrives_of reaches = record {
+  moves = moves_of reaches;
+  owners = reaches.owners;
+  attributes = λ p. (reaches.periods p).attributes;
+  released = λ p is. (reaches.periods p).later is.1;
+}
+
+pub arrives_more : {old new : Roster} (n m : ℕ) → n ≤ m → Arrives n old new → Arrives m old new
+arrives_more n m few g = record {
+  moves = moves_more n m few g.moves;
+  owners = g.owners;
+  attributes = g.attributes;
+  released = g.released;
+}
+
+-- a change by which nobody is stopped, and then an event
+pub arrives_then : {first second third : Roster} (n m : ℕ) → Reaches n first second
+    → ((p : ℕ) → (record_at second p).started ≡ (record_at first p).started) → Arrives m second third → Arrives (n + m) first third
+arrives_then {first} {second} {third} n m g started h = record {
+  moves = moves_then n m (moves_of g) h.moves;
+  owners = λ o. h.owners (g.owners o);
+  attributes = λ p. h.attributes p ∙ (g.periods p).attributes;
+  released = λ p is.
+      let stays = g.periods p in
+      let again = h.released p (started p ∙ is.0, stays.still is.1) in
+      periods_then (record_at first p).attributes.period (record_at first p).release (record_at second p).release (record_at third p).release
+      (stays.later is.1)
+      (subst (λ attributes. IsWholePeriodsAfter attributes.period (record_at second p).release (record_at third p).release) stays.attributes again);
+}
+
+-- the two differ in nothing that time or a start is about
+pub record IsAlike (r s : Record) : Type 0 where
+  pub attributes : r.attributes ≡ s.attributes
+  pub started : r.started ≡ s.started
+  pub wait : r.wait ≡ s.wait
+  pub due : r.due ≡ s.due
+  pub deadline : r.deadline ≡ s.deadline
+  pub release : r.release ≡ s.release
 
 -- a record of which all holds that holds of every record of the roster
 pub record Fits (roster : Roster) (r : Record) : Type 0 where
-  pub due : HasNoPastDue roster → IsFrom roster.now r.due
+  pub time : AreInTime roster → IsInTime roster.now r
   pub one : WaitsForOne roster → is_by_itself r.suspended ≡ true → r.wait ≡ None
   pub starts : HasOrderlyStarts roster → IsOrderlyIn roster.mode r
 
@@ -142,8 +195,8 @@ module _ (roster : Roster) (p : ℕ) (known : p < length roster.records) where
   one_stays : (r : Record) → Fits roster r → WaitsForOne roster → WaitsForOne (with_record roster p r)
   one_stays r fits before = all_stay (λ (x : Record). is_by_itself x.suspended ≡ true → x.wait ≡ None) r before (fits.one before)
 
-  dues_stay : (r : Record) → Fits roster r → HasNoPastDue roster → HasNoPastDue (with_record roster p r)
-  dues_stay r fits before = all_stay (λ (x : Record). IsFrom roster.now x.due) r before (fits.due before)
+  times_stay : (r : Record) → Fits roster r → AreInTime roster → AreInTime (with_record roster p r)
+  times_stay r fits before = all_stay (IsInTime roster.now) r before (fits.time before)
 
   starts_stay : (r : Record) → Fits roster r → HasOrderlyStarts roster → HasOrderlyStarts (with_record roster p r)
   starts_stay r fits before =
@@ -159,7 +212,7 @@ module _ (roster : Roster) (p : ℕ) (known : p < length roster.records) where
         stamps = omega (arith, ints);
         older = omega (arith, ints);
         stamped = λ stamped. stamped_record roster p known stamped r same;
-        dues = dues_stay r fits;
+        times = times_stay r fits;
         one = one_stays r fits;
         starts = starts_stay r fits;
       }
@@ -167,7 +220,7 @@ module _ (roster : Roster) (p : ℕ) (known : p < length roster.records) where
   -- of the record's stamp no law but that of stamps speaks
   fits_stamped : (r : Record) (since : ℤ) → Fits roster r → Fits roster (record r { since = since })
   fits_stamped r since fits = record {
-    due = fits.due;
+    time = λ before. let is = fits.time before in record { due = is.due; deadline = is.deadline; release = is.release; period = is.period };
     one = fits.one;
     starts = λ before. let is = fits.starts before in record { dormant = is.dormant; early = is.early; undue = is.undue };
   }
@@ -184,7 +237,7 @@ module _ (roster : Roster) (p : ℕ) (known : p < length roster.records) where
         stamps = changes.one_more;
         older = omega (arith, ints);
         stamped = λ stamped. stamped_newest roster p known stamped r;
-        dues = dues_stay young fits_so;
+        times = times_stay young fits_so;
         one = one_stays young fits_so;
         starts = λ before. let after = starts_stay young fits_so before in record { dormant = after.dormant; early = after.early; undue = after.undue };
       }
@@ -201,7 +254,7 @@ module _ (roster : Roster) (p : ℕ) (known : p < length roster.records) where
         stamps = changes.one_more;
         older = omega (arith, ints);
         stamped = λ stamped. stamped_oldest roster p known stamped r;
-        dues = dues_stay aged fits_so;
+        times = times_stay aged fits_so;
         one = one_stays aged fits_so;
         starts = λ before. let after = starts_stay aged fits_so before in record { dormant = after.dormant; early = after.early; undue = after.undue };
       }
@@ -226,24 +279,51 @@ module _ (roster : Roster) (p : ℕ) (known : p < length roster.records) where
   pub another_oldest : (r : Record) → HasAnother roster (oldest roster p r) p (record r { since = roster.old })
   another_oldest r = record { ceilings = refl; here = at_record roster p known (record r { since = roster.old }); others = (changes_oldest roster p r).others }
 
+  -- where the process stays in its period, all do
+  periods_kept : (new : Roster) (r : Record) → HasAnother roster new p r → StaysInPeriod (record_at roster p) r → KeepsPeriods roster new
+  periods_kept new r has stays q =
+      elim (cases_eq q p) [
+        | inl same ↦
+            subst (λ (k : ℕ). StaysInPeriod (record_at roster k) (record_at new k)) (sym same)
+            (subst (StaysInPeriod (record_at roster p)) (sym has.here) stays)
+        | inr apart ↦ subst (StaysInPeriod (record_at roster q)) (sym (has.others q apart)) (stays_same (record_at roster q))
+      ]
+
+  pub periods_record : (r : Record) → StaysInPeriod (record_at roster p) r → KeepsPeriods roster (with_record roster p r)
+  periods_record r = periods_kept (with_record roster p r) r (another_record r)
+
+  pub periods_newest : (r : Record) → StaysInPeriod (record_at roster p) r → KeepsPeriods roster (newest roster p r)
+  periods_newest r stays =
+      periods_kept (newest roster p r) (record r { since = roster.young }) (another_newest r)
+      (record { attributes = stays.attributes; later = stays.later; still = stays.still; dormant = stays.dormant })
+
+  pub periods_oldest : (r : Record) → StaysInPeriod (record_at roster p) r → KeepsPeriods roster (oldest roster p r)
+  periods_oldest r stays =
+      periods_kept (oldest roster p r) (record r { since = roster.old }) (another_oldest r)
+      (record { attributes = stays.attributes; later = stays.later; still = stays.still; dormant = stays.dormant })
+
   pub reaches_record : (r : Record) → r.since ≡ (record_at roster p).since → Fits roster r → IsSameOwner roster p r
-      → Reaches 0 roster (with_record roster p r)
-  reaches_record r same fits owner =
+      → StaysInPeriod (record_at roster p) r → Reaches 0 roster (with_record roster p r)
+  reaches_record r same fits owner stays =
       reaches_of (moves_record r same fits)
       (owners_kept roster (with_record roster p r) (same_owner roster (with_record roster p r) p r (another_record r) owner))
+      (periods_record r stays)
 
-  pub reaches_newest : (r : Record) → Fits roster r → IsSameOwner roster p r → Reaches 1 roster (newest roster p r)
-  reaches_newest r fits owner =
+  owners_newest : (r : Record) → IsSameOwner roster p r → HasOrderlyOwners roster → HasOrderlyOwners (newest roster p r)
+  owners_newest r owner =
       let young : Record = record r { since = roster.young } in
-      reaches_of (moves_newest r fits)
-      (owners_kept roster (newest roster p r)
-      (same_owner roster (newest roster p r) p young (another_newest r) (record { owned = owner.owned; mutex = owner.mutex })))
+      owners_kept roster (newest roster p r)
+      (same_owner roster (newest roster p r) p young (another_newest r) (record { owned = owner.owned; mutex = owner.mutex }))
+
+  pub reaches_newest : (r : Record) → Fits roster r → IsSameOwner roster p r → StaysInPeriod (record_at roster p) r
+      → Reaches 1 roster (newest roster p r)
+  reaches_newest r fits owner stays = reaches_of (moves_newest r fits) (owners_newest r owner) (periods_newest r stays)
 
   pub reaches_readied : (r : Record) → r.since ≡ (record_at roster p).since → Fits roster r → IsSameOwner roster p r
-      → Reaches 1 roster (readied roster p r)
-  reaches_readied r same fits owner =
+      → StaysInPeriod (record_at roster p) r → Reaches 1 roster (readied roster p r)
+  reaches_readied r same fits owner stays =
       cond_both {A = Roster} (is_eligible roster.mode r) _ _ (Reaches 1 roster)
-      (λ _. reaches_newest r fits owner) (λ _. reaches_more 0 1 (omega arith) (reaches_record r same fits owner))
+      (λ _. reaches_newest r fits owner stays) (λ _. reaches_more 0 1 (omega arith) (reaches_record r same fits owner stays))
 
   -- a record that is not suspended by itself
   awake_one : (suspended : Option Suspender) → is_by_itself (suspension_awake suspended) ≡ true → ⊥
@@ -252,15 +332,20 @@ module _ (roster : Roster) (p : ℕ) (known : p < length roster.records) where
   awake_one (Some Other) h = both_ways false refl h
 
   -- the process's own record, but for what no law is about
-  pub own_fits : (r : Record) → r.started ≡ (record_at roster p).started → r.wait ≡ (record_at roster p).wait
-      → r.due ≡ (record_at roster p).due → (is_by_itself r.suspended ≡ true → is_by_itself (record_at roster p).suspended ≡ true) → Fits roster r
-  own_fits r started wait due suspended = record {
-    due = λ before. rw due (before p);
-    one = λ before h. wait ∙ before p (suspended h);
+  pub own_fits : (r : Record) → IsAlike r (record_at roster p)
+      → (is_by_itself r.suspended ≡ true → is_by_itself (record_at roster p).suspended ≡ true) → Fits roster r
+  own_fits r alike suspended = record {
+    time = λ before. let is = before p in record {
+      due = rw alike.due is.due;
+      deadline = rw alike.deadline is.deadline;
+      release = rw alike.release is.release;
+      period = λ w t d. rw (alike.attributes, alike.release) (is.period (sym alike.wait ∙ w) t (sym alike.due ∙ d));
+    };
+    one = λ before h. alike.wait ∙ before p (suspended h);
     starts = λ before. record {
-      dormant = λ e. wait ∙ before.dormant p (sym started ∙ e);
-      early = λ e h. let queue : queue_in r ≡ queue_in (record_at roster p) = rw wait refl in queue ∙ before.early e p (sym started ∙ h);
-      undue = λ e. due ∙ before.undue e p;
+      dormant = λ e. alike.wait ∙ before.dormant p (sym alike.started ∙ e);
+      early = λ e h. let queue : queue_in r ≡ queue_in (record_at roster p) = rw alike.wait refl in queue ∙ before.early e p (sym alike.started ∙ h);
+      undue = λ e. alike.due ∙ before.undue e p;
     };
   }
 
@@ -272,44 +357,110 @@ module _ (roster : Roster) (p : ℕ) (known : p < length roster.records) where
   no_wait : (r : Record) → r.owned ≡ (record_at roster p).owned → ((m : ℕ) → r.wait ≡ Some (Mutex m) → ⊥) → IsSameOwner roster p r
   no_wait r owned idle = record { owned = owned; mutex = λ m is. absurd (idle m is) }
 
-  pub awake_fits : (r : Record) → (is_normal roster.mode ≡ false → ⊥) → Fits roster (awake r)
-  awake_fits r normal = record {
-    due = λ before t e. absurd (none-some t e);
+  -- a record with the process's own deadline and release, that wakes
+  pub awake_fits : (r : Record) → r.deadline ≡ (record_at roster p).deadline → r.release ≡ (record_at roster p).release
+      → (is_normal roster.mode ≡ false → ⊥) → Fits roster (awake r)
+  awake_fits r deadline release normal = record {
+    time = λ before. record {
+      due = λ t e. absurd (none-some t e);
+      deadline = rw deadline (before p).deadline;
+      release = rw release (before p).release;
+      period = λ w. absurd (none-some Period w);
+    };
     one = λ before h. refl;
     starts = λ before. record { dormant = λ e. refl; early = λ e. absurd (normal e); undue = λ e. refl };
   }
 
-  waiting_fits : (r : Record) (wait : Wait) (due : Option ℕ) → IsFrom roster.now due → r.started ≡ true → (is_normal roster.mode ≡ false → ⊥) → Fits roster (waiting r wait due)
-  waiting_fits r wait due later begun normal = record {
-    due = λ before. later;
+  released_fits : (r : Record) → (is_normal roster.mode ≡ false → ⊥) → Fits roster (released_at roster.now r)
+  released_fits r normal = record {
+    time = λ before. record {
+      due = λ t e. absurd (none-some t e);
+      deadline = deadline_later roster.now r;
+      release = omega arith;
+      period = λ w. absurd (none-some Period w);
+    };
+    one = λ before h. refl;
+    starts = λ before. record { dormant = λ e. refl; early = λ e. absurd (normal e); undue = λ e. refl };
+  }
+
+  -- a wait for the next release ends whole periods after the last one
+  abbrev IsAligned : Record → Wait → Option ℕ → Type 0
+  IsAligned r wait due = Some wait ≡ Some Period → (t : ℕ) → due ≡ Some t → IsWholePeriodsAfter r.attributes.period r.release t
+
+  waiting_fits : (r : Record) → r.deadline ≡ (record_at roster p).deadline → r.release ≡ (record_at roster p).release
+      → (wait : Wait) (due : Option ℕ) → IsFrom roster.now due → IsAligned r wait due
+      → r.started ≡ true → (is_normal roster.mode ≡ false → ⊥) → Fits roster (waiting r wait due)
+  waiting_fits r deadline release wait due later aligned begun normal = record {
+    time = λ before. record {
+      due = later;
+      deadline = rw deadline (before p).deadline;
+      release = rw release (before p).release;
+      period = aligned;
+    };
     one = λ before h. absurd (awake_one r.suspended h);
     starts = λ before. record { dormant = λ e. absurd (both_ways _ e begun); early = λ e. absurd (normal e); undue = λ e. absurd (normal e) };
   }
 
+  -- a record that waits for no release, and that the process's own one begins
+  awake_stays : (r : Record) → r.attributes ≡ (record_at roster p).attributes → r.release ≡ (record_at roster p).release
+      → r.started ≡ (record_at roster p).started → StaysInPeriod (record_at roster p) (awake r)
+  awake_stays r attributes release started = record {
+    attributes = attributes;
+    later = λ _. rw release (no_period (record_at roster p).attributes.period (record_at roster p).release);
+    still = λ _. refl;
+    dormant = λ e. started ∙ e;
+  }
+
+  -- the process's own release, and no wait for a first one
+  pub own_stays : (r : Record) → r.attributes ≡ (record_at roster p).attributes → r.release ≡ (record_at roster p).release
+      → r.started ≡ (record_at roster p).started → (awaits_first (record_at roster p).wait ≡ false → awaits_first r.wait ≡ false)
+      → StaysInPeriod (record_at roster p) r
+  own_stays r attributes release started still = record {
+    attributes = attributes;
+    later = λ _. rw release (no_period (record_at roster p).attributes.period (record_at roster p).release);
+    still = still;
+    dormant = λ e. started ∙ e;
+  }
+
   pub reaches_unblock : (is_normal roster.mode ≡ false → ⊥) → Reaches 1 roster (unblock roster p)
   reaches_unblock normal =
-      reaches_readied (awake (record_at roster p)) refl (awake_fits (record_at roster p) normal)
+      reaches_readied (awake (record_at roster p)) refl (awake_fits (record_at roster p) refl refl normal)
+      (no_wait _ refl (λ m is. none-some (Mutex m) is)) (awake_stays (record_at roster p) refl refl refl)
+
+  -- a release: the first one after a start, or one that is whole periods later
+  pub reaches_release : (is_normal roster.mode ≡ false → ⊥)
+      → (awaits_first (record_at roster p).wait ≡ false
+      → IsWholePeriodsAfter (record_at roster p).attributes.period (record_at roster p).release roster.now)
+      → Reaches 1 roster (release roster p)
+  reaches_release normal later =
+      reaches_readied (released_at roster.now (record_at roster p)) refl (released_fits (record_at roster p) normal)
       (no_wait _ refl (λ m is. none-some (Mutex m) is))
+      (record { attributes = refl; later = later; still = λ _. refl; dormant = λ e. e })
 
-  pub reaches_release : (is_normal roster.mode ≡ false → ⊥) → Reaches 1 roster (release roster p)
-  reaches_release = reaches_unblock
-
-  pub moves_block : (wait : Wait) (due : Option ℕ) → IsFrom roster.now due → (record_at roster p).started ≡ true → (is_normal roster.mode ≡ false → ⊥)
-      → Moves 1 roster (block roster p wait due)
-  moves_block wait due later begun normal =
-      moves_newest (waiting (record_at roster p) wait due) (waiting_fits (record_at roster p) wait due later begun normal)
+  pub moves_block : (wait : Wait) (due : Option ℕ) → IsFrom roster.now due → IsAligned (record_at roster p) wait due
+      → (record_at roster p).started ≡ true → (is_normal roster.mode ≡ false → ⊥) → Moves 1 roster (block roster p wait due)
+  moves_block wait due later aligned begun normal =
+      moves_newest (waiting (record_at roster p) wait due)
+      (waiting_fits (record_at roster p) refl refl wait due later aligned begun normal)
 
   -- a wait for another thing than a mutex
-  pub reaches_block : (wait : Wait) (due : Option ℕ) → IsFrom roster.now due → (record_at roster p).started ≡ true → (is_normal roster.mode ≡ false → ⊥)
-      → ((m : ℕ) → Some wait ≡ Some (Mutex m) → ⊥) → Reaches 1 roster (block roster p wait due)
-  reaches_block wait due later begun normal other =
-      reaches_newest (waiting (record_at roster p) wait due) (waiting_fits (record_at roster p) wait due later begun normal)
-      (no_wait _ refl other)
+  pub reaches_block : (wait : Wait) (due : Option ℕ) → IsFrom roster.now due → IsAligned (record_at roster p) wait due
+      → (record_at roster p).started ≡ true → (is_normal roster.mode ≡ false → ⊥)
+      → ((m : ℕ) → Some wait ≡ Some (Mutex m) → ⊥)
+      → (awaits_first (record_at roster p).wait ≡ false → awaits_first (Some wait) ≡ false) → Reaches 1 roster (block roster p wait due)
+  reaches_block wait due later aligned begun normal other still =
+      reaches_newest (waiting (record_at roster p) wait due)
+      (waiting_fits (record_at roster p) refl refl wait due later aligned begun normal)
+      (no_wait _ refl other) (own_stays (waiting (record_at roster p) wait due) refl refl refl still)
 
-  pub reaches_begin : (delay : ℕ) → (record_at roster p).started ≡ true → (is_normal roster.mode ≡ false → ⊥) → Reaches 1 roster (begin roster p delay)
-  reaches_begin delay begun normal =
+  -- a start that the process awaited begins
+  pub reaches_begin : (delay : ℕ) → (record_at roster p).started ≡ true → awaits_first (record_at roster p).wait ≡ true
+      → (is_normal roster.mode ≡ false → ⊥) → Reaches 1 roster (begin roster p delay)
+  reaches_begin delay begun awaited normal =
       cond_both {A = Roster} (delay == 0) (release roster p) (block roster p Start (Some (roster.now + delay))) (Reaches 1 roster)
-      (λ _. reaches_release normal) (λ _. reaches_block Start (Some (roster.now + delay)) (from_now roster.now delay) begun normal (λ m is. cc))
+      (λ _. reaches_release normal (λ e. absurd (both_ways _ e awaited)))
+      (λ _. reaches_block Start (Some (roster.now + delay)) (from_now roster.now delay) (λ e. cc) begun normal (λ m is. cc)
+      (λ e. absurd (both_ways _ e awaited)))
 
   -- of two changes of one record the later one stands
   newest_twice : (r s : Record) → newest (with_record roster p r) p s ≡ newest roster p s
@@ -324,8 +475,10 @@ module _ (roster : Roster) (p : ℕ) (known : p < length roster.records) where
   at_fresh : record_at fresh p ≡ reset (record_at roster p)
   at_fresh = at_record roster p known (reset (record_at roster p))
 
-  fresh_released : release fresh p ≡ readied roster p (awake (reset (record_at roster p)))
-  fresh_released = ap (λ (r : Record). readied fresh p (awake r)) at_fresh ∙ readied_twice (reset (record_at roster p)) (awake (reset (record_at roster p)))
+  fresh_released : release fresh p ≡ readied roster p (released_at roster.now (reset (record_at roster p)))
+  fresh_released =
+      ap (λ (r : Record). readied fresh p (released_at roster.now r)) at_fresh
+      ∙ readied_twice (reset (record_at roster p)) (released_at roster.now (reset (record_at roster p)))
 
   fresh_blocked : (wait : Wait) (due : Option ℕ) → block fresh p wait due ≡ newest roster p (waiting (reset (record_at roster p)) wait due)
   fresh_blocked wait due = ap (λ (r : Record). newest fresh p (waiting r wait due)) at_fresh ∙ newest_twice (reset (record_at roster p)) (waiting (reset (record_at roster p)) wait due)
@@ -335,24 +488,82 @@ module _ (roster : Roster) (p : ℕ) (known : p < length roster.records) where
 
   early_fits : (delay : ℕ) → Fits roster (waiting (reset (record_at roster p)) (Normal delay) None)
   early_fits delay = record {
-    due = λ before t e. absurd (none-some t e);
+    time = λ before. record { due = λ t e. absurd (none-some t e); deadline = (before p).deadline; release = (before p).release; period = λ w. cc };
     one = λ before h. absurd (both_ways false refl h);
     starts = λ before. record { dormant = λ e. absurd (both_ways true e refl); early = λ e h. refl; undue = λ e. refl };
   }
 
-  pub reaches_start : (delay : ℕ) → Reaches 1 roster (start roster p delay)
-  reaches_start delay =
+  -- a start, and what it leaves of the process
+  pub record Starts (new : Roster) : Type 0 where
+    pub moves : Moves 1 roster new
+    pub owners : HasOrderlyOwners roster → HasOrderlyOwners new
+    pub attributes : (q : ℕ) → (record_at new q).attributes ≡ (record_at roster q).attributes
+    pub others : (q : ℕ) → q ≢ p → record_at new q ≡ record_at roster q
+
+  starts_newest : (r : Record) → Fits roster r → IsSameOwner roster p r → r.attributes ≡ (record_at roster p).attributes
+      → Starts (newest roster p r)
+  starts_newest r fits owner same = record {
+    moves = moves_newest r fits;
+    owners = owners_newest r owner;
+    attributes = λ q. elim (cases_eq q p) [
+      | inl here ↦ rw (here, (another_newest r).here) same
+      | inr apart ↦ rw ((another_newest r).others q apart) refl
+    ];
+    others = (another_newest r).others;
+  }
+
+  starts_record : (r : Record) → r.since ≡ (record_at roster p).since → Fits roster r → IsSameOwner roster p r
+      → r.attributes ≡ (record_at roster p).attributes → Starts (with_record roster p r)
+  starts_record r since fits owner same = record {
+    moves = moves_more 0 1 (omega arith) (moves_record r since fits);
+    owners = owners_kept roster (with_record roster p r) (same_owner roster (with_record roster p r) p r (another_record r) owner);
+    attributes = λ q. elim (cases_eq q p) [
+      | inl here ↦ rw (here, (another_record r).here) same
+      | inr apart ↦ rw ((another_record r).others q apart) refl
+    ];
+    others = (another_record r).others;
+  }
+
+  starts_readied : (r : Record) → r.since ≡ (record_at roster p).since → Fits roster r → IsSameOwner roster p r
+      → r.attributes ≡ (record_at roster p).attributes → Starts (readied roster p r)
+  starts_readied r since fits owner same =
+      cond_both {A = Roster} (is_eligible roster.mode r) (newest roster p r) (with_record roster p r) Starts
+      (λ _. starts_newest r fits owner same) (λ _. starts_record r since fits owner same)
+
+  pub starts : (delay : ℕ) → Starts (start roster p delay)
+  starts delay =
       let r = reset (record_at roster p) in
       let due = Some (roster.now + delay) in
-      cond_both {A = Roster} (is_normal roster.mode) (begin fresh p delay) (block fresh p (Normal delay) None) (Reaches 1 roster)
-      (λ normal. cond_both {A = Roster} (delay == 0) (release fresh p) (block fresh p Start due) (Reaches 1 roster)
-      (λ _. subst (Reaches 1 roster) (sym fresh_released) (reaches_readied (awake r) refl (awake_fits r (late normal)) (no_wait _ refl (λ m is. none-some (Mutex m) is))))
-      (λ _. subst (Reaches 1 roster) (sym (fresh_blocked Start due)) (reaches_newest (waiting r Start due) (waiting_fits r Start due (from_now roster.now delay) refl (late normal)) (no_wait _ refl (λ m is. cc)))))
-      (λ _. subst (Reaches 1 roster) (sym (fresh_blocked (Normal delay) None)) (reaches_newest (waiting r (Normal delay) None) (early_fits delay) (no_wait _ refl (λ m is. cc))))
+      cond_both {A = Roster} (is_normal roster.mode) (begin fresh p delay) (block fresh p (Normal delay) None) Starts
+      (λ normal. cond_both {A = Roster} (delay == 0) (release fresh p) (block fresh p Start due) Starts
+      (λ _. subst Starts (sym fresh_released) (starts_readied (released_at roster.now r) refl (released_fits r (late normal)) (no_wait _ refl (λ m is. none-some (Mutex m) is)) refl))
+      (λ _. subst Starts (sym (fresh_blocked Start due)) (starts_newest (waiting r Start due) (waiting_fits r refl refl Start due (from_now roster.now delay) (λ e. cc) refl (late normal)) (no_wait _ refl (λ m is. cc)) refl)))
+      (λ _. subst Starts (sym (fresh_blocked (Normal delay) None)) (starts_newest (waiting r (Normal delay) None) (early_fits delay) (no_wait _ refl (λ m is. cc)) refl))
+
+  -- the start of a dormant process
+  pub arrives_start : (delay : ℕ) → (record_at roster p).started ≡ false → Arrives 1 roster (start roster p delay)
+  arrives_start delay dormant =
+      let is = starts delay in
+      record {
+        moves = is.moves;
+        owners = is.owners;
+        attributes = is.attributes;
+        released = λ q was. elim (cases_eq q p) [
+          | inl here ↦ absurd (both_ways _ dormant (sym (ap (λ (k : ℕ). (record_at roster k).started) here) ∙ was.0))
+          | inr apart ↦
+              subst (λ (x : Record). IsWholePeriodsAfter (record_at roster q).attributes.period (record_at roster q).release x.release)
+              (sym (is.others q apart)) (no_period (record_at roster q).attributes.period (record_at roster q).release)
+        ];
+      }
 
   stopped_fits : Fits roster (stopped (record_at roster p))
   stopped_fits = record {
-    due = λ before t e. absurd (none-some t e);
+    time = λ before. record {
+      due = λ t e. absurd (none-some t e);
+      deadline = λ t e. absurd (none-some t e);
+      release = (before p).release;
+      period = λ w. absurd (none-some Period w);
+    };
     one = λ before h. refl;
     starts = λ before. record { dormant = λ e. refl; early = λ e h. absurd (both_ways false refl h); undue = λ e. refl };
   }
@@ -360,58 +571,125 @@ module _ (roster : Roster) (p : ℕ) (known : p < length roster.records) where
   pub moves_stop : Moves 0 roster (stop roster p)
   moves_stop = moves_record (stopped (record_at roster p)) refl stopped_fits
 
+  -- a stop keeps the release
+  pub periods_stop : KeepsPeriods roster (stop roster p)
+  periods_stop = periods_record (stopped (record_at roster p)) (record {
+    attributes = refl;
+    later = λ _. no_period (record_at roster p).attributes.period (record_at roster p).release;
+    still = λ _. refl;
+    dormant = λ _. refl;
+  })
+
   -- a stop of who owns no mutex
   pub reaches_stop : (record_at roster p).owned ≡ None → Reaches 0 roster (stop roster p)
   reaches_stop free =
-      reaches_record (stopped (record_at roster p)) refl stopped_fits (no_wait _ (sym free) (λ m is. none-some (Mutex m) is))
+      reaches_of (moves_stop)
+      (owners_kept roster (stop roster p) (same_owner roster (stop roster p) p (stopped (record_at roster p))
+      (another_record (stopped (record_at roster p))) (no_wait _ (sym free) (λ m is. none-some (Mutex m) is))))
+      periods_stop
 
   pub reaches_suspend : Reaches 0 roster (suspend roster p)
   reaches_suspend =
-      reaches_record _ refl (own_fits _ refl refl refl (λ h. absurd (both_ways false refl h))) (own_mutex _ refl refl)
+      reaches_record _ refl (own_fits _ (record { attributes = refl; started = refl; wait = refl; due = refl; deadline = refl; release = refl }) (λ h. absurd (both_ways false refl h))) (own_mutex _ refl refl)
+      (own_stays _ refl refl refl (λ e. e))
 
   pub reaches_suspend_self : (due : Option ℕ) → IsFrom roster.now due → (record_at roster p).started ≡ true → (is_normal roster.mode ≡ false → ⊥)
       → Reaches 1 roster (suspend_self roster p due)
   reaches_suspend_self due later begun normal = reaches_newest (self_suspended (record_at roster p) due) (record {
-    due = λ before. later;
+    time = λ before. record { due = later; deadline = (before p).deadline; release = (before p).release; period = λ w. absurd (none-some Period w) };
     one = λ before h. refl;
     starts = λ before. record { dormant = λ e. refl; early = λ e. absurd (normal e); undue = λ e. absurd (normal e) };
-  }) (no_wait _ refl (λ m is. none-some (Mutex m) is))
+  }) (no_wait _ refl (λ m is. none-some (Mutex m) is)) (own_stays _ refl refl refl (λ _. refl))
 
   pub reaches_resume : (is_by_itself (record_at roster p).suspended ≡ true → is_normal roster.mode ≡ false → ⊥) → Reaches 1 roster (resume roster p)
   reaches_resume normal =
       cond_both {A = Roster} (is_by_itself (record_at roster p).suspended) _ _ (Reaches 1 roster)
       (λ by. reaches_unblock (normal by))
-      (λ _. reaches_readied (unsuspended (record_at roster p)) refl (own_fits _ refl refl refl (λ h. absurd (both_ways false refl h)))
-      (own_mutex _ refl refl))
+      (λ _. reaches_readied (unsuspended (record_at roster p)) refl (own_fits _ (record { attributes = refl; started = refl; wait = refl; due = refl; deadline = refl; release = refl }) (λ h. absurd (both_ways false refl h)))
+      (own_mutex _ refl refl) (own_stays _ refl refl refl (λ e. e)))
 
   pub reaches_set_priority : (base : ℕ) → Reaches 1 roster (set_priority roster p base)
   reaches_set_priority base =
       let r = record_at roster p in
       let changed : Record = record r { base = base } in
-      let fits : Fits roster changed = own_fits _ refl refl refl (λ h. h) in
+      let fits : Fits roster changed = own_fits _ (record { attributes = refl; started = refl; wait = refl; due = refl; deadline = refl; release = refl }) (λ h. h) in
       let same : IsSameOwner roster p changed = own_mutex _ refl refl in
+      let stays_in = own_stays changed refl refl refl (λ e. e) in
       let stays = is_some r.owned && is_level changed r in
       cond_both {A = Roster} ((is_eligible roster.mode r && not stays) || goes_by_priority roster (queue_in r)) _ _ (Reaches 1 roster)
-      (λ _. reaches_newest changed fits same) (λ _. reaches_more 0 1 (omega arith) (reaches_record changed refl fits same))
+      (λ _. reaches_newest changed fits same stays_in)
+      (λ _. reaches_more 0 1 (omega arith) (reaches_record changed refl fits same stays_in))
 
   pub reaches_place_newest : Reaches 1 roster (place_newest roster p)
-  reaches_place_newest = reaches_newest (record_at roster p) (own_fits _ refl refl refl (λ h. h)) (own_mutex _ refl refl)
+  reaches_place_newest =
+      reaches_newest (record_at roster p) (own_fits _ (record { attributes = refl; started = refl; wait = refl; due = refl; deadline = refl; release = refl }) (λ h. h)) (own_mutex _ refl refl) (own_stays _ refl refl refl (λ e. e))
 
   pub reaches_without_due : Reaches 0 roster (without_due roster p)
   reaches_without_due = reaches_record _ refl (record {
-    due = λ before t e. absurd (none-some t e);
+    time = λ before. record {
+      due = λ t e. absurd (none-some t e);
+      deadline = (before p).deadline;
+      release = (before p).release;
+      period = λ w t e. absurd (none-some t e);
+    };
     one = λ before. before p;
     starts = λ before. record { dormant = before.dormant p; early = λ e. before.early e p; undue = λ e. refl };
-  }) (own_mutex _ refl refl)
+  }) (own_mutex _ refl refl) (own_stays _ refl refl refl (λ e. e))
+
+  pub reaches_set_deadline : (deadline : Option ℕ) → IsFrom roster.now deadline → Reaches 0 roster (set_deadline roster p deadline)
+  reaches_set_deadline deadline later = reaches_record _ refl (record {
+    time = λ before. let is = before p in record { due = is.due; deadline = later; release = is.release; period = is.period };
+    one = λ before. before p;
+    starts = λ before. record { dormant = before.dormant p; early = λ e. before.early e p; undue = λ e. before.undue e p };
+  }) (own_mutex _ refl refl) (own_stays _ refl refl refl (λ e. e))
 
   pub reaches_set_core : (core : ℕ) → Reaches 0 roster (set_core roster p core)
-  reaches_set_core core = reaches_record _ refl (own_fits _ refl refl refl (λ h. h)) (own_mutex _ refl refl)
+  reaches_set_core core = reaches_record _ refl (own_fits _ (record { attributes = refl; started = refl; wait = refl; due = refl; deadline = refl; release = refl }) (λ h. h)) (own_mutex _ refl refl) (own_stays _ refl refl refl (λ e. e))
 
   pub reaches_set_step : (step : ℕ) → Reaches 0 roster (set_step roster p step)
-  reaches_set_step step = reaches_record _ refl (own_fits _ refl refl refl (λ h. h)) (own_mutex _ refl refl)
+  reaches_set_step step = reaches_record _ refl (own_fits _ (record { attributes = refl; started = refl; wait = refl; due = refl; deadline = refl; release = refl }) (λ h. h)) (own_mutex _ refl refl) (own_stays _ refl refl refl (λ e. e))
 
   pub reaches_receive : (message : Message) → Reaches 0 roster (receive roster p message)
-  reaches_receive message = reaches_record _ refl (own_fits _ refl refl refl (λ h. h)) (own_mutex _ refl refl)
+  reaches_receive message = reaches_record _ refl (own_fits _ (record { attributes = refl; started = refl; wait = refl; due = refl; deadline = refl; release = refl }) (λ h. h)) (own_mutex _ refl refl) (own_stays _ refl refl refl (λ e. e))
+
+-- a periodic process waits for its next release
+pub reaches_await_release : (roster : Roster) (p : ℕ) → p < length roster.records → IsFrom roster.now (release_after roster.now (record_at roster p))
+    → ((t : ℕ) → release_after roster.now (record_at roster p) ≡ Some t → IsWholePeriodsAfter (record_at roster p).attributes.period (record_at roster p).release t)
+    → (record_at roster p).started ≡ true → (is_normal roster.mode ≡ false → ⊥) → Reaches 1 roster (await_release roster p)
+reaches_await_release roster p known later aligned begun normal =
+    let cleared = set_deadline roster p None in
+    let r : Record = record (record_at roster p) { deadline = None } in
+    let here : record_at cleared p ≡ r = at_record roster p known r in
+    let known_so : p < length cleared.records = rw (reaches_set_deadline roster p known None (λ t e. absurd (none-some t e))).many known in
+    reaches_then 0 1 (reaches_set_deadline roster p known None (λ t e. absurd (none-some t e)))
+    (reaches_block cleared p known_so Period (release_after roster.now (record_at roster p)) later
+    (λ _ t e. subst (λ (x : Record). IsWholePeriodsAfter x.attributes.period x.release t) (sym here) (aligned t e))
+    (ap (λ (x : Record). x.started) here ∙ begun) normal (λ m is. cc) (λ _. refl))
+
+-- nobody is released by a step
+pub no_release_step : (roster : Roster) (p step : ℕ) → p < length roster.records → HasNoFutureRelease roster → HasNoFutureRelease (set_step roster p step)
+no_release_step roster p step known before =
+    all_stay roster p known (λ (x : Record). x.release ≤ roster.now) (record (record_at roster p) { step = step }) before (before p)
+
+-- nor is anybody started or stopped by a step
+pub started_step : (roster : Roster) (p step : ℕ) → p < length roster.records → (q : ℕ)
+    → (record_at (set_step roster p step) q).started ≡ (record_at roster q).started
+started_step roster p step known q =
+    let r : Record = record (record_at roster p) { step = step } in
+    elim (cases_eq q p) [
+      | inl here ↦ rw here (ap (λ (x : Record). x.started) (at_record roster p known r))
+      | inr apart ↦ ap (λ (x : Record). x.started) ((changes_record roster p r).others q apart)
+    ]
+
+-- time that goes on over no due and no deadline leaves everybody in time
+pub in_time_later : (roster : Roster) (t : ℕ) → AreInTime roster → roster.now ≤ t → HasNoDueBelow roster t → HasNoDeadlineBelow roster t
+    → AreInTime (advance_to roster t)
+in_time_later roster t before later dues deadlines p = record {
+  due = dues p;
+  deadline = deadlines p;
+  release = omega (arith, later, (before p).release);
+  period = (before p).period;
+}
 
 -- a start that begins leaves the mode
 mode_readied : (roster : Roster) (p : ℕ) (r : Record) → (readied roster p r).mode ≡ roster.mode
@@ -421,7 +699,7 @@ mode_readied roster p r =
 pub mode_begin : (roster : Roster) (p delay : ℕ) → (begin roster p delay).mode ≡ roster.mode
 mode_begin roster p delay =
     cond_both {A = Roster} (delay == 0) (release roster p) (block roster p Start (Some (roster.now + delay))) (λ (after : Roster). after.mode ≡ roster.mode)
-    (λ _. mode_readied roster p (awake (record_at roster p))) (λ _. refl)
+    (λ _. mode_readied roster p (released_at roster.now (record_at roster p))) (λ _. refl)
 
 -- the entry into NORMAL
 pub reaches_set_mode : (roster : Roster) (mode : Mode) → is_normal mode ≡ true → Reaches 0 roster (set_mode roster mode)
@@ -432,10 +710,11 @@ reaches_set_mode roster mode normal = record {
   stamps = omega (arith, ints);
   older = omega (arith, ints);
   stamped = λ stamped. stamped_set_mode roster stamped mode;
-  dues = λ before p t e. before p t e;
+  times = λ before p. before p;
   one = λ before p h. before p h;
   starts = λ before. record { dormant = before.dormant; early = λ e. absurd (both_ways _ e normal); undue = λ e. absurd (both_ways _ e normal) };
   owners = owners_kept roster (set_mode roster mode) (record { ceilings = refl; owned = λ q. refl; mutex = λ q m is. is });
+  periods = λ p. stays_same (record_at roster p);
 }
 
 -- every process is stopped, and no mode but IDLE follows
@@ -465,7 +744,12 @@ reaches_enter_idle roster =
           distinct = λ p q within there e. stamped.distinct.distinct p q (rw many at within) (rw many at there) (sym (same p) ∙ e ∙ same q);
         };
       };
-      dues = λ before p t e. absurd (none-some t (sym (undue p) ∙ e));
+      times = λ before p. subst (IsInTime roster.now) (sym (at p)) (record {
+        due = λ t e. absurd (none-some t e);
+        deadline = λ t e. absurd (none-some t e);
+        release = (before p).release;
+        period = λ w. absurd (none-some Period w);
+      });
       one = λ before p h. free p;
       starts = λ before. record {
         dormant = λ p e. free p;
@@ -477,6 +761,12 @@ reaches_enter_idle roster =
         one = λ m p q first second. absurd (both_ways false refl (sym (ap (is_held m) (unowned p)) ∙ first));
         waiters = λ p m is. absurd (none-some (Mutex m) (sym (free p) ∙ is));
       };
+      periods = λ p. subst (StaysInPeriod (record_at roster p)) (sym (at p)) (record {
+        attributes = refl;
+        later = λ _. no_period (record_at roster p).attributes.period (record_at roster p).release;
+        still = λ _. refl;
+        dormant = λ _. refl;
+      });
     }
 
 -- changes of several processes, each of which gives one stamp at the most, while this holds

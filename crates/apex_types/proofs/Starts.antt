@@ -4,9 +4,10 @@ use Rattle.std.proofs.lemmas.Bool.{and_parts, both_ways, eqb-true, eq-eqb}
 use Rattle.std.proofs.lemmas.Option.{none-some, same_Some}
 use Rattle.apex_types.specs.Terms.{Message, Mode, Queue, Record, Wait}
 use Rattle.apex_types.specs.declared.records.Queue.TheVariants as queues
-use Rattle.apex_types.specs.declared.records.Wait.TheVariants.{Normal, Start, Time, Semaphore, Receive, Send, Blackboard, Event, Mutex}
+use Rattle.apex_types.specs.declared.records.Wait.TheVariants.{Normal, Start, Time, Period, Semaphore, Receive, Send, Blackboard, Event, Mutex}
 use Rattle.apex_types.specs.Roster.{Roster, nobody, record_at, is_normal}
 use Rattle.apex_types.specs.Running.{is_eligible, chosen, runs_on, is_before}
+use Rattle.apex_types.specs.Periods.{awaits_first}
 use Rattle.apex_types.specs.Stamps.{HasOrderlyStarts, ReadiesNobody, is_free, may_wait, receive, set_step}
 use Rattle.apex_types.specs.Callers.{IsReady}
 use Rattle.apex_types.proofs.Rosters.{at_record}
@@ -157,6 +158,7 @@ normal_free None e = cc
 normal_free (Some (Normal delay)) e = refl
 normal_free (Some Start) e = cc
 normal_free (Some Time) e = cc
+normal_free (Some Period) e = cc
 normal_free (Some (Semaphore s)) e = cc
 normal_free (Some (Receive b)) e = cc
 normal_free (Some (Send b message)) e = cc
@@ -176,3 +178,20 @@ queued_normal roster orderly p q e apart early =
     let started = queued_started roster orderly p q e in
     let normal = same_Some queues.Normal q (sym (orderly.early early p started) ∙ e) in
     both_ways _ apart (ap (is_same_queue queues.Normal) (sym normal))
+
+-- who stands there awaits its first release
+normal_first : (wait : Option Wait) → queue_in (record nobody { wait = wait }) ≡ Some queues.Normal → awaits_first wait ≡ true
+normal_first None e = cc
+normal_first (Some (Normal delay)) e = refl
+normal_first (Some Start) e = cc
+normal_first (Some Time) e = cc
+normal_first (Some Period) e = cc
+normal_first (Some (Semaphore s)) e = cc
+normal_first (Some (Receive b)) e = cc
+normal_first (Some (Send b message)) e = cc
+normal_first (Some (Blackboard b)) e = cc
+normal_first (Some (Event v)) e = cc
+normal_first (Some (Mutex m)) e = cc
+
+pub first_awaits : (roster : Roster) (p : ℕ) → first_waiter roster queues.Normal ≡ Some p → awaits_first (record_at roster p).wait ≡ true
+first_awaits roster p e = normal_first (record_at roster p).wait (first_stands roster queues.Normal p e)

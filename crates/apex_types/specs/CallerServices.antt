@@ -8,6 +8,7 @@ use Rattle.apex_types.specs.declared.entries.Reply.TheVariants.{Value, Blocked, 
 use Rattle.apex_types.specs.declared.entries.ReturnCode.TheVariants.{InvalidMode}
 use Rattle.apex_types.specs.Dues.{due_after}
 use Rattle.apex_types.specs.Handovers.{halted}
+use Rattle.apex_types.specs.Periods.{is_periodic}
 use Rattle.apex_types.specs.Roster.{Roster, record_at}
 use Rattle.apex_types.specs.Rows.{Outcome, told, accepted, answered_with, by_process, guarded, ◌⟶◌}
 use Rattle.apex_types.specs.Stamps as stamps
@@ -26,7 +27,8 @@ self_suspension roster objects p Infinite = suspended_for roster objects p Infin
 -- SUSPEND_SELF by process p
 abbrev pub suspend_self : {X : Type 0} → Roster → X → ℕ → Timeout → Outcome X
 suspend_self roster objects p timeout =
-    guarded roster objects (is_some (record_at roster p).owned ⟶ InvalidMode ∷ [])
+    guarded roster objects
+    (is_periodic (record_at roster p) ⟶ InvalidMode ∷ is_some (record_at roster p).owned ⟶ InvalidMode ∷ [])
     (self_suspension roster objects p timeout)
 
 -- a service that process p asks for itself

@@ -11,6 +11,7 @@ pub mod Running
 pub mod Owners
 pub mod Waiters
 pub mod Dues
+pub mod Periods
 pub mod Stamps
 pub mod InTurn
 pub mod Handovers

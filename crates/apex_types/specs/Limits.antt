@@ -57,6 +57,10 @@ most_depth = 32
 abbrev pub most_value : ℕ
 most_value = 32767
 
+-- a span of time, in ticks
+abbrev pub most_span : ℕ
+most_span = 4294967295
+
 -- an instant: 65,536 ticks of 1,048,576 each
 abbrev pub latest : ℕ
 latest = 2 ^ 36

@@ -1,7 +1,7 @@
 -- The lines of a history: what is printed of each entry (this profile).
 use Rattle.std.specs.Prelude.{ℕ, ◌+◌, ◌/◌, ◌%◌, false, List, [], ◌∷◌, ◌++◌, flat_map, Option, None, Some, IfSome, codes, decimal}
 use Rattle.std.specs.Fmt.{digit_glyph}
-use Rattle.apex_types.specs.Terms.{BlackboardService, BufferService, Call, Caller, CallerCall, Entry, EventService, Message, MutexService, Named, Notice, ObjectCall, Origin, PartitionCall, ProcessService, Reply, RequestedMode, ReturnCode, SemaphoreService, TimeCall, Timeout, Who}
+use Rattle.apex_types.specs.Terms.{BlackboardService, BufferService, Call, Caller, CallerCall, DeadlineType, Entry, EventService, Message, MutexService, Named, Notice, ObjectCall, Origin, PartitionCall, ProcessService, Reply, RequestedMode, ReturnCode, SemaphoreService, TimeCall, Timeout, Who}
 use Rattle.apex_types.specs.declared.calls.BlackboardService.TheVariants.{Display, Read, Clear}
 use Rattle.apex_types.specs.declared.calls.BufferService.TheVariants.{Send, Receive}
 use Rattle.apex_types.specs.declared.calls.Call.TheVariants.{Partition, Process, Caller as ToCaller, Time, Semaphore, Buffer, Blackboard, Event, Mutex}
@@ -14,13 +14,14 @@ use Rattle.apex_types.specs.declared.calls.PartitionCall.TheVariants.{SetPartiti
 use Rattle.apex_types.specs.declared.calls.ProcessService.TheVariants.{InitializeCoreAffinity, SetPriority, Start, DelayedStart, Stop, Suspend, Resume}
 use Rattle.apex_types.specs.declared.calls.RequestedMode.TheVariants.{Idle, Normal}
 use Rattle.apex_types.specs.declared.calls.SemaphoreService.TheVariants.{Wait, Signal}
-use Rattle.apex_types.specs.declared.calls.TimeCall.TheVariants.{TimedWait, GetTime}
+use Rattle.apex_types.specs.declared.calls.TimeCall.TheVariants.{TimedWait, PeriodicWait, Replenish, GetTime}
 use Rattle.apex_types.specs.declared.calls.Timeout.TheVariants.{Poll, Ticks, Infinite}
 use Rattle.apex_types.specs.declared.entries.Caller.TheVariants.{Process as AskedBy, Init, Nobody}
-use Rattle.apex_types.specs.declared.entries.Notice.TheVariants.{Woken, Released}
+use Rattle.apex_types.specs.declared.entries.Notice.TheVariants.{Woken, Released, Missed}
 use Rattle.apex_types.specs.declared.entries.Reply.TheVariants.{Code, Value, Status, Message as Gets, Blocked, Gone, Idle as IdleTurn, Advanced}
 use Rattle.apex_types.specs.declared.entries.ReturnCode.TheVariants.{NoError, NoAction, NotAvailable, InvalidParam, InvalidConfig, InvalidMode, TimedOut}
 use Rattle.apex_types.specs.declared.entries.Who.TheVariants.{Core, Ticker}
+use Rattle.apex_types.specs.declared.records.DeadlineType.TheVariants.{Soft, Hard}
 use Rattle.apex_types.specs.Table.{Table, process_config, semaphore_config, buffer_config, blackboard_config, event_config, mutex_config, literal_text, message_bytes, IsKnown}
 
 -- the id of a process as users see it: its place in the table, counted from 1
@@ -125,6 +126,8 @@ caller_call_text GetMyProcessorCoreId = codes "GET_MY_PROCESSOR_CORE_ID"
 -- a step of time management
 abbrev pub time_call_text : TimeCall → List ℕ
 time_call_text (TimedWait timeout) = codes "TIMED_WAIT " ++ timeout_text timeout
+time_call_text PeriodicWait = codes "PERIODIC_WAIT"
+time_call_text (Replenish budget) = codes "REPLENISH " ++ decimal budget
 time_call_text GetTime = codes "GET_TIME"
 
 -- a service of the semaphore of this name
@@ -208,10 +211,16 @@ reply_text table Gone = codes "GONE"
 reply_text table IdleTurn = codes "IDLE"
 reply_text table (Advanced asked went) = codes "ADVANCED " ++ decimal went
 
+-- the type of a deadline
+abbrev pub deadline_text : DeadlineType → List ℕ
+deadline_text Soft = codes "soft"
+deadline_text Hard = codes "hard"
+
 -- what the event did to a process
 abbrev pub notice_text : Notice → List ℕ
 notice_text (Woken p code) = codes "woken " ++ id_text p ++ codes " " ++ code_text code
 notice_text (Released p) = codes "released " ++ id_text p
+notice_text (Missed p kind) = codes "missed " ++ id_text p ++ codes " " ++ deadline_text kind
 
 -- a notice behind what stands before it
 abbrev pub noticed_text : Notice → List ℕ

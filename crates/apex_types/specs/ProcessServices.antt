@@ -1,8 +1,8 @@
 -- The services of process management for a process that is named, row by row: the first guard that
 -- holds answers and changes nothing (ARINC 653 Part 1, process management; the guards are this
 -- profile's).
-use Rattle.std.specs.Prelude.{ℕ, Bool, true, false, List, [], ◌∷◌, nat_le, nat_lt, is_none, is_some, not, ◌&&◌, if◌then◌else◌}
-use Rattle.apex_types.specs.Terms.{Caller, Entry, Notice, ProcessService, Reply, State, Timeout}
+use Rattle.std.specs.Prelude.{ℕ, Bool, true, false, List, [], ◌∷◌, nat_le, nat_lt, is_none, is_some, not, ◌&&◌, ◌||◌, if◌then◌else◌}
+use Rattle.apex_types.specs.Terms.{Caller, Entry, Notice, ProcessService, Record, Reply, State, Timeout}
 use Rattle.apex_types.specs.declared.calls.ProcessService.TheVariants.{InitializeCoreAffinity, SetPriority, Start, DelayedStart, Stop, Suspend, Resume}
 use Rattle.apex_types.specs.declared.calls.Timeout.TheVariants.{Poll, Ticks, Infinite}
 use Rattle.apex_types.specs.declared.entries.Notice.TheVariants.{Woken}
@@ -14,6 +14,7 @@ use Rattle.apex_types.specs.Calls.{created_process}
 use Rattle.apex_types.specs.Handovers.{halted}
 use Rattle.apex_types.specs.History.{is_created}
 use Rattle.apex_types.specs.Objects.{KindOf}
+use Rattle.apex_types.specs.Periods.{is_period_long, is_periodic}
 use Rattle.apex_types.specs.Roster.{Roster, record_at, is_normal}
 use Rattle.apex_types.specs.Rows.{Outcome, Guard, accepted, accepted_with, guarded, ◌⟶◌}
 use Rattle.apex_types.specs.Running.{current_priority, process_state}
@@ -57,13 +58,17 @@ delay_ticks _ = 0
 abbrev pub start_notices : Roster → ℕ → ℕ → List Notice
 start_notices roster p delay = if is_normal roster.mode then begin_notices p delay else []
 
+-- a delay with which the process may not start: one for ever, or of a whole period
+abbrev pub is_unfit_delay : Record → Timeout → Bool
+is_unfit_delay r delay = is_infinite delay || is_period_long r.attributes.period (delay_ticks delay)
+
 -- DELAYED_START, and START, whose delay is 0
 abbrev pub start_process : Roster → ProcessObject → ℕ → Timeout → Outcome ProcessObject
 start_process roster process p delay =
     guarded roster process
     (not process.created ⟶ InvalidParam
     ∷ (record_at roster p).started ⟶ NoAction
-    ∷ is_infinite delay ⟶ InvalidParam ∷ [])
+    ∷ is_unfit_delay (record_at roster p) delay ⟶ InvalidParam ∷ [])
     (accepted (stamps.start roster p (delay_ticks delay)) process (start_notices roster p (delay_ticks delay)))
 
 -- the guards of a service that a process may not ask for itself, and that needs a created one
@@ -78,12 +83,16 @@ stop_process roster process p caller =
     (of_another caller process p (not (record_at roster p).started ⟶ NoAction ∷ []))
     (accepted_with process (halted roster p))
 
+-- a process that can't be suspended: a dormant or a periodic one
+abbrev pub is_unsuspendable : Record → Bool
+is_unsuspendable r = not r.started || is_periodic r
+
 -- SUSPEND
 abbrev pub suspend_process : Roster → ProcessObject → ℕ → Caller → Outcome ProcessObject
 suspend_process roster process p caller =
     guarded roster process
     (of_another caller process p
-    (not (record_at roster p).started ⟶ InvalidMode
+    (is_unsuspendable (record_at roster p) ⟶ InvalidMode
     ∷ is_some (record_at roster p).suspended ⟶ NoAction
     ∷ is_some (record_at roster p).owned ⟶ InvalidMode ∷ []))
     (accepted (stamps.suspend roster p) process [])
@@ -97,7 +106,7 @@ abbrev pub resume_process : Roster → ProcessObject → ℕ → Caller → Outc
 resume_process roster process p caller =
     guarded roster process
     (of_another caller process p
-    (not (record_at roster p).started ⟶ InvalidMode
+    (is_unsuspendable (record_at roster p) ⟶ InvalidMode
     ∷ is_none (record_at roster p).suspended ⟶ NoAction ∷ []))
     (accepted (stamps.resume roster p) process (resume_notices roster p))
 

@@ -3,7 +3,7 @@
 use Rattle.std.specs.Prelude.{Bool, true, false, Option, None, Some, ◌==◌}
 use Rattle.apex_types.specs.Terms.{Queue, Wait}
 use Rattle.apex_types.specs.declared.records.Queue.TheVariants as queues
-use Rattle.apex_types.specs.declared.records.Wait.TheVariants.{Normal, Start, Time, Semaphore, Receive, Send, Blackboard, Event, Mutex}
+use Rattle.apex_types.specs.declared.records.Wait.TheVariants.{Normal, Start, Time, Period, Semaphore, Receive, Send, Blackboard, Event, Mutex}
 
 -- the queue in which a wait stands: a wait for an instant stands in none, and receivers and senders
 -- stand in the one queue of their buffer
@@ -11,6 +11,7 @@ abbrev pub queue_of : Wait → Option Queue
 queue_of (Normal delay) = Some queues.Normal
 queue_of Start = None
 queue_of Time = None
+queue_of Period = None
 queue_of (Semaphore s) = Some (queues.Semaphore s)
 queue_of (Receive b) = Some (queues.Buffer b)
 queue_of (Send b message) = Some (queues.Buffer b)

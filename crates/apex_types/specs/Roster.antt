@@ -3,7 +3,7 @@ use Rattle.std.specs.Prelude.{ℕ, ◌+◌, Bool, true, false, List, length, map
 use Rattle.apex_types.specs.Terms.{Discipline, Mode, Record}
 use Rattle.apex_types.specs.declared.records.Mode.TheVariants.{Idle, ColdStart, Normal}
 use Rattle.apex_types.specs.Places.{map_places}
-use Rattle.apex_types.specs.Table.{Table, ProcessConfig, SemaphoreConfig, BufferConfig, MutexConfig}
+use Rattle.apex_types.specs.Table.{Table, ProcessConfig, SemaphoreConfig, BufferConfig, MutexConfig, no_attributes}
 
 -- the disciplines of the queues of semaphores, of buffers and of mutexes
 pub record Disciplines : Type 0 where
@@ -26,7 +26,7 @@ pub record Roster : Type 0 where
 -- a record that no process has, for a place past the end
 abbrev pub nobody : Record
 nobody = record {
-  attributes = record { priority = 0 };
+  attributes = no_attributes;
   core = 0;
   base = 0;
   started = false;
@@ -34,6 +34,8 @@ nobody = record {
   wait = None;
   since = pos 0;
   due = None;
+  deadline = None;
+  release = 0;
   owned = None;
   step = 0;
   inbox = None;
@@ -62,14 +64,16 @@ is_cold_start Normal = false
 -- the record with which the process of a table's entry opens, dormant on core 0 (this profile)
 abbrev pub opening_record : ℕ → ProcessConfig → Record
 opening_record p entry = record {
-  attributes = record { priority = entry.priority };
+  attributes = entry.attributes;
   core = 0;
-  base = entry.priority;
+  base = entry.attributes.priority;
   started = false;
   suspended = None;
   wait = None;
   since = pos (p + 1);
   due = None;
+  deadline = None;
+  release = 0;
   owned = None;
   step = 0;
   inbox = None;

@@ -2,7 +2,7 @@
 use Rattle.std.specs.Prelude.{ℕ, ◌+◌, ◌-◌, Bool, true, false, List, [], ◌∷◌, ◌++◌, Option, None, fold, filter, flat_map, count_by, drop, option_to_list, if◌then◌else◌}
 use Rattle.std.specs.List.{filter_map}
 use Rattle.apex_types.specs.Terms.{Call, Entry, Message, Notice, Reply, ReturnCode}
-use Rattle.apex_types.specs.declared.entries.Notice.TheVariants.{Woken, Released}
+use Rattle.apex_types.specs.declared.entries.Notice.TheVariants.{Woken, Released, Missed}
 use Rattle.apex_types.specs.declared.entries.Reply.TheVariants.{Code, Message as Gets}
 use Rattle.apex_types.specs.declared.entries.ReturnCode.TheVariants.{NoError}
 use Rattle.apex_types.specs.declared.records.Queue.TheVariants as queues
@@ -41,6 +41,7 @@ abbrev pub answered_by : List Entry → Notice → List Call
 answered_by history (Woken p code) =
     if is_no_error code then option_to_list (latest_call p history) else []
 answered_by history (Released p) = []
+answered_by history (Missed p kind) = []
 
 -- the calls that one entry more satisfies: its own, and then those that its notices answer
 abbrev pub satisfied_by : List Entry → Entry → List Call

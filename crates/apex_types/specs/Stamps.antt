@@ -4,11 +4,12 @@ use Rattle.apex_types.specs.Limits.{most_stamps}
 use Rattle.apex_types.specs.Terms.{Holding, Message, Mode, Record, Suspender, Wait}
 use Rattle.apex_types.specs.declared.records.Queue.TheVariants as queues
 use Rattle.apex_types.specs.declared.records.Suspender.TheVariants.{Itself, Other}
-use Rattle.apex_types.specs.declared.records.Wait.TheVariants.{Normal, Start}
+use Rattle.apex_types.specs.declared.records.Wait.TheVariants.{Normal, Start, Period}
 use Rattle.apex_types.specs.Roster.{Roster, record_at, with_record, is_normal}
 use Rattle.apex_types.specs.Running.{current_priority, is_eligible}
 use Rattle.apex_types.specs.Waiters.{goes_by_priority, queue_in}
-use Rattle.apex_types.specs.Dues.{first_due}
+use Rattle.apex_types.specs.Dues.{first_due, first_missed}
+use Rattle.apex_types.specs.Periods.{deadline_from, release_after}
 
 -- there are stamps left, upwards and downwards: no history is long enough to use them up
 pub record HasStamps (roster : Roster) : Type 0 where
@@ -56,9 +57,13 @@ awake r = record r { suspended = suspension_awake r.suspended; wait = None; due 
 abbrev pub unblock : Roster → ℕ → Roster
 unblock roster p = readied roster p (awake (record_at roster p))
 
--- a release: the process waits no more
+-- a process that is released at this instant: it waits for nothing, and its deadline begins to run
+abbrev pub released_at : ℕ → Record → Record
+released_at t r = record (awake r) { release = t; deadline = deadline_from t r }
+
+-- release: the process is released now
 abbrev pub release : Roster → ℕ → Roster
-release roster p = readied roster p (awake (record_at roster p))
+release roster p = readied roster p (released_at roster.now (record_at roster p))
 
 -- who may begin to wait: a process that is started, and waits for nothing or for NORMAL
 abbrev pub is_free : Option Wait → Bool
@@ -95,10 +100,10 @@ start roster p delay =
     let fresh = with_record roster p (reset (record_at roster p)) in
     if is_normal roster.mode then begin fresh p delay else block fresh p (Normal delay) None
 
--- a stop: not started, not suspended, waits for nothing, owns nothing, at the first step, with an empty
--- inbox
+-- a stop: not started, not suspended, waits for nothing, has no deadline and owns nothing, at the first
+-- step, with an empty inbox
 abbrev pub stopped : Record → Record
-stopped r = record r { started = false; suspended = None; wait = None; due = None; owned = None; step = 0; inbox = None }
+stopped r = record r { started = false; suspended = None; wait = None; due = None; deadline = None; owned = None; step = 0; inbox = None }
 
 -- the process is stopped; this stamps nobody
 abbrev pub stop : Roster → ℕ → Roster
@@ -173,6 +178,24 @@ without_due_of roster (Some p) = without_due roster p
 -- the first process whose due is now has it no more
 abbrev pub take_due : Roster → Roster
 take_due roster = without_due_of roster (first_due roster)
+
+-- the process has this deadline from now on, or none
+abbrev pub set_deadline : Roster → ℕ → Option ℕ → Roster
+set_deadline roster p deadline = with_record roster p (record (record_at roster p) { deadline = deadline })
+
+-- where there is such a process it has no deadline any more
+abbrev pub without_deadline_of : Roster → Option ℕ → Roster
+without_deadline_of roster None = roster
+without_deadline_of roster (Some p) = set_deadline roster p None
+
+-- the first process whose deadline is now has it no more
+abbrev pub take_missed : Roster → Roster
+take_missed roster = without_deadline_of roster (first_missed roster)
+
+-- a periodic process waits for its next release, and has no deadline until then
+abbrev pub await_release : Roster → ℕ → Roster
+await_release roster p =
+    block (set_deadline roster p None) p Period (release_after roster.now (record_at roster p))
 
 -- the partition goes to this mode
 abbrev pub set_mode : Roster → Mode → Roster

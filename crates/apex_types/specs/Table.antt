@@ -1,14 +1,15 @@
 -- A partition table as every contract sees it, and what holds of each accepted one.
 use Rattle.std.specs.Prelude.{◌≡◌, ℕ, ◌<◌, ◌≤◌, Bool, true, false, List, [], length, slice_index_or, slice_get, map, Option, None, Some, option_map, IsTrue}
-use Rattle.apex_types.specs.Limits.{most_cores, most_entries, most_init_steps, most_message, most_messages, most_objects, most_priority, most_processes, most_steps, most_value}
+use Rattle.apex_types.specs.Limits.{most_cores, most_entries, most_init_steps, most_message, most_messages, most_objects, most_priority, most_processes, most_span, most_steps, most_value}
 use Rattle.std.specs.List.{IsDistinct}
 use Rattle.std.specs.Str.{bytes_eq}
-use Rattle.apex_types.specs.Terms.{Call, Discipline, Message, Named, ObjectCall, Origin}
+use Rattle.apex_types.specs.Terms.{Attributes, Call, Discipline, Message, Named, ObjectCall, Origin}
 use Rattle.apex_types.specs.declared.calls.Call.TheVariants.{Partition, Process, Caller, Time, Semaphore, Buffer, Blackboard, Event, Mutex}
 use Rattle.apex_types.specs.declared.calls.CallerCall.TheVariants.{StopSelf}
 use Rattle.apex_types.specs.declared.calls.Named.TheVariants.{Known, Unknown}
 use Rattle.apex_types.specs.declared.calls.ObjectCall.TheVariants.{Create, GetId, GetStatus, Own}
 use Rattle.apex_types.specs.declared.calls.Origin.TheVariants.{Init, Script}
+use Rattle.apex_types.specs.declared.records.DeadlineType.TheVariants.{Soft}
 use Rattle.apex_types.specs.declared.records.Discipline.TheVariants.{Fifo}
 use Rattle.apex_types.specs.Calls.{origin_of, message_in}
 use Rattle.apex_types.specs.Name.{is_name}
@@ -21,7 +22,7 @@ pub record Step : Type 0 where
 -- a process as the table gives it
 pub record ProcessConfig : Type 0 where
   pub name : List ℕ
-  pub priority : ℕ
+  pub attributes : Attributes
   pub core : ℕ
   pub loops : Bool
   pub start : Bool
@@ -68,9 +69,12 @@ pub record Table : Type 0 where
   pub mutexes : List MutexConfig
   pub init : List Step
 
--- an entry that no table has, for a place past the end
+-- attributes and an entry that no table has, for a place past the end
+abbrev pub no_attributes : Attributes
+no_attributes = record { priority = 0; period = None; capacity = None; deadline = Soft }
+
 abbrev pub no_process : ProcessConfig
-no_process = record { name = []; priority = 0; core = 0; loops = false; start = false; script = [] }
+no_process = record { name = []; attributes = no_attributes; core = 0; loops = false; start = false; script = [] }
 
 abbrev pub no_semaphore : SemaphoreConfig
 no_semaphore = record { name = []; maximum = 0; initial = 0; discipline = Fifo }
@@ -169,11 +173,17 @@ pub record IsLawfulStep (table : Table) (origin : Origin) (step : Step) : Type 0
   pub known : IsKnown table step.call
   pub literal : IsLiteral origin step.literal (origin_of step.call) (message_in step.call)
 
+-- a span of time, where it is finite, is 1 to 4,294,967,295 ticks
+abbrev pub IsSpan : Option ℕ → Type 0
+IsSpan span = (ticks : ℕ) → span ≡ Some ticks → (1 ≤ ticks) × (ticks ≤ most_span)
+
 -- what holds of the process at place p of an accepted table
 pub record IsLawfulProcess (table : Table) (p : ℕ) (entry : ProcessConfig) : Type 0 where
   pub name : IsTrue (is_name entry.name)
-  pub priority : (1 ≤ entry.priority) × (entry.priority ≤ most_priority)
+  pub priority : (1 ≤ entry.attributes.priority) × (entry.attributes.priority ≤ most_priority)
   pub core : entry.core < table.cores
+  pub period : IsSpan entry.attributes.period
+  pub capacity : IsSpan entry.attributes.capacity
   pub steps : length entry.script ≤ most_steps
   pub looping : entry.loops ≡ true → 1 ≤ length entry.script
   pub script : (k : ℕ) → k < length entry.script → IsLawfulStep table (Script p k) (step_at entry.script k)

@@ -1,13 +1,15 @@
--- A tick: how far time goes on, and which waits it ends (this profile).
+-- A tick: how far time goes on, which deadlines it finds missed, and which waits it ends (this profile).
 use Rattle.std.specs.Prelude.{ℕ, ◌+◌, List, [], ◌∷◌, length, Option, None, Some, min, ◌==◌, if◌then◌else◌}
-use Rattle.apex_types.specs.Terms.{Notice, Wait}
-use Rattle.apex_types.specs.declared.entries.Notice.TheVariants.{Released}
+use Rattle.apex_types.specs.Terms.{DeadlineType, Notice, Wait}
+use Rattle.apex_types.specs.declared.entries.Notice.TheVariants.{Released, Missed}
 use Rattle.apex_types.specs.declared.entries.ReturnCode.TheVariants.{NoError, TimedOut}
-use Rattle.apex_types.specs.declared.records.Wait.TheVariants.{Start, Time}
+use Rattle.apex_types.specs.declared.records.DeadlineType.TheVariants.{Soft, Hard}
+use Rattle.apex_types.specs.declared.records.Wait.TheVariants.{Start, Time, Period}
 use Rattle.apex_types.specs.Roster.{Roster, record_at}
-use Rattle.apex_types.specs.Dues.{next_instant, first_due}
-use Rattle.apex_types.specs.Stamps.{release, begin, advance_to, without_due}
-use Rattle.apex_types.specs.InTurn.{Changed, in_turn}
+use Rattle.apex_types.specs.Dues.{next_instant, first_due, first_missed}
+use Rattle.apex_types.specs.Handovers.{halted}
+use Rattle.apex_types.specs.Stamps.{release, begin, advance_to, set_deadline, without_due}
+use Rattle.apex_types.specs.InTurn.{Changed, behind, followed_by, in_turn, unchanged}
 use Rattle.apex_types.specs.Waking.{woken}
 
 -- the smaller of an instant and the next one, where there is one
@@ -35,6 +37,7 @@ begun roster p delay = record { roster = begin roster p delay; notices = begin_n
 abbrev pub wait_over : Roster → ℕ → Option Wait → Changed
 wait_over roster p (Some Time) = woken roster p NoError
 wait_over roster p (Some Start) = released roster p
+wait_over roster p (Some Period) = released roster p
 wait_over roster p _ = woken roster p TimedOut
 
 -- process p, whose due is now, has it no more, and its wait ends
@@ -45,6 +48,25 @@ serve_due roster p = wait_over (without_due roster p) p (record_at roster p).wai
 abbrev pub serve_dues : Roster → Changed
 serve_dues roster = in_turn first_due serve_due (length roster.records) roster
 
--- time goes on by a tick of n, and the waits that are due then end
+-- a miss: a HARD one stops the process, and a mutex that it owned goes on at once
+abbrev pub miss : Roster → ℕ → DeadlineType → Changed
+miss roster p Soft = unchanged roster
+miss roster p Hard = halted roster p
+
+-- process p, whose deadline is now, has it no more, and is told that it missed it
+abbrev pub serve_missed : Roster → ℕ → Changed
+serve_missed roster p =
+    let kind = (record_at roster p).attributes.deadline in
+    behind (Missed p kind ∷ []) (miss (set_deadline roster p None) p kind)
+
+-- the deadlines at now, by process number
+abbrev pub serve_deadlines : Roster → Changed
+serve_deadlines roster = in_turn first_missed serve_missed (length roster.records) roster
+
+-- what is at now: the deadlines first, and then the dues
+abbrev pub serve_instant : Roster → Changed
+serve_instant roster = followed_by (serve_deadlines roster) serve_dues
+
+-- time goes on by a tick of n, and what is at that instant is served
 unfoldable pub pass_time : Roster → ℕ → Changed
-pass_time roster n = serve_dues (advance_to roster (tick_goal roster n))
+pass_time roster n = serve_instant (advance_to roster (tick_goal roster n))

@@ -1,16 +1,17 @@
 -- The services of time management, row by row: the first guard that holds answers and changes nothing
 -- (ARINC 653 Part 1, time management; the guards are this profile's).
-use Rattle.std.specs.Prelude.{ℕ, [], ◌∷◌}
+use Rattle.std.specs.Prelude.{ℕ, ◌+◌, [], ◌∷◌, Some, is_none, is_some, not}
 use Rattle.apex_types.specs.Terms.{Caller, TimeCall, Timeout}
-use Rattle.apex_types.specs.declared.calls.TimeCall.TheVariants.{TimedWait, GetTime}
+use Rattle.apex_types.specs.declared.calls.TimeCall.TheVariants.{TimedWait, PeriodicWait, Replenish, GetTime}
 use Rattle.apex_types.specs.declared.calls.Timeout.TheVariants.{Poll, Ticks, Infinite}
-use Rattle.apex_types.specs.declared.entries.Reply.TheVariants.{Value}
-use Rattle.apex_types.specs.declared.entries.ReturnCode.TheVariants.{InvalidMode, InvalidParam}
+use Rattle.apex_types.specs.declared.entries.Reply.TheVariants.{Blocked, Value}
+use Rattle.apex_types.specs.declared.entries.ReturnCode.TheVariants.{NoAction, InvalidMode, InvalidParam}
 use Rattle.apex_types.specs.declared.records.Wait.TheVariants as wait
 use Rattle.apex_types.specs.Owners.{is_owner}
-use Rattle.apex_types.specs.Roster.{Roster}
+use Rattle.apex_types.specs.Periods.{is_beyond, is_periodic}
+use Rattle.apex_types.specs.Roster.{Roster, record_at}
 use Rattle.apex_types.specs.Rows.{Outcome, told, refused, accepted, by_process, guarded, ◌⟶◌}
-use Rattle.apex_types.specs.Stamps.{place_newest}
+use Rattle.apex_types.specs.Stamps.{await_release, place_newest, set_deadline}
 use Rattle.apex_types.specs.Waiting.{blocked}
 
 -- TIMED_WAIT by process p: a wait of 0 ticks lets the others of its priority go first
@@ -25,7 +26,26 @@ timed_wait_service roster objects caller timeout =
     guarded roster objects (is_owner roster caller ⟶ InvalidMode ∷ [])
     (by_process roster objects caller (timed_wait roster objects timeout))
 
+-- PERIODIC_WAIT by process p
+abbrev pub periodic_wait : {X : Type 0} → Roster → X → ℕ → Outcome X
+periodic_wait roster objects p =
+    guarded roster objects
+    (not (is_periodic (record_at roster p)) ⟶ InvalidMode
+    ∷ is_some (record_at roster p).owned ⟶ InvalidMode ∷ [])
+    (told (await_release roster p) objects Blocked)
+
+-- REPLENISH by process p: its deadline is so far from now
+abbrev pub replenish : {X : Type 0} → Roster → X → ℕ → ℕ → Outcome X
+replenish roster objects budget p =
+    let r = record_at roster p in
+    guarded roster objects
+    (is_none r.attributes.capacity ⟶ NoAction
+    ∷ is_beyond r.release r.attributes.period (roster.now + budget) ⟶ InvalidMode ∷ [])
+    (accepted (set_deadline roster p (Some (roster.now + budget))) objects [])
+
 -- any service of time management
 abbrev pub time_service : {X : Type 0} → Roster → X → Caller → TimeCall → Outcome X
 time_service roster objects caller (TimedWait timeout) = timed_wait_service roster objects caller timeout
+time_service roster objects caller PeriodicWait = by_process roster objects caller (periodic_wait roster objects)
+time_service roster objects caller (Replenish budget) = by_process roster objects caller (replenish roster objects budget)
 time_service roster objects caller GetTime = told roster objects (Value roster.now)

@@ -2,6 +2,7 @@ ghost use Rattle.std.specs.Prelude.{◌≡◌};
 ghost use Rattle.apex_types.specs.Calls.{known, object_of, unknown, object_origin, origin_of, message_in};
 
 use crate::identifiers::{BlackboardId, BufferId, EventId, MutexId, ProcessId, SemaphoreId};
+use crate::spans::Span;
 
 /// How long a call may wait.
 #[derive(Clone, Copy, Debug, PartialEq, Eq)]
@@ -147,6 +148,9 @@ pub enum CallerCall {
 #[derive(Clone, Copy, Debug, PartialEq, Eq)]
 pub enum TimeCall {
     TimedWait(Timeout),
+    PeriodicWait,
+    /// The deadline is so far from now.
+    Replenish(Span),
     GetTime,
 }
 

@@ -3,6 +3,7 @@ ghost use Rattle.apex_types.specs.Limits.{most_notices};
 
 use crate::calls::{Call, Message};
 use crate::identifiers::{CoreId, ProcessId};
+use crate::records::DeadlineType;
 use arrayvec::ArrayVec;
 use std::marker::Model;
 use thiserror::Error;
@@ -72,6 +73,8 @@ pub enum Notice {
     Woken(ProcessId, ReturnCode),
     /// The process was released to run.
     Released(ProcessId),
+    /// The process missed its deadline, which is of this type.
+    Missed(ProcessId, DeadlineType),
 }
 
 impl Default for Notice {

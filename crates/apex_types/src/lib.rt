@@ -11,6 +11,7 @@ mod identifiers;
 mod names;
 mod numbers;
 mod records;
+mod spans;
 mod steps;
 
 pub use calls::{
@@ -25,5 +26,8 @@ pub use identifiers::{
 };
 pub use names::Name;
 pub use numbers::{number, number_at_most};
-pub use records::{Attributes, Discipline, Holding, Mode, Queue, Record, State, Suspender, Wait};
+pub use records::{
+    Attributes, DeadlineType, Discipline, Holding, Mode, Queue, Record, State, Suspender, Wait,
+};
+pub use spans::Span;
 pub use steps::{Literal, Step};

@@ -8,6 +8,7 @@ ghost use Rattle.apex_types.specs.Waiters.{queue_in};
 
 use crate::calls::Message;
 use crate::identifiers::{BlackboardId, BufferId, CoreId, EventId, MutexId, SemaphoreId};
+use crate::spans::Span;
 
 /// The partition's operating mode (ARINC 653 Part 1, partition management).
 #[derive(Clone, Copy, Debug, PartialEq, Eq)]
@@ -43,6 +44,8 @@ pub enum Wait {
     Start,
     /// An instant, after a TIMED_WAIT.
     Time,
+    /// Its next release, after a PERIODIC_WAIT.
+    Period,
     Semaphore(SemaphoreId),
     /// A message of the buffer.
     Receive(BufferId),
@@ -81,7 +84,7 @@ impl Wait {
             Wait::Blackboard(blackboard) => Some(Queue::Blackboard(*blackboard)),
             Wait::Event(event) => Some(Queue::Event(*event)),
             Wait::Mutex(mutex) => Some(Queue::Mutex(*mutex)),
-            Wait::Start | Wait::Time => None,
+            Wait::Start | Wait::Time | Wait::Period => None,
         }
     }
 }
@@ -113,11 +116,25 @@ pub struct Holding {
     pub depth: u8,
 }
 
+/// What a missed deadline does to its process (ARINC 653 Part 1, process management).
+#[derive(Clone, Copy, Debug, PartialEq, Eq)]
+pub enum DeadlineType {
+    /// Nothing.
+    Soft,
+    /// It stops the process (this profile).
+    Hard,
+}
+
 /// What the table gives a process for good.
 #[derive(Clone, Copy, Debug)]
 pub struct Attributes {
     /// The base priority to which a START goes back.
     pub priority: u8,
+    /// The time from one release to the next. None for an aperiodic process.
+    pub period: Option<Span>,
+    /// The time from a release to the deadline. None where it is infinite.
+    pub capacity: Option<Span>,
+    pub deadline: DeadlineType,
 }
 
 /// What the partition keeps of a process.
@@ -135,6 +152,10 @@ pub struct Record {
     /// The instant in ticks at which its wait, or its suspension of itself, ends if it does so of its
     /// own.
     pub due: Option<u64>,
+    /// The instant in ticks at which its deadline passes, if one runs.
+    pub deadline: Option<u64>,
+    /// The instant in ticks of its last release. 0 before the first one.
+    pub release: u64,
     /// The mutex that it owns, if it owns one.
     pub owned: Option<Holding>,
     /// The place of its next step in its script, counted from 0.

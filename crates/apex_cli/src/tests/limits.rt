@@ -305,6 +305,41 @@ fn thirty_one_waiters_are_released_at_once(rt: HostRuntime) -> Result<(), Fail> 
     Ok(())
 }
 
+// 32 processes that wait until the instant of their deadlines.
+fn late_waiters(alloc: Global) -> Result<String, Fail> {
+    let mut outline = String::new(alloc);
+    for number in 1u8..=32 {
+        writeln!(
+            outline,
+            "process W{number} 10 0 start capacity=4: TIMED_WAIT 4"
+        )?;
+    }
+    table_of(alloc, outline.as_str())
+}
+
+#[test]
+fn sixty_four_notices_of_one_tick(rt: HostRuntime) -> Result<(), Fail> {
+    let table = late_waiters(rt.alloc())?;
+    let mut lines = String::new(rt.alloc());
+    lines.push_str("129 0 core0 32 TIMED_WAIT 4 -> BLOCKED\n130 4 ticker - tick 9 -> ADVANCED 4")?;
+    for number in 1u8..=32 {
+        write!(lines, " | missed {number} soft")?;
+    }
+    for number in 1u8..=32 {
+        write!(lines, " | woken {number} NO_ERROR")?;
+    }
+    lines.push_str("\n131 4 core0 1 STOP_SELF -> GONE\n")?;
+    let limit = Limit {
+        name: "sixty_four_notices",
+        table: table.as_str(),
+        schedule: "0*129 t9 0",
+        status: 0,
+        fault: "",
+        lines: lines.as_str(),
+    };
+    check_limit(&rt, rt.alloc(), &limit)
+}
+
 // A process that goes as deep as it may and comes out again, and one that looks at it.
 fn deepest_owner(alloc: Global) -> Result<String, Fail> {
     let acquire = times(alloc, 32, "ACQUIRE_MUTEX M 0; ")?;
@@ -526,4 +561,32 @@ fn the_longest_timeouts(rt: HostRuntime) -> Result<(), Fail> {
         check_limit(&rt, rt.alloc(), limit)?;
     }
     Ok(())
+}
+
+const LONGEST_PERIOD: &str = "history 65536
+process A 20 0 start period=4294967295 capacity=1: REPLENISH 4294967295; PERIODIC_WAIT; REPLENISH 4294967295
+process B 10 0 start capacity=4294967295 deadline=HARD:
+";
+
+const PERIOD_OVER: &str = "4104 4293918720 ticker - tick 1048576 -> ADVANCED 1048576
+4105 4294967295 ticker - tick 1048576 -> ADVANCED 1048575 | missed 2 hard | released 1
+4106 4294967295 core0 1 REPLENISH 4294967295 -> NO_ERROR
+4107 4296015871 ticker - tick 1048576 -> ADVANCED 1048576
+";
+
+#[test]
+fn the_longest_period(rt: HostRuntime) -> Result<(), Fail> {
+    let table = table_of(rt.alloc(), LONGEST_PERIOD)?;
+    let ticks = times(rt.alloc(), 4096, "t1048576 ")?;
+    let ticks = ticks.as_str();
+    let schedule = format!(in rt.alloc(); "0*9 {ticks}0 t1048576")?;
+    let limit = Limit {
+        name: "longest_period",
+        table: table.as_str(),
+        schedule: schedule.as_str(),
+        status: 0,
+        fault: "",
+        lines: PERIOD_OVER,
+    };
+    check_limit(&rt, rt.alloc(), &limit)
 }

@@ -9,7 +9,7 @@ use std::test::Fail;
 //     cores 2
 //     history 9
 //     init STEP; STEP
-//     process NAME PRIORITY CORE start loop: STEP; STEP
+//     process NAME PRIORITY CORE start loop period=10 capacity=4 deadline=HARD: STEP; STEP
 //     semaphore NAME MAXIMUM INITIAL DISCIPLINE
 //     buffer NAME LENGTH CAPACITY DISCIPLINE
 //     blackboard NAME LENGTH
@@ -19,8 +19,9 @@ use std::test::Fail;
 //     NUMBER NOW WHO PROCESS CALL -> REPLY
 //
 // Without the first two lines there is one core, and the history has room for 4,096 entries. A line
-// `init` adds steps to the init list, and without one the list is the default one. The keys `start`
-// and `loop` are true where their words stand. The history may have any lines before those shown.
+// `init` adds steps to the init list, and without one the list is the default one. Of a process, the
+// keys `start` and `loop` are true where their words stand, and the other ones have the values that
+// stand behind `=`. The history may have any lines before those shown.
 #[derive(Drop)]
 struct Outline<'a> {
     cores: &'a str,
@@ -91,7 +92,20 @@ fn put_steps(text: &mut String, steps: &str) -> Result<(), Fail> {
     Ok(())
 }
 
-// Writes the section of a process, told as `NAME PRIORITY CORE start loop: STEP; STEP`.
+// Writes a key of a process, told as `KEY` where it is true, and else as `KEY=NUMBER` or `KEY=WORD`.
+fn put_key(text: &mut String, key: &str) -> Result<(), Fail> {
+    let (key, value) = key.split_once('=').unwrap_or((key, ""));
+    if value.is_empty() {
+        writeln!(text, "{key} = true")?;
+    } else if value.parse::<u32>().is_ok() {
+        writeln!(text, "{key} = {value}")?;
+    } else {
+        writeln!(text, "{key} = \"{value}\"")?;
+    }
+    Ok(())
+}
+
+// Writes the section of a process, told as `NAME PRIORITY CORE KEY KEY: STEP; STEP`.
 fn put_process(text: &mut String, process: &str) -> Result<(), Fail> {
     let (head, steps) = process.split_once(':').ok_or("no script")?;
     let mut words = head.split(' ');
@@ -102,8 +116,8 @@ fn put_process(text: &mut String, process: &str) -> Result<(), Fail> {
         text,
         "[[process]]\nname = \"{name}\"\npriority = {priority}\ncore = {core}"
     )?;
-    for flag in words {
-        writeln!(text, "{flag} = true")?;
+    for key in words {
+        put_key(text, key)?;
     }
     text.push_str("script = [")?;
     put_steps(text, steps.trim_start())?;
@@ -187,5 +201,14 @@ pub fn check_outline(rt: &impl Abort, alloc: Global, name: &str, text: &str) -> 
     assert_eq!(rt; done.status, 0, "in case {name}");
     let tail = lines_from(alloc, done.written.as_slice(), outline.lines.as_str())?;
     assert_eq!(rt; tail.as_str(), outline.lines.as_str(), "in case {name}");
+    Ok(())
+}
+
+/// Checks each case of a text, which begins at a line `case NAME`.
+pub fn check_cases(rt: &impl Abort, alloc: Global, text: &str) -> Result<(), Fail> {
+    for case in text.split("\ncase ").skip(1) {
+        let (name, outline) = case.split_once('\n').ok_or("a case has no lines")?;
+        check_outline(rt, alloc, name, outline)?;
+    }
     Ok(())
 }

@@ -6,19 +6,21 @@ mod event;
 mod kinds;
 mod mutex;
 mod partition;
+mod periods;
 mod process;
 mod rows;
 mod semaphore;
 mod time;
 
-use super::outlines::check_outline;
+use super::outlines::check_cases;
 use rows::{Row, rows};
 use std::test::Fail;
 
-const CASES: [&[&str]; 9] = [
+const CASES: [&[&str]; 10] = [
     partition::CASES,
     process::CASES,
     time::CASES,
+    periods::CASES,
     semaphore::CASES,
     buffer::CASES,
     blackboard::CASES,
@@ -31,10 +33,7 @@ const CASES: [&[&str]; 9] = [
 fn each_guard_and_each_effect_has_its_reply(rt: HostRuntime) -> Result<(), Fail> {
     for cases in CASES {
         for text in cases {
-            for case in text.split("\ncase ").skip(1) {
-                let (name, outline) = case.split_once('\n').ok_or("a case has no lines")?;
-                check_outline(&rt, rt.alloc(), name, outline)?;
-            }
+            check_cases(&rt, rt.alloc(), text)?;
         }
     }
     Ok(())

@@ -12,7 +12,7 @@ use crate::objects::Objects;
 use apex_store::{Store, due_after, halt};
 use apex_types::{Caller, CallerCall, Notices, ProcessId, Reply, ReturnCode, Timeout};
 
-/// SUSPEND_SELF by a process. INVALID_MODE where it owns a mutex.
+/// SUSPEND_SELF by a process. INVALID_MODE where it is periodic or owns a mutex.
 fn suspend_self<S: Store>(
     store: &mut S,
     objects: &Objects,
@@ -25,7 +25,8 @@ fn suspend_self<S: Store>(
     ensures { Leaves (services.suspend_self (S.roster store.old) objects.now process timeout)
         (S.roster store.new) objects.now result [] [] }
 {
-    if store.record(process).owned.is_some() {
+    let row = store.record(process);
+    if row.attributes.period.is_some() || row.owned.is_some() {
         return Reply::Code(ReturnCode::InvalidMode);
     }
     match timeout {

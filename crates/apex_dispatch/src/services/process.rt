@@ -1,9 +1,10 @@
 //! The services of process management for a process that is named.
 
-ghost use Rattle.std.specs.Prelude.{◌≡◌, ◌<◌, ◌≤◌, [], ◌++◌, length, false};
+ghost use Rattle.std.specs.Prelude.{◌≡◌, ◌<◌, ◌≤◌, [], ◌++◌, length, false, is_some, not, IfSome};
 ghost use Rattle.apex_types.specs.Limits.{most_notices, most_processes};
 ghost use Rattle.apex_types.specs.Callers.{IsReadyCaller, is_by_process};
 ghost use Rattle.apex_types.specs.Dues.{HasTime};
+ghost use Rattle.apex_types.specs.Periods.{is_period_long};
 ghost use Rattle.apex_types.specs.ProcessServices as services;
 ghost use Rattle.apex_types.specs.Roster.{Roster};
 ghost use Rattle.apex_types.specs.Rows.{Leaves};
@@ -11,8 +12,8 @@ ghost use Rattle.apex_types.specs.Stamps.{HasManyStamps, HasStamps};
 
 use apex_store::{Object, Store, halt};
 use apex_types::{
-    Caller, CoreId, Notice, Notices, ProcessId, ProcessKind, ProcessService, Reply, ReturnCode,
-    State, Timeout,
+    Caller, CoreId, Notice, Notices, ProcessId, ProcessKind, ProcessService, Record, Reply,
+    ReturnCode, Span, State, Timeout,
 };
 use std::marker::Model;
 
@@ -52,6 +53,40 @@ fn state_number(state: State) -> u32
         State::Running => 2,
         State::Waiting => 3,
     }
+}
+
+/// The process, of this record, can't be suspended: it is dormant or periodic.
+fn is_unsuspendable(row: &Record) -> bool
+    ensures { result ≡ services.is_unsuspendable row.now }
+{
+    !row.started || row.attributes.period.is_some()
+}
+
+/// A delay, in ticks, that isn't below the period, where there is one.
+fn is_period_long(period: Option<Span>, delay: u32) -> bool
+    ensures { result ≡ is_period_long period delay }
+{
+    match period {
+        Some(period) => delay >= period.ticks(),
+        None => false,
+    }
+}
+
+/// The ticks of a delay with which the process, of this record, may start: not one for ever, nor one
+/// of a whole period.
+fn fit_delay(row: &Record, delay: Timeout) -> Option<u32>
+    ensures fit { is_some result ≡ not (services.is_unfit_delay row.now delay) }
+    ensures ticks { IfSome result (λ ticks. ticks ≡ services.delay_ticks delay) }
+{
+    let ticks = match delay {
+        Timeout::Poll => 0,
+        Timeout::Ticks(ticks) => ticks,
+        Timeout::Infinite => return None,
+    };
+    if is_period_long(row.attributes.period, ticks) {
+        return None;
+    }
+    Some(ticks)
 }
 
 impl ProcessObject {
@@ -101,8 +136,8 @@ impl ProcessObject {
         Reply::Code(ReturnCode::NoError)
     }
 
-    /// DELAYED_START, and START, whose delay is 0. INVALID_PARAM where the process isn't created or
-    /// the delay is infinite, NO_ACTION where the process is started.
+    /// DELAYED_START, and START, whose delay is 0. INVALID_PARAM where the process isn't created, the
+    /// delay is infinite or it isn't below the period, NO_ACTION where the process is started.
     fn start<S: Store>(
         &self,
         store: &mut S,
@@ -120,13 +155,12 @@ impl ProcessObject {
         if !self.created {
             return Reply::Code(ReturnCode::InvalidParam);
         }
-        if store.record(id).started {
+        let row = store.record(id);
+        if row.started {
             return Reply::Code(ReturnCode::NoAction);
         }
-        let ticks = match delay {
-            Timeout::Poll => 0,
-            Timeout::Ticks(ticks) => ticks,
-            Timeout::Infinite => return Reply::Code(ReturnCode::InvalidParam),
+        let Some(ticks) = fit_delay(&row, delay) else {
+            return Reply::Code(ReturnCode::InvalidParam);
         };
         if store.mode().is_normal() && ticks == 0 {
             notices.push(Notice::Released(id));
@@ -161,8 +195,8 @@ impl ProcessObject {
     }
 
     /// SUSPEND of another process. INVALID_PARAM where it is the caller or isn't created,
-    /// INVALID_MODE where it is dormant, NO_ACTION where it is suspended, INVALID_MODE where it owns
-    /// a mutex.
+    /// INVALID_MODE where it is dormant or periodic, NO_ACTION where it is suspended, INVALID_MODE
+    /// where it owns a mutex.
     fn suspend<S: Store>(&self, store: &mut S, id: ProcessId, caller: &Caller) -> Reply
         requires known { id < length (S.roster store.old).records }
         ensures { Leaves (services.suspend_process (S.roster store.old) self.now id caller.now)
@@ -172,7 +206,7 @@ impl ProcessObject {
             return Reply::Code(ReturnCode::InvalidParam);
         }
         let row = store.record(id);
-        if !row.started {
+        if is_unsuspendable(&row) {
             return Reply::Code(ReturnCode::InvalidMode);
         }
         if row.suspended.is_some() {
@@ -186,8 +220,8 @@ impl ProcessObject {
     }
 
     /// RESUME of another process, which is woken where it had suspended itself. INVALID_PARAM where
-    /// it is the caller or isn't created, INVALID_MODE where it is dormant, NO_ACTION where it is
-    /// not suspended.
+    /// it is the caller or isn't created, INVALID_MODE where it is dormant or periodic, NO_ACTION where
+    /// it is not suspended.
     fn resume<S: Store>(
         &self,
         store: &mut S,
@@ -205,7 +239,7 @@ impl ProcessObject {
             return Reply::Code(ReturnCode::InvalidParam);
         }
         let row = store.record(id);
-        if !row.started {
+        if is_unsuspendable(&row) {
             return Reply::Code(ReturnCode::InvalidMode);
         }
         if row.suspended.is_none() {

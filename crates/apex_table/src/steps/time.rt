@@ -2,13 +2,14 @@ ghost use Rattle.std.specs.Prelude.{◌≡◌, map};
 ghost use Rattle.apex_table.specs.TimeSteps.{time_alone, time_with_word, time_call};
 
 use crate::fault::{Place, TableFault};
-use crate::steps::words::{is_timeout, timeout};
+use crate::steps::words::{is_number, is_timeout, span, timeout};
 use apex_types::TimeCall;
 
 fn alone(service: &str) -> Option<TimeCall>
     ensures { result ≡ time_alone service.now }
 {
     match service {
+        "PERIODIC_WAIT" => Some(TimeCall::PeriodicWait),
         "GET_TIME" => Some(TimeCall::GetTime),
         _ => None,
     }
@@ -19,6 +20,7 @@ fn with_word(at: Place, service: &str, word: &str) -> Result<Option<TimeCall>, T
 {
     match service {
         "TIMED_WAIT" if is_timeout(word) => Ok(Some(TimeCall::TimedWait(timeout(at, word)?))),
+        "REPLENISH" if is_number(word) => Ok(Some(TimeCall::Replenish(span(at, word)?))),
         _ => Ok(None),
     }
 }

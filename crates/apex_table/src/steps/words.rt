@@ -2,11 +2,11 @@ ghost use Rattle.std.specs.Prelude.{ℕ, ◌≡◌, ◌<◌, ◌≤◌, ◌/◌,
 ghost use Rattle.apex_types.specs.Limits.{most_message, most_processes};
 ghost use Rattle.std.specs.Char.{digit_value};
 ghost use Rattle.std.specs.List.{list_all, list_any};
-ghost use Rattle.apex_table.specs.Words.{words, is_empty, is_number, is_timeout, is_digit, pairs_value, is_message, message_bytes, message, number, timeout, entry_of};
+ghost use Rattle.apex_table.specs.Words.{words, is_empty, is_number, is_timeout, is_digit, pairs_value, is_message, message_bytes, message, number, timeout, span, entry_of};
 
 use crate::fault::{Place, TableFault};
 use crate::named::place_of;
-use apex_types::{Literal, Message, Name, Origin, Timeout, number_at_most};
+use apex_types::{Literal, Message, Name, Origin, Span, Timeout, number_at_most};
 use arrayvec::ArrayVec;
 use std::alloc::{AllocError, Global};
 
@@ -63,6 +63,17 @@ pub fn timeout(at: Place, word: &str) -> Result<Timeout, TableFault>
         "infinite" => Ok(Timeout::Infinite),
         _ => Ok(Timeout::Ticks(number(at, u32::MAX, word)?)),
     }
+}
+
+/// The span of time that a word writes.
+pub fn span(at: Place, word: &str) -> Result<Span, TableFault>
+    ensures { result ≡ span at word.now }
+{
+    let ticks = number(at, u32::MAX, word)?;
+    if ticks == 0 {
+        return Err(TableFault::OutOfRange(at));
+    }
+    Ok(Span::of(ticks))
 }
 
 fn is_digit(byte: u8) -> bool

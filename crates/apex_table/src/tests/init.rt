@@ -48,6 +48,7 @@ const FAULTS: &[(&str, &[&str])] = &[
         "OutOfRange in init 1",
         &[
             "TIMED_WAIT 4294967296",
+            "REPLENISH 0",
             "WAIT_SEMAPHORE S 4294967296",
             "SUSPEND_SELF 4294967296",
             "SET_PRIORITY P1 65536",
@@ -71,6 +72,8 @@ const FAULTS: &[(&str, &[&str])] = &[
             "GET_MY_ID",
             "GET_MY_PROCESSOR_CORE_ID",
             "TIMED_WAIT 0",
+            "PERIODIC_WAIT",
+            "REPLENISH 1",
             "WAIT_SEMAPHORE S 0",
         ],
     ),

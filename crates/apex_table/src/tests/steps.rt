@@ -2,7 +2,7 @@ use crate::reading::read_table;
 use crate::tests::{SIGNAL_WAKES_WAITER, fault_of};
 use apex_types::{
     Call, CallerCall, Named, Origin, PartitionCall, ProcessCall, ProcessId, ProcessService,
-    RequestedMode, SemaphoreCall, SemaphoreId, SemaphoreService, TimeCall, Timeout,
+    RequestedMode, SemaphoreCall, SemaphoreId, SemaphoreService, Span, TimeCall, Timeout,
 };
 use std::alloc::{AllocError, Global};
 use std::process::Abort;
@@ -74,7 +74,11 @@ const FAULTS: &[(&str, &[&str])] = &[
             "SET_PARTITION_MODE NORMAL IDLE",
             "CREATE_SAMPLING_PORT S",
             "GET_QUEUING_PORT_ID S",
-            "PERIODIC_WAIT",
+            "PERIODIC_WAIT 1",
+            "REPLENISH",
+            "REPLENISH 01",
+            "REPLENISH infinite",
+            "REPLENISH 5 5",
             "work 5",
         ],
     ),
@@ -104,6 +108,8 @@ const FAULTS: &[(&str, &[&str])] = &[
             "WAIT_SEMAPHORE S 4294967296",
             "WAIT_SEMAPHORE S 18446744073709551617",
             "TIMED_WAIT 100000000000000000000000000005",
+            "REPLENISH 0",
+            "REPLENISH 4294967296",
             "SUSPEND_SELF 4294967296",
             "DELAYED_START P2 4294967296",
             "SET_PRIORITY P2 65536",
@@ -265,6 +271,12 @@ fn a_step_of_the_partition_or_of_time_is_read_as_its_call(rt: HostRuntime) -> Re
         (
             "TIMED_WAIT infinite",
             Call::Time(TimeCall::TimedWait(Timeout::Infinite)),
+        ),
+        ("PERIODIC_WAIT", Call::Time(TimeCall::PeriodicWait)),
+        ("REPLENISH 1", Call::Time(TimeCall::Replenish(Span::of(1)))),
+        (
+            "REPLENISH 4294967295",
+            Call::Time(TimeCall::Replenish(Span::of(4294967295))),
         ),
         ("GET_TIME", Call::Time(TimeCall::GetTime)),
     ] {

@@ -8,7 +8,7 @@ pub struct Row {
 
 /// All rows, in the order of the services.
 // Each list is a function's, since the proof of a function that names all of them would be too long.
-pub fn rows() -> [&'static [Row]; 10] {
+pub fn rows() -> [&'static [Row]; 12] {
     [
         general(),
         creates(),
@@ -16,7 +16,9 @@ pub fn rows() -> [&'static [Row]; 10] {
         statuses(),
         partition(),
         processes(),
-        stops(),
+        starts(),
+        suspensions(),
+        time(),
         semaphores(),
         flags(),
         mutexes(),
@@ -222,6 +224,7 @@ const PARTITION: &[Row] = &[
         effects: &[
             "those that wait for it begin in the order of their starts",
             "the rest of the init list is not carried out",
+            "the periods and the deadlines begin with the releases",
         ],
     },
     Row {
@@ -230,6 +233,7 @@ const PARTITION: &[Row] = &[
         effects: &[
             "every process is stopped, and every turn is idle",
             "the mutex of the caller goes to nobody",
+            "nobody is released, and no deadline is missed",
             "as an init step",
         ],
     },
@@ -254,7 +258,7 @@ fn partition() -> &'static [Row] {
     PARTITION
 }
 
-// Processes, up to their starts.
+// Cores and priorities.
 const PROCESSES: &[Row] = &[
     Row {
         service: "INITIALIZE_PROCESS_CORE_AFFINITY",
@@ -298,34 +302,7 @@ const PROCESSES: &[Row] = &[
             "a waiter for a mutex by the PRIORITY discipline is the newest",
             "a waiter for a mutex by the FIFO discipline keeps its place",
             "a process that waits for NORMAL keeps its place",
-        ],
-    },
-    Row {
-        service: "START",
-        guards: &["not created", "not dormant", "not dormant before NORMAL"],
-        effects: &[
-            "in NORMAL it is released",
-            "it is the newest",
-            "at its first step, with the priority of the table",
-            "before NORMAL it waits",
-        ],
-    },
-    Row {
-        service: "DELAYED_START",
-        guards: &[
-            "not created",
-            "not dormant",
-            "not dormant, and infinite",
-            "infinite",
-            "infinite before NORMAL",
-        ],
-        effects: &[
-            "with 0 it is released",
-            "it waits for its start",
-            "it waits for its start, and the caller owns a mutex",
-            "with the priority of the table",
-            "before NORMAL it waits, and the delay begins with NORMAL",
-            "with 0 before NORMAL",
+            "it stays when the process is released",
         ],
     },
 ];
@@ -334,8 +311,53 @@ fn processes() -> &'static [Row] {
     PROCESSES
 }
 
-// Stops, suspensions and waits for time.
-const STOPS: &[Row] = &[
+// Starts and stops.
+const STARTS: &[Row] = &[
+    Row {
+        service: "START",
+        guards: &[
+            "not created",
+            "not dormant",
+            "not dormant before NORMAL",
+            "not dormant, it waits for its release",
+        ],
+        effects: &[
+            "in NORMAL it is released",
+            "it is the newest",
+            "at its first step, with the priority of the table",
+            "before NORMAL it waits",
+            "a periodic process is released at once, and its deadline begins",
+            "the deadline of one that was stopped begins anew",
+            "before NORMAL no deadline runs",
+        ],
+    },
+    Row {
+        service: "DELAYED_START",
+        guards: &[
+            "not created",
+            "not dormant",
+            "not dormant, and infinite",
+            "not dormant, and the delay is the period",
+            "infinite",
+            "infinite before NORMAL",
+            "infinite, and periodic",
+            "the delay is the period or more",
+            "the delay is the period before NORMAL",
+        ],
+        effects: &[
+            "with 0 it is released",
+            "it waits for its start",
+            "it waits for its start, and the caller owns a mutex",
+            "with the priority of the table",
+            "before NORMAL it waits, and the delay begins with NORMAL",
+            "with 0 before NORMAL",
+            "the delay is one less than the period",
+            "with 0 a process of period 1 is released",
+            "the deadline begins with the release",
+            "the periods begin with the release",
+            "before NORMAL, the deadline begins with the release",
+        ],
+    },
     Row {
         service: "STOP",
         guards: &[
@@ -358,6 +380,8 @@ const STOPS: &[Row] = &[
             "the mutex of a suspended owner goes to the first waiter",
             "it is suspended no more",
             "before NORMAL it does not wait for it any more",
+            "it has no deadline any more",
+            "one that waits for its release is released no more",
         ],
     },
     Row {
@@ -369,15 +393,29 @@ const STOPS: &[Row] = &[
             "the mutex of the caller goes to the first waiter",
             "at the end of a script the mutex of the caller goes to the first waiter",
             "the mutex of the caller is free where nobody waits",
+            "the caller has no deadline any more",
         ],
     },
+];
+
+fn starts() -> &'static [Row] {
+    STARTS
+}
+
+// Suspensions.
+const SUSPENSIONS: &[Row] = &[
     Row {
         service: "SUSPEND",
         guards: &[
             "the caller",
+            "the caller, and periodic",
             "not created",
+            "not created, and periodic",
             "dormant",
             "dormant, and suspended before it was stopped",
+            "periodic",
+            "periodic, and it waits for its release",
+            "periodic, and it owns a mutex",
             "suspended by another process",
             "suspended by another process, and it owns a mutex",
             "suspended by itself",
@@ -390,29 +428,56 @@ const STOPS: &[Row] = &[
             "a wait for a buffer ends while it is suspended",
             "a wait for a mutex ends while it is suspended",
             "it is released while it is suspended",
+            "its deadline runs on",
+            "its HARD deadline runs on, and stops it",
+            "its deadline begins with its release while it is suspended",
         ],
     },
     Row {
         service: "RESUME",
-        guards: &["the caller", "not created", "dormant", "not suspended"],
+        guards: &[
+            "the caller",
+            "the caller, and periodic",
+            "not created",
+            "not created, and periodic",
+            "dormant",
+            "periodic, and not suspended",
+            "periodic, and it waits for its release",
+            "not suspended",
+        ],
         effects: &[
             "one that suspended itself is woken, and has no due",
             "one that suspended itself is the newest",
             "one that another process suspended is the newest",
             "one that got a mutex while it was suspended is the newest",
             "a waiter goes on to wait, and keeps its place",
+            "one that suspended itself keeps its deadline",
         ],
     },
     Row {
         service: "SUSPEND_SELF",
-        guards: &["the caller owns a mutex"],
+        guards: &[
+            "periodic",
+            "periodic, and the caller owns a mutex",
+            "the caller owns a mutex",
+        ],
         effects: &[
             "with 0 nothing changes",
             "with a due",
             "infinite",
             "whose due comes is the newest",
+            "its deadline runs on, and is told before its due",
+            "its HARD deadline runs on, and then it has no due any more",
         ],
     },
+];
+
+fn suspensions() -> &'static [Row] {
+    SUSPENSIONS
+}
+
+// Waits for time, and deadlines.
+const TIME: &[Row] = &[
     Row {
         service: "TIMED_WAIT",
         guards: &[
@@ -424,12 +489,55 @@ const STOPS: &[Row] = &[
             "with 0 the caller is the newest",
             "until its due",
             "whose due comes is the newest",
+            "a periodic process waits too, and its deadline runs on",
+            "its HARD deadline runs on, and then it has no due any more",
+        ],
+    },
+    Row {
+        service: "PERIODIC_WAIT",
+        guards: &[
+            "aperiodic",
+            "aperiodic, and the caller owns a mutex",
+            "the caller owns a mutex",
+        ],
+        effects: &[
+            "until the end of the period",
+            "at the end of the period, a whole period longer",
+            "at the end of the second period, a whole period longer",
+            "late, until the end of the period that has begun",
+            "the periods begin with the release by START",
+            "the deadline is cleared",
+            "the release sets the deadline anew",
+            "the release sets a deadline anew that is longer than the period",
+            "who is released is the newest",
+            "those that are released at one instant are ready by number",
+        ],
+    },
+    Row {
+        service: "REPLENISH",
+        guards: &[
+            "the capacity is infinite",
+            "the capacity is infinite, and the deadline would be beyond the period",
+            "the deadline would be beyond the period",
+            "the deadline would be beyond the period, which is over",
+            "the deadline would be beyond the period, and the last one was missed",
+        ],
+        effects: &[
+            "up to the end of the period",
+            "up to the end of the period that began last",
+            "an aperiodic process has no such limit",
+            "the deadline comes later",
+            "the deadline comes sooner",
+            "after a miss the deadline is set anew",
+            "the capacity stays for the next release",
+            "the caller keeps its place",
+            "the caller owns a mutex",
         ],
     },
 ];
 
-fn stops() -> &'static [Row] {
-    STOPS
+fn time() -> &'static [Row] {
+    TIME
 }
 
 // Semaphores and buffers.

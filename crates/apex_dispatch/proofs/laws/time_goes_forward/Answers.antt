@@ -12,5 +12,6 @@ returns c =
           let here = run table (opening table) first in
           rw (run-append table (opening table) first rest)
           (forward_after table lawful here rest (sound_run table lawful first));
-      dues = λ events. (sound_run table lawful events).dues;
+      dues = λ events p. ((sound_run table lawful events).times p).due;
+      deadlines = λ events p. ((sound_run table lawful events).times p).deadline;
     }

@@ -5,7 +5,7 @@ use Rattle.apex_types.specs.Stamps.{without_due, without_due_of}
 use Rattle.apex_types.specs.Ticks.{serve_due}
 use Rattle.apex_types.proofs.Dues.{first_due_within}
 use Rattle.apex_types.proofs.Reaches.{reaches_then}
-use Rattle.apex_dispatch.proofs.DuesServed.{reach_serve_due, one_due, served_is}
+use Rattle.apex_dispatch.proofs.DuesServed.{IsServable, reach_serve_due, one_due, one_less, served_is}
 use Rattle.apex_types.proofs.Loops.{made_by_none, made_by_all, leads_on}
 use Rattle.apex_dispatch.proofs.ticks.serve_dues.Goals as goal
 
@@ -28,14 +28,25 @@ loop-turn-preserved g c =
     let is = served_is old (g.S.Store.roster c.take_due.new.self) process _ known freed wait in
     let makes : Makes (serve_due old process) (g.S.Store.roster c.wait_over.new.store)
     c.loop-turn.notices c.wait_over.new.notices = rw (← is) c.wait_over.ensures in
-    let reaches = reach_serve_due old process before.starts found in
+    let servable : IsServable old = record { starts = before.starts; times = before.times } in
+    let reaches = reach_serve_due old process servable found in
+    let less = one_less old process servable found in
     record {
       rest = leads_on first_due serve_due _ _ _ old _ _ _ process before.rest found makes;
       reaches = rw makes.roster (reaches_then c.loop-turn.turn 1 before.reaches reaches);
       starts = rw makes.roster (reaches.starts before.starts);
+      times = rw makes.roster (reaches.times before.times);
       end = before.end;
-      room = rw (makes.notices, length-append) (omega (arith, one_due old process, before.room));
+      room = rw (makes.roster, makes.notices, length-append) (omega (arith, one_due old process, less, before.room));
     }
 
 pub returns : goal.returns
 returns g c = made_by_all first_due serve_due _ _ _ _ _ _ c.loop-turn.invariant.rest (omega arith)
+
+pub wait_over-requires-clause-room : goal.wait_over-requires-clause-room
+wait_over-requires-clause-room g c =
+    let old = g.S.Store.roster c.loop-turn.store in
+    let before = c.loop-turn.invariant in
+    let servable : IsServable old = record { starts = before.starts; times = before.times } in
+    let less = one_less old c.in-Some.process servable (sym c.in-Some.ensures.value) in
+    omega (arith, less, c.loop-turn.invariant.room)

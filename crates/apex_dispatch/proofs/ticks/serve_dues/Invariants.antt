@@ -1,5 +1,8 @@
 use Rattle.std.proofs.Common.{◌≡◌, ◌≤◌, length, ◌+◌}
+use Rattle.apex_dispatch.specs.Premises.{due_count}
 use Rattle.apex_types.specs.Dues.{first_due}
+use Rattle.apex_types.specs.Limits.{most_notices}
+use Rattle.apex_types.specs.Periods.{AreInTime}
 use Rattle.apex_types.specs.InTurn.{behind}
 use Rattle.apex_types.specs.Stamps.{HasOrderlyStarts}
 use Rattle.apex_types.specs.Ticks.{serve_due, serve_dues}
@@ -14,5 +17,6 @@ invariant-loop-turn g l = record {
   reaches : Reaches l.turn (g.S.Store.roster l.fn.store) (g.S.Store.roster l.store);
   starts : HasOrderlyStarts (g.S.Store.roster l.store);
   end : l.turn-end ≡ length (g.S.Store.roster l.fn.store).records;
-  room : length l.notices ≤ 32 + l.turn;
+  times : AreInTime (g.S.Store.roster l.store);
+  room : length l.notices + due_count (g.S.Store.roster l.store) ≤ most_notices;
 }

@@ -3,7 +3,7 @@ use Rattle.apex_store.proofs.laws.next_instant_is_least.Goals as goal
 
 pub returns : goal.returns
 returns g c = record {
-  due = earliest_among _;
+  awaited = earliest_among _;
   least = earliest_below _;
   none = earliest_none _;
 }

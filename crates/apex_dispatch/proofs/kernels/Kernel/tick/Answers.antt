@@ -25,8 +25,8 @@ pass_time-went-requires-clause-near g c =
     let room = c.in_ok-refuse_full.ensures.accepted.0 refl in
     omega (arith, kept_time kept, within, kept.limit, c.requires.range, room)
 
-pub pass_time-went-requires-clause-dues : goal.pass_time-went-requires-clause-dues
-pass_time-went-requires-clause-dues g c = (kept_sound c.self.invariant).dues
+pub pass_time-went-requires-clause-instants : goal.pass_time-went-requires-clause-instants
+pass_time-went-requires-clause-instants g c = (kept_sound c.self.invariant).times
 
 -- the kernel afterwards is the one after the tick
 ticked : (g : Over) (c : After-append g) →

@@ -42,6 +42,9 @@ carry_out-deed-requires-clause-time g c =
     let room = c.in_ok-refuse_full.ensures.accepted.0 refl in
     omega (arith, kept_time kept, within, kept.limit, room)
 
+pub carry_out-deed-requires-clause-releases : goal.carry_out-deed-requires-clause-releases
+carry_out-deed-requires-clause-releases g c p = ((kept_sound c.self.invariant).times p).release
+
 -- the kernel afterwards is the one after the turn
 turned : (g : Over) (c : After-append g) →
     let inside = c.self.inside in

@@ -1,0 +1,184 @@
+-- A process whose deadline is HARD, and passes at a tick, is dormant after that tick.
+use Rattle.std.proofs.Common.{◌≡◌, ◌≢◌, ℕ, zero, suc, ◌+◌, ◌<◌, ◌≤◌, ◌⊎◌, false, Option, None, Some, length, refl, sym, ◌∙◌, ap, inl, inr, subst, arith}
+use Rattle.std.proofs.lemmas.Bool.{cases_eq, cond_both}
+use Rattle.std.proofs.lemmas.List.Sums.{count_by-le-length}
+use Rattle.std.proofs.lemmas.Option.{same_Some}
+use Rattle.apex_dispatch.specs.Laws.{HardMissesStop}
+use Rattle.apex_dispatch.specs.Terms.{DeadlineType, Holding, Record}
+use Rattle.apex_types.specs.declared.DeadlineType.TheVariants.{Soft, Hard}
+use Rattle.apex_types.specs.declared.Event.TheVariants.{Tick}
+use Rattle.apex_types.specs.declared.Queue.TheVariants as queues
+use Rattle.apex_types.specs.Dues.{first_missed, is_missed_at}
+use Rattle.apex_types.specs.Handovers.{hand_on, hand_to}
+use Rattle.apex_types.specs.InTurn.{Changed, in_turn, next_and}
+use Rattle.apex_types.specs.Machine.{Machine, happen, opening, run, tick}
+use Rattle.apex_types.specs.Roster.{Roster, record_at, with_record}
+use Rattle.apex_types.specs.Running.{is_eligible}
+use Rattle.apex_types.specs.Stamps.{HasOrderlyStarts, advance_to, awake, newest, readied, set_deadline, stop, stopped}
+use Rattle.apex_types.specs.Table.{Table, IsLawful, process_config}
+use Rattle.apex_types.specs.Ticks.{miss, pass_time, serve_deadlines, serve_dues, serve_instant, serve_missed, tick_goal}
+use Rattle.apex_types.specs.Waiters.{first_waiter}
+use Rattle.apex_types.proofs.Dues.{first_missed_none, first_missed_within, goal_before_deadlines}
+use Rattle.apex_types.proofs.Handovers.{periods_hand_over}
+use Rattle.apex_types.proofs.Reaches.{another_newest, another_record, in_time_later, reaches_set_deadline}
+use Rattle.apex_types.proofs.Rosters.{at_record, changes_record}
+use Rattle.apex_types.proofs.Starts.{first_within}
+use Rattle.apex_dispatch.proofs.Counts.{count}
+use Rattle.apex_dispatch.proofs.DuesServed.{IsServable, reach_serve_dues}
+use Rattle.apex_dispatch.proofs.MissesServed.{missed_tells, reach_serve_deadlines, reach_serve_missed}
+use Rattle.apex_dispatch.proofs.Sound.{IsSound, goes, sound_run}
+
+-- a mutex that changes hands leaves all deadlines
+deadline_handed : (roster : Roster) (holding : Holding) (found : Option ℕ) → first_waiter roster (queues.Mutex holding.mutex) ≡ found
+    → (p : ℕ) → (record_at (hand_to roster holding found).roster p).deadline ≡ (record_at roster p).deadline
+deadline_handed roster holding None is p = refl
+deadline_handed roster holding (Some q) is p =
+    let r : Record = awake (record (record_at roster q) { owned = Some (record holding { depth = 1 }) }) in
+    let known = first_within roster (queues.Mutex holding.mutex) q is in
+    cond_both {A = Roster} (is_eligible roster.mode r) (newest roster q r) (with_record roster q r)
+    (λ (new : Roster). (record_at new p).deadline ≡ (record_at roster p).deadline)
+    (λ _. elim (cases_eq p q) [
+      | inl here ↦ rw here (ap (λ (x : Record). x.deadline) (another_newest roster q known r).here)
+      | inr apart ↦ ap (λ (x : Record). x.deadline) ((another_newest roster q known r).others p apart)
+    ])
+    (λ _. elim (cases_eq p q) [
+      | inl here ↦ rw here (ap (λ (x : Record). x.deadline) (another_record roster q known r).here)
+      | inr apart ↦ ap (λ (x : Record). x.deadline) ((another_record roster q known r).others p apart)
+    ])
+
+deadline_handed_on : (roster : Roster) (owned : Option Holding) (p : ℕ)
+    → (record_at (hand_on roster owned).roster p).deadline ≡ (record_at roster p).deadline
+deadline_handed_on roster None p = refl
+deadline_handed_on roster (Some holding) p = deadline_handed roster holding (first_waiter roster (queues.Mutex holding.mutex)) refl p
+
+-- nor does it start anybody
+dormant_handed_on : (roster : Roster) (owned : Option Holding) (p : ℕ) → (record_at roster p).started ≡ false
+    → (record_at (hand_on roster owned).roster p).started ≡ false
+dormant_handed_on roster None p e = e
+dormant_handed_on roster (Some holding) p e = (periods_hand_over roster holding p).dormant e
+
+-- a miss of process q
+module _ (roster : Roster) (q : ℕ) (known : q < length roster.records) where
+  -- leaves the deadlines of all others
+  deadline_missed : (kind : DeadlineType) (p : ℕ) → p ≢ q → (record_at (miss roster q kind).roster p).deadline ≡ (record_at roster p).deadline
+  deadline_missed Soft p apart = refl
+  deadline_missed Hard p apart =
+      deadline_handed_on (stop roster q) (record_at roster q).owned p
+      ∙ ap (λ (x : Record). x.deadline) ((changes_record roster q (stopped (record_at roster q))).others p apart)
+
+  -- and stops it where its deadline is HARD
+  dormant_missed : (kind : DeadlineType) → kind ≡ Hard → (record_at (miss roster q kind).roster q).started ≡ false
+  dormant_missed Soft is = cc
+  dormant_missed Hard is =
+      dormant_handed_on (stop roster q) (record_at roster q).owned q
+      (ap (λ (x : Record). x.started) (at_record roster q known (stopped (record_at roster q))))
+
+-- the deadline of process p is now, and it is HARD
+record IsMissing (p now : ℕ) (roster : Roster) : Type 0 where
+  deadline : (record_at roster p).deadline ≡ Some now
+  hard : (record_at roster p).attributes.deadline ≡ Hard
+
+-- it is so, or the process is dormant
+abbrev IsOver : ℕ → ℕ → Roster → Type 0
+IsOver p now roster = IsMissing p now roster ⊎ ((record_at roster p).started ≡ false)
+
+-- one miss more, of process q
+over_missed : (p : ℕ) (roster : Roster) (q : ℕ) → HasOrderlyStarts roster → first_missed roster ≡ Some q
+    → IsOver p roster.now roster → IsOver p roster.now (serve_missed roster q).roster
+over_missed p roster q starts is over =
+    let reaches = reach_serve_missed roster q starts is in
+    let within = first_missed_within roster q is in
+    let cleared = set_deadline roster q None in
+    let r : Record = record (record_at roster q) { deadline = None } in
+    let kind = (record_at roster q).attributes.deadline in
+    let many : q < length cleared.records = rw (changes_record roster q r).count within in
+    elim over [
+      | inl missing ↦ elim (cases_eq p q) [
+        | inl same ↦
+            let hard : kind ≡ Hard = rw same at missing.hard in
+            inr (rw same (dormant_missed cleared q many kind hard))
+        | inr apart ↦
+            let left = ap (λ (x : Record). x.deadline) ((changes_record roster q r).others p apart) in
+            inl (record {
+              deadline = deadline_missed cleared q many kind p apart ∙ left ∙ missing.deadline;
+              hard = ap (λ attributes. attributes.deadline) (reaches.periods p).attributes ∙ missing.hard;
+            })
+      ]
+      | inr dormant ↦ inr ((reaches.periods p).dormant dormant)
+    ]
+
+-- where nobody misses a deadline now, it is dormant
+over_none : (p : ℕ) (roster : Roster) → first_missed roster ≡ None → IsOver p roster.now roster → (record_at roster p).started ≡ false
+over_none p roster none over = elim over [
+  | inl missing ↦ absurd (first_missed_none roster none p missing.deadline)
+  | inr dormant ↦ dormant
+]
+
+-- how many miss a deadline now
+abbrev missing : Roster → ℕ
+missing roster = count (is_missed_at roster.now) roster
+
+module _ (p : ℕ) where
+  abbrev Stops : (Roster → Changed) → ℕ → Type 0
+  Stops others left = (roster : Roster) → HasOrderlyStarts roster → missing roster ≤ left → IsOver p roster.now roster
+      → (record_at (others roster).roster p).started ≡ false
+
+  stops_and : (others : Roster → Changed) (left : ℕ) → Stops others left
+      → (roster : Roster) → HasOrderlyStarts roster → missing roster ≤ suc left → IsOver p roster.now roster
+      → (found : Option ℕ) → first_missed roster ≡ found → (record_at (next_and others serve_missed roster found).roster p).started ≡ false
+  stops_and others left rest roster starts few over None is = over_none p roster is over
+  stops_and others left rest roster starts few over (Some q) is =
+      let reaches = reach_serve_missed roster q starts is in
+      let after = (serve_missed roster q).roster in
+      let time : after.now ≡ roster.now = reaches.time in
+      let fewer = (missed_tells roster q is).misses in
+      rest after (reaches.starts starts) (rw time (omega (arith, few, fewer)))
+      (subst (λ now. IsOver p now after) (sym time) (over_missed p roster q starts is over))
+
+  stops_none : (roster : Roster) → missing roster ≤ 0 → IsOver p roster.now roster → (found : Option ℕ) → first_missed roster ≡ found
+      → (record_at roster p).started ≡ false
+  stops_none roster few over None is = over_none p roster is over
+  stops_none roster few over (Some q) is = let fewer = (missed_tells roster q is).misses in absurd (omega (arith, few, fewer))
+
+  stops_in_turn : (left : ℕ) → Stops (in_turn first_missed serve_missed left) left
+  stops_in_turn zero roster starts few over = stops_none roster few over (first_missed roster) refl
+  stops_in_turn (suc left) roster starts few over =
+      stops_and (in_turn first_missed serve_missed left) left (stops_in_turn left) roster starts few over (first_missed roster) refl
+
+  stops : (roster : Roster) → HasOrderlyStarts roster → IsOver p roster.now roster → (record_at (serve_deadlines roster).roster p).started ≡ false
+  stops roster starts over =
+      stops_in_turn (length roster.records) roster starts (count_by-le-length (is_missed_at roster.now) roster.records) over
+
+  -- the dues then start nobody
+  stays_stopped : (roster : Roster) → IsServable roster → IsOver p roster.now roster → (record_at (serve_instant roster).roster p).started ≡ false
+  stays_stopped roster before over =
+      let first = reach_serve_deadlines roster before.starts in
+      let after = serve_deadlines roster in
+      let servable : IsServable after.roster = record { starts = first.starts before.starts; times = first.times before.times } in
+      ((reach_serve_dues after.roster servable).periods p).dormant (stops roster before.starts over)
+
+pub misses_stop : (table : Table) → IsLawful table → HardMissesStop table
+unfolding tick pass_time
+misses_stop table lawful events n p t hard deadline passes =
+    let machine = run table (opening table) events in
+    let sound = sound_run table lawful events in
+    let roster = machine.roster in
+    let goal = tick_goal roster n in
+    let advanced = advance_to roster goal in
+    let starts = sound.orderly.starts in
+    let servable : IsServable advanced = record {
+      starts = record { dormant = starts.dormant; early = starts.early; undue = starts.undue };
+      times = (goes table lawful machine sound (Tick n)).times;
+    } in
+    let first = reach_serve_deadlines advanced servable.starts in
+    let between = serve_deadlines advanced in
+    let servable_then : IsServable between.roster = record { starts = first.starts servable.starts; times = first.times servable.times } in
+    let second = reach_serve_dues between.roster servable_then in
+    let time : (serve_instant advanced).roster.now ≡ goal = second.time ∙ first.time in
+    let near : goal ≤ t = goal_before_deadlines roster n p t deadline in
+    let now : t ≡ goal = omega (arith, near, passes, time) in
+    stays_stopped p advanced servable
+    (inl (record {
+      deadline = deadline ∙ ap Some now;
+      hard = ap (λ attributes. attributes.deadline) (sound.orderly.attributes p) ∙ hard;
+    }))

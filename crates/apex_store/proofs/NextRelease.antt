@@ -1,0 +1,21 @@
+-- The next release of a periodic process, as its law says it and as code computes it.
+use Rattle.std.proofs.Common.{◌≡◌, ℕ, ◌≤◌, Some, subst}
+use Rattle.std.proofs.lemmas.Option.{same_Some}
+use Rattle.apex_types.specs.Periods.{next_release, release_after}
+use Rattle.apex_types.specs.Roster.{Roster, record_at}
+use Rattle.apex_types.proofs.Periods.{next_later, next_least, next_once}
+use Rattle.apex_store.specs.Laws.{IsNextRelease, NextReleaseIsLeast}
+
+is_next : (now release period : ℕ) → 1 ≤ period → IsNextRelease now release period (next_release now release period)
+is_next now release period some =
+    record {
+      later = next_later now release period some;
+      whole = next_once now release period some;
+      least = next_least now release period some;
+    }
+
+pub next_is_least : (roster : Roster) (p : ℕ) → NextReleaseIsLeast roster p
+next_is_least roster p period t some periodic next =
+    let r = record_at roster p in
+    let is : next_release roster.now r.release period ≡ t = same_Some _ _ (rw periodic at next) in
+    subst (IsNextRelease roster.now r.release period) is (is_next roster.now r.release period some)

@@ -1,0 +1,6 @@
+use Rattle.std.proofs.Common.{◌≡◌, drop}
+use Rattle.apex_types.specs.Dues.{earliest}
+use Rattle.apex_store.proofs.dues.earliest.Given as goal
+
+abbrev pub invariant-loop-place : goal.invariant-loop-place
+invariant-loop-place l = l.earliest ≡ earliest (drop l.place l.records)

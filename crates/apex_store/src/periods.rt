@@ -1,0 +1,24 @@
+//! The releases of periodic processes.
+
+ghost use Rattle.std.specs.Prelude.{◌≡◌, ◌<◌, length};
+ghost use Rattle.apex_types.specs.Dues.{HasTime, IsFrom};
+ghost use Rattle.apex_types.specs.Periods.{HasNoFutureRelease, release_after};
+ghost use Rattle.apex_types.specs.Roster.{record_at};
+
+use crate::store::Store;
+use apex_types::ProcessId;
+
+/// The next release of the process, in ticks: the first instant above now that is one or more whole
+/// periods after its last release. None for an aperiodic process.
+pub fn next_release<S: Store>(store: &S, process: ProcessId) -> Option<u64>
+    requires known { process < length (S.roster store.now).records }
+    requires time { HasTime (S.roster store.now) }
+    requires releases { HasNoFutureRelease (S.roster store.now) }
+    ensures value { result ≡ release_after (S.roster store.now).now (record_at (S.roster store.now) process) }
+    ensures later { IsFrom (S.roster store.now).now result }
+{
+    let row = store.record(process);
+    let period = u64::from(row.attributes.period?.ticks());
+    let passed = (store.now() - row.release) / period;
+    Some(row.release + (passed + 1) * period)
+}

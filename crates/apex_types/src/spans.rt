@@ -1,0 +1,40 @@
+ghost use Rattle.std.specs.Prelude.{◌≡◌, ◌≤◌};
+
+use std::marker::Model;
+
+/// A span of time: 1 to 4,294,967,295 ticks.
+#[derive(Clone, Copy, Debug, PartialEq, Eq)]
+pub struct Span {
+    ticks: u32,
+}
+
+impl Model for Span {
+    ghost use Rattle.std.specs.Prelude.{ℕ, ◌≤◌};
+    ghost use Rattle.apex_types.specs.Limits.{most_span};
+
+    ghost Value = { ℕ };
+
+    ghost view = { λ s. s.ticks };
+
+    ghost invariant = { λ s. (1 ≤ s.ticks) × (s.ticks ≤ most_span) };
+
+    ghost inverse = { λ n. record { ticks = n } };
+}
+
+impl Span {
+    /// The span of so many ticks.
+    pub fn of(ticks: u32) -> Span
+        requires { 1 ≤ ticks }
+        ensures { result ≡ ticks }
+    {
+        Span { ticks }
+    }
+
+    /// How many ticks it has.
+    pub fn ticks(self) -> u32
+        ensures value { result ≡ self }
+        ensures range { 1 ≤ result }
+    {
+        self.ticks
+    }
+}
