@@ -153,6 +153,13 @@ pub asks_freed : (caller : Caller) (called : Option Call) (old new : Roster) →
     → Asks caller called old new
 asks_freed caller called old new frees = record { still = λ q w h. inl (frees.still q w h) }
 
+-- a change by which nobody waits who did not wait before, and then a call
+pub asks_later : {caller : Caller} {called : Option Call} {first second third : Roster} → Frees first second
+    → Asks caller called second third → Asks caller called first third
+asks_later frees asks = record {
+  still = λ q w h. elim (asks.still q w h) [ inl before ↦ inl (frees.still q w before) | inr own ↦ inr own ];
+}
+
 -- process p waits for what its call begins to wait for, and the others as before
 pub asks_waiting : (p : ℕ) (call : Call) (wait : Wait) (r : Record) (old new : Roster)
     → new.records ≡ set old.records p r

@@ -2,7 +2,7 @@
 use Rattle.std.proofs.Common.{◌≡◌, ℕ, ◌<◌, true, false, List, [], ◌∷◌, ◌++◌, length, Option, None, Some, option_and_then, option_map, refl}
 use Rattle.std.proofs.lemmas.Bool.{both_ways}
 use Rattle.apex_dispatch.specs.Terms.{Call, Caller, Entry, Notice, Queue, Reply, Who}
-use Rattle.apex_types.specs.declared.Call.TheVariants.{Partition, Process as ToProcess, Caller as ToCaller, Time as ToTime, Semaphore as ToSemaphore, Buffer as ToBuffer, Blackboard as ToBlackboard, Event as ToEvent, Mutex as ToMutex}
+use Rattle.apex_types.specs.declared.Call.TheVariants.{Partition, Process as ToProcess, Caller as ToCaller, Time as ToTime, Semaphore as ToSemaphore, Buffer as ToBuffer, Blackboard as ToBlackboard, Event as ToEvent, Mutex as ToMutex, Work as ToWork}
 use Rattle.apex_types.specs.declared.Caller.TheVariants.{Nobody}
 use Rattle.apex_types.specs.declared.Queue.TheVariants as queues
 use Rattle.apex_types.specs.BlackboardServices.{BlackboardObject, blackboard_kind}
@@ -25,9 +25,9 @@ use Rattle.apex_dispatch.proofs.BuffersServe.{KeepsBuffer, buffer_laws}
 use Rattle.apex_dispatch.proofs.EventsServe.{KeepsEvent, event_laws}
 use Rattle.apex_dispatch.proofs.MutexesServe.{mutex_laws}
 use Rattle.apex_dispatch.proofs.ObjectsServe.{AreRead, all_elsewhere, all_served, all_stay, quiet_uncalled, queue_at, entry_with}
-use Rattle.apex_dispatch.proofs.OthersServe.{ServesNone, served_partition, served_caller, served_time}
+use Rattle.apex_dispatch.proofs.OthersServe.{ServesNone, served_partition, served_caller, served_time, served_work}
 use Rattle.apex_dispatch.proofs.ProcessesServe.{process_laws}
-use Rattle.apex_dispatch.proofs.Satisfied.{IsIdle, WokenAt, asked-push, far_answered, wakes}
+use Rattle.apex_dispatch.proofs.Satisfied.{Asks, IsIdle, WokenAt, asked-push, far_answered, wakes}
 use Rattle.apex_dispatch.proofs.SemaphoresServe.{semaphore_laws}
 use Rattle.apex_dispatch.proofs.Serving.{Scene, Serves}
 use Rattle.apex_dispatch.proofs.Values.{KeepsSemaphore}
@@ -69,9 +69,10 @@ pub record IsExact (table : Table) (history : List Entry) (e : Entry) (left : Ob
   pub objects : objects_after table (history ++ e ∷ []) ≡ left
   pub kept : AreKept table roster (history ++ e ∷ [])
 
--- what a service owes: it arrives at the roster that it leaves, and is exact
+-- what a service owes: it arrives at the roster that it leaves, who waits there asked for it, and it is exact
 pub record ServesCall (table : Table) (history : List Entry) (roster : Roster) (caller : Caller) (call : Call) (o : Outcome Objects) : Type 0 where
   pub arrives : Arrives 64 roster o.roster
+  pub asks : Asks caller (Some call) roster o.roster
   pub exact : (number now : ℕ) (who : Who)
       → IsExact table history (entry_with number now who caller call o.reply o.notices) o.object o.roster
 
@@ -138,7 +139,7 @@ module _ (table : Table) (history : List Entry) (roster : Roster) (kept : AreKep
   abbrev before : Objects
   before = objects_after table history
 
-  module _ (caller : Caller) (scene : Scene roster caller) (idle : IsIdle caller roster) where
+  module _ (caller : Caller) (idle : IsIdle caller roster) where
     -- a call, and what it leaves
     module _ (call : Call) (at : Option Queue) (new : Roster) (reply : Reply) (notices : List Notice) (serves : Serves roster caller call at new notices) where
       asked_after : (number now : ℕ) (who : Who) → AreAsked new (history ++ entry_with number now who caller call reply notices ∷ [])
@@ -183,12 +184,13 @@ module _ (table : Table) (history : List Entry) (roster : Roster) (kept : AreKep
           (λ j. refl) uncreated (λ j. tt) (λ c j answered. refl)
 
     -- a service of no object
-    serves_none : (call : Call) (o : Outcome Objects) → ServesNone roster before caller call o → queue_named call ≡ None
+    pub serves_none : (call : Call) (o : Outcome Objects) → ServesNone roster before caller call o → queue_named call ≡ None
         → created_process call ≡ None → created_semaphore call ≡ None → created_buffer call ≡ None → created_blackboard call ≡ None → created_event call ≡ None
         → created_mutex call ≡ None
         → ServesCall table history roster caller call o
     serves_none call o none unnamed no_process no_semaphore no_buffer no_blackboard no_event no_mutex = record {
       arrives = none.serves.arrives;
+      asks = none.serves.asks;
       exact = λ number now who.
           let e = entry_with number now who caller call o.reply o.notices in
           rw none.stays (exact_from e before o.roster (record {
@@ -203,17 +205,19 @@ module _ (table : Table) (history : List Entry) (roster : Roster) (kept : AreKep
     }
 
     -- any service
-    pub serves_call : length roster.records ≡ length table.processes → (call : Call) → IsKnown table call
+    pub serves_call : Scene roster caller → length roster.records ≡ length table.processes → (call : Call) → IsKnown table call
         → ServesCall table history roster caller call (service roster before caller call)
-    serves_call many (Partition call) known = serves_none (Partition call) _ (served_partition roster before caller scene call) refl refl refl refl refl refl refl
-    serves_call many (ToCaller call) known = serves_none (ToCaller call) _ (served_caller roster before caller scene call) refl refl refl refl refl refl refl
-    serves_call many (ToTime call) known = serves_none (ToTime call) _ (served_time roster before caller scene call) refl refl refl refl refl refl refl
-    serves_call many (ToProcess call) known =
+    serves_call scene many (Partition call) known = serves_none (Partition call) _ (served_partition roster before caller scene call) refl refl refl refl refl refl refl
+    serves_call scene many (ToCaller call) known = serves_none (ToCaller call) _ (served_caller roster before caller scene call) refl refl refl refl refl refl refl
+    serves_call scene many (ToTime call) known = serves_none (ToTime call) _ (served_time roster before caller scene call) refl refl refl refl refl refl refl
+    serves_call scene many (ToWork amount) known = serves_none (ToWork amount) _ (served_work roster before caller amount) refl refl refl refl refl refl refl
+    serves_call scene many (ToProcess call) known =
         let all = all_served process_kind process_laws history roster table.processes process_keeps caller kept.asked scene
         (λ p inside. rw many inside) call (object_of call) refl known in
         let target = object_of call in
         record {
           arrives = all.serves.arrives;
+          asks = all.serves.asks;
           exact = λ number now who. exact_from _ _ _ (record {
             processes = all.read number now who;
             semaphores = semaphores_stay (ToProcess call) _ _ _ _ all.serves refl (λ j. refl) (far_process queues.Semaphore target) number now who;
@@ -224,13 +228,14 @@ module _ (table : Table) (history : List Entry) (roster : Roster) (kept : AreKep
           })
               (asked_after (ToProcess call) _ _ _ _ all.serves number now who);
         }
-    serves_call many (ToSemaphore call) known =
+    serves_call scene many (ToSemaphore call) known =
         let all = all_served semaphore_kind semaphore_laws history roster table.semaphores kept.semaphores caller kept.asked scene
         (λ s inside. tt) call (object_of call) refl known in
         let target = object_of call in
         let own = queues.Semaphore in
         record {
           arrives = all.serves.arrives;
+          asks = all.serves.asks;
           exact = λ number now who. exact_from _ _ _ (record {
             processes = processes_stay (ToSemaphore call) _ _ _ _ all.serves refl number now who;
             semaphores = all.read number now who;
@@ -241,13 +246,14 @@ module _ (table : Table) (history : List Entry) (roster : Roster) (kept : AreKep
           })
               (asked_after (ToSemaphore call) _ _ _ _ all.serves number now who);
         }
-    serves_call many (ToBuffer call) known =
+    serves_call scene many (ToBuffer call) known =
         let all = all_served buffer_kind buffer_laws history roster table.buffers kept.buffers caller kept.asked scene
         (λ b inside. tt) call (object_of call) refl known in
         let target = object_of call in
         let own = queues.Buffer in
         record {
           arrives = all.serves.arrives;
+          asks = all.serves.asks;
           exact = λ number now who. exact_from _ _ _ (record {
             processes = processes_stay (ToBuffer call) _ _ _ _ all.serves refl number now who;
             semaphores = semaphores_stay (ToBuffer call) _ _ _ _ all.serves refl (far_named queues.Semaphore own (λ j i. refl) target) (far_at queues.Semaphore own (λ j i. refl) target) number now who;
@@ -258,13 +264,14 @@ module _ (table : Table) (history : List Entry) (roster : Roster) (kept : AreKep
           })
               (asked_after (ToBuffer call) _ _ _ _ all.serves number now who);
         }
-    serves_call many (ToBlackboard call) known =
+    serves_call scene many (ToBlackboard call) known =
         let all = all_served blackboard_kind blackboard_laws history roster table.blackboards kept.blackboards caller kept.asked scene
         (λ b inside. tt) call (object_of call) refl known in
         let target = object_of call in
         let own = queues.Blackboard in
         record {
           arrives = all.serves.arrives;
+          asks = all.serves.asks;
           exact = λ number now who. exact_from _ _ _ (record {
             processes = processes_stay (ToBlackboard call) _ _ _ _ all.serves refl number now who;
             semaphores = semaphores_stay (ToBlackboard call) _ _ _ _ all.serves refl (far_named queues.Semaphore own (λ j i. refl) target) (far_at queues.Semaphore own (λ j i. refl) target) number now who;
@@ -275,13 +282,14 @@ module _ (table : Table) (history : List Entry) (roster : Roster) (kept : AreKep
           })
               (asked_after (ToBlackboard call) _ _ _ _ all.serves number now who);
         }
-    serves_call many (ToEvent call) known =
+    serves_call scene many (ToEvent call) known =
         let all = all_served event_kind event_laws history roster table.events kept.events caller kept.asked scene
         (λ e inside. tt) call (object_of call) refl known in
         let target = object_of call in
         let own = queues.Event in
         record {
           arrives = all.serves.arrives;
+          asks = all.serves.asks;
           exact = λ number now who. exact_from _ _ _ (record {
             processes = processes_stay (ToEvent call) _ _ _ _ all.serves refl number now who;
             semaphores = semaphores_stay (ToEvent call) _ _ _ _ all.serves refl (far_named queues.Semaphore own (λ j i. refl) target) (far_at queues.Semaphore own (λ j i. refl) target) number now who;
@@ -292,13 +300,14 @@ module _ (table : Table) (history : List Entry) (roster : Roster) (kept : AreKep
           })
               (asked_after (ToEvent call) _ _ _ _ all.serves number now who);
         }
-    serves_call many (ToMutex call) known =
+    serves_call scene many (ToMutex call) known =
         let all = all_served mutex_kind mutex_laws history roster table.mutexes mutex_keeps caller kept.asked scene
         (λ m inside. tt) call (object_of call) refl known in
         let target = object_of call in
         let own = queues.Mutex in
         record {
           arrives = all.serves.arrives;
+          asks = all.serves.asks;
           exact = λ number now who. exact_from _ _ _ (record {
             processes = processes_stay (ToMutex call) _ _ _ _ all.serves refl number now who;
             semaphores = semaphores_stay (ToMutex call) _ _ _ _ all.serves refl (far_named queues.Semaphore own (λ j i. refl) target) (far_mutex queues.Semaphore target) number now who;

@@ -4,7 +4,7 @@ use Rattle.std.proofs.lemmas.Bool.{cases_lt}
 use Rattle.std.proofs.lemmas.List.{get_or_past}
 use Rattle.std.proofs.lemmas.Option.{none-some, same_Some, slice_get_within, get_or_from_slice_get}
 use Rattle.apex_dispatch.specs.Terms.{Call, Origin}
-use Rattle.apex_types.specs.declared.Call.TheVariants.{Partition, Process, Caller, Time, Semaphore, Buffer, Blackboard, Event, Mutex}
+use Rattle.apex_types.specs.declared.Call.TheVariants.{Partition, Process, Caller, Time, Semaphore, Buffer, Blackboard, Event, Mutex, Work}
 use Rattle.apex_types.specs.declared.Origin.TheVariants.{Init, Script}
 use Rattle.apex_types.specs.Table.{Table, ProcessConfig, Step, IsLawful, IsLawfulStep, IsKnown, no_step, step_at, call_in, no_process, process_config}
 use Rattle.apex_types.specs.Machine.{Objects}
@@ -22,6 +22,7 @@ known_to table objects (Buffer call) all h = rw all.buffers h
 known_to table objects (Blackboard call) all h = rw all.blackboards h
 known_to table objects (Event call) all h = rw all.events h
 known_to table objects (Mutex call) all h = rw all.mutexes h
+known_to table objects (Work amount) all h = tt
 
 -- the call of a step of a list of lawful steps
 pub known_step : (table : Table) (origin : ℕ → Origin) (steps : List Step) (k : ℕ) (call : Call)

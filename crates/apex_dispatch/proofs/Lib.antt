@@ -20,9 +20,12 @@ pub mod MutexesServe
 pub mod OthersServe
 pub mod CallsServe
 pub mod Turns
+pub mod OpenWorks
 pub mod TickTold
 pub mod Runs
 pub mod Sound
+pub mod Pasts
+pub mod Unbroken
 pub mod InPeriods
 pub mod HardMisses
 pub mod InVain

@@ -10,7 +10,7 @@ use Rattle.apex_types.specs.declared.CallerCall.TheVariants.{StopSelf, SuspendSe
 use Rattle.apex_types.specs.declared.Mode.TheVariants as mode
 use Rattle.apex_types.specs.declared.PartitionCall.TheVariants.{SetPartitionMode, GetPartitionStatus}
 use Rattle.apex_types.specs.declared.RequestedMode.TheVariants as requested
-use Rattle.apex_types.specs.declared.Reply.TheVariants.{Code}
+use Rattle.apex_types.specs.declared.Reply.TheVariants.{Begun, Code}
 use Rattle.apex_types.specs.declared.TimeCall.TheVariants.{TimedWait, PeriodicWait, Replenish, GetTime}
 use Rattle.apex_types.specs.declared.Timeout.TheVariants.{Poll, Ticks, Infinite}
 use Rattle.apex_types.specs.declared.Wait.TheVariants.{Time, Period}
@@ -77,6 +77,11 @@ stopped_free (r ∷ rs) (suc p) = stopped_free rs p
 pub record ServesNone {X : Type 0} (roster : Roster) (objects : X) (caller : Caller) (call : Call) (o : Outcome X) : Type 0 where
   pub serves : ServesBy roster caller call None o
   pub stays : o.object ≡ objects
+
+-- work begins
+pub served_work : {X : Type 0} (roster : Roster) (objects : X) (caller : Caller) (amount : ℕ)
+    → ServesNone roster objects caller (call.Work amount) (told roster objects Begun)
+served_work roster objects caller amount = record { serves = serves_same roster caller (call.Work amount) None; stays = refl }
 
 module _ {X : Type 0} (roster : Roster) (objects : X) (caller : Caller) (scene : Scene roster caller) where
   abbrev Served : Call → Outcome X → Type 0

@@ -29,7 +29,7 @@ use Rattle.apex_types.specs.Table.{ProcessConfig, no_process}
 use Rattle.apex_types.specs.Ticks.{begin_notices}
 use Rattle.apex_types.specs.Waiters.{queue_in, goes_by_priority}
 use Rattle.apex_types.proofs.Handovers.{reaches_halted}
-use Rattle.apex_types.proofs.Reaches.{Arrives, reaches_set_core, reaches_set_priority, arrives_more, arrives_start, reaches_suspend, reaches_resume}
+use Rattle.apex_types.proofs.Reaches.{Arrives, reaches_set_priority, arrives_more, arrives_set_core, arrives_start, reaches_suspend, reaches_resume}
 use Rattle.apex_types.proofs.Rows.{by_guard}
 use Rattle.apex_types.proofs.Starts.{waitless_queue}
 use Rattle.apex_dispatch.specs.AskedWaits.{asked_of, awaited, or_suspended}
@@ -78,6 +78,11 @@ begin_frees roster p delay =
     let due = Some (roster.now + delay) in
     cond_both {A = Roster} (delay == 0) (stamps.release roster p) (stamps.block roster p ForStart due) (Frees roster)
     (λ _. frees_release roster p) (λ _. blocked_frees roster p ForStart due refl)
+
+-- a service that is not called in NORMAL is called in COLD_START
+in_cold_start : (cold normal : Bool) → (cold ≡ false → normal ≡ true) → normal ≡ false → cold ≡ true
+in_cold_start true normal called early = refl
+in_cold_start false normal called early = absurd (both_ways _ early (called refl))
 
 -- who is suspended no longer, or by another, waits for no more than before
 suspended_less : (wait : Option Wait) (by_itself : Bool) (w : Wait)
@@ -188,12 +193,12 @@ module _ (history : List Entry) (roster : Roster) (caller : Caller) (p : ℕ) (e
   pub served_own : (service : ProcessService) → Served service (services.process_own roster process p caller service)
   served_own (InitializeCoreAffinity core) =
       let service = InitializeCoreAffinity core in
-      guard service (is_normal roster.mode) _ _ refl (λ _.
+      guard service (is_normal roster.mode) _ _ refl (λ early.
       guard service (not process.created) _ _ refl (λ _.
       guard service (not (nat_lt core roster.cores)) _ _ refl (λ _.
       let r : Record = record (record_at roster p) { core = core } in
       served_freed service (stamps.set_core roster p core) []
-      (arrives_by 0 (lit≤ tt) (reaches_set_core roster p known core))
+      (arrives_more 0 64 (lit≤ tt) (arrives_set_core roster p known core (in_cold_start _ _ scene.called early)))
       (frees_moved roster (stamps.set_core roster p core) p r refl (λ w h. h)) (λ q. refl))))
   served_own (SetPriority priority) =
       let service = SetPriority priority in

@@ -1,74 +1,49 @@
 -- What a kernel keeps: that its history replays, and with it all that holds after every run.
-use Rattle.std.proofs.Common.{◌≡◌, ℕ, ◌+◌, ◌*◌, ◌<◌, ◌≤◌, false, Option, None, arith, List, [], ◌∷◌, ◌++◌, length, Some, ap, ap₂, refl, sym, ◌∙◌, subst, is_some, if◌then◌else◌}
+use Rattle.std.proofs.Common.{◌≡◌, ℕ, ◌+◌, ◌*◌, ◌<◌, ◌≤◌, false, Option, None, arith, List, [], ◌∷◌, ◌++◌, length, Some, ap, ap₂, refl, sym, ◌∙◌, subst, option_map, if◌then◌else◌}
 use Rattle.std.proofs.lemmas.List.Elements.{All-nil, All-push}
 use Rattle.std.proofs.lemmas.List.Sums.{sum_by-append}
 use Rattle.std.proofs.lemmas.Int.{ints}
-use Rattle.apex_dispatch.specs.Terms.{Call, Caller, Entry, Event, Notice, Reply}
+use Rattle.apex_dispatch.specs.Terms.{Call, Caller, Entry, Event, Notice, OpenWork, Reply}
 use Rattle.apex_types.specs.declared.Event.TheVariants.{Turn, Tick}
 use Rattle.apex_types.specs.Callers.{is_by_init}
 use Rattle.apex_types.specs.History.{init_count}
-use Rattle.apex_types.specs.Machine.{Machine, Objects, objects_after, happen, replay, machine_with, events_of, entry_of, due_init_call, script_deed, chosen_deed, step_of, turn_deed}
+use Rattle.apex_types.specs.Machine.{Machine, Objects, objects_after, happen, replay, machine_with, events_of, entry_of, open_work}
 use Rattle.apex_types.specs.Roster.{Roster, opening_roster}
-use Rattle.apex_types.specs.Running.{chosen}
 use Rattle.apex_types.specs.Table.{Table, IsLawful}
 use Rattle.apex_dispatch.specs.Deeds.{Does}
 use Rattle.apex_dispatch.specs.Events.{IsWithin}
 use Rattle.apex_dispatch.specs.Kernel.{KernelState, IsKept, kernel_in, kernel_with}
 use Rattle.apex_types.specs.Stamps.{HasManyStamps}
+use Rattle.apex_types.specs.Works.{fresh, is_turn_of, watched, work_begun}
+use Rattle.apex_dispatch.specs.Works.{work_at}
+use Rattle.apex_dispatch.proofs.OpenWorks.{open_after}
 use Rattle.apex_dispatch.proofs.Sound.{IsSound, who_of, deed_at, happened, happens, objects_happen, sound_run, sound_happen, told}
 
--- the init list asked for the call exactly where an init step was due
-script_caller : (table : Table) (roster : Roster) (objects : Objects) (p : ℕ) (step : Option Call)
-    → is_by_init (script_deed table roster objects p step).caller ≡ false
-script_caller table roster objects p None = refl
-script_caller table roster objects p (Some call) = refl
-
-chosen_caller : (table : Table) (roster : Roster) (objects : Objects) (process : Option ℕ)
-    → is_by_init (chosen_deed table roster objects process).caller ≡ false
-chosen_caller table roster objects None = refl
-chosen_caller table roster objects (Some p) = script_caller table roster objects p (step_of table roster p)
-
-turn_caller : (table : Table) (roster : Roster) (objects : Objects) (core : ℕ) (due : Option Call)
-    → is_by_init (turn_deed table roster objects core due).caller ≡ is_some due
-turn_caller table roster objects core (Some call) = refl
-turn_caller table roster objects core None = chosen_caller table roster objects (chosen roster core)
-
--- the init step that is due at an event
-abbrev pub due_at : Table → Machine → Event → Option Call
-due_at table machine (Turn core) = due_init_call table machine core
-due_at table machine (Tick n) = None
-
-caller_at : (table : Table) (machine : Machine) (objects : Objects) (event : Event)
-    → is_by_init (deed_at table machine objects event).caller ≡ is_some (due_at table machine event)
-caller_at table machine objects (Turn core) =
-    turn_caller table machine.roster objects core (due_init_call table machine core)
-caller_at table machine objects (Tick n) = refl
-
--- the history then has an init step more, where one was due
+-- the history has an init step more where the init list asked for the call
 init_count_happen : (table : Table) (machine : Machine) (event : Event)
     → init_count (happen table machine event).history
-    ≡ init_count machine.history + (if is_some (due_at table machine event) then 1 else 0)
+    ≡ init_count machine.history + (if is_by_init (deed_at table machine (objects_after table machine.history) event).caller then 1 else 0)
 init_count_happen table machine event =
     let objects = objects_after table machine.history in
     let e = entry_of (length machine.history + 1) (who_of event) (deed_at table machine objects event) in
     ap (λ (m : Machine). init_count m.history) (happens table machine event)
     ∙ sum_by-append (λ (x : Entry). if is_by_init x.process then 1 else 0) machine.history (e ∷ [])
-    ∙ rw (caller_at table machine objects event) (omega arith)
+    ∙ omega arith
 
 -- what a kernel keeps is sound
-pub kept_sound : {kernel : KernelState} {init_made log_limit : ℕ}
-    → IsKept kernel init_made log_limit → IsSound kernel.table kernel.machine
+pub kept_sound : {kernel : KernelState} {init_made log_limit : ℕ} {works : List (Option OpenWork)}
+    → IsKept kernel init_made log_limit works → IsSound kernel.table kernel.machine
 kept_sound {kernel} kept =
     subst (IsSound kernel.table) kept.replays (sound_run kernel.table kept.lawful (events_of kernel.machine.history))
 
 -- and its time is in range
-pub kept_time : {kernel : KernelState} {init_made log_limit : ℕ} → IsKept kernel init_made log_limit
+pub kept_time : {kernel : KernelState} {init_made log_limit : ℕ} {works : List (Option OpenWork)} → IsKept kernel init_made log_limit works
     → kernel.machine.roster.now ≤ 1048576 * length kernel.machine.history
 kept_time kept = (kept_sound kept).time kept.events
 
 -- and stamps are left
-pub kept_stamps : {kernel : KernelState} {init_made log_limit : ℕ}
-    → IsKept kernel init_made log_limit → HasManyStamps kernel.machine.roster
+pub kept_stamps : {kernel : KernelState} {init_made log_limit : ℕ} {works : List (Option OpenWork)}
+    → IsKept kernel init_made log_limit works → HasManyStamps kernel.machine.roster
 kept_stamps kept =
     let sound = kept_sound kept in
     let limit = kept.lawful.limit in
@@ -84,13 +59,14 @@ machine_is table machine replays = ap (λ (m : Machine). record machine { past =
 
 -- the kernel is the one after the event, and keeps what each kernel keeps
 pub record IsAfter (table : Table) (old : Machine) (event : Event) (kernel : KernelState)
-    (init_made log_limit : ℕ) : Type 0 where
+    (init_made log_limit : ℕ) (works : List (Option OpenWork)) : Type 0 where
   pub is : kernel ≡ kernel_in table (happen table old event)
-  pub kept : IsKept kernel init_made log_limit
+  pub kept : IsKept kernel init_made log_limit works
 
 -- the kernel after an event for which there was room
 module _ (table : Table) (objects : Objects) (roster : Roster) (history : List Entry)
-    (init_made log_limit : ℕ) (kept : IsKept (kernel_with table objects roster history) init_made log_limit)
+    (init_made log_limit : ℕ) (works : List (Option OpenWork))
+    (kept : IsKept (kernel_with table objects roster history) init_made log_limit works)
     (room : length history < table.limit) (event : Event) where
   abbrev machine : Machine
   machine = machine_with table roster history
@@ -120,10 +96,13 @@ module _ (table : Table) (objects : Objects) (roster : Roster) (history : List E
         reply = reply;
         notices = notices;
       } ∷ []
-      → (new_made new_limit : ℕ) → new_made ≡ init_made + (if is_some (due_at table machine event) then 1 else 0)
-      → new_limit ≡ log_limit → IsWithin table.cores event
-      → IsAfter table machine event (kernel_with table now left entries) new_made new_limit
-  after_does {caller} {call} {reply} {left} {now} {notices} does entries entered new_made new_limit made same range =
+      → (new_made new_limit : ℕ) → new_made ≡ init_made + (if is_by_init caller then 1 else 0)
+      → new_limit ≡ log_limit
+      → (new_works : List (Option OpenWork)) → ((core : ℕ) → work_at new_works core ≡ option_map (watched left core)
+      (if is_turn_of core (who_of event) then option_map fresh (work_begun caller call reply) else work_at works core))
+      → IsWithin table.cores event
+      → IsAfter table machine event (kernel_with table now left entries) new_made new_limit new_works
+  after_does {caller} {call} {reply} {left} {now} {notices} does entries entered new_made new_limit made same new_works looked range =
       let outcome = does.outcome in
       let is : kernel_with table now left entries ≡ kernel_in table (happen table machine event) =
       rw (entered, does.caller, does.call, outcome.roster, outcome.kept, outcome.reply, outcome.notices, kept.objects)
@@ -134,7 +113,11 @@ module _ (table : Table) (objects : Objects) (roster : Roster) (history : List E
         kept = rw (is, same) (record {
           lawful = kept.lawful;
           limit = kept.limit;
-          init = rw (init_count_happen table machine event, ← kept.init) made;
+          init = rw (init_count_happen table machine event, ← kept.init, ← kept.objects, ← does.caller) made;
+          begun = λ core. looked core
+              ∙ rw (does.caller, does.call, outcome.reply, outcome.roster, kept.begun core, kept.objects) refl
+              ∙ sym (open_after machine (who_of event) (deed_at table machine (objects_after table history) event) sound.past core)
+              ∙ ap (λ (m : Machine). open_work m core) (sym (happens table machine event));
           objects = refl;
           events = rw (told table machine event)
               (All-push (IsWithin table.cores) (events_of history) event kept.events range);
@@ -143,11 +126,13 @@ module _ (table : Table) (objects : Objects) (roster : Roster) (history : List E
       }
 
 pub kept_opening : (table : Table) → IsLawful table
-    → IsKept (kernel_with table (objects_after table []) (opening_roster table) []) 0 table.limit
-kept_opening table lawful = record {
+    → (works : List (Option OpenWork)) → ((core : ℕ) → work_at works core ≡ None)
+    → IsKept (kernel_with table (objects_after table []) (opening_roster table) []) 0 table.limit works
+kept_opening table lawful works none = record {
   lawful = lawful;
   limit = refl;
   init = refl;
+  begun = none;
   objects = refl;
   events = All-nil (IsWithin table.cores);
   replays = refl;

@@ -9,7 +9,7 @@ use Rattle.apex_types.specs.declared.Wait.TheVariants.{Normal, Start, Time, Peri
 use Rattle.apex_types.specs.Callers.{IsReady, IsReadyCaller}
 use Rattle.apex_types.specs.Dues.{due_after}
 use Rattle.apex_types.specs.Periods.{awaits_first}
-use Rattle.apex_types.specs.Roster.{Roster, record_at, is_normal}
+use Rattle.apex_types.specs.Roster.{Roster, record_at, is_cold_start, is_normal}
 use Rattle.apex_types.specs.Rows.{Outcome}
 use Rattle.apex_types.specs.Stamps.{HasOrderlyStarts, WaitsForOne, block}
 use Rattle.apex_types.proofs.Dues.{due_later}
@@ -20,13 +20,14 @@ use Rattle.apex_dispatch.specs.AskedWaits.{begins, asked_of}
 use Rattle.apex_dispatch.proofs.Satisfied.{Asks, WokenAt, wakes}
 use Rattle.apex_dispatch.proofs.AskedWaits.{Frees, frees_none, asks_freed, asks_blocked}
 
--- what a service may rely on
+-- what a service may rely on; after COLD_START nothing calls one but in NORMAL
 pub record Scene (roster : Roster) (caller : Caller) : Type 0 where
   pub starts : HasOrderlyStarts roster
   pub one : WaitsForOne roster
   pub few : length roster.records ≤ 64
   pub spans : (p : ℕ) → HasSomeTicks (record_at roster p).attributes.period
   pub ready : IsReadyCaller roster caller
+  pub called : is_cold_start roster.mode ≡ false → is_normal roster.mode ≡ true
 
 -- what a service keeps that leaves this roster and tells these notices; whom it wakes with NO_ERROR had
 -- waited in this queue, or for time where there is none, or for a mutex

@@ -1,19 +1,19 @@
 -- What holds after every list of events: at the opening, and after each turn and each tick.
-use Rattle.std.proofs.Common.{◌≡◌, ℕ, zero, suc, ◌+◌, ◌*◌, ◌<◌, ◌≤◌, ◌&&◌, ◌==◌, nat_lt, subst, false, List, [], ◌∷◌, ◌++◌, length, get_or, None, Some, pos, ◌+ℤ◌, ◌≤ℤ◌, refl, sym, ◌∙◌, ap, arith, length-append}
+use Rattle.std.proofs.Common.{◌≡◌, ℕ, zero, suc, ◌+◌, ◌*◌, ◌<◌, ◌≤◌, ◌&&◌, ◌==◌, nat_lt, subst, Bool, true, false, List, [], ◌∷◌, ◌++◌, length, get_or, Option, None, Some, option_map, cond, if◌then◌else◌, pos, ◌+ℤ◌, ◌≤ℤ◌, refl, sym, ◌∙◌, ap, arith, length-append, inl, inr}
 use Rattle.std.specs.Prelude.{All}
 use Rattle.std.proofs.lemmas.Bool.{both_ways, cond_both, ltb-true}
 use Rattle.std.proofs.lemmas.List.{map-append}
 use Rattle.std.proofs.lemmas.List.Elements.{All-nil, All-pop, All-push}
 use Rattle.std.proofs.lemmas.Int.{ints}
-use Rattle.std.proofs.lemmas.Option.{none-some}
-use Rattle.apex_dispatch.specs.Terms.{Event, Record, Wait, Who}
+use Rattle.std.proofs.lemmas.Option.{none-some, same_Some}
+use Rattle.apex_dispatch.specs.Terms.{Call, Event, OpenWork, Record, Wait, Who, Work}
 use Rattle.apex_types.specs.declared.Event.TheVariants.{Turn, Tick}
 use Rattle.apex_types.specs.declared.Wait.TheVariants.{Period, Mutex}
 use Rattle.apex_types.specs.declared.Who.TheVariants.{Core, Ticker}
 use Rattle.apex_types.specs.Distinct.{IsStamped}
 use Rattle.apex_types.specs.History.{init_count}
 use Rattle.apex_types.specs.Lines.{IsPrintable}
-use Rattle.apex_types.specs.Machine.{Machine, Deed, Objects, objects_after, tick_deed, turn_deed, due_init_call, opening, after_deed, turn, tick, happen, accept, run, replay, events_of, event_of, entry_of}
+use Rattle.apex_types.specs.Machine.{Machine, Deed, Objects, objects_after, tick_deed, turn_deed, due_init_call, open_work, opening, after_deed, turn, tick, happen, accept, run, replay, events_of, event_of, entry_of}
 use Rattle.apex_types.specs.Owners.{is_held}
 use Rattle.apex_types.specs.Periods.{AreInTime}
 use Rattle.apex_types.specs.Places.{map_places}
@@ -21,6 +21,7 @@ use Rattle.apex_types.specs.Roster.{Roster, nobody, opening_record, opening_rost
 use Rattle.apex_types.specs.Stamps.{advance_to}
 use Rattle.apex_types.specs.Table.{Table, ProcessConfig, IsLawful, no_process}
 use Rattle.apex_types.specs.Ticks.{tick_goal}
+use Rattle.apex_types.specs.Works.{fresh, is_turn_of, watched, work_begun}
 use Rattle.apex_types.proofs.DistinctStamps.{stamped_opening, stamped_advance_to}
 use Rattle.apex_types.proofs.Dues.{goal_before_deadlines, goal_before_dues, goal_forward, goal_near}
 use Rattle.apex_types.proofs.Owners.{owners_kept}
@@ -29,9 +30,10 @@ use Rattle.apex_types.proofs.Reaches.{in_time_later}
 use Rattle.apex_dispatch.specs.AskedWaits.{awaited}
 use Rattle.apex_dispatch.specs.Events.{IsWithin}
 use Rattle.apex_dispatch.proofs.Known.{known_due}
+use Rattle.apex_dispatch.proofs.OpenWorks.{open_after, open_by_deed}
 use Rattle.apex_dispatch.proofs.Runs.{length-happen, accept-room, run-append}
 use Rattle.apex_dispatch.proofs.TickTold.{tick_owes}
-use Rattle.apex_dispatch.proofs.Turns.{IsOrderly, Owes, turn_owes}
+use Rattle.apex_dispatch.proofs.Turns.{IsAtWork, IsOrderly, Owes, turn_owes}
 
 -- who tells of an event, what it does, and where time goes at it
 abbrev pub who_of : Event → Who
@@ -40,7 +42,7 @@ who_of (Tick n) = Ticker
 
 abbrev pub deed_at : Table → Machine → Objects → Event → Deed
 deed_at table machine objects (Turn core) =
-    turn_deed table machine.roster objects core (due_init_call table machine core)
+    turn_deed table machine.roster objects core (open_work machine core) (due_init_call table machine core)
 deed_at table machine objects (Tick n) = tick_deed machine.roster objects n
 
 abbrev pub instant_of : Roster → Event → ℕ
@@ -80,9 +82,14 @@ abbrev pub IsTimely : Table → Machine → Type 0
 IsTimely table machine = All (IsWithin table.cores) (events_of machine.history)
     → machine.roster.now ≤ 1048576 * length machine.history
 
+-- who has work open on a core is at work there
+abbrev pub AreAtWork : Machine → Type 0
+AreAtWork machine = (core : ℕ) (o : OpenWork) → open_work machine core ≡ Some o → IsAtWork machine.roster core o.work.process
+
 -- what holds of the machine after every list of events on an accepted table: all is in order, stamps
 -- differ, and are left for all that the history's limit still admits, every process is in time, the
--- ids of each entry are the table's, the history is within the limit and replays, and time is in range
+-- ids of each entry are the table's, the history is within the limit and replays, time is in range, there is a
+-- state for each entry, and whoever has work open is at work
 pub record IsSound (table : Table) (machine : Machine) : Type 0 where
   pub orderly : IsOrderly table machine.history machine.roster
   pub stamps : machine.roster.young ≤ℤ pos (64 + 64 * length machine.history)
@@ -93,6 +100,24 @@ pub record IsSound (table : Table) (machine : Machine) : Type 0 where
   pub within : length machine.history ≤ table.limit
   pub replays : replay table machine.history ≡ machine
   pub time : IsTimely table machine
+  pub past : length machine.past ≡ length machine.history
+  pub workers : AreAtWork machine
+
+-- in COLD_START alone an init step is due
+due_cold : (cold first : Bool) (next : Option Call) (call : Call) → cond (cold && first) next None ≡ Some call → cold ≡ true
+due_cold true first next call e = refl
+due_cold false first next call e = absurd (none-some call e)
+
+-- what stands open after a deed is work that it began, or work that stood open before
+stood_open : (roster : Roster) (core : ℕ) (found : Option OpenWork) (o : OpenWork) → option_map (watched roster core) found ≡ Some o
+    → (before : OpenWork) × (found ≡ Some before) × (before.work ≡ o.work)
+stood_open roster core None o e = absurd (none-some o e)
+stood_open roster core (Some before) o e =
+    (before, refl, ap (λ (x : OpenWork). x.work) (same_Some (watched roster core before) o e))
+
+just_begun : (begun : Option Work) (o : OpenWork) → option_map fresh begun ≡ Some o → begun ≡ Some o.work
+just_begun None o e = absurd (none-some o e)
+just_begun (Some work) o e = ap (λ (x : OpenWork). Some x.work) (same_Some (fresh work) o e)
 
 -- time goes forward, past no due and no deadline, and by 1,048,576 at the most in an event that is in range
 pub record GoesTo (cores : ℕ) (event : Event) (roster : Roster) (t : ℕ) : Type 0 where
@@ -117,9 +142,10 @@ module _ (table : Table) (lawful : IsLawful table) (machine : Machine) (sound : 
       → Owes table machine.history (advance_to machine.roster (instant_of machine.roster event)) (who_of event)
       (deed_at table machine (objects_after table machine.history) event)
   owes (Turn core) =
-      turn_owes table lawful machine.history (Core core) machine.roster sound.orderly core
+      let cold = is_cold_start machine.roster.mode in
+      turn_owes table lawful machine.history core machine.roster sound.orderly (open_work machine core) (sound.workers core)
       (due_init_call table machine core)
-      (known_due table (init_count machine.history) lawful (is_cold_start machine.roster.mode && core == 0))
+      (known_due table (init_count machine.history) lawful (cold && core == 0)) (due_cold cold (core == 0) _)
   owes (Tick n) =
       let count = lawful.process_count in
       tick_owes table machine.history machine.roster sound.orderly (omega (arith, sound.orderly.many, count)) n (goes (Tick n)).times
@@ -146,6 +172,44 @@ module _ (table : Table) (lawful : IsLawful table) (machine : Machine) (sound : 
   replays_happen event room =
       let again = run-append table (opening table) (events_of machine.history) (event ∷ []) in
       rw (told table machine event, again, sound.replays) (accept-room table machine event room)
+
+  -- whoever has work open on another core stays at work: it is bound to that core, and asks for nothing
+  stays_at_work : (event : Event) (core p : ℕ) → is_turn_of core (who_of event) ≡ false → IsAtWork machine.roster core p
+      → IsAtWork (happened table machine event).roster core p
+  stays_at_work event core p elsewhere at =
+      let after = happened table machine event in
+      let due = owes event in
+      record {
+        known = rw due.arrives.moves.many at.known;
+        bound = due.arrives.cores at.late p ∙ at.bound;
+        idle = idle due (awaited (record_at after.roster p)) refl;
+        late = due.arrives.moves.late at.late;
+      } where
+        idle : Owes table machine.history (advance_to machine.roster (instant_of machine.roster event)) (who_of event)
+            (deed_at table machine (objects_after table machine.history) event)
+            → (waits : Option Wait) → awaited (record_at (happened table machine event).roster p) ≡ waits → waits ≡ None
+        idle due None is = refl
+        idle due (Some w) is = elim (due.asks.still p w is) [
+          | inl before ↦ absurd (none-some w (sym at.idle ∙ before))
+          | inr own ↦ absurd (both_ways _ elsewhere (rw at.bound at (due.own p own.0)))
+        ]
+
+  workers_happen : (event : Event) → AreAtWork (happened table machine event)
+  workers_happen event core o is =
+      let deed = deed_at table machine (objects_after table machine.history) event in
+      let after = happened table machine event in
+      let found = stood_open after.roster core (open_by_deed machine (who_of event) deed core) o
+      (sym (open_after machine (who_of event) deed sound.past core) ∙ is) in
+      by_turn (is_turn_of core (who_of event)) refl found.0 found.1 found.2 where
+        by_turn : (mine : Bool) → is_turn_of core (who_of event) ≡ mine → (before : OpenWork)
+            → (if mine then option_map fresh (work_begun (deed_at table machine (objects_after table machine.history) event).caller
+            (deed_at table machine (objects_after table machine.history) event).call
+            (deed_at table machine (objects_after table machine.history) event).outcome.reply) else open_work machine core) ≡ Some before
+            → before.work ≡ o.work → IsAtWork (happened table machine event).roster core o.work.process
+        by_turn true mine before e same =
+            rw (← same) ((owes event).begun before.work (just_begun _ before e) core mine)
+        by_turn false elsewhere before e same =
+            rw (← same) (stays_at_work event core before.work.process elsewhere (sound.workers core before e))
 
   pub sound_happen : (event : Event) → length machine.history < table.limit
       → IsSound table (happen table machine event)
@@ -178,6 +242,8 @@ module _ (table : Table) (lawful : IsLawful table) (machine : Machine) (sound : 
         within = rw longer (omega (arith, room));
         replays = subst (λ (m : Machine). replay table m.history ≡ m) is (replays_happen event room);
         time = subst (IsTimely table) is (time_happen event);
+        past = rw (length-append, length-append) (omega (arith, sound.past));
+        workers = workers_happen event;
       })
 
   -- so it is where the history may be full
@@ -229,7 +295,7 @@ opening_attributes [] q p = refl
 opening_attributes (e ∷ entries) q zero = refl
 opening_attributes (e ∷ entries) q (suc p) = opening_attributes entries (q + 1) p
 
-sound_opening : (table : Table) → IsLawful table → IsSound table (opening table)
+pub sound_opening : (table : Table) → IsLawful table → IsSound table (opening table)
 sound_opening table lawful =
     let count = lawful.process_count in
     let dormant = opening_dormant table.processes 0 in
@@ -276,6 +342,8 @@ sound_opening table lawful =
       within = omega arith;
       replays = refl;
       time = λ _. omega arith;
+      past = refl;
+      workers = λ core o is. absurd (none-some o is);
     }
 
 -- every run on an accepted table is sound

@@ -3,7 +3,9 @@
 use Rattle.std.proofs.Common.{◌≡◌, ℕ, ◌+◌, ◌≤◌, Bool, true, false, ◌&&◌, ◌==◌, List, [], ◌++◌, length, Option, None, Some, refl, sym, ◌∙◌, inl, inr, arith}
 use Rattle.std.proofs.lemmas.Bool.{cases_Bool, and_parts, eqb-true, both_ways}
 use Rattle.std.proofs.lemmas.List.Folds.{list_any-append}
+use Rattle.std.proofs.lemmas.Option.{none-some}
 use Rattle.apex_dispatch.specs.Terms.{DeadlineType, Entry, Notice, Record, Wait}
+use Rattle.apex_types.specs.declared.Caller.TheVariants.{Nobody}
 use Rattle.apex_types.specs.declared.DeadlineType.TheVariants.{Soft, Hard}
 use Rattle.apex_types.specs.declared.Wait.TheVariants.{Start, Time, Period}
 use Rattle.apex_types.specs.declared.Who.TheVariants.{Ticker}
@@ -20,7 +22,7 @@ use Rattle.apex_types.proofs.Reaches.{Reaches, arrives_of, reaches_more, reaches
 use Rattle.apex_dispatch.specs.AskedWaits.{asked_of, or_suspended}
 use Rattle.apex_dispatch.proofs.DuesServed.{IsServable, reach_serve_dues}
 use Rattle.apex_dispatch.proofs.MissesServed.{reach_serve_deadlines}
-use Rattle.apex_dispatch.proofs.AskedWaits.{Frees, frees_none, frees_then, frees_moved, frees_release, frees_unblock}
+use Rattle.apex_dispatch.proofs.AskedWaits.{Frees, asks_freed, frees_none, frees_then, frees_moved, frees_release, frees_unblock}
 use Rattle.apex_dispatch.proofs.CallsServe.{exact_uncalled}
 use Rattle.apex_dispatch.proofs.HandedOver.{halts}
 use Rattle.apex_dispatch.proofs.Satisfied.{WokenAt, is_waking, wakes}
@@ -153,6 +155,9 @@ tick_owes table history roster orderly few n times =
     record {
       arrives = arrives_of (reach_serve_instant advanced servable few);
       known = tt;
+      asks = asks_freed Nobody None advanced (serve_instant advanced).roster served.frees;
+      own = λ p by. absurd (both_ways false refl by);
+      begun = λ work begun. absurd (none-some work begun);
       exact = exact_uncalled table history roster orderly.kept _ _ refl refl served.woken
           (record { still = served.frees.still });
     }

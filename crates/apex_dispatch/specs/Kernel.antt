@@ -1,11 +1,12 @@
 -- What every contract sees of a kernel, and what each kernel keeps.
-use Rattle.std.specs.Prelude.{◌≡◌, ℕ, List, All}
-use Rattle.apex_dispatch.specs.Terms.{Entry}
+use Rattle.std.specs.Prelude.{◌≡◌, ℕ, List, Option, All}
+use Rattle.apex_dispatch.specs.Terms.{Entry, OpenWork}
 use Rattle.apex_types.specs.Table.{Table, IsLawful}
 use Rattle.apex_types.specs.Roster.{Roster}
 use Rattle.apex_types.specs.History.{init_count}
-use Rattle.apex_types.specs.Machine.{Machine, Objects, objects_after, events_of, machine_with, replay}
+use Rattle.apex_types.specs.Machine.{Machine, Objects, objects_after, events_of, machine_with, open_work, replay}
 use Rattle.apex_dispatch.specs.Events.{IsWithin}
+use Rattle.apex_dispatch.specs.Works.{work_at}
 
 -- a kernel: its table, the machine's state, and the running values of its objects
 pub record KernelState : Type 0 where
@@ -30,12 +31,13 @@ kernel_with table objects roster history = record {
 }
 
 -- what each kernel keeps: its table is lawful, its log's limit is the table's, its counter of init
--- steps and its running values are the history's, and the events that its history tells of are in
--- range and, run anew, give the machine's very state
-pub record IsKept (kernel : KernelState) (init_made log_limit : ℕ) : Type 0 where
+-- steps, its running values and the work that stands open on each core are the history's, and the events
+-- that its history tells of are in range and, run anew, give the machine's very state
+pub record IsKept (kernel : KernelState) (init_made log_limit : ℕ) (works : List (Option OpenWork)) : Type 0 where
   pub lawful : IsLawful kernel.table
   pub limit : log_limit ≡ kernel.table.limit
   pub init : init_made ≡ init_count kernel.machine.history
+  pub begun : (core : ℕ) → work_at works core ≡ open_work kernel.machine core
   pub objects : kernel.objects ≡ objects_after kernel.table kernel.machine.history
   pub events : All (IsWithin kernel.table.cores) (events_of kernel.machine.history)
   pub replays : replay kernel.table kernel.machine.history ≡ kernel.machine

@@ -1,7 +1,7 @@
 -- Laws of whole runs, in the subject's own words.
 use Rattle.std.specs.Prelude.{◌≡◌, ◌≢◌, ℕ, ◌≤◌, ◌<◌, true, false, List, [], ◌++◌, None, Some, count_by, length}
 use Rattle.std.specs.List.{filter_map}
-use Rattle.apex_dispatch.specs.Terms.{Entry, Event as Happening, Message}
+use Rattle.apex_dispatch.specs.Terms.{Entry, Event as Happening, Message, OpenWork}
 use Rattle.apex_types.specs.declared.DeadlineType.TheVariants.{Hard}
 use Rattle.apex_types.specs.declared.Queue.TheVariants as queues
 use Rattle.apex_types.specs.declared.Wait.TheVariants.{Receive, Send, Blackboard, Event, Mutex}
@@ -15,7 +15,7 @@ use Rattle.apex_types.specs.Running.{current_priority}
 use Rattle.apex_types.specs.SemaphoreServices.{SemaphoreObject}
 use Rattle.apex_types.specs.Table.{Table, process_config, semaphore_config, buffer_config, mutex_config}
 use Rattle.apex_types.specs.Satisfied.{calls_where, semaphore_value, buffer_content, blackboard_message, is_up}
-use Rattle.apex_types.specs.Machine.{Machine, run, opening, tick, events_of}
+use Rattle.apex_types.specs.Machine.{Machine, run, opening, open_work, tick, events_of}
 use Rattle.apex_dispatch.specs.AskedWaits.{IsAccounted}
 
 -- the value of semaphore s accounts for all its satisfied calls, so that it never served more waits
@@ -117,6 +117,12 @@ HardMissesStop table = (events : List Happening) (n p t : ℕ) →
     let after = tick table before n in
     (process_config table p).attributes.deadline ≡ Hard → (record_at before.roster p).deadline ≡ Some t
     → t ≤ after.roster.now → (record_at after.roster p).started ≡ false
+
+-- in every run whoever has work open on a core is bound to that core
+abbrev pub WorkersStay : Table → Type 0
+WorkersStay table = (events : List Happening) (core : ℕ) (o : OpenWork) →
+    let machine = run table (opening table) events in
+    open_work machine core ≡ Some o → (record_at machine.roster o.work.process).core ≡ core
 
 -- at no moment of the machine's history was time later than it is now
 abbrev pub WasNeverLater : Table → Machine → Type 0

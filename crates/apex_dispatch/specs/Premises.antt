@@ -1,7 +1,7 @@
 -- What a service and a tick may rely on: what is named is there, and stamps are left.
 use Rattle.std.specs.Prelude.{◌≡◌, ℕ, ◌<ℤ◌, ◌+ℤ◌, count_by, length, pos}
 use Rattle.apex_dispatch.specs.Terms.{Call}
-use Rattle.apex_types.specs.declared.Call.TheVariants.{Partition, Process as ToProcess, Caller as ToCaller, Time, Semaphore, Buffer, Blackboard, Event, Mutex}
+use Rattle.apex_types.specs.declared.Call.TheVariants.{Partition, Process as ToProcess, Caller as ToCaller, Time, Semaphore, Buffer, Blackboard, Event, Mutex, Work}
 use Rattle.apex_types.specs.Dues.{is_due_at}
 use Rattle.apex_types.specs.Limits.{most_stamps}
 use Rattle.apex_types.specs.Machine.{Objects}
@@ -19,6 +19,7 @@ IsKnownTo objects (Buffer call) = IsKnownObject (length objects.buffers) call
 IsKnownTo objects (Blackboard call) = IsKnownObject (length objects.blackboards) call
 IsKnownTo objects (Event call) = IsKnownObject (length objects.events) call
 IsKnownTo objects (Mutex call) = IsKnownObject (length objects.mutexes) call
+IsKnownTo objects (Work amount) = Unit {0}
 
 -- there is an object for each entry of the table
 pub record AreOf (table : Table) (objects : Objects) : Type 0 where

@@ -15,6 +15,7 @@ pub use Rattle.apex_types.specs.declared.Mode.{Mode}
 pub use Rattle.apex_types.specs.declared.MutexService.{MutexService}
 pub use Rattle.apex_types.specs.declared.Notice.{Notice}
 pub use Rattle.apex_types.specs.declared.ObjectCall.{ObjectCall}
+pub use Rattle.apex_types.specs.declared.OpenWork.{OpenWork}
 pub use Rattle.apex_types.specs.declared.Origin.{Origin}
 pub use Rattle.apex_types.specs.declared.PartitionCall.{PartitionCall}
 pub use Rattle.apex_types.specs.declared.ProcessService.{ProcessService}
@@ -29,3 +30,4 @@ pub use Rattle.apex_types.specs.declared.TimeCall.{TimeCall}
 pub use Rattle.apex_types.specs.declared.Timeout.{Timeout}
 pub use Rattle.apex_types.specs.declared.Wait.{Wait}
 pub use Rattle.apex_types.specs.declared.Who.{Who}
+pub use Rattle.apex_types.specs.declared.Work.{Work}

@@ -1,7 +1,7 @@
 -- Worked histories: small tables and events, and the lines that the definitions give for them.
 use Rattle.std.specs.Prelude.{◌≡◌, ℕ, true, false, Option, None, Some, List, [], ◌∷◌, codes, flat_map, map, replicate, ◌++◌}
 use Rattle.apex_dispatch.specs.Terms.{Attributes, Call, Event}
-use Rattle.apex_types.specs.declared.Call.TheVariants.{Partition, Process, Caller, Time, Semaphore}
+use Rattle.apex_types.specs.declared.Call.TheVariants.{Partition, Process, Caller, Time, Semaphore, Work}
 use Rattle.apex_types.specs.declared.DeadlineType.TheVariants.{Soft}
 use Rattle.apex_types.specs.declared.Discipline.TheVariants.{Fifo, Priority}
 use Rattle.apex_types.specs.declared.CallerCall.TheVariants.{SuspendSelf, GetMyId}
@@ -10,7 +10,7 @@ use Rattle.apex_types.specs.declared.ObjectCall.TheVariants.{Create, GetStatus, 
 use Rattle.apex_types.specs.declared.Origin.TheVariants.{Init}
 use Rattle.apex_types.specs.declared.PartitionCall.TheVariants.{SetPartitionMode}
 use Rattle.apex_types.specs.declared.RequestedMode.TheVariants.{Idle, Normal}
-use Rattle.apex_types.specs.declared.ProcessService.TheVariants.{InitializeCoreAffinity, SetPriority, Start, DelayedStart, Suspend, Resume}
+use Rattle.apex_types.specs.declared.ProcessService.TheVariants.{InitializeCoreAffinity, SetPriority, Start, DelayedStart, Stop, Suspend, Resume}
 use Rattle.apex_types.specs.declared.SemaphoreService.TheVariants.{Wait, Signal}
 use Rattle.apex_types.specs.declared.TimeCall.TheVariants.{TimedWait, PeriodicWait, GetTime}
 use Rattle.apex_types.specs.declared.Timeout.TheVariants.{Poll, Ticks, Infinite}
@@ -358,6 +358,50 @@ MissedDeadlineThenNextRelease =
     ∷ codes "7 23 core0 1 PERIODIC_WAIT -> BLOCKED"
     ∷ codes "8 30 ticker - tick 9 -> ADVANCED 7 | released 1"
     ∷ codes "9 30 core0 1 GET_TIME -> VALUE 30" ∷ [])
+
+-- a worker, a more urgent process that waits, and on core 1 one that wakes it and stops it
+abbrev pub worker_and_disturber : Table
+worker_and_disturber = record {
+  cores = 2;
+  limit = 4096;
+  processes =
+      starts (codes "A") 10 0 (Work 3 ∷ [])
+      ∷ starts (codes "H") 20 0 (Semaphore (Own 0 (Wait Infinite)) ∷ [])
+      ∷ starts (codes "K") 10 1 (Semaphore (Own 0 Signal) ∷ Process (Own 1 Stop) ∷ []) ∷ [];
+  semaphores = (record { name = codes "S"; maximum = 1; initial = 0; discipline = Fifo }) ∷ [];
+  buffers = [];
+  blackboards = [];
+  events = [];
+  mutexes = [];
+  init = bares (
+      Semaphore (Create (Known 0))
+      ∷ Process (Create (Known 0)) ∷ Process (Create (Known 1)) ∷ Process (Create (Known 2))
+      ∷ Process (Own 2 (InitializeCoreAffinity 1))
+      ∷ Process (Own 0 Start) ∷ Process (Own 1 Start) ∷ Process (Own 2 Start)
+      ∷ Partition (SetPartitionMode Normal) ∷ []);
+}
+
+-- work is lost whose process lost the core meanwhile, and is then begun anew
+abbrev pub WorkIsLostAfterAbsence : Type 0
+WorkIsLostAfterAbsence =
+    history_lines worker_and_disturber (replicate 11 (Turn 0) ++ replicate 2 (Turn 1) ++ replicate 3 (Turn 0))
+    ≡ text (
+    codes "1 0 core0 init CREATE_SEMAPHORE S -> NO_ERROR"
+    ∷ codes "2 0 core0 init CREATE_PROCESS A -> NO_ERROR"
+    ∷ codes "3 0 core0 init CREATE_PROCESS H -> NO_ERROR"
+    ∷ codes "4 0 core0 init CREATE_PROCESS K -> NO_ERROR"
+    ∷ codes "5 0 core0 init INITIALIZE_PROCESS_CORE_AFFINITY K 1 -> NO_ERROR"
+    ∷ codes "6 0 core0 init START A -> NO_ERROR"
+    ∷ codes "7 0 core0 init START H -> NO_ERROR"
+    ∷ codes "8 0 core0 init START K -> NO_ERROR"
+    ∷ codes "9 0 core0 init SET_PARTITION_MODE NORMAL -> NO_ERROR | released 1 | released 2 | released 3"
+    ∷ codes "10 0 core0 2 WAIT_SEMAPHORE S infinite -> BLOCKED"
+    ∷ codes "11 0 core0 1 work 3 -> BEGUN"
+    ∷ codes "12 0 core1 3 SIGNAL_SEMAPHORE S -> NO_ERROR | woken 2 NO_ERROR"
+    ∷ codes "13 0 core1 3 STOP H -> NO_ERROR"
+    ∷ codes "14 0 core0 1 work 3 -> LOST"
+    ∷ codes "15 0 core0 1 work 3 -> BEGUN"
+    ∷ codes "16 0 core0 1 work 3 -> DONE" ∷ [])
 
 -- an init list with refused steps, and a process that ends the partition
 abbrev pub own_init_list : Table

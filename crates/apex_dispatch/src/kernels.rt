@@ -1,4 +1,5 @@
-ghost use Rattle.std.specs.Prelude.{◌≡◌, ◌<◌, ◌≤◌, ◌↔◌, ◌+◌, ◌^◌, [], ◌∷◌, ◌++◌, length, ◌&&◌, ◌==◌, if◌then◌else◌, None, is_some, All, IfOk, IfErr, OnOk, OnErr, IsOk};
+ghost use Rattle.std.specs.Prelude.{◌≡◌, ◌<◌, ◌≤◌, ◌↔◌, ◌+◌, ◌^◌, [], ◌∷◌, ◌++◌, length, ◌&&◌, ◌==◌, if◌then◌else◌, None, All, IfOk, IfErr, OnOk, OnErr, IsOk};
+ghost use Rattle.apex_types.specs.Callers.{is_by_init};
 ghost use Rattle.apex_types.specs.Limits.{latest, most_entries, most_ticks};
 ghost use Rattle.apex_types.specs.Roster.{opening_roster, is_cold_start};
 ghost use Rattle.apex_types.specs.Lines.{IsPrintable};
@@ -11,6 +12,7 @@ ghost use Rattle.apex_dispatch.specs.Kernel.{kernel_in};
 use crate::deeds::{Deed, carry_out};
 use crate::objects::Objects;
 use crate::ticks::pass_time;
+use crate::works::Works;
 use apex_history::{Entries, Log};
 use apex_store::Store;
 use apex_table::Table;
@@ -26,6 +28,7 @@ pub struct Kernel<S: Store> {
     objects: Objects,
     /// How many init steps were carried out.
     init_made: usize,
+    works: Works,
     log: Log,
     /// The notices of the latest event.
     notices: Notices,
@@ -39,7 +42,7 @@ impl<S: Store> Model for Kernel<S> {
     ghost view = { λ k. kernel_with k.table k.objects (S.roster k.store) k.log.entries };
 
     ghost invariant = { λ k. IsKept (kernel_with k.table k.objects (S.roster k.store) k.log.entries)
-        k.init_made k.log.limit };
+        k.init_made k.log.limit k.works };
 }
 
 /// The init step that is due in a turn of the core, where so many were carried out.
@@ -53,11 +56,14 @@ fn due_call<S: Store>(table: &Table, store: &S, init_made: usize, core: CoreId) 
     }
 }
 
-/// How many init steps a turn carries out, where this one is due.
-fn steps_in(due: &Option<Call>) -> usize
-    ensures { result ≡ (if is_some due.now then 1 else 0) }
+/// How many init steps a turn carries out that this caller asks in.
+fn steps_by(caller: &Caller) -> usize
+    ensures { result ≡ (if is_by_init caller.now then 1 else 0) }
 {
-    if due.is_some() { 1 } else { 0 }
+    match caller {
+        Caller::Init => 1,
+        Caller::Process(_) | Caller::Nobody => 0,
+    }
 }
 
 /// Refuses an event where the history has no room for its entry.
@@ -117,6 +123,7 @@ impl<S: Store> Kernel<S> {
             store,
             objects,
             init_made: 0,
+            works: Works::new(),
             log,
             notices: Notices::new(),
         })
@@ -138,10 +145,13 @@ impl<S: Store> Kernel<S> {
             &mut self.store,
             &mut self.objects,
             core,
+            self.works.at(core),
             due,
             &mut self.notices,
         );
-        self.init_made += steps_in(&due);
+        self.init_made += steps_by(&deed.caller);
+        self.works.begin(core, deed.begun());
+        self.works.watch(&self.store);
         append(
             &mut self.log,
             &self.store,
@@ -164,6 +174,7 @@ impl<S: Store> Kernel<S> {
         refuse_full(&self.log)?;
         self.notices.clear();
         let went = pass_time(&mut self.store, n, &mut self.notices);
+        self.works.watch(&self.store);
         let deed = Deed {
             caller: Caller::Nobody,
             call: None,

@@ -4,9 +4,10 @@
 ghost use Rattle.std.specs.Prelude.{All};
 ghost use Rattle.apex_types.specs.Dues.{HasNoPastDeadline, HasNoPastDue};
 ghost use Rattle.apex_store.specs.Laws.{RunsMostUrgent, FirstWaiterIsFirst};
-ghost use Rattle.apex_dispatch.specs.Laws.{AreInRange, HardMissesStop, HistoriesReplay, IsWithinItsMaximum, MutexesAreOwnedInOrder, NobodyWaitsInVain, ReleasesLieInPeriods, RunsCompose, RunsStayWithin, TimeGoesForward, ValuesStayInRange, WasNeverLater};
+ghost use Rattle.apex_dispatch.specs.Laws.{AreInRange, HardMissesStop, HistoriesReplay, IsWithinItsMaximum, MutexesAreOwnedInOrder, NobodyWaitsInVain, ReleasesLieInPeriods, RunsCompose, RunsStayWithin, TimeGoesForward, ValuesStayInRange, WasNeverLater, WorkersStay};
 ghost use Rattle.apex_dispatch.specs.States.{EachHasOneState};
-ghost use Rattle.apex_dispatch.specs.Worked.{SignalWakesWaiter, SignalBeforeWait, EmptyScriptStopsItself, TimedOutWaiterGetsNoSignal, TickHaltsAtTheNextInstant, DelayedStartReleasesAtItsTime, PriorityChangeMovesPriorityWaiter, SuspendedWaiterIsWokenAndStaysWaiting, SuspensionOfItselfEnds, MissedDeadlineThenNextRelease, InitListOfTheTable};
+ghost use Rattle.apex_dispatch.specs.Unbroken.{WorkEndsAsItWasKept};
+ghost use Rattle.apex_dispatch.specs.Worked.{SignalWakesWaiter, SignalBeforeWait, EmptyScriptStopsItself, TimedOutWaiterGetsNoSignal, TickHaltsAtTheNextInstant, DelayedStartReleasesAtItsTime, PriorityChangeMovesPriorityWaiter, SuspendedWaiterIsWokenAndStaysWaiting, SuspensionOfItselfEnds, MissedDeadlineThenNextRelease, WorkIsLostAfterAbsence, InitListOfTheTable};
 
 use crate::kernels::Kernel;
 use apex_store::Store;
@@ -91,6 +92,21 @@ pub fn hard_misses_stop(table: &Table)
     table.lawful();
 }
 
+/// In every run whoever has work open on a core is bound to that core.
+pub fn workers_stay(table: &Table)
+    ensures { WorkersStay table.now }
+{
+    table.lawful();
+}
+
+/// In every run the work that a core has begun is done by its next turn exactly where its process was the
+/// core's chosen one after the entry that began it and after every later one; else it is lost.
+pub fn work_ends_as_it_was_kept(table: &Table)
+    ensures { WorkEndsAsItWasKept table.now }
+{
+    table.lawful();
+}
+
 /// In every kernel each semaphore's value is from 0 to its maximum, time was never later than it is
 /// now, and no due and no deadline that stands is below now.
 pub fn values_and_dues_are_in_range<S: Store>(kernel: &Kernel<S>)
@@ -133,5 +149,6 @@ pub fn worked_histories()
     ensures suspended_waiter_is_woken_and_stays_waiting { SuspendedWaiterIsWokenAndStaysWaiting }
     ensures suspension_of_itself_ends { SuspensionOfItselfEnds }
     ensures missed_deadline_then_next_release { MissedDeadlineThenNextRelease }
+    ensures work_is_lost_after_absence { WorkIsLostAfterAbsence }
     ensures init_list_of_the_table { InitListOfTheTable }
 {}

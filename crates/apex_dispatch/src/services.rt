@@ -57,5 +57,6 @@ pub(crate) fn serve<S: Store>(
         }
         Call::Event(call) => serve_object(store, &mut objects.events, caller, call, notices),
         Call::Mutex(call) => serve_object(store, &mut objects.mutexes, caller, call, notices),
+        Call::Work(_) => Reply::Begun,
     }
 }

@@ -18,7 +18,8 @@ mod time;
 
 use apex_table::Table;
 use apex_types::{
-    Call, Caller, DeadlineType, LentEntry, Name, Notice, ProcessId, Reply, ReturnCode, Timeout, Who,
+    Call, Caller, DeadlineType, LentEntry, Name, Notice, ProcessId, Reply, ReturnCode, Span,
+    Timeout, Who,
 };
 use arrayvec::ArrayVec;
 use caller::put_caller_call;
@@ -219,6 +220,16 @@ fn put_with_name_and_timeout(line: &mut Lines, word: &str, name: &Name, timeout:
     put_timeout(line, timeout);
 }
 
+#[tactic(auto, using(std::proofs::Common::append_assoc))]
+fn put_work(line: &mut Lines, amount: Span)
+    requires { array_vec_len line.old + 15 ≤ 8192 }
+    ensures text { line.new.items ≡ line.old.items ++ (codes "work " ++ decimal amount) }
+    ensures short { array_vec_len line.new ≤ array_vec_len line.old + 15 }
+{
+    put(line, "work ");
+    put_number(line, amount.ticks());
+}
+
 fn put_call(line: &mut Lines, table: &Table, call: &Call)
     requires known { IsKnown table.now call.now }
     requires room { array_vec_len line.old + 192 ≤ 8192 }
@@ -235,6 +246,7 @@ fn put_call(line: &mut Lines, table: &Table, call: &Call)
         Call::Blackboard(call) => put_object_call(line, table, call),
         Call::Event(call) => put_object_call(line, table, call),
         Call::Mutex(call) => put_object_call(line, table, call),
+        Call::Work(amount) => put_work(line, *amount),
     }
 }
 
@@ -317,6 +329,9 @@ fn put_reply(line: &mut Lines, table: &Table, reply: &Reply)
         Reply::Blocked => put(line, "BLOCKED"),
         Reply::Gone => put(line, "GONE"),
         Reply::Idle => put(line, "IDLE"),
+        Reply::Begun => put(line, "BEGUN"),
+        Reply::Done => put(line, "DONE"),
+        Reply::Lost => put(line, "LOST"),
         Reply::Advanced(_, went) => {
             put(line, "ADVANCED ");
             put_number(line, *went);

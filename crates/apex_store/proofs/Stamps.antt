@@ -5,7 +5,7 @@ use Rattle.apex_types.proofs.Handovers.{moves_own}
 use Rattle.apex_types.specs.Distinct.{IsStamped}
 use Rattle.apex_types.specs.Stamps.{awake, released_at, waiting, self_suspended}
 use Rattle.apex_types.proofs.DistinctStamps.{stamped_newest, stamped_record, stamped_readied, stamped_resume, stamped_set_mode, stamped_advance_to, stamped_take_due, stamped_take_missed}
-use Rattle.apex_types.proofs.Reaches.{moves_stop, starts, reaches_suspend, reaches_set_priority, reaches_place_newest, reaches_set_core, reaches_set_step, reaches_receive}
+use Rattle.apex_types.proofs.Reaches.{moves_stop, starts, reaches_suspend, reaches_set_priority, reaches_place_newest, moves_set_core, reaches_set_step, reaches_receive}
 use Rattle.apex_store.specs.Laws.{StampsStayDistinct}
 
 pub stay_distinct : (roster : Roster) → IsStamped roster → StampsStayDistinct roster
@@ -27,7 +27,7 @@ stay_distinct roster stamped = record {
   take_missed = stamped_take_missed roster stamped;
   take_due = stamped_take_due roster stamped;
   set_mode = λ mode. stamped_set_mode roster stamped mode;
-  set_core = λ p core known. (reaches_set_core roster p known core).stamped stamped;
+  set_core = λ p core known. (moves_set_core roster p known core).stamped stamped;
   receive = λ p message known. (reaches_receive roster p known message).stamped stamped;
   set_step = λ p step known. (reaches_set_step roster p known step).stamped stamped;
 }

@@ -6,7 +6,7 @@ use Rattle.std.proofs.lemmas.Result.{IfOk-at_ok, IfOk-weaker}
 use Rattle.apex_types.specs.Calls.{origin_of, message_in}
 use Rattle.apex_types.specs.Table.{IsKnown, IsLawfulStep, IsLiteral, Table}
 use Rattle.apex_table.specs.Terms.{Call, ObjectCall, Origin, Place, TableFault}
-use Rattle.apex_types.specs.declared.calls.Call.TheVariants.{Partition, Process, Caller, Time, Semaphore, Buffer, Blackboard, Event, Mutex}
+use Rattle.apex_types.specs.declared.calls.Call.TheVariants.{Partition, Process, Caller, Time, Semaphore, Buffer, Blackboard, Event, Mutex, Work}
 use Rattle.apex_types.specs.declared.calls.Origin.TheVariants.{Script}
 use Rattle.apex_table.specs.declared.fault.TableFault.TheVariants.{BadStep}
 use Rattle.apex_table.specs.Outcome.{some_or, as_call}
@@ -17,6 +17,7 @@ use Rattle.apex_table.specs.PartitionSteps.{partition_call}
 use Rattle.apex_table.specs.ProcessSteps.{process_service}
 use Rattle.apex_table.specs.CallerSteps.{caller_call}
 use Rattle.apex_table.specs.TimeSteps.{time_call}
+use Rattle.apex_table.specs.WorkSteps.{work_call}
 use Rattle.apex_table.specs.SemaphoreSteps.{semaphore_service}
 use Rattle.apex_table.specs.BufferSteps.{buffer_service}
 use Rattle.apex_table.specs.BlackboardSteps.{blackboard_service}
@@ -62,12 +63,13 @@ module _ (table : Table) (names : Names) (same : AreNamesOf table names) (at : P
           let process = kind_law Process Any (length table.processes) (codes "PROCESS") names.processes (process_service at) same.processes (λ c h. (h.0, h.1, tt)) (reads_any_own (process_service at) ws) in
           let caller = any_law Caller (caller_call at ws) (λ c. (tt, tt, tt)) in
           let time = any_law Time (time_call at ws) (λ c. (tt, tt, tt)) in
+          let work = any_law Work (work_call at ws) (λ c. (tt, tt, tt)) in
           let semaphore = kind_law Semaphore Any (length table.semaphores) (codes "SEMAPHORE") names.semaphores (semaphore_service at) same.semaphores (λ c h. (h.0, h.1, tt)) (reads_any_own (semaphore_service at) ws) in
           let buffer = kind_law Buffer (buffers.IsGiven at origin ws) (length table.buffers) (codes "BUFFER") names.buffers (buffer_service at origin) same.buffers (λ c h. (h.0, h.1, buffers.given_by_buffer at origin ws c h.2)) (buffers.buffer_service_law at origin ws) in
           let blackboard = kind_law Blackboard (blackboards.IsGiven at origin ws) (length table.blackboards) (codes "BLACKBOARD") names.blackboards (blackboard_service at origin) same.blackboards (λ c h. (h.0, h.1, blackboards.given_by_blackboard at origin ws c h.2)) (blackboards.blackboard_service_law at origin ws) in
           let event = kind_law Event Any (length table.events) (codes "EVENT") names.events (event_service at) same.events (λ c h. (h.0, h.1, tt)) (reads_any_own (event_service at) ws) in
           let mutex = kind_law Mutex Any (length table.mutexes) (codes "MUTEX") names.mutexes (mutex_service at) same.mutexes (λ c h. (h.0, h.1, tt)) (reads_any_own (mutex_service at) ws) in
-          (partition, (process, (caller, (time, (semaphore, (buffer, (blackboard, (event, (mutex, tt)))))))))
+          (partition, (process, (caller, (time, (work, (semaphore, (buffer, (blackboard, (event, (mutex, tt))))))))))
 
       call_of_law : Reads Asked (call_of at origin names ws)
       call_of_law = reads_first_of Asked (readings at origin names ws) readings_law

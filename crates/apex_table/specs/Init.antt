@@ -4,7 +4,7 @@ use Rattle.toml.specs.Data.{Data}
 use Rattle.apex_types.specs.Limits.{most_init_steps}
 use Rattle.apex_types.specs.Table.{ProcessConfig, Step}
 use Rattle.apex_table.specs.Terms.{BlackboardService, BufferService, Call, EventService, MutexService, ObjectCall, Origin, Place, ProcessService, SemaphoreService, TableFault, TimeCall}
-use Rattle.apex_types.specs.declared.calls.Call.TheVariants.{Partition, Process, Caller, Time, Semaphore, Buffer, Blackboard, Event, Mutex}
+use Rattle.apex_types.specs.declared.calls.Call.TheVariants.{Partition, Process, Caller, Time, Semaphore, Buffer, Blackboard, Event, Mutex, Work}
 use Rattle.apex_types.specs.declared.calls.ObjectCall.TheVariants.{Create, GetId, GetStatus, Own}
 use Rattle.apex_types.specs.declared.calls.Origin.TheVariants as origin
 use Rattle.apex_types.specs.declared.calls.ProcessService.TheVariants.{InitializeCoreAffinity, SetPriority, Start, DelayedStart, Stop, Suspend, Resume}
@@ -101,6 +101,7 @@ is_init_call (Buffer call) = is_init_object_call is_init_buffer_service call
 is_init_call (Blackboard call) = is_init_object_call is_init_blackboard_service call
 is_init_call (Event call) = is_init_object_call is_init_event_service call
 is_init_call (Mutex call) = is_init_object_call is_init_mutex_service call
+is_init_call (Work amount) = false
 
 -- a step that an init list may have
 abbrev pub init_call : Place → Step → Result Step TableFault

@@ -17,6 +17,7 @@ pub mod PartitionSteps
 pub mod ProcessSteps
 pub mod CallerSteps
 pub mod TimeSteps
+pub mod WorkSteps
 pub mod SemaphoreSteps
 pub mod BufferSteps
 pub mod BlackboardSteps

@@ -4,7 +4,7 @@ use Rattle.std.specs.List.{list_any}
 use Rattle.apex_types.specs.Calls.{origin_of, message_in}
 use Rattle.apex_types.specs.Table.{Step}
 use Rattle.apex_table.specs.Terms.{Call, Message, Origin, Place, TableFault}
-use Rattle.apex_types.specs.declared.calls.Call.TheVariants.{Partition, Process, Caller, Time, Semaphore, Buffer, Blackboard, Event, Mutex}
+use Rattle.apex_types.specs.declared.calls.Call.TheVariants.{Partition, Process, Caller, Time, Semaphore, Buffer, Blackboard, Event, Mutex, Work}
 use Rattle.apex_table.specs.declared.fault.TableFault.TheVariants.{BadStep}
 use Rattle.apex_table.specs.Outcome.{◌>>=◌, some_or, as_call, first_of}
 use Rattle.apex_table.specs.Keys.{well_formed}
@@ -15,6 +15,7 @@ use Rattle.apex_table.specs.PartitionSteps.{partition_call}
 use Rattle.apex_table.specs.ProcessSteps.{process_service}
 use Rattle.apex_table.specs.CallerSteps.{caller_call}
 use Rattle.apex_table.specs.TimeSteps.{time_call}
+use Rattle.apex_table.specs.WorkSteps.{work_call}
 use Rattle.apex_table.specs.SemaphoreSteps.{semaphore_service}
 use Rattle.apex_table.specs.BufferSteps.{buffer_service}
 use Rattle.apex_table.specs.BlackboardSteps.{blackboard_service}
@@ -28,6 +29,7 @@ readings at origin names ws =
     ∷ as_call Process (object_call at origin (codes "PROCESS") names.processes (process_service at) ws)
     ∷ as_call Caller (caller_call at ws)
     ∷ as_call Time (time_call at ws)
+    ∷ as_call Work (work_call at ws)
     ∷ as_call Semaphore (object_call at origin (codes "SEMAPHORE") names.semaphores (semaphore_service at) ws)
     ∷ as_call Buffer (object_call at origin (codes "BUFFER") names.buffers (buffer_service at origin) ws)
     ∷ as_call Blackboard (object_call at origin (codes "BLACKBOARD") names.blackboards (blackboard_service at origin) ws)

@@ -1,6 +1,7 @@
 -- The steps of time management (ARINC 653 Part 1), by the number of their words.
 use Rattle.std.specs.Prelude.{codes, ℕ, ◌&&◌, if◌then◌else◌, List, [], ◌∷◌, Option, Some, None, Result, Ok}
 use Rattle.std.specs.Str.{bytes_eq}
+use Rattle.apex_types.specs.Limits.{most_span}
 use Rattle.apex_table.specs.Terms.{Place, TableFault, TimeCall}
 use Rattle.apex_types.specs.declared.calls.TimeCall.TheVariants.{TimedWait, PeriodicWait, Replenish, GetTime}
 use Rattle.apex_table.specs.Outcome.{called}
@@ -16,7 +17,7 @@ time_alone service =
 abbrev pub time_with_word : Place → List ℕ → List ℕ → Result (Option TimeCall) TableFault
 time_with_word at service word =
     if bytes_eq service (codes "TIMED_WAIT") && is_timeout word then called TimedWait (timeout at word) else
-    if bytes_eq service (codes "REPLENISH") && is_number word then called Replenish (span at word) else Ok None
+    if bytes_eq service (codes "REPLENISH") && is_number word then called Replenish (span at most_span word) else Ok None
 
 -- the call of a step's words, none where they are no step of time management
 unfoldable pub time_call : Place → List (List ℕ) → Result (Option TimeCall) TableFault

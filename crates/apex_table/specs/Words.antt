@@ -4,7 +4,7 @@ use Rattle.std.specs.Prelude.{codes, ℕ, ◌+◌, ◌*◌, ◌%◌, ◌==◌, �
 use Rattle.std.specs.Char.{digit_value, is_ascii_digit}
 use Rattle.std.specs.List.{list_all, slice_split, position_from}
 use Rattle.std.specs.Str.{bytes_eq}
-use Rattle.apex_types.specs.Limits.{most_message, most_span}
+use Rattle.apex_types.specs.Limits.{most_message}
 use Rattle.apex_table.specs.Terms.{Message, Origin, Place, TableFault, Timeout}
 use Rattle.apex_types.specs.declared.calls.Timeout.TheVariants.{Poll, Ticks, Infinite}
 use Rattle.apex_types.specs.Numbers.{number_of, at_most}
@@ -40,12 +40,12 @@ timeout at word =
     number at 4294967295 word >>= λ n. Ok (Ticks n)
 
 -- this number, where it is not 0
-abbrev pub some_ticks : Place → ℕ → Result ℕ TableFault
-some_ticks at n = if n == 0 then Err (OutOfRange at) else Ok n
+abbrev pub not_zero : Place → ℕ → Result ℕ TableFault
+not_zero at n = if n == 0 then Err (OutOfRange at) else Ok n
 
--- a span of time: 1 to 4,294,967,295 ticks
-abbrev pub span : Place → List ℕ → Result ℕ TableFault
-span at word = number at most_span word >>= some_ticks at
+-- a span: so many ticks or units, at least one, and this many at the most
+abbrev pub span : Place → ℕ → List ℕ → Result ℕ TableFault
+span at most word = number at most word >>= not_zero at
 
 -- a digit of a message: 0 to 9, a to f
 abbrev pub is_digit : ℕ → Bool

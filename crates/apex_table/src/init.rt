@@ -130,7 +130,7 @@ fn is_init_call(call: &Call) -> bool
         | Call::Blackboard(_)
         | Call::Event(_)
         | Call::Mutex(_) => true,
-        Call::Caller(_) => false,
+        Call::Caller(_) | Call::Work(_) => false,
         Call::Time(call) => is_init_time_call(call),
     }
 }

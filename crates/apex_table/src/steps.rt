@@ -14,6 +14,7 @@ mod process;
 mod semaphore;
 mod time;
 mod words;
+mod work;
 
 use crate::fault::{Place, TableFault};
 use crate::keys::well_formed;
@@ -28,6 +29,7 @@ use partition::partition_call;
 use std::alloc::Global;
 use time::time_call;
 use words::{has_empty, message_bytes, words};
+use work::work_call;
 
 /// The call of a step's words, if they are a step.
 fn call_of(
@@ -49,6 +51,9 @@ fn call_of(
     }
     if let Some(call) = time_call(at, words)? {
         return Ok(Some(Call::Time(call)));
+    }
+    if let Some(amount) = work_call(at, words)? {
+        return Ok(Some(Call::Work(amount)));
     }
     if let Some(call) = object_call::<SemaphoreKind>(at, origin, names.semaphores(), words)? {
         return Ok(Some(call));

@@ -3,6 +3,7 @@ mod init;
 mod object_steps;
 mod objects;
 mod steps;
+mod work_steps;
 
 use crate::fault::TableFault;
 use crate::reading::read_table;

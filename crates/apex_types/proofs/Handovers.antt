@@ -55,7 +55,7 @@ module _ (roster : Roster) (holding : Holding) where
   periods_to (Some q) is =
       let r : Record = awake (record (record_at roster q) { owned = Some first }) in
       let known = first_within roster queue q is in
-      let stays = own_stays roster q known r refl refl refl (λ _. refl) in
+      let stays = own_stays roster q known r refl refl refl refl (λ _. refl) in
       cond_both {A = Roster} (is_eligible roster.mode r) (newest roster q r) (with_record roster q r) (KeepsPeriods roster)
       (λ _. periods_newest roster q known r stays) (λ _. periods_record roster q known r stays)
 
@@ -97,7 +97,7 @@ module _ (roster : Roster) (p : ℕ) (known : p < length roster.records) where
   periods_own : (owned : Option Holding) → KeepsPeriods roster (own roster p owned)
   periods_own owned =
       let r : Record = record (record_at roster p) { owned = owned } in
-      let stays = own_stays roster p known r refl refl refl (λ e. e) in
+      let stays = own_stays roster p known r refl refl refl refl (λ e. e) in
       cond_both {A = Roster} (is_level r (record_at roster p)) (with_record roster p r) (oldest roster p r) (KeepsPeriods roster)
       (λ _. periods_record roster p known r stays) (λ _. periods_oldest roster p known r stays)
 
@@ -180,4 +180,4 @@ module _ (roster : Roster) (p : ℕ) (known : p < length roster.records) where
       reaches_of (moves_block roster p known (Mutex m) due later (λ e. cc) begun normal) (λ orderly.
       owners_waiting roster (block roster p (Mutex m) due) p r (another_newest roster p known blocked) m
       orderly refl without refl other owning)
-      (periods_newest roster p known blocked (own_stays roster p known blocked refl refl refl (λ _. refl)))
+      (periods_newest roster p known blocked (own_stays roster p known blocked refl refl refl refl (λ _. refl)))

@@ -21,10 +21,11 @@ periods_then (Some n) t u v first second =
     let split : (first.0 + second.0) * n ≡ first.0 * n + second.0 * n = add-mul first.0 second.0 n in
     (first.0 + second.0, omega (arith, split, first.1, second.1))
 
--- a process keeps its attributes; where it doesn't wait for its first release it won't, and its release
+-- a process keeps its attributes and its core; where it doesn't wait for its first release it won't, and its release
 -- is the same or whole periods later; and who is dormant stays so
 pub record StaysInPeriod (r s : Record) : Type 0 where
   pub attributes : s.attributes ≡ r.attributes
+  pub core : s.core ≡ r.core
   pub later : awaits_first r.wait ≡ false → IsWholePeriodsAfter r.attributes.period r.release s.release
   pub still : awaits_first r.wait ≡ false → awaits_first s.wait ≡ false
   pub dormant : r.started ≡ false → s.started ≡ false
@@ -34,11 +35,12 @@ abbrev pub KeepsPeriods : Roster → Roster → Type 0
 KeepsPeriods old new = (p : ℕ) → StaysInPeriod (record_at old p) (record_at new p)
 
 pub stays_same : (r : Record) → StaysInPeriod r r
-stays_same r = record { attributes = refl; later = λ _. no_period r.attributes.period r.release; still = λ e. e; dormant = λ e. e }
+stays_same r = record { attributes = refl; core = refl; later = λ _. no_period r.attributes.period r.release; still = λ e. e; dormant = λ e. e }
 
 pub stays_then : {r s t : Record} → StaysInPeriod r s → StaysInPeriod s t → StaysInPeriod r t
 stays_then {r} {s} {t} first second = record {
   attributes = second.attributes ∙ first.attributes;
+  core = second.core ∙ first.core;
   later = λ e. periods_then r.attributes.period r.release s.release t.release (first.later e)
       (subst (λ attributes. IsWholePeriodsAfter attributes.period s.release t.release) first.attributes (second.later (first.still e)));
   still = λ e. second.still (first.still e);

@@ -6,8 +6,9 @@ use Rattle.std.proofs.lemmas.List.{length-map, set-set}
 use Rattle.std.proofs.lemmas.Option.{none-some}
 use Rattle.apex_types.specs.Terms.{Message, Mode, Record, Suspender, Wait}
 use Rattle.apex_types.specs.declared.records.Suspender.TheVariants.{Itself, Other}
+use Rattle.apex_types.specs.declared.records.Mode.TheVariants as mode
 use Rattle.apex_types.specs.declared.records.Wait.TheVariants.{Normal, Start, Period, Mutex}
-use Rattle.apex_types.specs.Roster.{Roster, nobody, record_at, with_record, is_normal}
+use Rattle.apex_types.specs.Roster.{Roster, nobody, record_at, with_record, is_cold_start, is_normal}
 use Rattle.apex_types.specs.Owners.{HasOrderlyOwners, is_held}
 use Rattle.apex_types.specs.Running.{is_eligible}
 use Rattle.apex_types.specs.Dues.{HasNoDeadlineBelow, HasNoDueBelow, IsFrom}
@@ -36,6 +37,7 @@ pub record Moves (most : ℕ) (old new : Roster) : Type 0 where
   pub times : AreInTime old → AreInTime new
   pub one : WaitsForOne old → WaitsForOne new
   pub starts : HasOrderlyStarts old → HasOrderlyStarts new
+  pub late : is_cold_start old.mode ≡ false → is_cold_start new.mode ≡ false
 
 -- and mutexes that are owned in order are so afterwards, and releases follow each other by whole periods
 pub record Reaches (most : ℕ) (old new : Roster) : Type 0 where
@@ -48,6 +50,7 @@ pub record Reaches (most : ℕ) (old new : Roster) : Type 0 where
   pub times : AreInTime old → AreInTime new
   pub one : WaitsForOne old → WaitsForOne new
   pub starts : HasOrderlyStarts old → HasOrderlyStarts new
+  pub late : is_cold_start old.mode ≡ false → is_cold_start new.mode ≡ false
   pub owners : HasOrderlyOwners old → HasOrderlyOwners new
   pub periods : KeepsPeriods old new
 
@@ -63,6 +66,7 @@ reaches_of moves owners periods = record {
   times = moves.times;
   one = moves.one;
   starts = moves.starts;
+  late = moves.late;
   owners = owners;
   periods = periods;
 }
@@ -78,6 +82,7 @@ moves_of reaches = record {
   times = reaches.times;
   one = reaches.one;
   starts = reaches.starts;
+  late = reaches.late;
 }
 
 pub moves_then : {first second third : Roster} (n m : ℕ) → Moves n first second → Moves m second third → Moves (n + m) first third
@@ -91,6 +96,7 @@ moves_then n m g h = record {
   times = λ t. h.times (g.times t);
   one = λ o. h.one (g.one o);
   starts = λ o. h.starts (g.starts o);
+  late = λ l. h.late (g.late l);
 }
 
 pub moves_more : {old new : Roster} (n m : ℕ) → n ≤ m → Moves n old new → Moves m old new
@@ -104,6 +110,7 @@ moves_more n m few g = record {
   times = g.times;
   one = g.one;
   starts = g.starts;
+  late = g.late;
 }
 
 pub reaches_none : (most : ℕ) (roster : Roster) → Reaches most roster roster
@@ -117,6 +124,7 @@ reaches_none most roster = record {
   times = λ h. h;
   one = λ h. h;
   starts = λ h. h;
+  late = λ h. h;
   owners = λ h. h;
   periods = λ p. stays_same (record_at roster p);
 }
@@ -128,13 +136,15 @@ reaches_then n m g h =
 pub reaches_more : {old new : Roster} (n m : ℕ) → n ≤ m → Reaches n old new → Reaches m old new
 reaches_more n m few g = reaches_of (moves_more n m few (moves_of g)) g.owners g.periods
 
--- what an event reaches: the same, but that it may start a process that was dormant
+-- what an event reaches: the same, but that it may start a process that was dormant, and in COLD_START bind one
+-- to another core
 pub record Arrives (most : ℕ) (old new : Roster) : Type 0 where
   pub moves : Moves most old new
   pub owners : HasOrderlyOwners old → HasOrderlyOwners new
   pub attributes : (p : ℕ) → (record_at new p).attributes ≡ (record_at old p).attributes
   pub released : (p : ℕ) → IsReleased (record_at old p)
       → IsWholePeriodsAfter (record_at old p).attributes.period (record_at old p).release (record_at new p).release
+  pub cores : is_cold_start old.mode ≡ false → (p : ℕ) → (record_at new p).core ≡ (record_at old p).core
 
 pub arrives_of : {most : ℕ} {old new : Roster} → Reaches most old new → Arrives most old new
 arrives_of reaches = record {
@@ -142,6 +152,7 @@ arrives_of reaches = record {
   owners = reaches.owners;
   attributes = λ p. (reaches.periods p).attributes;
   released = λ p is. (reaches.periods p).later is.1;
+  cores = λ _ p. (reaches.periods p).core;
 }
 
 pub arrives_more : {old new : Roster} (n m : ℕ) → n ≤ m → Arrives n old new → Arrives m old new
@@ -150,6 +161,7 @@ arrives_more n m few g = record {
   owners = g.owners;
   attributes = g.attributes;
   released = g.released;
+  cores = g.cores;
 }
 
 -- a change by which nobody is stopped, and then an event
@@ -165,6 +177,7 @@ arrives_then {first} {second} {third} n m g started h = record {
       periods_then (record_at first p).attributes.period (record_at first p).release (record_at second p).release (record_at third p).release
       (stays.later is.1)
       (subst (λ attributes. IsWholePeriodsAfter attributes.period (record_at second p).release (record_at third p).release) stays.attributes again);
+  cores = λ late p. h.cores (g.late late) p ∙ (g.periods p).core;
 }
 
 -- the two differ in nothing that time or a start is about
@@ -215,6 +228,7 @@ module _ (roster : Roster) (p : ℕ) (known : p < length roster.records) where
         times = times_stay r fits;
         one = one_stays r fits;
         starts = starts_stay r fits;
+        late = λ l. l;
       }
 
   -- of the record's stamp no law but that of stamps speaks
@@ -240,6 +254,7 @@ module _ (roster : Roster) (p : ℕ) (known : p < length roster.records) where
         times = times_stay young fits_so;
         one = one_stays young fits_so;
         starts = λ before. let after = starts_stay young fits_so before in record { dormant = after.dormant; early = after.early; undue = after.undue };
+        late = λ l. l;
       }
 
   pub moves_oldest : (r : Record) → Fits roster r → Moves 1 roster (oldest roster p r)
@@ -257,6 +272,7 @@ module _ (roster : Roster) (p : ℕ) (known : p < length roster.records) where
         times = times_stay aged fits_so;
         one = one_stays aged fits_so;
         starts = λ before. let after = starts_stay aged fits_so before in record { dormant = after.dormant; early = after.early; undue = after.undue };
+        late = λ l. l;
       }
 
   pub moves_readied : (r : Record) → r.since ≡ (record_at roster p).since → Fits roster r → Moves 1 roster (readied roster p r)
@@ -295,12 +311,12 @@ module _ (roster : Roster) (p : ℕ) (known : p < length roster.records) where
   pub periods_newest : (r : Record) → StaysInPeriod (record_at roster p) r → KeepsPeriods roster (newest roster p r)
   periods_newest r stays =
       periods_kept (newest roster p r) (record r { since = roster.young }) (another_newest r)
-      (record { attributes = stays.attributes; later = stays.later; still = stays.still; dormant = stays.dormant })
+      (record { attributes = stays.attributes; core = stays.core; later = stays.later; still = stays.still; dormant = stays.dormant })
 
   pub periods_oldest : (r : Record) → StaysInPeriod (record_at roster p) r → KeepsPeriods roster (oldest roster p r)
   periods_oldest r stays =
       periods_kept (oldest roster p r) (record r { since = roster.old }) (another_oldest r)
-      (record { attributes = stays.attributes; later = stays.later; still = stays.still; dormant = stays.dormant })
+      (record { attributes = stays.attributes; core = stays.core; later = stays.later; still = stays.still; dormant = stays.dormant })
 
   pub reaches_record : (r : Record) → r.since ≡ (record_at roster p).since → Fits roster r → IsSameOwner roster p r
       → StaysInPeriod (record_at roster p) r → Reaches 0 roster (with_record roster p r)
@@ -402,21 +418,23 @@ module _ (roster : Roster) (p : ℕ) (known : p < length roster.records) where
   }
 
   -- a record that waits for no release, and that the process's own one begins
-  awake_stays : (r : Record) → r.attributes ≡ (record_at roster p).attributes → r.release ≡ (record_at roster p).release
+  awake_stays : (r : Record) → r.attributes ≡ (record_at roster p).attributes → r.core ≡ (record_at roster p).core → r.release ≡ (record_at roster p).release
       → r.started ≡ (record_at roster p).started → StaysInPeriod (record_at roster p) (awake r)
-  awake_stays r attributes release started = record {
+  awake_stays r attributes core release started = record {
     attributes = attributes;
+    core = core;
     later = λ _. rw release (no_period (record_at roster p).attributes.period (record_at roster p).release);
     still = λ _. refl;
     dormant = λ e. started ∙ e;
   }
 
   -- the process's own release, and no wait for a first one
-  pub own_stays : (r : Record) → r.attributes ≡ (record_at roster p).attributes → r.release ≡ (record_at roster p).release
+  pub own_stays : (r : Record) → r.attributes ≡ (record_at roster p).attributes → r.core ≡ (record_at roster p).core → r.release ≡ (record_at roster p).release
       → r.started ≡ (record_at roster p).started → (awaits_first (record_at roster p).wait ≡ false → awaits_first r.wait ≡ false)
       → StaysInPeriod (record_at roster p) r
-  own_stays r attributes release started still = record {
+  own_stays r attributes core release started still = record {
     attributes = attributes;
+    core = core;
     later = λ _. rw release (no_period (record_at roster p).attributes.period (record_at roster p).release);
     still = still;
     dormant = λ e. started ∙ e;
@@ -425,7 +443,7 @@ module _ (roster : Roster) (p : ℕ) (known : p < length roster.records) where
   pub reaches_unblock : (is_normal roster.mode ≡ false → ⊥) → Reaches 1 roster (unblock roster p)
   reaches_unblock normal =
       reaches_readied (awake (record_at roster p)) refl (awake_fits (record_at roster p) refl refl normal)
-      (no_wait _ refl (λ m is. none-some (Mutex m) is)) (awake_stays (record_at roster p) refl refl refl)
+      (no_wait _ refl (λ m is. none-some (Mutex m) is)) (awake_stays (record_at roster p) refl refl refl refl)
 
   -- a release: the first one after a start, or one that is whole periods later
   pub reaches_release : (is_normal roster.mode ≡ false → ⊥)
@@ -435,7 +453,7 @@ module _ (roster : Roster) (p : ℕ) (known : p < length roster.records) where
   reaches_release normal later =
       reaches_readied (released_at roster.now (record_at roster p)) refl (released_fits (record_at roster p) normal)
       (no_wait _ refl (λ m is. none-some (Mutex m) is))
-      (record { attributes = refl; later = later; still = λ _. refl; dormant = λ e. e })
+      (record { attributes = refl; core = refl; later = later; still = λ _. refl; dormant = λ e. e })
 
   pub moves_block : (wait : Wait) (due : Option ℕ) → IsFrom roster.now due → IsAligned (record_at roster p) wait due
       → (record_at roster p).started ≡ true → (is_normal roster.mode ≡ false → ⊥) → Moves 1 roster (block roster p wait due)
@@ -451,7 +469,7 @@ module _ (roster : Roster) (p : ℕ) (known : p < length roster.records) where
   reaches_block wait due later aligned begun normal other still =
       reaches_newest (waiting (record_at roster p) wait due)
       (waiting_fits (record_at roster p) refl refl wait due later aligned begun normal)
-      (no_wait _ refl other) (own_stays (waiting (record_at roster p) wait due) refl refl refl still)
+      (no_wait _ refl other) (own_stays (waiting (record_at roster p) wait due) refl refl refl refl still)
 
   -- a start that the process awaited begins
   pub reaches_begin : (delay : ℕ) → (record_at roster p).started ≡ true → awaits_first (record_at roster p).wait ≡ true
@@ -498,37 +516,46 @@ module _ (roster : Roster) (p : ℕ) (known : p < length roster.records) where
     pub moves : Moves 1 roster new
     pub owners : HasOrderlyOwners roster → HasOrderlyOwners new
     pub attributes : (q : ℕ) → (record_at new q).attributes ≡ (record_at roster q).attributes
+    pub cores : (q : ℕ) → (record_at new q).core ≡ (record_at roster q).core
     pub others : (q : ℕ) → q ≢ p → record_at new q ≡ record_at roster q
 
   starts_newest : (r : Record) → Fits roster r → IsSameOwner roster p r → r.attributes ≡ (record_at roster p).attributes
-      → Starts (newest roster p r)
-  starts_newest r fits owner same = record {
+      → r.core ≡ (record_at roster p).core → Starts (newest roster p r)
+  starts_newest r fits owner same core = record {
     moves = moves_newest r fits;
     owners = owners_newest r owner;
     attributes = λ q. elim (cases_eq q p) [
       | inl here ↦ rw (here, (another_newest r).here) same
       | inr apart ↦ rw ((another_newest r).others q apart) refl
     ];
+    cores = λ q. elim (cases_eq q p) [
+      | inl here ↦ rw (here, (another_newest r).here) core
+      | inr apart ↦ rw ((another_newest r).others q apart) refl
+    ];
     others = (another_newest r).others;
   }
 
   starts_record : (r : Record) → r.since ≡ (record_at roster p).since → Fits roster r → IsSameOwner roster p r
-      → r.attributes ≡ (record_at roster p).attributes → Starts (with_record roster p r)
-  starts_record r since fits owner same = record {
+      → r.attributes ≡ (record_at roster p).attributes → r.core ≡ (record_at roster p).core → Starts (with_record roster p r)
+  starts_record r since fits owner same core = record {
     moves = moves_more 0 1 (omega arith) (moves_record r since fits);
     owners = owners_kept roster (with_record roster p r) (same_owner roster (with_record roster p r) p r (another_record r) owner);
     attributes = λ q. elim (cases_eq q p) [
       | inl here ↦ rw (here, (another_record r).here) same
       | inr apart ↦ rw ((another_record r).others q apart) refl
     ];
+    cores = λ q. elim (cases_eq q p) [
+      | inl here ↦ rw (here, (another_record r).here) core
+      | inr apart ↦ rw ((another_record r).others q apart) refl
+    ];
     others = (another_record r).others;
   }
 
   starts_readied : (r : Record) → r.since ≡ (record_at roster p).since → Fits roster r → IsSameOwner roster p r
-      → r.attributes ≡ (record_at roster p).attributes → Starts (readied roster p r)
-  starts_readied r since fits owner same =
+      → r.attributes ≡ (record_at roster p).attributes → r.core ≡ (record_at roster p).core → Starts (readied roster p r)
+  starts_readied r since fits owner same core =
       cond_both {A = Roster} (is_eligible roster.mode r) (newest roster p r) (with_record roster p r) Starts
-      (λ _. starts_newest r fits owner same) (λ _. starts_record r since fits owner same)
+      (λ _. starts_newest r fits owner same core) (λ _. starts_record r since fits owner same core)
 
   pub starts : (delay : ℕ) → Starts (start roster p delay)
   starts delay =
@@ -536,9 +563,9 @@ module _ (roster : Roster) (p : ℕ) (known : p < length roster.records) where
       let due = Some (roster.now + delay) in
       cond_both {A = Roster} (is_normal roster.mode) (begin fresh p delay) (block fresh p (Normal delay) None) Starts
       (λ normal. cond_both {A = Roster} (delay == 0) (release fresh p) (block fresh p Start due) Starts
-      (λ _. subst Starts (sym fresh_released) (starts_readied (released_at roster.now r) refl (released_fits r (late normal)) (no_wait _ refl (λ m is. none-some (Mutex m) is)) refl))
-      (λ _. subst Starts (sym (fresh_blocked Start due)) (starts_newest (waiting r Start due) (waiting_fits r refl refl Start due (from_now roster.now delay) (λ e. cc) refl (late normal)) (no_wait _ refl (λ m is. cc)) refl)))
-      (λ _. subst Starts (sym (fresh_blocked (Normal delay) None)) (starts_newest (waiting r (Normal delay) None) (early_fits delay) (no_wait _ refl (λ m is. cc)) refl))
+      (λ _. subst Starts (sym fresh_released) (starts_readied (released_at roster.now r) refl (released_fits r (late normal)) (no_wait _ refl (λ m is. none-some (Mutex m) is)) refl refl))
+      (λ _. subst Starts (sym (fresh_blocked Start due)) (starts_newest (waiting r Start due) (waiting_fits r refl refl Start due (from_now roster.now delay) (λ e. cc) refl (late normal)) (no_wait _ refl (λ m is. cc)) refl refl)))
+      (λ _. subst Starts (sym (fresh_blocked (Normal delay) None)) (starts_newest (waiting r (Normal delay) None) (early_fits delay) (no_wait _ refl (λ m is. cc)) refl refl))
 
   -- the start of a dormant process
   pub arrives_start : (delay : ℕ) → (record_at roster p).started ≡ false → Arrives 1 roster (start roster p delay)
@@ -548,6 +575,7 @@ module _ (roster : Roster) (p : ℕ) (known : p < length roster.records) where
         moves = is.moves;
         owners = is.owners;
         attributes = is.attributes;
+        cores = λ _. is.cores;
         released = λ q was. elim (cases_eq q p) [
           | inl here ↦ absurd (both_ways _ dormant (sym (ap (λ (k : ℕ). (record_at roster k).started) here) ∙ was.0))
           | inr apart ↦
@@ -575,6 +603,7 @@ module _ (roster : Roster) (p : ℕ) (known : p < length roster.records) where
   pub periods_stop : KeepsPeriods roster (stop roster p)
   periods_stop = periods_record (stopped (record_at roster p)) (record {
     attributes = refl;
+    core = refl;
     later = λ _. no_period (record_at roster p).attributes.period (record_at roster p).release;
     still = λ _. refl;
     dormant = λ _. refl;
@@ -591,7 +620,7 @@ module _ (roster : Roster) (p : ℕ) (known : p < length roster.records) where
   pub reaches_suspend : Reaches 0 roster (suspend roster p)
   reaches_suspend =
       reaches_record _ refl (own_fits _ (record { attributes = refl; started = refl; wait = refl; due = refl; deadline = refl; release = refl }) (λ h. absurd (both_ways false refl h))) (own_mutex _ refl refl)
-      (own_stays _ refl refl refl (λ e. e))
+      (own_stays _ refl refl refl refl (λ e. e))
 
   pub reaches_suspend_self : (due : Option ℕ) → IsFrom roster.now due → (record_at roster p).started ≡ true → (is_normal roster.mode ≡ false → ⊥)
       → Reaches 1 roster (suspend_self roster p due)
@@ -599,14 +628,14 @@ module _ (roster : Roster) (p : ℕ) (known : p < length roster.records) where
     time = λ before. record { due = later; deadline = (before p).deadline; release = (before p).release; period = λ w. absurd (none-some Period w) };
     one = λ before h. refl;
     starts = λ before. record { dormant = λ e. refl; early = λ e. absurd (normal e); undue = λ e. absurd (normal e) };
-  }) (no_wait _ refl (λ m is. none-some (Mutex m) is)) (own_stays _ refl refl refl (λ _. refl))
+  }) (no_wait _ refl (λ m is. none-some (Mutex m) is)) (own_stays _ refl refl refl refl (λ _. refl))
 
   pub reaches_resume : (is_by_itself (record_at roster p).suspended ≡ true → is_normal roster.mode ≡ false → ⊥) → Reaches 1 roster (resume roster p)
   reaches_resume normal =
       cond_both {A = Roster} (is_by_itself (record_at roster p).suspended) _ _ (Reaches 1 roster)
       (λ by. reaches_unblock (normal by))
       (λ _. reaches_readied (unsuspended (record_at roster p)) refl (own_fits _ (record { attributes = refl; started = refl; wait = refl; due = refl; deadline = refl; release = refl }) (λ h. absurd (both_ways false refl h)))
-      (own_mutex _ refl refl) (own_stays _ refl refl refl (λ e. e)))
+      (own_mutex _ refl refl) (own_stays _ refl refl refl refl (λ e. e)))
 
   pub reaches_set_priority : (base : ℕ) → Reaches 1 roster (set_priority roster p base)
   reaches_set_priority base =
@@ -614,7 +643,7 @@ module _ (roster : Roster) (p : ℕ) (known : p < length roster.records) where
       let changed : Record = record r { base = base } in
       let fits : Fits roster changed = own_fits _ (record { attributes = refl; started = refl; wait = refl; due = refl; deadline = refl; release = refl }) (λ h. h) in
       let same : IsSameOwner roster p changed = own_mutex _ refl refl in
-      let stays_in = own_stays changed refl refl refl (λ e. e) in
+      let stays_in = own_stays changed refl refl refl refl (λ e. e) in
       let stays = is_some r.owned && is_level changed r in
       cond_both {A = Roster} ((is_eligible roster.mode r && not stays) || goes_by_priority roster (queue_in r)) _ _ (Reaches 1 roster)
       (λ _. reaches_newest changed fits same stays_in)
@@ -622,7 +651,7 @@ module _ (roster : Roster) (p : ℕ) (known : p < length roster.records) where
 
   pub reaches_place_newest : Reaches 1 roster (place_newest roster p)
   reaches_place_newest =
-      reaches_newest (record_at roster p) (own_fits _ (record { attributes = refl; started = refl; wait = refl; due = refl; deadline = refl; release = refl }) (λ h. h)) (own_mutex _ refl refl) (own_stays _ refl refl refl (λ e. e))
+      reaches_newest (record_at roster p) (own_fits _ (record { attributes = refl; started = refl; wait = refl; due = refl; deadline = refl; release = refl }) (λ h. h)) (own_mutex _ refl refl) (own_stays _ refl refl refl refl (λ e. e))
 
   pub reaches_without_due : Reaches 0 roster (without_due roster p)
   reaches_without_due = reaches_record _ refl (record {
@@ -634,23 +663,44 @@ module _ (roster : Roster) (p : ℕ) (known : p < length roster.records) where
     };
     one = λ before. before p;
     starts = λ before. record { dormant = before.dormant p; early = λ e. before.early e p; undue = λ e. refl };
-  }) (own_mutex _ refl refl) (own_stays _ refl refl refl (λ e. e))
+  }) (own_mutex _ refl refl) (own_stays _ refl refl refl refl (λ e. e))
 
   pub reaches_set_deadline : (deadline : Option ℕ) → IsFrom roster.now deadline → Reaches 0 roster (set_deadline roster p deadline)
   reaches_set_deadline deadline later = reaches_record _ refl (record {
     time = λ before. let is = before p in record { due = is.due; deadline = later; release = is.release; period = is.period };
     one = λ before. before p;
     starts = λ before. record { dormant = before.dormant p; early = λ e. before.early e p; undue = λ e. before.undue e p };
-  }) (own_mutex _ refl refl) (own_stays _ refl refl refl (λ e. e))
+  }) (own_mutex _ refl refl) (own_stays _ refl refl refl refl (λ e. e))
 
-  pub reaches_set_core : (core : ℕ) → Reaches 0 roster (set_core roster p core)
-  reaches_set_core core = reaches_record _ refl (own_fits _ (record { attributes = refl; started = refl; wait = refl; due = refl; deadline = refl; release = refl }) (λ h. h)) (own_mutex _ refl refl) (own_stays _ refl refl refl (λ e. e))
+  pub moves_set_core : (core : ℕ) → Moves 0 roster (set_core roster p core)
+  moves_set_core core =
+      moves_record _ refl (own_fits _ (record { attributes = refl; started = refl; wait = refl; due = refl; deadline = refl; release = refl }) (λ h. h))
+
+  -- a process is bound to another core in COLD_START
+  pub arrives_set_core : (core : ℕ) → is_cold_start roster.mode ≡ true → Arrives 0 roster (set_core roster p core)
+  arrives_set_core core early =
+      let new = set_core roster p core in
+      let r : Record = record (record_at roster p) { core = core } in
+      let has = another_record r in
+      record {
+        moves = moves_set_core core;
+        owners = owners_kept roster new (same_owner roster new p r has (own_mutex r refl refl));
+        attributes = λ q. elim (cases_eq q p) [
+          | inl here ↦ rw (here, has.here) refl
+          | inr apart ↦ rw (has.others q apart) refl
+        ];
+        released = λ q was. elim (cases_eq q p) [
+          | inl here ↦ rw (here, has.here) (no_period (record_at roster p).attributes.period (record_at roster p).release)
+          | inr apart ↦ rw (has.others q apart) (no_period (record_at roster q).attributes.period (record_at roster q).release)
+        ];
+        cores = λ late. absurd (both_ways _ late early);
+      }
 
   pub reaches_set_step : (step : ℕ) → Reaches 0 roster (set_step roster p step)
-  reaches_set_step step = reaches_record _ refl (own_fits _ (record { attributes = refl; started = refl; wait = refl; due = refl; deadline = refl; release = refl }) (λ h. h)) (own_mutex _ refl refl) (own_stays _ refl refl refl (λ e. e))
+  reaches_set_step step = reaches_record _ refl (own_fits _ (record { attributes = refl; started = refl; wait = refl; due = refl; deadline = refl; release = refl }) (λ h. h)) (own_mutex _ refl refl) (own_stays _ refl refl refl refl (λ e. e))
 
   pub reaches_receive : (message : Message) → Reaches 0 roster (receive roster p message)
-  reaches_receive message = reaches_record _ refl (own_fits _ (record { attributes = refl; started = refl; wait = refl; due = refl; deadline = refl; release = refl }) (λ h. h)) (own_mutex _ refl refl) (own_stays _ refl refl refl (λ e. e))
+  reaches_receive message = reaches_record _ refl (own_fits _ (record { attributes = refl; started = refl; wait = refl; due = refl; deadline = refl; release = refl }) (λ h. h)) (own_mutex _ refl refl) (own_stays _ refl refl refl refl (λ e. e))
 
 -- a periodic process waits for its next release
 pub reaches_await_release : (roster : Roster) (p : ℕ) → p < length roster.records → IsFrom roster.now (release_after roster.now (record_at roster p))
@@ -701,6 +751,12 @@ mode_begin roster p delay =
     cond_both {A = Roster} (delay == 0) (release roster p) (block roster p Start (Some (roster.now + delay))) (λ (after : Roster). after.mode ≡ roster.mode)
     (λ _. mode_readied roster p (released_at roster.now (record_at roster p))) (λ _. refl)
 
+-- NORMAL is not COLD_START
+pub normal_late : (mode : Mode) → is_normal mode ≡ true → is_cold_start mode ≡ false
+normal_late mode.Idle e = cc
+normal_late mode.ColdStart e = cc
+normal_late mode.Normal e = refl
+
 -- the entry into NORMAL
 pub reaches_set_mode : (roster : Roster) (mode : Mode) → is_normal mode ≡ true → Reaches 0 roster (set_mode roster mode)
 reaches_set_mode roster mode normal = record {
@@ -713,6 +769,7 @@ reaches_set_mode roster mode normal = record {
   times = λ before p. before p;
   one = λ before p h. before p h;
   starts = λ before. record { dormant = before.dormant; early = λ e. absurd (both_ways _ e normal); undue = λ e. absurd (both_ways _ e normal) };
+  late = λ _. normal_late mode normal;
   owners = owners_kept roster (set_mode roster mode) (record { ceilings = refl; owned = λ q. refl; mutex = λ q m is. is });
   periods = λ p. stays_same (record_at roster p);
 }
@@ -756,6 +813,7 @@ reaches_enter_idle roster =
         early = λ e p h. absurd (both_ways _ (ap (λ (r : Record). r.started) (at p)) h);
         undue = λ e p. undue p;
       };
+      late = λ _. refl;
       owners = λ before. record {
         holdings = λ p holding is. absurd (none-some holding (sym (unowned p) ∙ is));
         one = λ m p q first second. absurd (both_ways false refl (sym (ap (is_held m) (unowned p)) ∙ first));
@@ -763,6 +821,7 @@ reaches_enter_idle roster =
       };
       periods = λ p. subst (StaysInPeriod (record_at roster p)) (sym (at p)) (record {
         attributes = refl;
+        core = refl;
         later = λ _. no_period (record_at roster p).attributes.period (record_at roster p).release;
         still = λ _. refl;
         dormant = λ _. refl;

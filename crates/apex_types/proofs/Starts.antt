@@ -81,6 +81,12 @@ chosen_ready roster core p e = record {
   eligible = (and_parts _ _ (place_passes (runs_on roster.mode core) is_before roster.records p nobody e)).0;
 }
 
+-- and bound to it
+pub chosen_core : (roster : Roster) (core p : ℕ) → chosen roster core ≡ Some p → (record_at roster p).core ≡ core
+unfolding runs_on
+chosen_core roster core p e =
+    eqb-true _ _ (and_parts _ _ (place_passes (runs_on roster.mode core) is_before roster.records p nobody e)).1
+
 -- a process that waits for nothing stands in no queue
 pub waitless_queue : (r : Record) (q : Queue) → r.wait ≡ None → queue_in r ≡ Some q → ⊥
 waitless_queue r q free is = none-some q (rw free at is)

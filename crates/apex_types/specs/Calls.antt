@@ -3,7 +3,7 @@ use Rattle.std.specs.Prelude.{ℕ, Bool, true, false, Option, None, Some, ◌==�
 use Rattle.apex_types.specs.Terms.{Call, Message, Named, ObjectCall, Origin, Queue}
 use Rattle.apex_types.specs.declared.calls.BlackboardService.TheVariants.{Display, Clear}
 use Rattle.apex_types.specs.declared.calls.BufferService.TheVariants.{Send, Receive}
-use Rattle.apex_types.specs.declared.calls.Call.TheVariants.{Partition, Process, Caller, Time, Semaphore, Buffer, Blackboard, Event, Mutex}
+use Rattle.apex_types.specs.declared.calls.Call.TheVariants.{Partition, Process, Caller, Time, Semaphore, Buffer, Blackboard, Event, Mutex, Work}
 use Rattle.apex_types.specs.declared.calls.EventService.TheVariants.{Set, Reset}
 use Rattle.apex_types.specs.declared.calls.Named.TheVariants.{Known, Unknown}
 use Rattle.apex_types.specs.declared.calls.ObjectCall.TheVariants.{Create, GetId, GetStatus, Own}
@@ -51,6 +51,12 @@ origin_of (Buffer call) = object_origin call
 origin_of (Blackboard call) = object_origin call
 origin_of (Event call) = object_origin call
 origin_of (Mutex call) = object_origin call
+origin_of (Work amount) = None
+
+-- the call is work
+abbrev pub is_work : Call → Bool
+is_work (Work amount) = true
+is_work _ = false
 
 -- the message that the call gives: what SEND_BUFFER sends and DISPLAY_BLACKBOARD displays
 abbrev pub message_in : Call → Option Message

@@ -34,6 +34,7 @@ pub mod ProcessServices
 pub mod CallerServices
 pub mod TimeServices
 pub mod PartitionServices
+pub mod Works
 pub mod Machine
 pub mod Lines
 pub mod Distinct

@@ -41,6 +41,10 @@ most_entries = 65536
 abbrev pub most_ticks : ℕ
 most_ticks = 1048576
 
+-- the units of work of one step
+abbrev pub most_work : ℕ
+most_work = 1048576
+
 -- the notices of one event
 abbrev pub most_notices : ℕ
 most_notices = 64

@@ -4,7 +4,7 @@ use Rattle.std.specs.Fmt.{digit_glyph}
 use Rattle.apex_types.specs.Terms.{BlackboardService, BufferService, Call, Caller, CallerCall, DeadlineType, Entry, EventService, Message, MutexService, Named, Notice, ObjectCall, Origin, PartitionCall, ProcessService, Reply, RequestedMode, ReturnCode, SemaphoreService, TimeCall, Timeout, Who}
 use Rattle.apex_types.specs.declared.calls.BlackboardService.TheVariants.{Display, Read, Clear}
 use Rattle.apex_types.specs.declared.calls.BufferService.TheVariants.{Send, Receive}
-use Rattle.apex_types.specs.declared.calls.Call.TheVariants.{Partition, Process, Caller as ToCaller, Time, Semaphore, Buffer, Blackboard, Event, Mutex}
+use Rattle.apex_types.specs.declared.calls.Call.TheVariants.{Partition, Process, Caller as ToCaller, Time, Semaphore, Buffer, Blackboard, Event, Mutex, Work}
 use Rattle.apex_types.specs.declared.calls.CallerCall.TheVariants.{StopSelf, SuspendSelf, GetMyId, GetMyProcessorCoreId}
 use Rattle.apex_types.specs.declared.calls.EventService.TheVariants.{Set, Reset, Wait as WaitFor}
 use Rattle.apex_types.specs.declared.calls.MutexService.TheVariants.{Acquire, Release}
@@ -18,7 +18,7 @@ use Rattle.apex_types.specs.declared.calls.TimeCall.TheVariants.{TimedWait, Peri
 use Rattle.apex_types.specs.declared.calls.Timeout.TheVariants.{Poll, Ticks, Infinite}
 use Rattle.apex_types.specs.declared.entries.Caller.TheVariants.{Process as AskedBy, Init, Nobody}
 use Rattle.apex_types.specs.declared.entries.Notice.TheVariants.{Woken, Released, Missed}
-use Rattle.apex_types.specs.declared.entries.Reply.TheVariants.{Code, Value, Status, Message as Gets, Blocked, Gone, Idle as IdleTurn, Advanced}
+use Rattle.apex_types.specs.declared.entries.Reply.TheVariants.{Code, Value, Status, Message as Gets, Blocked, Gone, Idle as IdleTurn, Begun, Done, Lost, Advanced}
 use Rattle.apex_types.specs.declared.entries.ReturnCode.TheVariants.{NoError, NoAction, NotAvailable, InvalidParam, InvalidConfig, InvalidMode, TimedOut}
 use Rattle.apex_types.specs.declared.entries.Who.TheVariants.{Core, Ticker}
 use Rattle.apex_types.specs.declared.records.DeadlineType.TheVariants.{Soft, Hard}
@@ -178,6 +178,7 @@ call_text table (Event call) =
     object_call_text (codes "EVENT") (event_name table) (literal_text table) event_service_text call
 call_text table (Mutex call) =
     object_call_text (codes "MUTEX") (mutex_name table) (literal_text table) mutex_service_text call
+call_text table (Work amount) = codes "work " ++ decimal amount
 
 -- what stands in the place of a step: how many ticks were asked for, or nothing at an idle turn
 abbrev pub no_call_text : Reply → List ℕ
@@ -209,6 +210,9 @@ reply_text table (Gets message) = codes "MESSAGE " ++ message_text table message
 reply_text table Blocked = codes "BLOCKED"
 reply_text table Gone = codes "GONE"
 reply_text table IdleTurn = codes "IDLE"
+reply_text table Begun = codes "BEGUN"
+reply_text table Done = codes "DONE"
+reply_text table Lost = codes "LOST"
 reply_text table (Advanced asked went) = codes "ADVANCED " ++ decimal went
 
 -- the type of a deadline

@@ -1,12 +1,12 @@
 -- The machine: what each event does to a partition. It has records, a history, and the records after
 -- each entry.
-use Rattle.std.specs.Prelude.{ℕ, ◌+◌, ◌-◌, List, [], ◌∷◌, ◌++◌, length, map, Option, None, Some, ◌==◌, nat_lt, ◌&&◌, if◌then◌else◌}
-use Rattle.apex_types.specs.Terms.{Call, Caller, Entry, Event, Reply, Who}
-use Rattle.apex_types.specs.declared.calls.Call.TheVariants.{Partition, Process as ToProcess, Caller as ToCaller, Time, Semaphore, Buffer, Blackboard, Event as ToEvent, Mutex}
+use Rattle.std.specs.Prelude.{ℕ, ◌+◌, ◌-◌, Bool, true, false, List, [], ◌∷◌, ◌++◌, length, map, Option, None, Some, ◌==◌, nat_lt, ◌&&◌, if◌then◌else◌}
+use Rattle.apex_types.specs.Terms.{Call, Caller, Entry, Event, OpenWork, Reply, Who}
+use Rattle.apex_types.specs.declared.calls.Call.TheVariants.{Partition, Process as ToProcess, Caller as ToCaller, Time, Semaphore, Buffer, Blackboard, Event as ToEvent, Mutex, Work as ToWork}
 use Rattle.apex_types.specs.declared.calls.CallerCall.TheVariants.{StopSelf}
 use Rattle.apex_types.specs.declared.entries.Caller.TheVariants.{Process, Init, Nobody}
 use Rattle.apex_types.specs.declared.entries.Event.TheVariants.{Turn, Tick}
-use Rattle.apex_types.specs.declared.entries.Reply.TheVariants.{Idle, Advanced}
+use Rattle.apex_types.specs.declared.entries.Reply.TheVariants.{Idle, Begun, Done, Lost, Advanced}
 use Rattle.apex_types.specs.declared.entries.Who.TheVariants.{Core, Ticker}
 use Rattle.apex_types.specs.Table.{Table, ProcessConfig, process_config, call_in}
 use Rattle.apex_types.specs.Roster.{Roster, record_at, is_cold_start, opening_roster}
@@ -21,10 +21,12 @@ use Rattle.apex_types.specs.BufferServices.{BufferObject, buffer_kind}
 use Rattle.apex_types.specs.BlackboardServices.{BlackboardObject, blackboard_kind}
 use Rattle.apex_types.specs.EventServices.{EventObject, event_kind}
 use Rattle.apex_types.specs.MutexServices.{MutexObject, mutex_kind}
+use Rattle.apex_types.specs.Calls.{is_work}
 use Rattle.apex_types.specs.CallerServices.{caller_service}
 use Rattle.apex_types.specs.TimeServices.{time_service}
 use Rattle.apex_types.specs.PartitionServices.{partition_service}
 use Rattle.apex_types.specs.Ticks.{tick_goal, pass_time}
+use Rattle.apex_types.specs.Works.{open_work_of}
 
 -- the state of the machine: its roster, the roster after each entry, and the entries, oldest first
 pub record Machine : Type 0 where
@@ -88,6 +90,7 @@ service roster objects caller (ToEvent call) =
     within (with_events objects) (object_deed event_kind roster objects.events caller call)
 service roster objects caller (Mutex call) =
     within (with_mutexes objects) (object_deed mutex_kind roster objects.mutexes caller call)
+service roster objects caller (ToWork amount) = told roster objects Begun
 
 -- a call that was carried out, or none at an idle turn and a tick
 pub record Deed : Type 0 where
@@ -100,16 +103,37 @@ abbrev pub served : Roster → Objects → Caller → Call → Deed
 served roster objects caller call =
     record { caller = caller; call = Some call; outcome = service roster objects caller call }
 
--- the place after this one: a looping script is at its first step again after its last one
+-- the place after this one: behind the last step a looping script is at its first one again
 abbrev pub next_place : ProcessConfig → ℕ → ℕ
-next_place entry step = if entry.loops && step + 1 == length entry.script then 0 else step + 1
+next_place entry step =
+    if nat_lt (step + 1) (length entry.script) then step + 1
+    else if entry.loops then 0 else length entry.script
 
--- process p carries out its step: every step moves the place first; the end of a script is STOP_SELF
+-- the place of process p goes on to its next step
+abbrev pub move_on : Table → Roster → ℕ → Roster
+move_on table roster p = set_step roster p (next_place (process_config table p) (record_at roster p).step)
+
+-- every step moves the place first, but work, whose place stays until it is done
+abbrev pub moved_for : Table → Roster → ℕ → Call → Roster
+moved_for table roster p call = if is_work call then roster else move_on table roster p
+
+-- process p carries out its step; the end of a script is STOP_SELF
 abbrev pub script_deed : Table → Roster → Objects → ℕ → Option Call → Deed
 script_deed table roster objects p None = served roster objects (Process p) (ToCaller StopSelf)
-script_deed table roster objects p (Some call) =
-    let next = next_place (process_config table p) (record_at roster p).step in
-    served (set_step roster p next) objects (Process p) call
+script_deed table roster objects p (Some call) = served (moved_for table roster p call) objects (Process p) call
+
+-- how work ends: done where its process kept the core, and then it goes on in its script; else lost
+abbrev pub ended : Table → Roster → Objects → ℕ → Bool → Outcome Objects
+ended table roster objects p true = told (move_on table roster p) objects Done
+ended table roster objects p false = told roster objects Lost
+
+-- work that the core has begun ends
+abbrev pub ended_deed : Table → Roster → Objects → OpenWork → Deed
+ended_deed table roster objects o = record {
+  caller = Process o.work.process;
+  call = Some (ToWork o.work.amount);
+  outcome = ended table roster objects o.work.process o.unbroken;
+}
 
 -- the call of the step of process p
 abbrev pub step_of : Table → Roster → ℕ → Option Call
@@ -121,10 +145,19 @@ chosen_deed table roster objects None =
     record { caller = Nobody; call = None; outcome = told roster objects Idle }
 chosen_deed table roster objects (Some p) = script_deed table roster objects p (step_of table roster p)
 
--- an init step that is due comes before all else
-abbrev pub turn_deed : Table → Roster → Objects → ℕ → Option Call → Deed
-turn_deed table roster objects core (Some call) = served roster objects Init call
-turn_deed table roster objects core None = chosen_deed table roster objects (chosen roster core)
+-- an init step that is due comes before all scripts
+abbrev pub step_deed : Table → Roster → Objects → ℕ → Option Call → Deed
+step_deed table roster objects core (Some call) = served roster objects Init call
+step_deed table roster objects core None = chosen_deed table roster objects (chosen roster core)
+
+-- work that the core has begun ends before all else
+abbrev pub turn_deed : Table → Roster → Objects → ℕ → Option OpenWork → Option Call → Deed
+turn_deed table roster objects core (Some o) due = ended_deed table roster objects o
+turn_deed table roster objects core None due = step_deed table roster objects core due
+
+-- the work that stands open on the core
+abbrev pub open_work : Machine → ℕ → Option OpenWork
+open_work machine core = open_work_of core machine.history machine.past
 
 -- the init step that is due in a turn of the core: in COLD_START core 0 carries out the next one
 abbrev pub due_init_call : Table → Machine → ℕ → Option Call
@@ -134,7 +167,7 @@ due_init_call table machine core =
 -- what a turn of the core does
 abbrev pub deed_of : Table → Machine → ℕ → Deed
 deed_of table machine core =
-    turn_deed table machine.roster (objects_after table machine.history) core (due_init_call table machine core)
+    turn_deed table machine.roster (objects_after table machine.history) core (open_work machine core) (due_init_call table machine core)
 
 -- what a tick of n does: time goes on, and no object changes
 abbrev pub tick_deed : Roster → Objects → ℕ → Deed

@@ -4,7 +4,7 @@ use Rattle.apex_types.specs.Limits.{most_cores, most_entries, most_init_steps, m
 use Rattle.std.specs.List.{IsDistinct}
 use Rattle.std.specs.Str.{bytes_eq}
 use Rattle.apex_types.specs.Terms.{Attributes, Call, Discipline, Message, Named, ObjectCall, Origin}
-use Rattle.apex_types.specs.declared.calls.Call.TheVariants.{Partition, Process, Caller, Time, Semaphore, Buffer, Blackboard, Event, Mutex}
+use Rattle.apex_types.specs.declared.calls.Call.TheVariants.{Partition, Process, Caller, Time, Semaphore, Buffer, Blackboard, Event, Mutex, Work}
 use Rattle.apex_types.specs.declared.calls.CallerCall.TheVariants.{StopSelf}
 use Rattle.apex_types.specs.declared.calls.Named.TheVariants.{Known, Unknown}
 use Rattle.apex_types.specs.declared.calls.ObjectCall.TheVariants.{Create, GetId, GetStatus, Own}
@@ -154,6 +154,7 @@ IsKnown table (Buffer call) = IsKnownObject (length table.buffers) call
 IsKnown table (Blackboard call) = IsKnownObject (length table.blackboards) call
 IsKnown table (Event call) = IsKnownObject (length table.events) call
 IsKnown table (Mutex call) = IsKnownObject (length table.mutexes) call
+IsKnown table (Work amount) = Unit {0}
 
 -- the message is that of the step of this origin, which has this literal
 pub record IsMessageOf (origin : Origin) (literal : List ℕ) (message : Message) : Type 0 where

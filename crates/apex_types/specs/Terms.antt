@@ -32,3 +32,5 @@ pub use Rattle.apex_types.specs.declared.records.Record.{Record}
 pub use Rattle.apex_types.specs.declared.records.State.{State}
 pub use Rattle.apex_types.specs.declared.records.Suspender.{Suspender}
 pub use Rattle.apex_types.specs.declared.records.Wait.{Wait}
+pub use Rattle.apex_types.specs.declared.works.OpenWork.{OpenWork}
+pub use Rattle.apex_types.specs.declared.works.Work.{Work}

@@ -218,6 +218,8 @@ pub enum Call {
     Blackboard(BlackboardCall),
     Event(EventCall),
     Mutex(MutexCall),
+    /// Work of so many units, 1 to 1,048,576. One turn begins it, and the core's next one ends it.
+    Work(Span),
 }
 
 impl Call {
@@ -232,7 +234,7 @@ impl Call {
             Call::Blackboard(call) => call.origin(),
             Call::Event(call) => call.origin(),
             Call::Mutex(call) => call.origin(),
-            Call::Partition(_) | Call::Caller(_) | Call::Time(_) => None,
+            Call::Partition(_) | Call::Caller(_) | Call::Time(_) | Call::Work(_) => None,
         }
     }
 

@@ -62,6 +62,12 @@ pub enum Reply {
     Gone,
     /// The core had nothing to do.
     Idle,
+    /// The work has begun; the core's next turn ends it.
+    Begun,
+    /// The work is done: its process kept the core.
+    Done,
+    /// The work is lost: its process lost the core meanwhile.
+    Lost,
     /// A tick: how many ticks were asked for, and how many time went on.
     Advanced(u32, u32),
 }

@@ -13,6 +13,7 @@ mod numbers;
 mod records;
 mod spans;
 mod steps;
+mod works;
 
 pub use calls::{
     BlackboardCall, BlackboardService, BufferCall, BufferService, Call, CallerCall, EventCall,
@@ -31,3 +32,4 @@ pub use records::{
 };
 pub use spans::Span;
 pub use steps::{Literal, Step};
+pub use works::{OpenWork, Work};

@@ -11,12 +11,13 @@ mod process;
 mod rows;
 mod semaphore;
 mod time;
+mod work;
 
 use super::outlines::check_cases;
 use rows::{Row, rows};
 use std::test::Fail;
 
-const CASES: [&[&str]; 10] = [
+const CASES: [&[&str]; 11] = [
     partition::CASES,
     process::CASES,
     time::CASES,
@@ -27,6 +28,7 @@ const CASES: [&[&str]; 10] = [
     event::CASES,
     mutex::CASES,
     kinds::CASES,
+    work::CASES,
 ];
 
 #[test]

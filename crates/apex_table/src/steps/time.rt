@@ -20,7 +20,7 @@ fn with_word(at: Place, service: &str, word: &str) -> Result<Option<TimeCall>, T
 {
     match service {
         "TIMED_WAIT" if is_timeout(word) => Ok(Some(TimeCall::TimedWait(timeout(at, word)?))),
-        "REPLENISH" if is_number(word) => Ok(Some(TimeCall::Replenish(span(at, word)?))),
+        "REPLENISH" if is_number(word) => Ok(Some(TimeCall::Replenish(span(at, u32::MAX, word)?))),
         _ => Ok(None),
     }
 }

@@ -65,15 +65,15 @@ pub fn timeout(at: Place, word: &str) -> Result<Timeout, TableFault>
     }
 }
 
-/// The span of time that a word writes.
-pub fn span(at: Place, word: &str) -> Result<Span, TableFault>
-    ensures { result ≡ span at word.now }
+/// The span that a word writes: so many ticks or units, at least one, and `most` at the most.
+pub fn span(at: Place, most: u32, word: &str) -> Result<Span, TableFault>
+    ensures { result ≡ span at most word.now }
 {
-    let ticks = number(at, u32::MAX, word)?;
-    if ticks == 0 {
+    let many = number(at, most, word)?;
+    if many == 0 {
         return Err(TableFault::OutOfRange(at));
     }
-    Ok(Span::of(ticks))
+    Ok(Span::of(many))
 }
 
 fn is_digit(byte: u8) -> bool

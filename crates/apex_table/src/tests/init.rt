@@ -32,7 +32,6 @@ const FAULTS: &[(&str, &[&str])] = &[
             "SUSPEND",
             "DELAYED_START X 05",
             "SET_PARTITION_MODE COLD_START",
-            "work 5",
         ],
     ),
     (
@@ -75,6 +74,7 @@ const FAULTS: &[(&str, &[&str])] = &[
             "PERIODIC_WAIT",
             "REPLENISH 1",
             "WAIT_SEMAPHORE S 0",
+            "work 5",
         ],
     ),
 ];

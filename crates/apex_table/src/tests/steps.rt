@@ -79,7 +79,6 @@ const FAULTS: &[(&str, &[&str])] = &[
             "REPLENISH 01",
             "REPLENISH infinite",
             "REPLENISH 5 5",
-            "work 5",
         ],
     ),
     (

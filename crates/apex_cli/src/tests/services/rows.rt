@@ -8,7 +8,7 @@ pub struct Row {
 
 /// All rows, in the order of the services.
 // Each list is a function's, since the proof of a function that names all of them would be too long.
-pub fn rows() -> [&'static [Row]; 12] {
+pub fn rows() -> [&'static [Row]; 13] {
     [
         general(),
         creates(),
@@ -19,6 +19,7 @@ pub fn rows() -> [&'static [Row]; 12] {
         starts(),
         suspensions(),
         time(),
+        work(),
         semaphores(),
         flags(),
         mutexes(),
@@ -538,6 +539,28 @@ const TIME: &[Row] = &[
 
 fn time() -> &'static [Row] {
     TIME
+}
+
+// Work, which is a step and no service.
+const WORK: &[Row] = &[Row {
+    service: "work",
+    guards: &[],
+    effects: &[
+        "one turn begins it, and the core's next one has done it",
+        "a looping script begins it again",
+        "each core has its own",
+        "events that leave its process the core do not break it",
+        "lost where a more urgent process had the core meanwhile",
+        "lost where its process was suspended and resumed",
+        "lost where a new priority makes its process the newest",
+        "lost by a stop, and named before the first step of a new start",
+        "lost by a HARD deadline that is missed",
+        "lost in IDLE, and every later turn is idle",
+    ],
+}];
+
+fn work() -> &'static [Row] {
+    WORK
 }
 
 // Semaphores and buffers.

@@ -5,8 +5,8 @@ use Rattle.apex_dispatch.proofs.deeds.carry_out.Goals as goal
 
 pub ask-requires-clause-known : goal.ask-requires-clause-known
 ask-requires-clause-known g c =
-    known_to c.args.table.now c.args.objects.now c.in-Some.call c.requires.objects
-    (c.requires.due c.in-Some.call c.in-Some.is)
+    known_to c.args.table.now c.args.objects.now c.in-Some-due.call c.requires.objects
+    (c.requires.due c.in-Some-due.call c.in-Some-due.is)
 
 pub carry_out_step-requires-clause-ready : goal.carry_out_step-requires-clause-ready
 carry_out_step-requires-clause-ready g c =

@@ -51,3 +51,7 @@ returns-clause-missed_deadline_then_next_release c = refl
 pub returns-clause-init_list_of_the_table : goal.returns-clause-init_list_of_the_table
 unfolding turn tick pass_time enter_normal runs_on waits_in is_due_at is_missed_at digits
 returns-clause-init_list_of_the_table c = refl
+
+pub returns-clause-work_is_lost_after_absence : goal.returns-clause-work_is_lost_after_absence
+unfolding turn tick pass_time enter_normal runs_on waits_in is_due_at is_missed_at digits
+returns-clause-work_is_lost_after_absence c = refl

@@ -33,19 +33,19 @@ ticked : (g : Over) (c : After-append g) →
     let inside = c.self.inside in
     IsAfter inside.table (machine_with inside.table (g.S.Store.roster inside.store) inside.log.entries) (Tick c.args.n)
     (kernel_with inside.table inside.objects (g.S.Store.roster c.pass_time-went.new.store) c.append.new.log.entries)
-    inside.init_made c.append.new.log.limit
+    inside.init_made c.append.new.log.limit c.watch.new.self
 ticked g c =
     let passed = c.pass_time-went.ensures in
     let changes = rw c.clear.ensures at passed.changes in
     let room : length c.self.inside.log.entries < c.self.inside.table.limit =
     omega (arith, c.self.invariant.limit, c.in_ok-refuse_full.ensures.accepted.0 refl) in
-    after_does _ _ _ _ _ _ c.self.invariant room (Tick c.args.n)
+    after_does _ _ _ _ _ _ _ c.self.invariant room (Tick c.args.n)
     (record {
       caller = refl;
       call = refl;
       outcome = record { roster = changes.roster; kept = refl; reply = rw passed.went refl; notices = changes.notices };
     })
-    _ c.append.ensures.entries _ _ (omega arith) c.append.ensures.limit c.requires.range
+    _ c.append.ensures.entries _ _ (omega arith) c.append.ensures.limit c.watch.new.self c.watch.ensures c.requires.range
 
 pub invariant_of-self : goal.invariant_of-self
 invariant_of-self g c = (ticked g c).kept

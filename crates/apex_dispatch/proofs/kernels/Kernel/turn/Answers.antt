@@ -16,6 +16,10 @@ carry_out-deed-requires-clause-due g c call e =
     known_due c.self.inside.table c.self.inside.init_made c.self.invariant.lawful due call
     (sym c.due_call-due.ensures ∙ e)
 
+pub carry_out-deed-requires-clause-begun : goal.carry_out-deed-requires-clause-begun
+carry_out-deed-requires-clause-begun g c o e =
+    ((kept_sound c.self.invariant).workers c.args.core o (sym (c.self.invariant.begun c.args.core) ∙ sym c.at.ensures ∙ e)).known
+
 pub carry_out-deed-requires-clause-records : goal.carry_out-deed-requires-clause-records
 carry_out-deed-requires-clause-records g c = (kept_sound c.self.invariant).orderly.many
 
@@ -52,15 +56,17 @@ turned : (g : Over) (c : After-append g) →
     IsAfter inside.table (machine_with inside.table (g.S.Store.roster inside.store) inside.log.entries)
     (Turn c.args.core)
     (kernel_with inside.table done.objects (g.S.Store.roster done.store) c.append.new.log.entries)
-    (inside.init_made + c.steps_in.result) c.append.new.log.limit
+    (inside.init_made + c.steps_by.result) c.append.new.log.limit c.watch.new.self
 turned g c =
     let room : length c.self.inside.log.entries < c.self.inside.table.limit =
     omega (arith, c.self.invariant.limit, c.in_ok-refuse_full.ensures.accepted.0 refl) in
     let due = c.due_call-due.ensures in
-    after_does _ _ _ _ _ _ c.self.invariant room (Turn c.args.core)
-    (rw (c.clear.ensures, due, c.self.invariant.init) at c.carry_out-deed.ensures)
-    _ c.append.ensures.entries _ _ (rw (c.steps_in.ensures, due, c.self.invariant.init) refl)
-    c.append.ensures.limit (rw (← c.self.view_is) at c.requires)
+    let begun = c.at.ensures ∙ c.self.invariant.begun c.args.core in
+    after_does _ _ _ _ _ _ _ c.self.invariant room (Turn c.args.core)
+    (rw (c.clear.ensures, due, begun, c.self.invariant.init) at c.carry_out-deed.ensures)
+    _ c.append.ensures.entries _ _ (rw c.steps_by.ensures refl)
+    c.append.ensures.limit c.watch.new.self (λ core. c.watch.ensures core ∙ rw (c.begin.ensures core, c.begun.ensures) refl)
+    (rw (← c.self.view_is) at c.requires)
 
 pub invariant_of-self : goal.invariant_of-self
 invariant_of-self g c = (turned g c).kept

@@ -1,0 +1,100 @@
+ghost use Rattle.std.specs.Prelude.{◌≡◌, ℕ, ◌==◌, ◌<◌, None, length, option_map, if◌then◌else◌};
+ghost use Rattle.apex_types.specs.Limits.{most_cores};
+ghost use Rattle.apex_types.specs.Works.{fresh, watched};
+ghost use Rattle.apex_dispatch.specs.Works.{broken, work_at};
+
+use apex_store::Store;
+use apex_types::{CoreId, OpenWork, Work};
+use std::marker::Model;
+
+/// The work that each core has begun and not ended.
+#[derive(Drop)]
+pub(crate) struct Works {
+    of_core: [Option<OpenWork>; 8],
+}
+
+impl Model for Works {
+    ghost use Rattle.std.specs.Prelude.{◌≡◌, List, Option, length};
+    ghost use Rattle.apex_types.specs.declared.OpenWork.{OpenWork};
+    ghost use Rattle.apex_types.specs.Limits.{most_cores};
+
+    ghost Value = { List (Option OpenWork) };
+
+    ghost view = { λ w. w.of_core };
+
+    ghost invariant = { λ w. length w.of_core ≡ most_cores };
+}
+
+impl Works {
+    /// No core has begun any.
+    pub(crate) fn new() -> Works
+        ensures { (core : ℕ) → work_at result core ≡ None }
+    {
+        Works { of_core: [None; 8] }
+    }
+
+    /// The work that the core has begun and not ended.
+    pub(crate) fn at(&self, core: CoreId) -> Option<OpenWork>
+        ensures { result ≡ work_at self.now core }
+    {
+        self.of_core[usize::from(core.number())]
+    }
+
+    /// A turn of the core ended what was open there, and began this work or none.
+    pub(crate) fn begin(&mut self, core: CoreId, work: Option<Work>)
+        ensures { (c : ℕ) → work_at self.new c ≡ (if c == core then option_map fresh work else work_at self.old c) }
+    {
+        self.of_core[usize::from(core.number())] = work.map(|work| OpenWork {
+            work,
+            unbroken: true,
+        });
+    }
+
+    /// There is a place for each core that may be.
+    fn places(&self)
+        ensures { length self.now ≡ most_cores }
+    {
+        let _first = self.of_core[0];
+    }
+
+    /// An event has gone by: a core whose chosen process is another one now has lost its work.
+    pub(crate) fn watch<S: Store>(&mut self, store: &S)
+        ensures { (c : ℕ) → work_at self.new c ≡ option_map (watched (S.roster store.now) c) (work_at self.old c) }
+    {
+        self.places();
+        for core in 0..8 {
+            self.watch_core(store, CoreId::new(core));
+        }
+    }
+
+    /// The core's work is unbroken so far, and its chosen process is another one.
+    fn is_lost<S: Store>(&self, store: &S, core: CoreId) -> bool
+        ensures { option_map (watched (S.roster store.now) core) (work_at self.now core)
+            ≡ (if result then option_map broken (work_at self.now core) else work_at self.now core) }
+    {
+        match self.at(core) {
+            Some(begun) => begun.unbroken && store.chosen(core) != Some(begun.work.process),
+            None => false,
+        }
+    }
+
+    /// The same of one core.
+    fn watch_core<S: Store>(&mut self, store: &S, core: CoreId)
+        ensures { (c : ℕ) → work_at self.new c
+            ≡ (if c == core then option_map (watched (S.roster store.now) core) (work_at self.old c) else work_at self.old c) }
+    {
+        if self.is_lost(store, core) {
+            self.of_core[usize::from(core.number())] = self.at(core).map(broken);
+        }
+    }
+}
+
+/// The work, whose process has lost the core.
+fn broken(begun: OpenWork) -> OpenWork
+    ensures { result ≡ broken begun }
+{
+    OpenWork {
+        work: begun.work,
+        unbroken: false,
+    }
+}
