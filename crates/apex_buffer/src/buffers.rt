@@ -1,3 +1,4 @@
+//! The buffer as its services see it, with its messages and the services that buffers alone have.
 ghost use Rattle.std.specs.Prelude.{◌≡◌, ◌<◌, ◌≤◌, [], ◌∷◌, length, false, IfNone, IfSome, OnSome};
 ghost use Rattle.apex_types.specs.Limits.{most_messages, most_processes};
 ghost use Rattle.apex_types.specs.BufferServices as services;

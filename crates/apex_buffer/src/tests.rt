@@ -1,3 +1,4 @@
+//! Buffers over `PlainStore`: sends, receives and those who wait.
 ghost use Rattle.std.specs.Prelude.{◌≡◌, ◌<ℤ◌, ◌≤◌, pos, [], ◌∷◌, length, true, false, IfOk};
 ghost use Rattle.apex_types.specs.declared.Origin.TheVariants.{Init};
 ghost use Rattle.apex_types.specs.Callers.{IsReady};

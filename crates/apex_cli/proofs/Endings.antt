@@ -7,7 +7,8 @@ use Rattle.apex_history.specs.declared.ReadFault.TheVariants as read
 use Rattle.apex_cli.specs.declared.schedule.Item.{Item}
 use Rattle.apex_cli.specs.declared.faults.CliFault.{CliFault}
 use Rattle.apex_cli.specs.declared.faults.CliFault.TheVariants.{Usage, Write}
-use Rattle.apex_cli.specs.Exits.{Ends, IsLeft, NoneFails, AWriteFails, Ports, no_memory, refused, unread, unwritten, usage, written}
+use Rattle.apex_history.specs.Ports.{AWriteFails, IsLeft, NoneFails, Ports}
+use Rattle.apex_cli.specs.Exits.{Ends, no_memory, refused, unread, unwritten, usage, written}
 use Rattle.apex_cli.specs.Faults.{IsUsageOrMemory, fault_of_read}
 use Rattle.apex_cli.specs.Replay.{Refuses, answer_of, writes}
 

@@ -1,42 +1,12 @@
 -- How the program ends.
-use Rattle.std.specs.Prelude.{◌≡◌, ◌⊎◌, ℕ, List, Option, None, Some, IfSome}
+use Rattle.std.specs.Prelude.{◌≡◌, ◌⊎◌, ℕ, List, Option, None, Some}
 use Rattle.std.specs.Io.KnownBytes.{Appends, Keeps}
 use Rattle.apex_history.specs.Counted.{AppendsBeginning, one_more}
+use Rattle.apex_history.specs.Ports.{AReadFails, AWriteFails, IsLeft, NoneFails, Ports}
 use Rattle.apex_cli.specs.declared.schedule.Item.{Item}
 use Rattle.apex_cli.specs.declared.faults.CliFault.{CliFault}
 use Rattle.apex_cli.specs.declared.faults.CliFault.TheVariants.{Usage, Memory, Read, Write}
 use Rattle.apex_cli.specs.Replay.{answer_of, refuses, writes}
-
--- what the reader has left and what the writer holds, where they tell it, and how many reads and
--- writes have failed
-pub record Ports : Type 0 where
-  pub left : Option (List ℕ)
-  pub held : Option (List ℕ)
-  pub failed_reads : ℕ
-  pub failed_writes : ℕ
-
-abbrev pub ports : Option (List ℕ) → Option (List ℕ) → ℕ → ℕ → Ports
-ports left held failed_reads failed_writes =
-    record { left = left; held = held; failed_reads = failed_reads; failed_writes = failed_writes }
-
--- no read and no write failed
-abbrev pub NoneFails : Ports → Ports → Type 0
-NoneFails before after =
-    (after.failed_reads ≡ before.failed_reads) × (after.failed_writes ≡ before.failed_writes)
-
--- a read failed, and no write
-abbrev pub AReadFails : Ports → Ports → Type 0
-AReadFails before after =
-    (after.failed_reads ≡ one_more before.failed_reads) × (after.failed_writes ≡ before.failed_writes)
-
--- a write failed, and no read
-abbrev pub AWriteFails : Ports → Ports → Type 0
-AWriteFails before after =
-    (after.failed_reads ≡ before.failed_reads) × (after.failed_writes ≡ one_more before.failed_writes)
-
--- the bytes are those that the reader had left, where it tells them
-abbrev pub IsLeft : List ℕ → Ports → Type 0
-IsLeft bytes before = IfSome before.left (λ xs. bytes ≡ xs)
 
 -- The ways in which the program ends: by the items that are asked for, the reader and the writer
 -- before, the fault, and the reader and the writer afterwards.

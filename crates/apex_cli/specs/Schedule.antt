@@ -1,33 +1,19 @@
 -- What the text of a schedule asks for.
-use Rattle.std.specs.Prelude.{ℕ, ◌-◌, Bool, true, List, [], ◌∷◌, Option, Some, None, map, option_map, option_and_then}
-use Rattle.std.specs.Prelude.{◌==◌, ◌&&◌, nat_lt, nat_le, if◌then◌else◌, replicate}
-use Rattle.std.specs.List.{slice_split, list_all, flat_map}
+use Rattle.std.specs.Prelude.{ℕ, Bool, true, List, [], ◌∷◌, Option, Some, None, map, option_map, option_and_then}
+use Rattle.std.specs.Prelude.{◌==◌, nat_lt, if◌then◌else◌, replicate}
+use Rattle.std.specs.List.{list_all, flat_map}
 use Rattle.apex_cli.specs.Terms.{Event}
 use Rattle.apex_types.specs.declared.Event.TheVariants as event
 use Rattle.apex_cli.specs.declared.schedule.Item.{Item}
 use Rattle.apex_cli.specs.declared.schedule.Item.TheVariants.{Turns, Tick}
 use Rattle.apex_types.specs.Numbers.{number_of, at_least, at_most}
-
--- the parts of a text between a separator, which may be empty
-abbrev pub parts : ℕ → List ℕ → List (List ℕ)
-parts separator = slice_split (λ byte. byte == separator)
-
--- the parts of what stands after a separator, where there is one
-abbrev pub parts_after : ℕ → Option (List ℕ) → List (List ℕ)
-parts_after separator None = []
-parts_after separator (Some rest) = parts separator rest
+use Rattle.apex_history.specs.Words.{parts, core_of, ticks_of}
 
 -- the values, where each is there
 abbrev pub all_some : {X : Type 0} → List (Option X) → Option (List X)
 all_some [] = Some []
 all_some (value ∷ rest) =
     option_and_then (λ x. option_map (λ xs. x ∷ xs) (all_some rest)) value
-
--- a core's number, one digit from 0 to 7
-abbrev pub core_of : List ℕ → Option ℕ
-core_of [] = None
-core_of (digit ∷ []) = if nat_le 48 digit && nat_le digit 55 then Some (digit - 48) else None
-core_of (digit ∷ next ∷ rest) = None
 
 -- how often an item is repeated, 1 to 65,536
 abbrev pub times_of : List ℕ → Option ℕ
@@ -44,10 +30,6 @@ abbrev pub turns_of_parts : List (List ℕ) → Option Item
 turns_of_parts [] = None
 turns_of_parts (core ∷ after) =
     option_and_then (λ c. option_map (Turns c) (times_after after)) (core_of core)
-
--- of how many ticks of time a tick is, 1 to 1,048,576
-abbrev pub ticks_of : List ℕ → Option ℕ
-ticks_of word = at_least 1 (at_most 1048576 (number_of word))
 
 -- an item's word: `tN`, in which the number stands behind the `t` (116), or turns, in which `*` (42)
 -- stands before the repetition

@@ -1,3 +1,4 @@
+//! The events that the items of a schedule ask for, made one after the other.
 ghost use Rattle.std.specs.Prelude.{◌≡◌, ◌↔◌, ◌+◌, ◌<◌, ◌≤◌, ℕ, true, length, replicate, IfErr, IsOk};
 ghost use Rattle.apex_types.specs.Machine.{accept, run};
 ghost use Rattle.apex_dispatch.specs.Events.{IsWithin};

@@ -1,3 +1,4 @@
+//! The faults with which the program ends, their lines and their statuses.
 ghost use Rattle.std.specs.Prelude.{◌≡◌, ◌+◌, ◌≤◌, ◌++◌, Some, decimal};
 ghost use Rattle.arrayvec.specs.ArrayString.{array_string_len};
 ghost use Rattle.apex_table.specs.Fault as tables;

@@ -1,9 +1,11 @@
+//! What the words ask for, done over a reader and two writers.
 ghost use Rattle.std.specs.Prelude.{◌≡◌, MatchResult, Option, map, string_bytes};
 ghost use Rattle.apex_history.specs.Counted.{inner_of, failures_of};
 ghost use Rattle.apex_cli.specs.declared.faults.CliFault.{CliFault};
 ghost use Rattle.apex_cli.specs.Faults.{fault_in, line_told, status_of};
 ghost use Rattle.apex_cli.specs.Replay.{items_asked};
-ghost use Rattle.apex_cli.specs.Exits.{Ends, EndsAtOnce, Told, ports};
+ghost use Rattle.apex_history.specs.Ports.{ports};
+ghost use Rattle.apex_cli.specs.Exits.{Ends, EndsAtOnce, Told};
 
 use crate::faults::{CliFault, line_told};
 use crate::replays::{items_asked, replayed};

@@ -1,3 +1,4 @@
+//! A table's history for the items of a schedule.
 ghost use Rattle.std.specs.Prelude.{◌≡◌, All, IfOk, IfErr, IsErrOf, Some, None, map, string_bytes};
 ghost use Rattle.apex_types.specs.Lines.{lines_of, IsPrintable};
 ghost use Rattle.apex_cli.specs.Faults.{IsUsageOrMemory};

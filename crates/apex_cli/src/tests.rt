@@ -1,3 +1,5 @@
+//! The program over devices in memory: tables, schedules, and the bytes that come out.
+
 mod faults;
 mod given;
 mod limits;
@@ -6,7 +8,6 @@ mod mutexes;
 mod outlines;
 mod periods;
 mod processes;
-mod services;
 mod ticks;
 
 use crate::program::run_on;

@@ -1,3 +1,4 @@
+//! The kernel of one partition: boot, turn, tick and run.
 ghost use Rattle.std.specs.Prelude.{◌≡◌, ◌<◌, ◌≤◌, ◌↔◌, ◌+◌, ◌^◌, [], ◌∷◌, ◌++◌, length, ◌&&◌, ◌==◌, if◌then◌else◌, None, All, IfOk, IfErr, OnOk, OnErr, IsOk};
 ghost use Rattle.apex_types.specs.Callers.{is_by_init};
 ghost use Rattle.apex_types.specs.Limits.{latest, most_entries, most_ticks};

@@ -1,3 +1,4 @@
+//! The running values of a partition's objects.
 ghost use Rattle.std.specs.Prelude.{◌≡◌, [], IfOk, false};
 ghost use Rattle.apex_types.specs.Machine.{objects_after};
 

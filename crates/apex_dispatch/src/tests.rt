@@ -1,3 +1,4 @@
+//! Kernels over `PlainStore`.
 ghost use Rattle.std.specs.Prelude.{◌≡◌, ◌<◌, IfOk};
 
 use crate::{

@@ -1,3 +1,4 @@
+//! The work that each core has begun and not ended.
 ghost use Rattle.std.specs.Prelude.{◌≡◌, ℕ, ◌==◌, ◌<◌, None, length, option_map, if◌then◌else◌};
 ghost use Rattle.apex_types.specs.Limits.{most_cores};
 ghost use Rattle.apex_types.specs.Works.{fresh, watched};

@@ -1,3 +1,4 @@
+//! The blackboard as its services see it, and the services that blackboards alone have.
 ghost use Rattle.std.specs.Prelude.{◌≡◌, ◌≤◌, [], length, false, None};
 ghost use Rattle.apex_types.specs.Limits.{most_processes};
 ghost use Rattle.apex_types.specs.BlackboardServices as services;

@@ -1,3 +1,4 @@
+//! The event as its services see it, and the services that events alone have.
 ghost use Rattle.std.specs.Prelude.{◌≡◌, ◌≤◌, [], length, false};
 ghost use Rattle.apex_types.specs.Limits.{most_processes};
 ghost use Rattle.apex_types.specs.Callers.{IsReadyCaller};

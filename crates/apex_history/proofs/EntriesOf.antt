@@ -1,6 +1,6 @@
 -- The entries of a log's rows.
-use Rattle.std.proofs.Common.{◌≡◌, ℕ, zero, suc, ◌+◌, ◌-◌, ◌≤◌, ◌<◌, List, [], ◌∷◌, ◌++◌, length, drop, get_or, slice_get, Some, refl, ap, ◌∙◌, arith, add-zero, length-append, length-drop}
-use Rattle.std.specs.List.{AllByRecursion, slice_range}
+use Rattle.std.proofs.Common.{◌≡◌, ℕ, zero, suc, ◌+◌, ◌-◌, ◌≤◌, ◌<◌, List, [], ◌∷◌, ◌++◌, length, drop, get_or, slice_get, Option, None, Some, refl, ap, ◌∙◌, arith, add-zero, length-append, length-drop}
+use Rattle.std.specs.List.{AllByRecursion, last_or, slice_range}
 use Rattle.std.proofs.lemmas.List.{drop-append-le, take-append-le, take_all}
 use Rattle.std.proofs.lemmas.Option.{slice_get-get_or}
 use Rattle.std.proofs.Math.Seq.{drop-append_seam}
@@ -99,3 +99,19 @@ entry_at notices rows place row lt =
     let some = entry_of notices 0 row in
     slice_get-get_or entries place some (omega (arith, length_entries notices 0 rows, lt))
     ∙ ap Some (get_or-map_places (entry_of notices) 0 rows place row some lt ∙ rw z refl)
+
+-- the last one of a list
+last_put : {A : Type 0} (o : Option A) (xs : List A) (x : A) → last_or o (xs ++ x ∷ []) ≡ Some x
+last_put o [] x = refl
+last_put o (y ∷ xs) x = last_put (Some y) xs x
+
+-- the entry of the last row
+pub last_entry : (notices : List Notice) (place : ℕ) (rows : List RowEntry) (row : RowEntry)
+    → last_or None (entries_from notices place (rows ++ row ∷ [])) ≡ Some (entry_of notices (place + length rows) row)
+last_entry notices place rows row =
+    rw (entries_more notices place rows row) (last_put None (entries_from notices place rows) (entry_of notices (place + length rows) row))
+
+-- the last row is within
+pub within_last : (many : ℕ) (rows : List RowEntry) (row : RowEntry) → AllByRecursion (IsWithin many) (rows ++ row ∷ []) → IsWithin many row
+within_last many [] row (here, others) = here
+within_last many (x ∷ rows) row (first, others) = within_last many rows row others

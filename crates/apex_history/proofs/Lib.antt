@@ -1,4 +1,6 @@
 pub mod EntriesOf
+pub mod Joined
 pub mod LinesOf
 pub mod Outcomes
+pub mod Parts
 pub mod Passing

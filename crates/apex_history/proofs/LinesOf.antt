@@ -1,5 +1,5 @@
 -- The lines of a part of a history.
-use Rattle.std.proofs.Common.{◌≡◌, List, [], ◌∷◌, ◌++◌, sym, ap, ◌∙◌, append-nil}
+use Rattle.std.proofs.Common.{◌≡◌, ℕ, ◌+◌, ◌≤◌, List, [], ◌∷◌, ◌++◌, arith, length, length-append, sym, ap, ◌∙◌, append-nil}
 use Rattle.std.specs.Prelude.{flat_map}
 use Rattle.std.proofs.lemmas.Grind.{flat_map-append}
 use Rattle.apex_history.specs.Terms.{Entry}
@@ -15,3 +15,7 @@ lines_more table entries entry =
 -- those of the first entries, and then those of the others
 pub lines_split : (table : Table) (first others : List Entry) → lines_of table first ++ lines_of table others ≡ lines_of table (first ++ others)
 lines_split table first others = sym (flat_map-append (line_of table) first others)
+
+-- a text that was put behind another one is no longer than what was put
+pub length_put : (before line after : List ℕ) (most : ℕ) → after ≡ before ++ line → length after ≤ length before + most → length line ≤ most
+length_put before line after most put fits = omega (arith, length-append before line, ap length put, fits)

@@ -3,4 +3,8 @@ pub mod Counted
 pub mod FailAt
 pub mod Log
 pub mod Page
+pub mod Ports
+pub mod ReadLines
 pub mod RowEntries
+pub mod StatusRows
+pub mod Words

@@ -1,3 +1,4 @@
+//! Devices in memory for tests, of which a call that is known beforehand fails.
 ghost use Rattle.std.specs.Prelude.{◌≡◌, ◌↔◌, Some, length, take, min, vec_capacity, IsErr};
 ghost use Rattle.apex_history.specs.FailAt.{unread, called, FailsAt, Gives, Accepts, Drains};
 

@@ -1,3 +1,4 @@
+//! The log of a partition's entries.
 ghost use Rattle.std.specs.Prelude.{◌≡◌, ◌+◌, ◌<◌, ◌≤◌, ◌↔◌, [], ◌∷◌, ◌++◌, length, vec_capacity, slice_get, Some, false, IsTrue, IfOk};
 ghost use Rattle.apex_types.specs.Limits.{most_entries};
 

@@ -1,7 +1,8 @@
-ghost use Rattle.std.specs.Prelude.{◌≡◌, ◌+◌, ◌≤◌, length};
+//! The entries that a log lends.
+ghost use Rattle.std.specs.Prelude.{◌≡◌, ◌+◌, ◌≤◌, None, length};
 ghost use Rattle.apex_types.specs.Limits.{most_entries};
 ghost use Rattle.std.specs.Iterator.{YieldsFirst, item_count};
-ghost use Rattle.std.specs.List.{AllByRecursion};
+ghost use Rattle.std.specs.List.{AllByRecursion, last_or};
 ghost use Rattle.apex_history.specs.RowEntries.{entries_from, IsWithin};
 
 use crate::rows::Row;
@@ -44,6 +45,15 @@ impl<'a> Entries<'a> {
             notices,
             place: 0,
         }
+    }
+
+    /// The last of the entries, if there is one. It stays among them.
+    #[tactic(auto, using(crate::proofs::EntriesOf::last_entry, crate::proofs::EntriesOf::within_last))]
+    pub fn latest(&self) -> Option<LentEntry<'a>>
+        ensures { result ≡ last_or None self.now }
+    {
+        let (row, before) = self.rows.split_last()?;
+        Some(row.lent(self.place + before.len() as u32, self.notices))
     }
 }
 

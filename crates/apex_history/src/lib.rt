@@ -4,6 +4,7 @@
 
 mod counting;
 mod devices;
+mod events;
 mod histories;
 mod lent;
 mod pages;
@@ -12,15 +13,23 @@ mod puts;
 mod reading;
 mod rows;
 mod sources;
+mod status;
+mod status_rows;
+mod words;
 
 pub use counting::Counted;
 pub use devices::FailAt;
+pub use events::{LineFault, read_line};
 pub use histories::Log;
 pub use lent::Entries;
 pub use pages::Page;
 pub use printing::{print_entry, print_history};
+pub use puts::{Lines, put_line};
 pub use reading::{ReadFault, read_all};
 pub use sources::{Sink, Source};
+pub use status::{gather_row, print_row};
+pub use status_rows::StatusRow;
+pub use words::{Ticks, cut, read_core, read_ticks};
 
 #[cfg(test)]
 mod tests;

@@ -1,3 +1,4 @@
+//! A page of text, in which lines are gathered before they are written.
 ghost use Rattle.std.specs.Prelude.{◌≡◌, ◌+◌, ◌≤◌, [], ◌++◌, length, IfOk, OnOk, OnErr};
 ghost use Rattle.std.specs.Io.KnownBytes.{Appends};
 ghost use Rattle.apex_history.specs.Counted.{inner_of, failures_of, CountsFailure, AppendsBeginning};
@@ -42,7 +43,7 @@ impl Page {
     }
 
     /// Forgets the text.
-    pub(crate) fn clear(&mut self)
+    pub fn clear(&mut self)
         ensures { self.new ≡ [] }
     {
         self.text.clear();
@@ -72,15 +73,15 @@ impl Page {
         prove!(fits);
     }
 
-    /// Writes the text out, and forgets it also where a write failed.
-    pub(crate) fn hand_on<W: Sink>(&mut self, writer: &mut Counted<W>) -> io::Result<()>
+    /// Writes the text out, and forgets it also where a write failed, which leaves a beginning of it.
+    pub fn hand_on<W: Sink>(&mut self, writer: &mut Counted<W>) -> io::Result<()>
         ensures ok { OnOk result (Appends (W.contents (inner_of writer.old)) (W.contents (inner_of writer.new)) self.old) }
         ensures empty { self.new ≡ [] }
         ensures err { OnErr result (AppendsBeginning (W.contents (inner_of writer.old)) (W.contents (inner_of writer.new)) self.old) }
         ensures counted { CountsFailure result (failures_of writer.old) (failures_of writer.new) }
     {
         let written = writer.write_all(self.text.as_slice());
-        self.text.clear();
+        self.clear();
         written
     }
 }

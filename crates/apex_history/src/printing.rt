@@ -1,3 +1,4 @@
+//! The lines of an entry and of a history, written to a writer.
 ghost use Rattle.std.specs.Prelude.{◌≡◌, ◌+◌, ◌≤◌, [], ◌++◌, All, OnOk, OnErr};
 ghost use Rattle.arrayvec.specs.ArrayVec.{array_vec_len};
 ghost use Rattle.std.specs.Io.KnownBytes.{Appends};
@@ -33,7 +34,11 @@ pub fn print_entry<W: Sink>(
 }
 
 /// Moves the lines into the page, whose text goes out first where they may not fit behind it.
-fn pass_on<W: Sink>(lines: &mut Lines, page: &mut Page, writer: &mut Counted<W>) -> Result<()>
+pub(crate) fn pass_on<W: Sink>(
+    lines: &mut Lines,
+    page: &mut Page,
+    writer: &mut Counted<W>,
+) -> Result<()>
     ensures ok { OnOk result (Passes (W.contents (inner_of writer.old)) (W.contents (inner_of writer.new)) (page.old ++ lines.old.items) page.new) }
     ensures none { OnOk result (lines.new.items ≡ []) }
     ensures empty { OnErr result (page.new ≡ []) }

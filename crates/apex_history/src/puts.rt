@@ -1,3 +1,4 @@
+//! The words of a history's line, put one behind the other.
 ghost use Rattle.std.specs.Prelude.{◌≡◌, ◌+◌, ◌<◌, ◌≤◌, ◌++◌, length, flat_map, codes, decimal, IfSome};
 ghost use Rattle.apex_types.specs.Limits.{most_notices};
 ghost use Rattle.arrayvec.specs.ArrayVec.{array_vec_len};
@@ -14,12 +15,13 @@ mod object;
 mod partition;
 mod process;
 mod semaphore;
+mod status;
+mod status_rows;
 mod time;
 
 use apex_table::Table;
 use apex_types::{
-    Call, Caller, DeadlineType, LentEntry, Name, Notice, ProcessId, Reply, ReturnCode, Span,
-    Timeout, Who,
+    Call, Caller, DeadlineType, Id, LentEntry, Name, Notice, Reply, ReturnCode, Span, Timeout, Who,
 };
 use arrayvec::ArrayVec;
 use caller::put_caller_call;
@@ -27,6 +29,7 @@ use itoa::Buffer;
 use message::put_message;
 use object::put_object_call;
 use partition::put_partition_call;
+pub(crate) use status_rows::put_row;
 use time::put_time_call;
 
 /// How many bytes a line of a history has at the most.
@@ -35,8 +38,9 @@ pub(crate) const LINE_ROOM: usize = 4096;
 /// How many bytes the lines have at the most that are put together before they go to a page.
 pub(crate) const LINES_ROOM: usize = 8192;
 
-/// Lines of a history, one behind the other.
-pub(crate) type Lines = ArrayVec<u8, 8192>;
+/// Lines of a history, one behind the other: a buffer of at most 8,192 bytes, of which a line takes
+/// at most 4,096.
+pub type Lines = ArrayVec<u8, 8192>;
 
 #[inline(always)]
 fn put(line: &mut Lines, text: &str)
@@ -131,12 +135,12 @@ fn put_long_number(line: &mut Lines, number: u64)
     }
 }
 
-fn put_id(line: &mut Lines, process: ProcessId)
+fn put_id<K: Copy>(line: &mut Lines, id: Id<K>)
     requires { array_vec_len line.old + 10 ≤ 8192 }
-    ensures text { line.new.items ≡ line.old.items ++ id_text process }
+    ensures text { line.new.items ≡ line.old.items ++ id_text id }
     ensures short { array_vec_len line.new ≤ array_vec_len line.old + 10 }
 {
-    put_number(line, process.number());
+    put_number(line, id.number());
 }
 
 fn code_name(code: &ReturnCode) -> &'static str
@@ -396,12 +400,13 @@ fn put_notices(line: &mut Lines, notices: &[Notice])
     }
 }
 
-/// Puts the line of the entry behind the others.
+#[inline(always)]
 #[tactic(auto, using(std::proofs::Common::append_assoc))]
-pub(crate) fn put_line(lines: &mut Lines, table: &Table, entry: &LentEntry<'_>)
+fn put_entry(lines: &mut Lines, table: &Table, entry: &LentEntry<'_>)
     requires printable { IsPrintable table.now entry.now }
     requires room { array_vec_len lines.old + 4096 ≤ 8192 }
-    ensures { lines.new.items ≡ lines.old.items ++ line_of table.now entry.entry.now }
+    ensures text { lines.new.items ≡ lines.old.items ++ line_of table.now entry.entry.now }
+    ensures short { array_vec_len lines.new ≤ array_vec_len lines.old + 4096 }
 {
     put_number(lines, entry.number);
     put(lines, " ");
@@ -416,4 +421,17 @@ pub(crate) fn put_line(lines: &mut Lines, table: &Table, entry: &LentEntry<'_>)
     put_reply(lines, table, &entry.reply);
     put_notices(lines, entry.notices);
     put(lines, "\n");
+}
+
+/// Puts the line of the entry, with its line feed, behind the others. Takes no memory.
+///
+/// A line has at most 4,096 bytes: so much room there has to be.
+#[tactic(auto, using(crate::proofs::LinesOf::length_put))]
+pub fn put_line(lines: &mut Lines, table: &Table, entry: &LentEntry<'_>)
+    requires printable { IsPrintable table.now entry.now }
+    requires room { array_vec_len lines.old + 4096 ≤ 8192 }
+    ensures text { lines.new.items ≡ lines.old.items ++ line_of table.now entry.entry.now }
+    ensures short { length (line_of table.now entry.entry.now) ≤ 4096 }
+{
+    put_entry(lines, table, entry);
 }

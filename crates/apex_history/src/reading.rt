@@ -1,3 +1,4 @@
+//! All bytes of a reader.
 ghost use Rattle.std.specs.Prelude.{◌≡◌, IfOk, IfSome, OnOk, OnErr};
 ghost use Rattle.std.specs.Io.KnownBytes.{IsAtEnd};
 ghost use Rattle.apex_history.specs.Counted.{inner_of, failures_of, ConsumesSome, CountsReadFault};

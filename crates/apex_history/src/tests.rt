@@ -1,7 +1,11 @@
+//! Logs, counted readers and writers, and printed histories.
+
 mod events;
 mod lines;
 mod messages;
 mod mutexes;
+mod reading;
+mod status;
 mod steps;
 mod ticks;
 

@@ -1,3 +1,4 @@
+//! The mutex as its services see it, and the services that mutexes alone have.
 ghost use Rattle.std.specs.Prelude.{◌≡◌, ◌≤◌, [], length, false};
 ghost use Rattle.apex_types.specs.Limits.{most_processes};
 ghost use Rattle.apex_types.specs.Callers.{IsReady, IsReadyCaller};

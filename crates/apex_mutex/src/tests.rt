@@ -1,3 +1,4 @@
+//! Mutexes over `PlainStore`: owners, ceilings, hand-overs.
 ghost use Rattle.std.specs.Prelude.{◌≡◌, ◌<ℤ◌, ◌≤◌, pos, length, true, false, IfOk};
 ghost use Rattle.apex_types.specs.Roster.{is_normal};
 ghost use Rattle.apex_store.specs.Opened.{IsEarly};

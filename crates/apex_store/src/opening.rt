@@ -1,3 +1,4 @@
+//! The records of a table's processes before any event.
 ghost use Rattle.std.specs.Prelude.{◌≡◌, ◌+◌, ◌<◌, ◌≤◌, [], ◌∷◌, ◌++◌, length, map, vec_capacity, vec_len, IfOk};
 ghost use Rattle.apex_types.specs.Limits.{most_processes};
 ghost use Rattle.apex_types.specs.Places.{map_places};

@@ -1,3 +1,4 @@
+//! Which of two processes comes first, and which processes are looked at.
 ghost use Rattle.std.specs.Prelude.{◌≡◌};
 ghost use Rattle.apex_types.specs.Running.{is_before, is_older, runs_on};
 ghost use Rattle.apex_types.specs.Dues.{is_due_at, is_missed_at};

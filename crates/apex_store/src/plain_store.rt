@@ -1,3 +1,4 @@
+//! A store of one list of records, which answers each question by a scan.
 ghost use Rattle.std.specs.Prelude.{◌≡◌, ◌<◌, ◌≤◌, count_by, length, slice_index_or, IfOk};
 ghost use Rattle.apex_types.specs.Limits.{latest, most_processes};
 ghost use Rattle.apex_types.specs.Roster.{opening_roster, with_record};

@@ -1,3 +1,4 @@
+//! The one search for the process that comes first.
 ghost use Rattle.std.specs.Prelude.{◌≡◌, ◌<◌, ◌≤◌, Bool, length, IfSome};
 ghost use Rattle.apex_types.specs.Limits.{most_processes};
 ghost use Rattle.std.specs.Cmp.{IsStrictWeakOrder};

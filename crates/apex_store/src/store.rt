@@ -1,3 +1,4 @@
+//! The trait `Store`: the processes of a partition, their mode and their time.
 ghost use Rattle.std.specs.Prelude.{◌≡◌, ◌<◌, ◌≤◌, ◌^◌, true, length, IfSome};
 ghost use Rattle.apex_types.specs.Limits.{latest, most_cores};
 ghost use Rattle.apex_types.specs.Roster.{Roster, record_at};

@@ -1,3 +1,4 @@
+//! What `PlainStore` answers after each change.
 ghost use Rattle.std.specs.Prelude.{◌≡◌, ◌<◌, ◌≤◌, ◌^◌, true, length, IfOk};
 ghost use Rattle.apex_types.specs.Distinct.{IsStamped};
 ghost use Rattle.apex_types.specs.Dues.{HasTime, IsFrom};

@@ -1,3 +1,4 @@
+//! The section of blackboards.
 ghost use Rattle.apex_table.specs.Blackboards.{blackboards};
 
 use crate::configs::BlackboardConfig;

@@ -1,3 +1,4 @@
+//! The section of buffers.
 ghost use Rattle.apex_table.specs.Buffers.{buffers};
 
 use crate::configs::BufferConfig;

@@ -1,3 +1,4 @@
+//! What the table gives a process and an object of each kind.
 ghost use Rattle.std.specs.Prelude.{◌≡◌, ◌≤◌, length};
 ghost use Rattle.apex_types.specs.Limits.{most_literal};
 ghost use Rattle.apex_types.specs.Table.{step_at, call_in};

@@ -1,3 +1,4 @@
+//! The init list of a table that has none.
 ghost use Rattle.std.specs.Prelude.{◌≡◌, ◌<◌, ◌≤◌, ◌++◌, length, IfOk};
 ghost use Rattle.apex_types.specs.Limits.{most_objects, most_processes};
 ghost use Rattle.apex_types.specs.Places.{map_places};

@@ -1,3 +1,4 @@
+//! The section of events.
 ghost use Rattle.apex_table.specs.Events.{events};
 
 use crate::configs::EventConfig;

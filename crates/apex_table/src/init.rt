@@ -1,3 +1,4 @@
+//! The init list that a table gives.
 ghost use Rattle.std.specs.Prelude.{◌≡◌, ◌<◌, ◌≤◌, map, length, option_map, IfOk, IfSome};
 ghost use Rattle.apex_types.specs.Limits.{most_init_steps, most_processes};
 ghost use Rattle.toml.specs.View.{view};

@@ -1,3 +1,4 @@
+//! The section of mutexes.
 ghost use Rattle.apex_table.specs.Mutexes.{mutexes};
 
 use crate::configs::MutexConfig;

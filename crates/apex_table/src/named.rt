@@ -1,3 +1,4 @@
+//! The entry of a section that has a name.
 ghost use Rattle.std.specs.Prelude.{ℕ, List, ◌≡◌, ◌<◌, map, length, IfSome};
 ghost use Rattle.std.specs.List.{list_any, position_from};
 ghost use Rattle.std.specs.Str.{bytes_eq};

@@ -1,3 +1,4 @@
+//! The names of a table's things, kind by kind.
 ghost use Rattle.std.specs.Prelude.{◌≡◌, ◌≤◌, map, length, IfOk};
 ghost use Rattle.apex_types.specs.Limits.{most_processes};
 ghost use Rattle.apex_table.specs.Names.{names_of};

@@ -1,3 +1,4 @@
+//! The objects of a table, kind by kind.
 ghost use Rattle.toml.specs.View.{table_view};
 ghost use Rattle.apex_table.specs.Outcome.{Gives};
 ghost use Rattle.apex_table.specs.Objects.{objects};

@@ -1,3 +1,4 @@
+//! The section of processes.
 ghost use Rattle.std.specs.Prelude.{◌≡◌, ◌≤◌, map, length, IfOk};
 ghost use Rattle.apex_types.specs.Limits.{most_cores, most_init_steps, most_steps};
 ghost use Rattle.toml.specs.View.{view, table_view};

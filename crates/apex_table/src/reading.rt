@@ -1,3 +1,4 @@
+//! The reading of a whole table.
 ghost use Rattle.toml.specs.View.{table_view};
 ghost use Rattle.apex_table.specs.Outcome.{Gives};
 ghost use Rattle.apex_table.specs.Reading.{reading, document, table_of};

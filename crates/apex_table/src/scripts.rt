@@ -1,3 +1,4 @@
+//! The scripts of a table's processes.
 ghost use Rattle.std.specs.Prelude.{◌≡◌, ◌<◌, ◌≤◌, map, length, IfOk};
 ghost use Rattle.apex_types.specs.Limits.{most_processes, most_steps};
 ghost use Rattle.apex_table.specs.Outcome.{Gives};

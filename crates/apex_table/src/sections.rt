@@ -1,3 +1,4 @@
+//! A section of any kind, entry by entry.
 ghost use Rattle.std.specs.Prelude.{◌≡◌, ◌<◌, ◌≤◌, ℕ, List, length, map, option_map, Result, IfOk};
 ghost use Rattle.apex_types.specs.Limits.{most_init_steps};
 ghost use Rattle.toml.specs.Data.{Members};

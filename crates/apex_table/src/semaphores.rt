@@ -1,3 +1,4 @@
+//! The section of semaphores.
 ghost use Rattle.apex_table.specs.Semaphores.{semaphores};
 
 use crate::configs::SemaphoreConfig;

@@ -1,3 +1,4 @@
+//! A step by its text.
 ghost use Rattle.std.specs.Prelude.{map};
 ghost use Rattle.apex_types.specs.Calls.{origin_of, message_in};
 ghost use Rattle.apex_table.specs.Outcome.{Gives};

@@ -1,3 +1,4 @@
+//! A partition's table.
 ghost use Rattle.std.specs.Prelude.{◌≡◌, ◌<◌, ◌≤◌, length, slice_get};
 ghost use Rattle.apex_types.specs.Limits.{most_cores, most_entries, most_literal, most_objects, most_processes};
 ghost use Rattle.apex_types.specs.Table.{IsLawful, process_config, semaphore_config, buffer_config, blackboard_config, event_config, mutex_config, call_in, literal_text};

@@ -1,3 +1,5 @@
+//! Tables that are read and tables that are refused.
+
 mod attributes;
 mod init;
 mod object_steps;

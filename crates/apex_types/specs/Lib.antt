@@ -37,4 +37,6 @@ pub mod PartitionServices
 pub mod Works
 pub mod Machine
 pub mod Lines
+pub mod Status
+pub mod Listing
 pub mod Distinct

@@ -1,3 +1,4 @@
+//! The services with their arguments, as a step asks for them.
 ghost use Rattle.std.specs.Prelude.{◌≡◌};
 ghost use Rattle.apex_types.specs.Calls.{known, object_of, unknown, object_origin, origin_of, message_in};
 

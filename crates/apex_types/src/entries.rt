@@ -1,3 +1,4 @@
+//! The entries of a history: who did what, and what came of it.
 ghost use Rattle.std.specs.Prelude.{◌≡◌, ◌<◌, ◌≤◌, [], ◌∷◌, ◌++◌, length};
 ghost use Rattle.apex_types.specs.Limits.{most_notices};
 

@@ -1,3 +1,4 @@
+//! The numbers of cores, processes and objects.
 ghost use Rattle.std.specs.Prelude.{◌≡◌, ◌+◌, ◌<◌};
 ghost use Rattle.apex_types.specs.Limits.{most_cores};
 

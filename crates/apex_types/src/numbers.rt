@@ -1,3 +1,4 @@
+//! The reading of decimal numbers.
 ghost use Rattle.std.specs.Prelude.{◌≡◌, ℕ, ◌+◌, ◌*◌, ◌^◌, ◌<◌, ◌≤◌, min, option_map};
 ghost use Rattle.apex_types.specs.Numbers.{number_of, at_most, has_leading_zero};
 

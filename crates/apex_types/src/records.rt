@@ -1,3 +1,4 @@
+//! The record of a process, with its mode, its state and its waits.
 ghost use Rattle.std.specs.Prelude.{◌≡◌};
 ghost use Rattle.apex_types.specs.Roster.{is_normal};
 ghost use Rattle.apex_types.specs.Running.{current_priority, is_eligible};

@@ -1,3 +1,4 @@
+//! A span of time.
 ghost use Rattle.std.specs.Prelude.{◌≡◌, ◌≤◌};
 
 use std::marker::Model;

@@ -1,3 +1,4 @@
+//! A step of a script or of an init list.
 ghost use Rattle.std.specs.Prelude.{◌≡◌, ◌≤◌, [], length};
 ghost use Rattle.apex_types.specs.Limits.{most_literal};
 

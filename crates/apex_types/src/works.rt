@@ -1,3 +1,5 @@
+//! Work that a process has begun.
+
 use crate::identifiers::ProcessId;
 use crate::spans::Span;
 

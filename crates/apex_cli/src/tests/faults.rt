@@ -1,3 +1,5 @@
+//! Each fault, its line and its status, and devices that fail.
+
 use super::{
     FIRST_WAITS, SEMAPHORE, SIGNALLER, STARTED, TWO_CORES, USAGE, WAITER, joined, words_of,
 };

@@ -1,3 +1,5 @@
+//! The words that the operating system gives.
+
 use crate::faults::CliFault;
 use crate::given_words;
 use std::env::{Env, FillError};

@@ -1,3 +1,5 @@
+//! Tables and schedules at their limits and one beyond them.
+
 // The greatest tables, histories, schedules and times, each with ample memory.
 use super::outlines::{lines_from, table_of};
 use super::{Done, check, refused, run_through};

@@ -1,3 +1,5 @@
+//! Histories of buffers, blackboards and events.
+
 // Buffers, blackboards and events: whole histories, and tables with objects that are refused.
 use super::{IDLER, MUTEX, SEMAPHORE, TWO_CORES, check, played, refused};
 use std::test::Fail;

@@ -1,3 +1,5 @@
+//! Histories of mutexes.
+
 // Mutexes: whole histories.
 use super::{MUTEX, check, played};
 use std::test::Fail;

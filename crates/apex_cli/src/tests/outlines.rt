@@ -1,3 +1,5 @@
+//! A partition's table from a few words.
+
 use super::run_with;
 use std::alloc::Global;
 use std::process::Abort;

@@ -1,3 +1,5 @@
+//! Histories of periodic processes and of deadlines.
+
 // Periods and deadlines: whole histories, and tables that are refused for them.
 use super::outlines::{check_cases, check_outline};
 use super::{TWO_CORES, check, joined, played, refused};

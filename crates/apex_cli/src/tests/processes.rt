@@ -1,3 +1,5 @@
+//! Histories of processes that are started, stopped, suspended and resumed.
+
 use super::{SEMAPHORE, SIGNALLER, STARTED, TWO_CORES, WAITER, check, played, refused};
 use std::test::Fail;
 

@@ -1,3 +1,5 @@
+//! Histories in which time passes.
+
 use super::{
     IDLER, SEMAPHORE, SIGNALLER, STARTED, TWO_CORES, USAGE, WAITER, check, played, run_with,
 };

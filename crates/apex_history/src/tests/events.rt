@@ -1,3 +1,5 @@
+//! The lines of events.
+
 use super::{called, code, of_event, paper, print};
 use crate::Counted;
 use apex_table::read_table;

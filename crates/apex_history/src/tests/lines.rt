@@ -1,3 +1,4 @@
+//! The lines of processes, of init steps and of idle turns.
 ghost use Rattle.std.specs.Prelude.{◌≡◌, ◌+◌, ◌<◌, ◌≤◌, ◌∷◌, ◌++◌, length, All, IfOk};
 ghost use Rattle.apex_types.specs.declared.Call.TheVariants.{Process};
 ghost use Rattle.apex_types.specs.declared.Named.TheVariants.{Known};

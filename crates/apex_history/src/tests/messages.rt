@@ -1,3 +1,4 @@
+//! The lines of buffers and of blackboards.
 ghost use Rattle.std.specs.Prelude.{◌≡◌, length};
 
 use super::{called, code, of_blackboard, of_buffer, paper, print};

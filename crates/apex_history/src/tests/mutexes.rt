@@ -1,3 +1,5 @@
+//! The lines of mutexes.
+
 use super::{called, code, of_mutex, paper, print};
 use crate::Counted;
 use apex_table::read_table;

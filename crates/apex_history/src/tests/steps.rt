@@ -1,3 +1,5 @@
+//! The lines of steps that name a process or time.
+
 use super::{called, code, of_process, paper, print};
 use crate::Counted;
 use apex_table::read_table;

@@ -1,3 +1,4 @@
+//! The lines of ticks, with their notices.
 ghost use Rattle.std.specs.Prelude.{◌≡◌, [], None};
 
 use super::{called, of_process, of_semaphore, paper, print};

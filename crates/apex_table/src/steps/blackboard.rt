@@ -1,3 +1,4 @@
+//! The steps that blackboards alone have.
 ghost use Rattle.std.specs.Prelude.{codes, ◌≡◌};
 ghost use Rattle.apex_types.specs.declared.calls.Call.TheVariants.{Blackboard};
 ghost use Rattle.apex_table.specs.BlackboardSteps.{blackboard_alone, blackboard_with_word, blackboard_service};

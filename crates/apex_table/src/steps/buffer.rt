@@ -1,3 +1,4 @@
+//! The steps that buffers alone have.
 ghost use Rattle.std.specs.Prelude.{codes, ◌≡◌};
 ghost use Rattle.apex_types.specs.declared.calls.Call.TheVariants.{Buffer};
 ghost use Rattle.apex_table.specs.BufferSteps.{buffer_with_word, buffer_with_words, buffer_service};

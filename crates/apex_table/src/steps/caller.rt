@@ -1,3 +1,4 @@
+//! The steps that a process asks for itself.
 ghost use Rattle.std.specs.Prelude.{◌≡◌, map};
 ghost use Rattle.apex_table.specs.CallerSteps.{caller_alone, caller_with_word, caller_call};
 

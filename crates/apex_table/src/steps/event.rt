@@ -1,3 +1,4 @@
+//! The steps that events alone have.
 ghost use Rattle.std.specs.Prelude.{codes, ◌≡◌};
 ghost use Rattle.apex_types.specs.declared.calls.Call.TheVariants.{Event};
 ghost use Rattle.apex_table.specs.EventSteps.{event_alone, event_with_word, event_service};

@@ -1,3 +1,4 @@
+//! The steps that mutexes alone have.
 ghost use Rattle.std.specs.Prelude.{codes, ◌≡◌};
 ghost use Rattle.apex_types.specs.declared.calls.Call.TheVariants.{Mutex};
 ghost use Rattle.apex_table.specs.MutexSteps.{mutex_alone, mutex_with_word, mutex_service};

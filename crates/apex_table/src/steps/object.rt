@@ -1,3 +1,4 @@
+//! The steps about a thing of any kind.
 ghost use Rattle.std.specs.Prelude.{ℕ, List, Option, Result, ◌≡◌, ◌++◌, ◌≤◌, map, length};
 ghost use Rattle.apex_types.specs.Limits.{most_processes};
 ghost use Rattle.std.specs.Str.{bytes_eq};

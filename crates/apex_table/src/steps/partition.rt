@@ -1,3 +1,4 @@
+//! The steps of partition management.
 ghost use Rattle.std.specs.Prelude.{◌≡◌, map};
 ghost use Rattle.apex_table.specs.PartitionSteps.{requested_mode, partition_alone, partition_with_word, partition_call};
 

@@ -1,3 +1,4 @@
+//! The steps for a process that is named.
 ghost use Rattle.std.specs.Prelude.{codes, ◌≡◌};
 ghost use Rattle.apex_types.specs.declared.calls.Call.TheVariants.{Process};
 ghost use Rattle.apex_table.specs.ProcessSteps.{process_alone, process_with_word, process_service};

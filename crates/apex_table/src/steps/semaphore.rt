@@ -1,3 +1,4 @@
+//! The steps that semaphores alone have.
 ghost use Rattle.std.specs.Prelude.{codes, ◌≡◌};
 ghost use Rattle.apex_types.specs.declared.calls.Call.TheVariants.{Semaphore};
 ghost use Rattle.apex_table.specs.SemaphoreSteps.{semaphore_alone, semaphore_with_word, semaphore_service};

@@ -1,3 +1,4 @@
+//! The steps of time management.
 ghost use Rattle.std.specs.Prelude.{◌≡◌, map};
 ghost use Rattle.apex_table.specs.TimeSteps.{time_alone, time_with_word, time_call};
 

@@ -1,3 +1,4 @@
+//! The words of a step, and the forms that they may have.
 ghost use Rattle.std.specs.Prelude.{ℕ, ◌≡◌, ◌<◌, ◌≤◌, ◌/◌, ◌%◌, ◌==◌, ◌&&◌, true, map, length, IfOk};
 ghost use Rattle.apex_types.specs.Limits.{most_message, most_processes};
 ghost use Rattle.std.specs.Char.{digit_value};

@@ -1,3 +1,4 @@
+//! The step of work.
 ghost use Rattle.std.specs.Prelude.{◌≡◌, map};
 ghost use Rattle.apex_table.specs.WorkSteps.{work_with_word, work_call};
 

@@ -1,3 +1,5 @@
+//! The attributes of processes, and their faults.
+
 use crate::reading::read_table;
 use crate::tests::fault_of;
 use apex_types::{DeadlineType, ProcessId, Span};

@@ -1,3 +1,5 @@
+//! Init lists, and their faults.
+
 use crate::reading::read_table;
 use crate::tests::{SIGNAL_WAKES_WAITER, fault_of, repeated};
 use apex_types::{

@@ -1,3 +1,5 @@
+//! The steps about objects, and their faults.
+
 use crate::reading::read_table;
 use crate::tests::objects::OBJECTS;
 use crate::tests::{fault_of, repeated};

@@ -1,3 +1,5 @@
+//! The sections of objects, and their faults.
+
 use crate::reading::read_table;
 use crate::tests::{fault_of, repeated};
 use apex_types::{

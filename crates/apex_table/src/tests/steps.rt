@@ -1,3 +1,5 @@
+//! The steps of processes, and their faults.
+
 use crate::reading::read_table;
 use crate::tests::{SIGNAL_WAKES_WAITER, fault_of};
 use apex_types::{

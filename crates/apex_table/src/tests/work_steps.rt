@@ -1,3 +1,5 @@
+//! The steps of work, and their faults.
+
 use crate::reading::read_table;
 use crate::tests::fault_of;
 use apex_types::{Call, Origin, ProcessId, Span};

@@ -1,6 +1,7 @@
 use Rattle.std.proofs.Common.{◌≡◌, ◌+◌, length, option_map}
 use Rattle.std.specs.Option.{option_map_or}
-use Rattle.apex_cli.specs.Schedule.{items_of, parts_after}
+use Rattle.apex_history.specs.Words.{parts_after}
+use Rattle.apex_cli.specs.Schedule.{items_of}
 use Rattle.apex_cli.proofs.Items.{items_in, joined}
 use Rattle.apex_cli.proofs.schedule.read_schedule.Given as goal
 

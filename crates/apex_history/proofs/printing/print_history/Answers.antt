@@ -17,7 +17,7 @@ loop-entry-preserved g c =
     record {
       split = at.split ∙ ap (λ l. before ++ l) c.in-Some.ensures.steps ∙ sym (append_assoc before (entry ∷ []) after);
       printable = All-rest (IsPrintable c.args.table.now) entry after c.loop-entry.entry-iterator c.in-Some.ensures.steps at.printable;
-      lines = rw (c.put_line.ensures, lines_more c.args.table.now before entry, ← append_assoc c.make_room.new.page c.make_room.new.lines.items (line_of c.args.table.now entry))
+      lines = rw (c.put_line.ensures.text, lines_more c.args.table.now before entry, ← append_assoc c.make_room.new.page c.make_room.new.lines.items (line_of c.args.table.now entry))
           (passes_more _ _ _ _ _ _ _ at.lines c.in_ok-make_room.ensures.ok);
       failures = grind arith;
     }

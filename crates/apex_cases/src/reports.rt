@@ -1,0 +1,68 @@
+//! What is told of the rows, line by line.
+ghost use Rattle.std.specs.Prelude.{◌≡◌, false};
+
+use std::alloc::{AllocError, Global};
+
+/// What was told so far.
+#[derive(Drop)]
+pub struct Report {
+    text: String,
+    is_clean: bool,
+    pub rows: u64,
+    pub guards: u64,
+    pub effects: u64,
+    pub cases: u64,
+}
+
+impl Report {
+    pub fn new(alloc: Global) -> Report {
+        Report {
+            text: String::new(alloc),
+            is_clean: true,
+            rows: 0,
+            guards: 0,
+            effects: 0,
+            cases: 0,
+        }
+    }
+
+    pub fn text(&self) -> &str {
+        self.text.as_str()
+    }
+
+    /// Whether nothing was told that is not as it should be.
+    pub fn is_clean(&self) -> bool
+        ensures { result ≡ self.now.is_clean }
+    {
+        self.is_clean
+    }
+
+    /// Tells how many cases a row has.
+    pub fn count(&mut self, row: &str, cases: usize) -> Result<(), AllocError>
+        ensures { self.new.is_clean ≡ self.old.is_clean }
+    {
+        self.rows = self.rows.saturating_add(1);
+        self.cases = self.cases.saturating_add(cases as u64);
+        let noun = if cases == 1 { "case" } else { "cases" };
+        writeln!(self.text, "{row}: {cases} {noun}")
+    }
+
+    /// Tells of a guard, an effect or a case what is not as it should be.
+    pub fn complain(&mut self, row: &str, told: &str, what: &str) -> Result<(), AllocError>
+        ensures { self.new.is_clean ≡ false }
+    {
+        self.is_clean = false;
+        writeln!(self.text, "{row}: {told}: {what}")
+    }
+
+    /// Tells how many rows, guards, effects and cases there are.
+    pub fn total(&mut self) -> Result<(), AllocError>
+        ensures { self.new.is_clean ≡ self.old.is_clean }
+    {
+        let (rows, guards, effects, cases) = (self.rows, self.guards, self.effects, self.cases);
+        writeln!(
+            self.text,
+            "{rows} rows, {guards} guards, {effects} effects, {cases} cases"
+        )
+    }
+}

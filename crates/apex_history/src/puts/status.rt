@@ -1,0 +1,242 @@
+//! The parts of the lines of the status listing.
+ghost use Rattle.std.specs.Prelude.{◌≡◌, ◌+◌, ◌<◌, ◌≤◌, ◌++◌, length, flat_map, codes, decimal};
+ghost use Rattle.arrayvec.specs.ArrayVec.{array_vec_len};
+ghost use Rattle.apex_types.specs.Limits.{most_messages, most_processes};
+ghost use Rattle.apex_types.specs.Lines.{id_text, message_text};
+ghost use Rattle.apex_types.specs.Status as status;
+
+use super::message::put_message;
+use super::{Lines, put, put_id, put_long_number, put_name};
+use apex_table::Table;
+use apex_types::{Holding, Id, Message, Mode, Name, ProcessId, Record, State, Suspender, Wait};
+
+pub(super) fn mode_word(mode: &Mode) -> &'static str
+    ensures value { result.now ≡ status.operating_mode_text mode.now }
+    ensures short { length result.now ≤ 10 }
+{
+    match mode {
+        Mode::Idle => "IDLE",
+        Mode::ColdStart => "COLD_START",
+        Mode::Normal => "NORMAL",
+    }
+}
+
+pub(super) fn state_word(state: &State) -> &'static str
+    ensures value { result.now ≡ status.state_text state.now }
+    ensures short { length result.now ≤ 7 }
+{
+    match state {
+        State::Dormant => "DORMANT",
+        State::Ready => "READY",
+        State::Running => "RUNNING",
+        State::Waiting => "WAITING",
+    }
+}
+
+pub(super) fn suspended_word(suspended: &Option<Suspender>) -> &'static str
+    ensures value { result.now ≡ status.suspended_text suspended.now }
+    ensures short { length result.now ≤ 5 }
+{
+    match suspended {
+        Some(Suspender::Itself) => "self",
+        Some(Suspender::Other) => "other",
+        None => "-",
+    }
+}
+
+/// Whether an event is up.
+pub(super) fn up_word(up: bool) -> &'static str
+    ensures value { result.now ≡ status.up_text up }
+    ensures short { length result.now ≤ 4 }
+{
+    if up { "UP" } else { "DOWN" }
+}
+
+pub(super) fn put_optional_id(line: &mut Lines, id: &Option<ProcessId>)
+    requires { array_vec_len line.old + 10 ≤ 8192 }
+    ensures text { line.new.items ≡ line.old.items ++ status.optional_id_text id.now }
+    ensures short { array_vec_len line.new ≤ array_vec_len line.old + 10 }
+{
+    match id {
+        Some(id) => put_id(line, *id),
+        None => put(line, "-"),
+    }
+}
+
+pub(super) fn put_instant(line: &mut Lines, instant: &Option<u64>)
+    requires { array_vec_len line.old + 20 ≤ 8192 }
+    ensures text { line.new.items ≡ line.old.items ++ status.instant_text instant.now }
+    ensures short { array_vec_len line.new ≤ array_vec_len line.old + 20 }
+{
+    match instant {
+        Some(instant) => put_long_number(line, *instant),
+        None => put(line, "-"),
+    }
+}
+
+pub(super) fn put_owned(line: &mut Lines, owned: &Option<Holding>)
+    requires { array_vec_len line.old + 10 ≤ 8192 }
+    ensures text { line.new.items ≡ line.old.items ++ status.owns_text owned.now }
+    ensures short { array_vec_len line.new ≤ array_vec_len line.old + 10 }
+{
+    match owned {
+        Some(holding) => put_id(line, holding.mutex),
+        None => put(line, "-"),
+    }
+}
+
+pub(super) fn put_optional_message(line: &mut Lines, table: &Table, message: &Option<Message>)
+    requires { array_vec_len line.old + 128 ≤ 8192 }
+    ensures text { line.new.items ≡ line.old.items ++ status.optional_message_text table.now message.now }
+    ensures short { array_vec_len line.new ≤ array_vec_len line.old + 128 }
+{
+    match message {
+        Some(message) => put_message(line, table, message),
+        None => put(line, "-"),
+    }
+}
+
+// A kind, with the colon behind it, and an id.
+#[tactic(auto, using(std::proofs::Common::append_assoc))]
+fn put_kind_and_id<K: Copy>(line: &mut Lines, kind: &str, id: Id<K>)
+    requires { array_vec_len line.old + length kind.now + 10 ≤ 8192 }
+    ensures text { line.new.items ≡ line.old.items ++ (kind.now ++ id_text id) }
+    ensures short { array_vec_len line.new ≤ array_vec_len line.old + length kind.now + 10 }
+{
+    put(line, kind);
+    put_id(line, id);
+}
+
+fn put_wait(line: &mut Lines, wait: &Wait)
+    requires { array_vec_len line.old + 21 ≤ 8192 }
+    ensures text { line.new.items ≡ line.old.items ++ status.wait_text wait.now }
+    ensures short { array_vec_len line.new ≤ array_vec_len line.old + 21 }
+{
+    match wait {
+        Wait::Normal(_) => put(line, "normal"),
+        Wait::Start => put(line, "start"),
+        Wait::Time => put(line, "time"),
+        Wait::Period => put(line, "period"),
+        Wait::Semaphore(semaphore) => put_kind_and_id(line, "semaphore:", *semaphore),
+        Wait::Receive(buffer) => put_kind_and_id(line, "buffer:", *buffer),
+        Wait::Send(buffer, _) => put_kind_and_id(line, "buffer:", *buffer),
+        Wait::Blackboard(blackboard) => put_kind_and_id(line, "blackboard:", *blackboard),
+        Wait::Event(event) => put_kind_and_id(line, "event:", *event),
+        Wait::Mutex(mutex) => put_kind_and_id(line, "mutex:", *mutex),
+    }
+}
+
+pub(super) fn put_optional_wait(line: &mut Lines, wait: &Option<Wait>)
+    requires { array_vec_len line.old + 21 ≤ 8192 }
+    ensures text { line.new.items ≡ line.old.items ++ status.optional_wait_text wait.now }
+    ensures short { array_vec_len line.new ≤ array_vec_len line.old + 21 }
+{
+    match wait {
+        Some(wait) => put_wait(line, wait),
+        None => put(line, "-"),
+    }
+}
+
+#[tactic(auto, using(std::proofs::Common::append_assoc))]
+fn put_id_behind(line: &mut Lines, id: ProcessId)
+    requires { array_vec_len line.old + 11 ≤ 8192 }
+    ensures text { line.new.items ≡ line.old.items ++ status.behind_text id_text id }
+    ensures short { array_vec_len line.new ≤ array_vec_len line.old + 11 }
+{
+    put(line, ",");
+    put_id(line, id);
+}
+
+fn put_ids_behind(line: &mut Lines, ids: &[ProcessId])
+    requires few { length ids.now ≤ most_processes }
+    requires room { array_vec_len line.old + 352 ≤ 8192 }
+    ensures text { line.new.items ≡ line.old.items ++ flat_map (status.behind_text id_text) ids.now }
+    ensures short { array_vec_len line.new ≤ array_vec_len line.old + 352 }
+{
+    for id in ids {
+        put_id_behind(line, *id);
+    }
+}
+
+// Who waits, with `,` between.
+#[tactic(auto, using(std::proofs::Common::append_assoc))]
+fn put_ids(line: &mut Lines, ids: &[ProcessId])
+    requires few { length ids.now ≤ most_processes }
+    requires room { array_vec_len line.old + 362 ≤ 8192 }
+    ensures text { line.new.items ≡ line.old.items ++ status.ids_text ids.now }
+    ensures short { array_vec_len line.new ≤ array_vec_len line.old + 362 }
+{
+    match ids.split_first() {
+        Some((first, others)) => {
+            put_id(line, *first);
+            put_ids_behind(line, others);
+        }
+        None => put(line, "-"),
+    }
+}
+
+#[tactic(auto, using(std::proofs::Common::append_assoc))]
+fn put_message_behind(line: &mut Lines, table: &Table, message: &Message)
+    requires { array_vec_len line.old + 129 ≤ 8192 }
+    ensures text { line.new.items ≡ line.old.items ++ status.behind_text (message_text table.now) message.now }
+    ensures short { array_vec_len line.new ≤ array_vec_len line.old + 129 }
+{
+    put(line, ",");
+    put_message(line, table, message);
+}
+
+fn put_messages_behind(line: &mut Lines, table: &Table, messages: &[Message])
+    requires few { length messages.now ≤ most_messages }
+    requires room { array_vec_len line.old + 2064 ≤ 8192 }
+    ensures text { line.new.items ≡ line.old.items ++ flat_map (status.behind_text (message_text table.now)) messages.now }
+    ensures short { array_vec_len line.new ≤ array_vec_len line.old + 2064 }
+{
+    for message in messages {
+        put_message_behind(line, table, message);
+    }
+}
+
+// A buffer's messages, with `,` between.
+#[tactic(auto, using(std::proofs::Common::append_assoc))]
+pub(super) fn put_messages(line: &mut Lines, table: &Table, messages: &[Message])
+    requires few { length messages.now ≤ most_messages }
+    requires room { array_vec_len line.old + 2192 ≤ 8192 }
+    ensures text { line.new.items ≡ line.old.items ++ status.messages_text table.now messages.now }
+    ensures short { array_vec_len line.new ≤ array_vec_len line.old + 2192 }
+{
+    match messages.split_first() {
+        Some((first, others)) => {
+            put_message(line, table, first);
+            put_messages_behind(line, table, others);
+        }
+        None => put(line, "-"),
+    }
+}
+
+// How the line of a process or an object begins.
+#[tactic(auto, using(std::proofs::Common::append_assoc))]
+pub(super) fn put_head<K: Copy>(line: &mut Lines, kind: &str, id: Id<K>, name: &Name)
+    requires word { length kind.now ≤ 10 }
+    requires room { array_vec_len line.old + 57 ≤ 8192 }
+    ensures text { line.new.items ≡ line.old.items ++ status.head_text kind.now id name.now }
+    ensures short { array_vec_len line.new ≤ array_vec_len line.old + 57 }
+{
+    put(line, kind);
+    put(line, " ");
+    put_id(line, id);
+    put(line, " name ");
+    put_name(line, name);
+}
+
+// How the line of an object ends.
+#[tactic(auto, using(std::proofs::Common::append_assoc))]
+pub(super) fn put_waiting(line: &mut Lines, waiting: &[ProcessId])
+    requires few { length waiting.now ≤ most_processes }
+    requires room { array_vec_len line.old + 372 ≤ 8192 }
+    ensures text { line.new.items ≡ line.old.items ++ status.waiting_text waiting.now }
+    ensures short { array_vec_len line.new ≤ array_vec_len line.old + 372 }
+{
+    put(line, " waiting ");
+    put_ids(line, waiting);
+    put(line, "\n");
+}

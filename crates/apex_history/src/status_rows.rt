@@ -1,0 +1,55 @@
+//! A line of the status listing, by its values.
+
+use apex_types::{
+    BlackboardId, BufferId, CoreId, EventId, Message, Mode, MutexId, ProcessId, Record,
+    SemaphoreId, State,
+};
+
+/// One line of the status listing (this profile). Those who wait stand in the order of their queue,
+/// 32 at the most.
+#[derive(Clone, Copy, Debug, Drop)]
+pub enum StatusRow<'a> {
+    /// The time in ticks.
+    Time(u64),
+    Mode(Mode),
+    /// How many entries the history has.
+    History(u32),
+    Core {
+        core: CoreId,
+        /// The process that the core runs.
+        running: Option<ProcessId>,
+    },
+    Process {
+        process: ProcessId,
+        state: State,
+        record: Record,
+    },
+    Semaphore {
+        semaphore: SemaphoreId,
+        value: u16,
+        waiting: &'a [ProcessId],
+    },
+    Buffer {
+        buffer: BufferId,
+        /// From the first on, 16 at the most.
+        messages: &'a [Message],
+        waiting: &'a [ProcessId],
+    },
+    Blackboard {
+        blackboard: BlackboardId,
+        message: Option<Message>,
+        waiting: &'a [ProcessId],
+    },
+    Event {
+        event: EventId,
+        up: bool,
+        waiting: &'a [ProcessId],
+    },
+    Mutex {
+        mutex: MutexId,
+        owner: Option<ProcessId>,
+        /// How deep it is owned. 0 where it is free.
+        depth: u8,
+        waiting: &'a [ProcessId],
+    },
+}

@@ -1,0 +1,105 @@
+//! The value that lies under the lock.
+ghost use Rattle.std.specs.Prelude.{◌≡◌, ◌<◌, ◌≤◌, ◌↔◌, length, IfOk, IfErr, OnOk, OnErr, IsOk};
+ghost use Rattle.apex_types.specs.Limits.{most_ticks};
+ghost use Rattle.apex_types.specs.Machine.{opening, tick, turn};
+ghost use Rattle.apex_dispatch.specs.Kernel.{kernel_in};
+ghost use Rattle.apex_partition.specs.Headline.{Headline};
+
+use apex_dispatch::{Kernel, values_and_dues_are_in_range};
+use apex_history::Entries;
+use apex_store::PlainStore;
+use apex_table::Table;
+use apex_types::{CoreId, Full};
+use std::alloc::{AllocError, Global};
+use std::marker::Model;
+
+/// A partition. The headline holds of every value of this type, so of what each holder of the lock
+/// gets and of what each holder leaves.
+#[derive(Drop)]
+pub struct Partition {
+    kernel: Kernel<PlainStore>,
+}
+
+impl Model for Partition {
+    ghost use Rattle.apex_dispatch.specs.Kernel.{KernelState};
+    ghost use Rattle.apex_partition.specs.Headline.{Headline};
+
+    ghost Value = { KernelState };
+
+    ghost view = { λ p. p.kernel };
+
+    ghost invariant = { λ p. Headline p.kernel };
+}
+
+/// The headline holds of every kernel.
+fn stands(kernel: &Kernel<PlainStore>)
+    ensures { Headline kernel.now }
+{
+    kernel.holds();
+    values_and_dues_are_in_range(kernel);
+}
+
+impl Partition {
+    /// The partition before any event, which takes all the memory that events will fill. It fails
+    /// only for want of memory.
+    pub fn boot(alloc: Global, table: Table) -> Result<Partition, AllocError>
+        ensures { IfOk result (λ partition. partition ≡ kernel_in table (opening table)) }
+    {
+        let store = PlainStore::new(alloc, &table)?;
+        let kernel = Kernel::boot(alloc, table, store)?;
+        stands(&kernel);
+        Ok(Partition { kernel })
+    }
+
+    /// One turn of the core, whole.
+    pub fn turn(&mut self, core: CoreId) -> Result<(), Full>
+        requires { core < self.old.table.cores }
+        ensures accepted { IsOk result ↔ (length self.old.machine.history < self.old.table.limit) }
+        ensures done { OnOk result (self.new ≡ kernel_in self.old.table (turn self.old.table self.old.machine core)) }
+        ensures refused { OnErr result (self.new ≡ self.old) }
+        ensures full { IfErr result (λ e. (e.entries ≡ length self.old.machine.history) × (e.entries ≡ self.old.table.limit)) }
+    {
+        let result = self.kernel.turn(core);
+        stands(&self.kernel);
+        result
+    }
+
+    /// One tick, whole: time goes on by `n` ticks, but not past the next instant at which a wait ends
+    /// by itself.
+    pub fn tick(&mut self, n: u32) -> Result<(), Full>
+        requires range { (1 ≤ n) × (n ≤ most_ticks) }
+        ensures accepted { IsOk result ↔ (length self.old.machine.history < self.old.table.limit) }
+        ensures done { OnOk result (self.new ≡ kernel_in self.old.table (tick self.old.table self.old.machine n)) }
+        ensures refused { OnErr result (self.new ≡ self.old) }
+        ensures full { IfErr result (λ e. (e.entries ≡ length self.old.machine.history) × (e.entries ≡ self.old.table.limit)) }
+    {
+        let result = self.kernel.tick(n);
+        stands(&self.kernel);
+        result
+    }
+
+    /// The history so far, the oldest entry first.
+    pub fn entries(&self) -> Entries<'_>
+        ensures { result ≡ self.now.machine.history }
+    {
+        self.kernel.entries()
+    }
+
+    /// The table that the partition was booted with.
+    pub fn table(&self) -> &Table
+        ensures { result.now ≡ self.now.table }
+    {
+        self.kernel.table()
+    }
+
+    /// The headline: whenever the partition's lock is free, each core's running process is the
+    /// highest-priority, longest-ready one bound to it, every process is in exactly one state and at
+    /// most one queue, each semaphore's value is its start plus accepted signals less satisfied waits,
+    /// and the stored history replays on the one-thread machine with the same return codes and
+    /// releases.
+    pub fn holds(&self)
+        ensures { Headline self.now }
+    {
+        let _entries = self.kernel.entries();
+    }
+}

@@ -1,0 +1,5 @@
+pub mod Prefixes
+pub mod Homes
+pub mod Counts
+pub mod Alone
+pub mod Steps

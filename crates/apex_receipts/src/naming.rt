@@ -1,0 +1,36 @@
+//! Which partition a value is of.
+
+use std::marker::Brand;
+
+/// Which partition a value is of: its book and the speakers there, the ledger of its ticks, and its
+/// table. Each call that opens a partition picks it.
+pub trait Naming {
+    ghost use Rattle.std.specs.Prelude.{ℕ};
+    ghost use Rattle.logbook.specs.Pages.{Book};
+    ghost use Rattle.apex_types.specs.declared.entries.Who.{Who};
+    ghost use Rattle.apex_types.specs.Table.{Table};
+
+    ghost book: { Book };
+
+    ghost scribe: { ℕ };
+
+    ghost voice: { Who → ℕ };
+
+    ghost ledger: { ℕ };
+
+    ghost table: { Table };
+}
+
+impl Naming for Brand {
+    ghost use Rattle.std.specs.Prelude.{[]};
+
+    ghost book = { record { number = 0; log_name = 0; cells_name = 0 } };
+
+    ghost scribe = { 0 };
+
+    ghost voice = { λ who. 0 };
+
+    ghost ledger = { 0 };
+
+    ghost table = { record { cores = 0; limit = 0; processes = []; semaphores = []; buffers = []; blackboards = []; events = []; mutexes = []; init = [] } };
+}
