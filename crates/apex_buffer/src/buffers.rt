@@ -74,6 +74,14 @@ impl Buffer {
         }
     }
 
+    /// The messages that it holds, the first one first.
+    pub fn messages(&self) -> &[Message]
+        ensures value { result.now ≡ self.now.messages }
+        ensures few { length result.now ≤ most_messages }
+    {
+        self.messages.as_slice()
+    }
+
     /// The message goes last where there is room, else the process, which calls, waits with it for
     /// the time in ticks that it may.
     fn send_last<S: Store>(

@@ -43,11 +43,13 @@ fn difference_in(alloc: Global, case: &Case<'_>) -> Result<Option<String>, CaseF
         return Err(CaseFault::NoLines);
     }
     let table = outline.table(alloc)?;
-    let history = played(alloc, table.as_str(), outline.schedule)?;
-    if ends_in(history.as_slice(), lines.as_bytes()) {
+    let played = played(alloc, table.as_str(), outline.schedule)?;
+    played.ended?;
+    let history = played.lines.as_slice();
+    if ends_in(history, lines.as_bytes()) {
         return Ok(None);
     }
-    let got = lines_from(alloc, history.as_slice(), lines)?;
+    let got = lines_from(alloc, history, lines)?;
     Ok(Some(format!(in alloc; "expected\n{lines}but got\n{got}")?))
 }
 
@@ -109,17 +111,16 @@ fn check_row(alloc: Global, report: &mut Report, row: &Row<'_>) -> Result<(), Al
     report.count(row.name, row.cases.len())
 }
 
-/// The report on all rows of the data.
-pub fn report_on(alloc: Global, data: &str) -> Result<Report, CaseFault> {
-    let mut report = Report::new(alloc);
+/// Reports on all rows of the data.
+pub fn check_rows(alloc: Global, report: &mut Report, data: &str) -> Result<(), CaseFault> {
     let mut parts = data.split("\nrow ");
     let before = parts.next().unwrap_or("");
     for line in before.lines().filter(|line| !is_silent(line)) {
         report.complain("before the first row", line, "no row")?;
     }
     for part in parts {
-        check_row(alloc, &mut report, &Row::read(alloc, part)?)?;
+        check_row(alloc, report, &Row::read(alloc, part)?)?;
     }
     report.total()?;
-    Ok(report)
+    Ok(())
 }

@@ -12,7 +12,7 @@ use thiserror::Error;
 pub enum CaseFault {
     #[error("out of memory")]
     Memory,
-    #[error("a stream failed")]
+    #[error("a stream or a file failed")]
     Stream,
     #[error("the text is no UTF-8")]
     Text,
@@ -21,6 +21,13 @@ pub enum CaseFault {
     Outline,
     #[error("no line of a history")]
     NoLines,
+    #[error("no folder of examples")]
+    NoFolder,
+    /// A line `edit` has no arrow, or its text is not in the table.
+    #[error("no such edit")]
+    Edit,
+    #[error("the status is no number")]
+    Status,
     #[error("table refused: {0}")]
     Table(TableFault),
     /// An item is ill-formed, or of a core that the table lacks.

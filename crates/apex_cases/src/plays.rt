@@ -65,11 +65,21 @@ fn lines_of(alloc: Global, kernel: &Kernel<PlainStore>) -> Result<Vec<u8>, CaseF
     Ok(lines)
 }
 
-/// The lines of the history that the table of this text has after the schedule.
-pub fn played(alloc: Global, table: &str, schedule: &str) -> Result<Vec<u8>, CaseFault> {
+/// What came of a schedule.
+#[derive(Drop)]
+pub struct Outcome {
+    /// The lines of the history, as far as it went.
+    pub lines: Vec<u8>,
+    /// `Schedule` or `Full` where it went no further.
+    pub ended: Result<(), CaseFault>,
+}
+
+/// What comes of the schedule on the table of this text.
+pub fn played(alloc: Global, table: &str, schedule: &str) -> Result<Outcome, CaseFault> {
     let table = read_table(alloc, table.as_bytes())?;
     let store = PlainStore::new(alloc, &table)?;
     let mut kernel = Kernel::boot(alloc, table, store)?;
-    run_schedule(&mut kernel, schedule)?;
-    lines_of(alloc, &kernel)
+    let ended = run_schedule(&mut kernel, schedule);
+    let lines = lines_of(alloc, &kernel)?;
+    Ok(Outcome { lines, ended })
 }

@@ -1,4 +1,4 @@
-//! What is told of the rows, line by line.
+//! What is told of the rows and of the examples, line by line.
 ghost use Rattle.std.specs.Prelude.{◌≡◌, false};
 
 use std::alloc::{AllocError, Global};
@@ -12,6 +12,8 @@ pub struct Report {
     pub guards: u64,
     pub effects: u64,
     pub cases: u64,
+    pub examples: u64,
+    pub histories: u64,
 }
 
 impl Report {
@@ -23,6 +25,8 @@ impl Report {
             guards: 0,
             effects: 0,
             cases: 0,
+            examples: 0,
+            histories: 0,
         }
     }
 
@@ -47,6 +51,13 @@ impl Report {
         writeln!(self.text, "{row}: {cases} {noun}")
     }
 
+    /// Tells that a case of an example is as it should be.
+    pub fn confirm(&mut self, example: &str, case: &str) -> Result<(), AllocError>
+        ensures { self.new.is_clean ≡ self.old.is_clean }
+    {
+        writeln!(self.text, "{example}: {case}: as told")
+    }
+
     /// Tells of a guard, an effect or a case what is not as it should be.
     pub fn complain(&mut self, row: &str, told: &str, what: &str) -> Result<(), AllocError>
         ensures { self.new.is_clean ≡ false }
@@ -64,5 +75,13 @@ impl Report {
             self.text,
             "{rows} rows, {guards} guards, {effects} effects, {cases} cases"
         )
+    }
+
+    /// Tells how many examples there are, and how many cases they have.
+    pub fn total_of_examples(&mut self) -> Result<(), AllocError>
+        ensures { self.new.is_clean ≡ self.old.is_clean }
+    {
+        let (examples, histories) = (self.examples, self.histories);
+        writeln!(self.text, "{examples} examples, {histories} histories")
     }
 }

@@ -12,7 +12,7 @@ pub enum Told<'a> {
     Stray(&'a str),
 }
 
-/// A case: the text of its guard or effect, and the lines of its outline.
+/// A case: its name, which of a row's case is the text of a guard or an effect, and its lines.
 #[derive(Drop)]
 pub struct Case<'a> {
     pub name: &'a str,
@@ -32,6 +32,18 @@ fn cut_line(text: &str) -> (&str, &str) {
     text.split_once('\n').unwrap_or((text, ""))
 }
 
+/// What stands before the first case of a text, and its cases.
+pub fn cut_cases(alloc: Global, text: &str) -> Result<(&str, Vec<Case<'_>>), AllocError> {
+    let mut parts = text.split("\ncase ");
+    let head = parts.next().unwrap_or("");
+    let mut cases = Vec::new(alloc);
+    for part in parts {
+        let (name, outline) = cut_line(part);
+        cases.push(Case { name, outline })?;
+    }
+    Ok((head, cases))
+}
+
 /// Whether a line says nothing: it is empty, or begins with `#`.
 pub fn is_silent(line: &str) -> bool {
     line.is_empty() || line.starts_with('#')
@@ -48,21 +60,13 @@ fn told_by(line: &str) -> Told<'_> {
 impl<'a> Row<'a> {
     /// The row of a text, which begins with the row's name and ends before the next row.
     pub fn read(alloc: Global, text: &'a str) -> Result<Row<'a>, AllocError> {
-        let mut parts = text.split("\ncase ");
-        let (name, lines) = cut_line(parts.next().unwrap_or(""));
-        let mut row = Row {
-            name,
-            told: Vec::new(alloc),
-            cases: Vec::new(alloc),
-        };
+        let (head, cases) = cut_cases(alloc, text)?;
+        let (name, lines) = cut_line(head);
+        let mut told = Vec::new(alloc);
         for line in lines.lines().filter(|line| !is_silent(line)) {
-            row.told.push(told_by(line))?;
+            told.push(told_by(line))?;
         }
-        for part in parts {
-            let (name, outline) = cut_line(part);
-            row.cases.push(Case { name, outline })?;
-        }
-        Ok(row)
+        Ok(Row { name, told, cases })
     }
 
     /// How many cases have this name.

@@ -6,14 +6,14 @@ use Rattle.std.proofs.lemmas.Bool.{both_ways, cases_Bool, cases_lt, le-leb, lt-l
 use Rattle.std.proofs.lemmas.List.Folds.{list_all_at}
 use Rattle.apex_cli.specs.Terms.{Event}
 use Rattle.apex_types.specs.Machine.{Machine, accept, run, opening, events_of, replay}
-use Rattle.apex_types.specs.Lines.{lines_of}
 use Rattle.apex_types.specs.Table.{Table}
 use Rattle.apex_table.specs.Reading.{table_of}
 use Rattle.apex_dispatch.proofs.Runs.{accept-room, length-happen, run-append}
 use Rattle.apex_cli.specs.declared.schedule.Item.{Item}
 use Rattle.apex_cli.specs.declared.faults.CliFault.{CliFault}
 use Rattle.apex_cli.specs.declared.faults.CliFault.TheVariants.{HistoryFull}
-use Rattle.apex_cli.specs.Replay.{answer_of, fault_of_events, writes}
+use Rattle.apex_cli.specs.declared.words.Report.{Report}
+use Rattle.apex_cli.specs.Reports.{answer_of, fault_of_events, report_text, writes}
 use Rattle.apex_cli.specs.Schedule.{is_core_below, are_cores_below, events_of_item, events_of_items}
 
 -- one event after those of the history
@@ -81,13 +81,13 @@ below_at cores items i item within here all = elim (cases_Bool (is_core_below co
       absurd (both_ways _ (list_all_at (is_core_below cores) items i item within none) all)
 ]
 
--- what is answered, where the history of these events was made
-pub answer_is : (items : List Item) (bytes : List ℕ) (table : Table) (machine : Machine) (fault : Option CliFault) → table_of bytes ≡ Ok table
+-- what is answered, where the events were run
+pub answer_is : (report : Report) (items : List Item) (bytes : List ℕ) (table : Table) (machine : Machine) (fault : Option CliFault) → table_of bytes ≡ Ok table
     → are_cores_below table.cores items ≡ true
     → machine ≡ run table (opening table) (events_of_items items)
     → fault ≡ fault_of_events table (events_of_items items)
-    → answer_of items bytes ≡ writes (lines_of table machine.history) fault
-answer_is items bytes table machine fault read below ran told = rw (read, below, ran, told) refl
+    → answer_of report items bytes ≡ writes (report_text report table machine) fault
+answer_is report items bytes table machine fault read below ran told = rw (read, below, ran, told) refl
 
 -- the fault, by whether these events fit
 pub fault_fits : (table : Table) (events : List Event) → length events ≤ table.limit → fault_of_events table events ≡ None

@@ -1,37 +1,59 @@
 -- How the program ends.
-use Rattle.std.specs.Prelude.{◌≡◌, ◌⊎◌, ℕ, List, Option, None, Some}
+use Rattle.std.specs.Prelude.{◌≡◌, ◌⊎◌, ℕ, List, Option, None, Some, Result}
 use Rattle.std.specs.Io.KnownBytes.{Appends, Keeps}
+use Rattle.apex_check.specs.Checks.{Checks}
+use Rattle.apex_check.specs.Legal.{TellsLegal}
+use Rattle.apex_check.specs.declared.CheckFault.{CheckFault}
+use Rattle.apex_check.specs.declared.Verdict.{Verdict}
 use Rattle.apex_history.specs.Counted.{AppendsBeginning, one_more}
-use Rattle.apex_history.specs.Ports.{AReadFails, AWriteFails, IsLeft, NoneFails, Ports}
+use Rattle.apex_history.specs.Ports.{Ports, NoneFails, AReadFails, AWriteFails, IsLeft}
 use Rattle.apex_cli.specs.declared.schedule.Item.{Item}
 use Rattle.apex_cli.specs.declared.faults.CliFault.{CliFault}
 use Rattle.apex_cli.specs.declared.faults.CliFault.TheVariants.{Usage, Memory, Read, Write}
-use Rattle.apex_cli.specs.Replay.{answer_of, refuses, writes}
+use Rattle.apex_cli.specs.declared.words.Report.{Report}
+use Rattle.apex_cli.specs.Faults.{status_of, status_of_check, status_of_fault, fault_of_check}
+use Rattle.apex_cli.specs.Reports.{answer_of, refuses, writes}
+use Rattle.apex_cli.specs.Requests.{Asked, a_check, a_report}
 
--- The ways in which the program ends: by the items that are asked for, the reader and the writer
--- before, the fault, and the reader and the writer afterwards.
-pub data Ends (asked : Option (List Item)) (before : Ports) : Option CliFault → Ports → Type 0 where
+-- The ways in which a report of a run ends: by the items, the reader and the writer before, the
+-- fault, and the reader and the writer afterwards.
+pub data Reports (report : Report) (items : List Item) (before : Ports) : Option CliFault → Ports → Type 0 where
+  -- memory was refused: nothing was written
+  no_room : {after : Ports} → Keeps before.held after.held → NoneFails before after
+      → Reports report items before (Some Memory) after
+  -- a read failed: nothing was written
+  unread : {after : Ports} → Keeps before.held after.held → AReadFails before after
+      → Reports report items before (Some Read) after
+  -- the bytes are refused: nothing was written
+  refused : (bytes : List ℕ) → {fault : CliFault} {after : Ports} → IsLeft bytes before
+      → answer_of report items bytes ≡ refuses fault → Keeps before.held after.held
+      → NoneFails before after → Reports report items before (Some fault) after
+  -- the whole text was written
+  written : (bytes : List ℕ) → {text : List ℕ} {fault : Option CliFault} {after : Ports} → IsLeft bytes before
+      → answer_of report items bytes ≡ writes text fault → Appends before.held after.held text
+      → NoneFails before after → Reports report items before fault after
+  -- a write failed: a beginning of the text was written
+  unwritten : (bytes : List ℕ) → {text : List ℕ} {fault : Option CliFault} {after : Ports} → IsLeft bytes before
+      → answer_of report items bytes ≡ writes text fault → AppendsBeginning before.held after.held text
+      → AWriteFails before after → Reports report items before (Some Write) after
+
+-- The ways in which the program ends: by what it is asked to do, the reader and the writer before,
+-- the exit status, the fault, and the reader and the writer afterwards.
+pub data Ends (asked : Option Asked) (before : Ports) : ℕ → Option CliFault → Ports → Type 0 where
   -- memory was refused: nothing was written
   no_memory : {after : Ports} → Keeps before.held after.held → NoneFails before after
-      → Ends asked before (Some Memory) after
+      → Ends asked before (status_of (Some Memory)) (Some Memory) after
   -- the words or the schedule are ill-formed: nothing was read and nothing written
   usage : {after : Ports} → asked ≡ None → Keeps before.left after.left → Keeps before.held after.held
-      → NoneFails before after → Ends asked before (Some Usage) after
-  -- a read failed: nothing was written
-  unread : {items : List Item} {after : Ports} → asked ≡ Some items → Keeps before.held after.held
-      → AReadFails before after → Ends asked before (Some Read) after
-  -- the bytes are refused: nothing was written
-  refused : (bytes : List ℕ) → {items : List Item} {fault : CliFault} {after : Ports} → asked ≡ Some items
-      → IsLeft bytes before → answer_of items bytes ≡ refuses fault → Keeps before.held after.held
-      → NoneFails before after → Ends asked before (Some fault) after
-  -- the whole text was written
-  written : (bytes : List ℕ) → {items : List Item} {text : List ℕ} {fault : Option CliFault} {after : Ports} → asked ≡ Some items
-      → IsLeft bytes before → answer_of items bytes ≡ writes text fault → Appends before.held after.held text
-      → NoneFails before after → Ends asked before fault after
-  -- a write failed: a beginning of the text was written
-  unwritten : (bytes : List ℕ) → {items : List Item} {text : List ℕ} {fault : Option CliFault} {after : Ports} → asked ≡ Some items
-      → IsLeft bytes before → answer_of items bytes ≡ writes text fault → AppendsBeginning before.held after.held text
-      → AWriteFails before after → Ends asked before (Some Write) after
+      → NoneFails before after → Ends asked before (status_of (Some Usage)) (Some Usage) after
+  -- a run is reported
+  reported : {report : Report} {items : List Item} {fault : Option CliFault} {after : Ports}
+      → asked ≡ Some (a_report report items) → Reports report items before fault after
+      → Ends asked before (status_of fault) fault after
+  -- a history is checked
+  checked : {answer : Result Verdict CheckFault} {after : Ports} → asked ≡ Some a_check
+      → Checks before answer after → TellsLegal before.left answer
+      → Ends asked before (status_of_check answer) (fault_of_check answer) after
 
 -- a line was written whole, or a beginning of it where a write failed
 abbrev pub Told : List ℕ → Option (List ℕ) → Option (List ℕ) → ℕ → ℕ → Type 0
@@ -40,5 +62,6 @@ Told line old new failures after =
     ⊎ (AppendsBeginning old new line × (after ≡ one_more failures))
 
 -- the words had a fault: it is told, nothing was read and nothing written
-abbrev pub EndsAtOnce : CliFault → Ports → Option CliFault → Ports → Type 0
-EndsAtOnce found before fault after = (fault ≡ Some found) × (after ≡ before)
+abbrev pub EndsAtOnce : CliFault → Ports → ℕ → Option CliFault → Ports → Type 0
+EndsAtOnce found before status fault after =
+    (status ≡ status_of_fault found) × (fault ≡ Some found) × (after ≡ before)

@@ -6,7 +6,13 @@ use Rattle.apex_table.specs.declared.TableFault.{TableFault}
 use Rattle.apex_table.specs.Fault as tables
 use Rattle.apex_table.specs.declared.TableFault.TheVariants as table
 use Rattle.apex_cli.specs.declared.faults.CliFault.{CliFault}
-use Rattle.apex_cli.specs.declared.faults.CliFault.TheVariants.{Usage, Table, HistoryFull, Memory, Read, Write}
+use Rattle.apex_cli.specs.declared.faults.CliFault.TheVariants.{Usage, Table, NoSeparator, BadLine, TooLong, HistoryFull, Memory, Read, Write}
+use Rattle.apex_cli.specs.declared.program.Ending.{Ending}
+use Rattle.apex_cli.specs.declared.program.Ending.TheVariants.{Done, Departed}
+use Rattle.apex_check.specs.declared.CheckFault.{CheckFault}
+use Rattle.apex_check.specs.declared.CheckFault.TheVariants as checking
+use Rattle.apex_check.specs.declared.Verdict.{Verdict}
+use Rattle.apex_check.specs.declared.Verdict.TheVariants.{Legal, DepartsAt}
 
 -- what can be wrong before anything is read
 abbrev pub IsUsageOrMemory : CliFault → Type 0
@@ -22,10 +28,24 @@ abbrev pub fault_of_table : TableFault → CliFault
 fault_of_table table.Memory = Memory
 fault_of_table fault = Table fault
 
--- 2 usage, 3 the table is refused, 4 the history is full, 5 memory, 6 a read or a write failed
+-- a fault of a check
+abbrev pub fault_of_checking : CheckFault → CliFault
+fault_of_checking checking.Memory = Memory
+fault_of_checking (checking.Table fault) = Table fault
+fault_of_checking checking.NoSeparator = NoSeparator
+fault_of_checking (checking.BadLine line) = BadLine line
+fault_of_checking (checking.TooLong line) = TooLong line
+fault_of_checking checking.Read = Read
+fault_of_checking checking.Write = Write
+
+-- 2 usage, 3 the table or the history's text is refused, 4 the history is full, 5 memory, 6 a read or
+-- a write failed
 abbrev pub status_of_fault : CliFault → ℕ
 status_of_fault Usage = 2
 status_of_fault (Table fault) = 3
+status_of_fault NoSeparator = 3
+status_of_fault (BadLine line) = 3
+status_of_fault (TooLong line) = 3
 status_of_fault (HistoryFull entries) = 4
 status_of_fault Memory = 5
 status_of_fault Read = 6
@@ -36,6 +56,31 @@ abbrev pub status_of : Option CliFault → ℕ
 status_of None = 0
 status_of (Some fault) = status_of_fault fault
 
+-- 0 where all was done or the history is legal, 1 where it departs
+abbrev pub status_of_ending : Ending → ℕ
+status_of_ending Done = 0
+status_of_ending Departed = 1
+
+-- the exit status of an outcome
+abbrev pub status_in : Result Ending CliFault → ℕ
+status_in (Ok ending) = status_of_ending ending
+status_in (Err fault) = status_of_fault fault
+
+-- 0 where the history is legal, 1 where it departs
+abbrev pub status_of_verdict : Verdict → ℕ
+status_of_verdict (Legal count) = 0
+status_of_verdict (DepartsAt line expected) = 1
+
+-- the exit status of a check's answer
+abbrev pub status_of_check : Result Verdict CheckFault → ℕ
+status_of_check (Ok verdict) = status_of_verdict verdict
+status_of_check (Err fault) = status_of_fault (fault_of_checking fault)
+
+-- what is told of a check's answer: a verdict is no fault
+abbrev pub fault_of_check : Result Verdict CheckFault → Option CliFault
+fault_of_check (Ok verdict) = None
+fault_of_check (Err fault) = Some (fault_of_checking fault)
+
 -- the fault with which a call ended
 abbrev pub fault_in : {T : Type 0} → Result T CliFault → Option CliFault
 fault_in (Ok value) = None
@@ -45,6 +90,9 @@ fault_in (Err fault) = Some fault
 abbrev pub fault_text : CliFault → List ℕ
 fault_text Usage = codes "apex: usage: apex replay|status --schedule S, apex run --turns N --ticks K, apex check"
 fault_text (Table fault) = codes "apex: table refused: " ++ tables.fault_text fault
+fault_text NoSeparator = codes "apex: no separator"
+fault_text (BadLine line) = codes "apex: history refused: BadLine at line " ++ decimal line
+fault_text (TooLong line) = codes "apex: history refused: TooLong at line " ++ decimal line
 fault_text (HistoryFull entries) = codes "apex: history full after " ++ decimal entries ++ codes " entries"
 fault_text Memory = codes "apex: out of memory"
 fault_text Read = codes "apex: read failed"

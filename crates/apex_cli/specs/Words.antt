@@ -1,13 +1,15 @@
 -- What the words of the command line ask for; the first word is the program's name.
 use Rattle.std.specs.Prelude.{true, List, Option, Some, None, codes, if◌then◌else◌}
-use Rattle.std.specs.Prelude.{option_and_then}
+use Rattle.std.specs.Prelude.{option_and_then, option_map}
 use Rattle.std.specs.Str.{bytes_eq}
 use Rattle.clap.specs.declared.builder.ArgAction.TheVariants.{Set}
 use Rattle.clap.specs.Walk.{is_empty}
 use Rattle.clap.specs.Words.{App, Kinds, Row, Rule, Text, first_of, fault_of, new_app, new_rule, subcommand_of}
 use Rattle.clap.specs.Words.{with_rule, with_subcommand}
+use Rattle.apex_cli.specs.declared.words.Report.{Report}
+use Rattle.apex_cli.specs.declared.words.Report.TheVariants.{History, Status}
 
--- the option `--schedule S` of `replay`, which must be given
+-- the option `--schedule S` of `replay` and of `status`, which must be given
 abbrev pub schedule_rule : Rule
 schedule_rule =
     record (new_rule (codes "schedule")) { long = Some (codes "schedule"); action = Some Set; required = true }
@@ -16,27 +18,47 @@ schedule_rule =
 abbrev pub replay : App
 replay = with_rule (new_app (codes "replay")) schedule_rule
 
+-- `status --schedule S`
+abbrev pub status : App
+status = with_rule (new_app (codes "status")) schedule_rule
+
+-- `check`
+abbrev pub check : App
+check = new_app (codes "check")
+
 -- `apex`, which wants a command
 abbrev pub apex_alone : App
 apex_alone =
     let app = new_app (codes "apex") in
     record app { top = record app.top { subcommand_required = true } }
 
--- the program's command line, of which `replay` is the only command
+-- the program's command line, with its commands
 abbrev pub apex : App
-apex = with_subcommand apex_alone replay.top
+apex = with_subcommand (with_subcommand (with_subcommand apex_alone replay.top) status.top) check.top
 
--- the schedule among the rows of `replay`
-abbrev pub schedule_in_replay : Text × List Row → Option Text
-schedule_in_replay found =
-    if bytes_eq found.0 (codes "replay") then first_of (codes "schedule") found.1 else None
+-- what the words of a command line ask for
+pub data Request : Type 0 where
+  -- a report of the run for the schedule of this text
+  reports : Report → Text → Request
+  -- the check of a history
+  checks : Request
 
--- the schedule in the command that was found, where no word is at fault
-abbrev pub schedule_unless : Kinds → Option (Text × List Row) → Option Text
-schedule_unless kinds found =
-    if is_empty kinds then option_and_then schedule_in_replay found else None
+-- a report of the run for the schedule among the rows of a command
+abbrev pub report_in : Report → List Row → Option Request
+report_in report rows = option_map (reports report) (first_of (codes "schedule") rows)
 
--- the text of the schedule for which the words ask; none where they ask for nothing that the
--- program does
-abbrev pub schedule_of : List Text → Option Text
-schedule_of words = schedule_unless (fault_of apex words) (subcommand_of apex words)
+-- what the command of this name asks for, with its rows
+abbrev pub request_in : Text × List Row → Option Request
+request_in found =
+    if bytes_eq found.0 (codes "replay") then report_in History found.1
+    else if bytes_eq found.0 (codes "status") then report_in Status found.1
+    else if bytes_eq found.0 (codes "check") then Some checks else None
+
+-- what the command that was found asks for, where no word is at fault
+abbrev pub request_unless : Kinds → Option (Text × List Row) → Option Request
+request_unless kinds found =
+    if is_empty kinds then option_and_then request_in found else None
+
+-- what the words ask for; none where they ask for nothing that the program does
+abbrev pub request_of : List Text → Option Request
+request_of words = request_unless (fault_of apex words) (subcommand_of apex words)

@@ -2,9 +2,10 @@
 ghost use Rattle.std.specs.Prelude.{◌≡◌, ◌+◌, ◌≤◌, ◌++◌, Some, decimal};
 ghost use Rattle.arrayvec.specs.ArrayString.{array_string_len};
 ghost use Rattle.apex_table.specs.Fault as tables;
-ghost use Rattle.apex_cli.specs.Faults.{fault_of_read, fault_of_table, fault_text, line_told, status_of_fault};
+ghost use Rattle.apex_cli.specs.Faults.{fault_of_checking, fault_of_read, fault_of_table, fault_text, line_told, status_of_fault};
 ghost use Rattle.apex_cli.specs.declared.faults.CliFault.TheVariants.{Memory};
 
+use apex_check::CheckFault;
 use apex_history::ReadFault;
 use apex_table::TableFault;
 use arrayvec::ArrayString;
@@ -29,6 +30,12 @@ pub enum CliFault {
     Usage,
     /// The text is no table. The fault is never `TableFault::Memory`.
     Table(TableFault),
+    /// No line is the separator `%%` between a table and a history.
+    NoSeparator,
+    /// The line of the history of this number, counted from 1, names no event of the partition.
+    BadLine(u32),
+    /// The line of the history of this number has more than 4,096 bytes.
+    TooLong(u32),
     /// The history is full after so many entries, and the schedule has more events.
     HistoryFull(u32),
     Memory,
@@ -43,7 +50,10 @@ impl CliFault {
     {
         match self {
             CliFault::Usage => 2,
-            CliFault::Table(_) => 3,
+            CliFault::Table(_)
+            | CliFault::NoSeparator
+            | CliFault::BadLine(_)
+            | CliFault::TooLong(_) => 3,
             CliFault::HistoryFull(_) => 4,
             CliFault::Memory => 5,
             CliFault::Read | CliFault::Write => 6,
@@ -60,6 +70,15 @@ impl CliFault {
             CliFault::Table(fault) => {
                 text.push_str("apex: table refused: ");
                 put_table_fault(&mut text, fault);
+            }
+            CliFault::NoSeparator => text.push_str("apex: no separator"),
+            CliFault::BadLine(line) => {
+                text.push_str("apex: history refused: BadLine at line ");
+                put_number(&mut text, line);
+            }
+            CliFault::TooLong(line) => {
+                text.push_str("apex: history refused: TooLong at line ");
+                put_number(&mut text, line);
             }
             CliFault::HistoryFull(entries) => {
                 text.push_str("apex: history full after ");
@@ -148,6 +167,22 @@ impl From<TableFault> for CliFault {
         match error {
             TableFault::Memory => CliFault::Memory,
             fault => CliFault::Table(fault),
+        }
+    }
+}
+
+impl From<CheckFault> for CliFault {
+    ghost from_gives = { λ error fault. fault ≡ fault_of_checking error };
+
+    fn from(error: CheckFault) -> CliFault {
+        match error {
+            CheckFault::Memory => CliFault::Memory,
+            CheckFault::Table(fault) => CliFault::Table(fault),
+            CheckFault::NoSeparator => CliFault::NoSeparator,
+            CheckFault::BadLine(line) => CliFault::BadLine(line),
+            CheckFault::TooLong(line) => CliFault::TooLong(line),
+            CheckFault::Read => CliFault::Read,
+            CheckFault::Write => CliFault::Write,
         }
     }
 }

@@ -1,11 +1,13 @@
-//! The program `apex`: replays the partition of a table, and writes its history.
+//! The program `apex`: runs the partition of a table and reports its history or its state, and checks
+//! histories.
 #![tactic(auto)]
 
 mod events;
 mod faults;
 mod program;
-mod replays;
+mod reports;
 mod schedule;
+mod tasks;
 #[cfg(test)]
 mod tests;
 mod words;

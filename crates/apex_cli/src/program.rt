@@ -2,16 +2,29 @@
 ghost use Rattle.std.specs.Prelude.{◌≡◌, MatchResult, Option, map, string_bytes};
 ghost use Rattle.apex_history.specs.Counted.{inner_of, failures_of};
 ghost use Rattle.apex_cli.specs.declared.faults.CliFault.{CliFault};
-ghost use Rattle.apex_cli.specs.Faults.{fault_in, line_told, status_of};
-ghost use Rattle.apex_cli.specs.Replay.{items_asked};
+ghost use Rattle.apex_cli.specs.Faults.{fault_in, line_told, status_in};
 ghost use Rattle.apex_history.specs.Ports.{ports};
-ghost use Rattle.apex_cli.specs.Exits.{Ends, EndsAtOnce, Told};
+ghost use Rattle.apex_cli.specs.Requests.{asked_by};
+ghost use Rattle.apex_cli.specs.Exits.{Ends, EndsAtOnce, Reports, Told};
 
 use crate::faults::{CliFault, line_told};
-use crate::replays::{items_asked, replayed};
-use apex_history::{Counted, Sink, Source, print_history, read_all};
+use crate::reports::{run_of, write_report};
+use crate::schedule::Item;
+use crate::tasks::{Task, task_asked};
+use crate::words::Report;
+use apex_check::{Verdict, check};
+use apex_history::{Counted, Sink, Source, read_all};
 use std::alloc::Global;
 use std::io::Write;
+
+/// How the program ends where it meets no fault.
+#[derive(Clone, Copy, Debug, PartialEq, Eq)]
+pub enum Ending {
+    /// All was done, or the history is legal.
+    Done,
+    /// The history departs from what the partition does.
+    Departed,
+}
 
 /// How the program ends.
 #[derive(Clone, Copy, Debug, PartialEq, Eq)]
@@ -23,14 +36,18 @@ pub struct Exit {
 }
 
 impl Exit {
-    /// How the program ends where it did all that was asked, or met this fault.
-    pub fn of(outcome: Result<(), CliFault>) -> Exit
+    /// How the program ends with this outcome.
+    pub fn of(outcome: Result<Ending, CliFault>) -> Exit
         ensures fault { result.fault ≡ fault_in outcome }
-        ensures status { result.status ≡ status_of result.fault }
+        ensures status { result.status ≡ status_in outcome }
     {
         match outcome {
-            Ok(()) => Exit {
+            Ok(Ending::Done) => Exit {
                 status: 0,
+                fault: None,
+            },
+            Ok(Ending::Departed) => Exit {
+                status: 1,
                 fault: None,
             },
             Err(fault) => Exit {
@@ -41,23 +58,23 @@ impl Exit {
     }
 }
 
-fn replay<R: Source, W: Sink>(
+/// Reports the run for these items of the table that the reader gives.
+fn report_run<R: Source, W: Sink>(
     alloc: Global,
-    words: &[String],
+    report: Report,
+    items: &[Item],
     reader: &mut Counted<R>,
     writer: &mut Counted<W>,
 ) -> Result<(), CliFault>
-    ensures { Ends (items_asked (map string_bytes words.now))
+    ensures { Reports report items.now
         (ports (R.remaining (inner_of reader.old)) (W.contents (inner_of writer.old)) (failures_of reader.old) (failures_of writer.old))
         (fault_in result)
         (ports (R.remaining (inner_of reader.new)) (W.contents (inner_of writer.new)) (failures_of reader.new) (failures_of writer.new)) }
 {
-    let items = items_asked(alloc, words)?;
     let text = read_all(alloc, reader)?;
-    let mut replay = replayed(alloc, items.as_slice(), text.as_slice())?;
-    let kernel = &replay.kernel;
-    match print_history(kernel.table(), kernel.entries(), &mut replay.page, writer) {
-        Ok(()) => match replay.fault {
+    let mut ran = run_of(alloc, items, text.as_slice())?;
+    match write_report(report, &mut ran, writer) {
+        Ok(()) => match ran.fault {
             None => Ok(()),
             Some(fault) => Err(fault),
         },
@@ -65,26 +82,52 @@ fn replay<R: Source, W: Sink>(
     }
 }
 
+fn carry_out<R: Source, W: Sink>(
+    alloc: Global,
+    words: &[String],
+    reader: &mut Counted<R>,
+    writer: &mut Counted<W>,
+) -> Result<Ending, CliFault>
+    ensures { Ends (asked_by (map string_bytes words.now))
+        (ports (R.remaining (inner_of reader.old)) (W.contents (inner_of writer.old)) (failures_of reader.old) (failures_of writer.old))
+        (status_in result) (fault_in result)
+        (ports (R.remaining (inner_of reader.new)) (W.contents (inner_of writer.new)) (failures_of reader.new) (failures_of writer.new)) }
+{
+    match task_asked(alloc, words)? {
+        Task::Report(report, items) => {
+            report_run(alloc, report, items.as_slice(), reader, writer)?;
+            Ok(Ending::Done)
+        }
+        Task::Check => match check(alloc, reader, writer) {
+            Ok(Verdict::Legal(_)) => Ok(Ending::Done),
+            Ok(Verdict::DepartsAt(..)) => Ok(Ending::Departed),
+            Err(fault) => Err(CliFault::from(fault)),
+        },
+    }
+}
+
 /// Does what the words ask for, and says how the program ends.
 ///
-/// The first word is the program's name. The words ask for `replay --schedule S`: the table comes
-/// from the reader, and the lines of the history go to the writer. The checks come in this order:
-/// the words and the schedule's form, the reading of the bytes, the table, the schedule's cores,
-/// then memory; then all events are made, and then the lines are written. Where a check fails
-/// nothing is written. The lines of a history that is full are written.
+/// The first word is the program's name. For `replay --schedule S` and `status --schedule S` the
+/// table comes from the reader, and the lines of the history, or the listing of the last state, go
+/// to the writer. The checks come in this order: the words and the schedule's form, the reading of
+/// the bytes, the table, the schedule's cores, then memory; then all events are made, and then the
+/// report is written. Where a check fails nothing is written. A history that is full is reported.
+///
+/// For `check` a table, the line `%%` and the lines of a history come from the reader, and the
+/// verdict goes to the writer.
 pub fn run_on<R: Source, W: Sink>(
     alloc: Global,
     words: &[String],
     reader: &mut Counted<R>,
     writer: &mut Counted<W>,
 ) -> Exit
-    ensures status { result.status ≡ status_of result.fault }
-    ensures ends { Ends (items_asked (map string_bytes words.now))
+    ensures { Ends (asked_by (map string_bytes words.now))
         (ports (R.remaining (inner_of reader.old)) (W.contents (inner_of writer.old)) (failures_of reader.old) (failures_of writer.old))
-        result.fault
+        result.status result.fault
         (ports (R.remaining (inner_of reader.new)) (W.contents (inner_of writer.new)) (failures_of reader.new) (failures_of writer.new)) }
 {
-    Exit::of(replay(alloc, words, reader, writer))
+    Exit::of(carry_out(alloc, words, reader, writer))
 }
 
 /// Tells of the fault, if there is one, on the error writer.
@@ -113,13 +156,12 @@ pub fn serve<R: Source, W: Sink, E: Sink>(
         let after = ports
         (R.remaining (inner_of reader.new)) (W.contents (inner_of writer.new))
         (failures_of reader.new) (failures_of writer.new) in
-        (fault : Option CliFault) × (result ≡ status_of fault)
-        × Told (line_told fault)
+        (fault : Option CliFault) × Told (line_told fault)
         (E.contents (inner_of error_writer.old)) (E.contents (inner_of error_writer.new))
         (failures_of error_writer.old) (failures_of error_writer.new)
         × MatchResult words
-        (λ given. Ends (items_asked (map string_bytes given.items)) before fault after)
-        (λ found. EndsAtOnce found before fault after) }
+        (λ given. Ends (asked_by (map string_bytes given.items)) before result fault after)
+        (λ found. EndsAtOnce found before result fault after) }
 {
     let exit = match words {
         Ok(words) => run_on(alloc, words.as_slice(), reader, writer),

@@ -1,8 +1,10 @@
 //! The program over devices in memory: tables, schedules, and the bytes that come out.
 
+mod checks;
 mod faults;
 mod given;
 mod limits;
+mod listings;
 mod messages;
 mod mutexes;
 mod outlines;

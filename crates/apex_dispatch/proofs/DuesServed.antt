@@ -1,5 +1,5 @@
 -- The dues at a tick: the waits that they end.
-use Rattle.std.proofs.Common.{◌≡◌, ℕ, ◌+◌, ◌<◌, ◌≤◌, true, false, length, ℤ, Option, None, Some, refl, sym, ◌∙◌, ap, subst, arith}
+use Rattle.std.proofs.Common.{◌≡◌, ℕ, ◌+◌, ◌<◌, true, false, length, ℤ, Option, None, Some, refl, sym, ◌∙◌, ap, subst, arith}
 use Rattle.std.proofs.lemmas.Bool.{both_ways, eq-eqb}
 use Rattle.std.proofs.lemmas.Option.{none-some}
 use Rattle.apex_dispatch.specs.Premises.{due_count}
@@ -13,7 +13,7 @@ use Rattle.apex_types.specs.Ticks.{wait_over, serve_due, serve_dues}
 use Rattle.apex_types.proofs.Dues.{first_due_now, first_due_within}
 use Rattle.apex_types.proofs.Reaches.{Reaches, reaches_then, reaches_unblock, reaches_release, reaches_without_due, reaches_in_turn}
 use Rattle.apex_types.proofs.Rosters.{at_without_due}
-use Rattle.apex_dispatch.proofs.Counts.{count, counted, counted_readied, one_if}
+use Rattle.apex_dispatch.proofs.Counts.{count, counted, counted_readied}
 
 -- before NORMAL nobody has a due
 due_normal : (roster : Roster) → HasOrderlyStarts roster → (p : ℕ) → first_due roster ≡ Some p

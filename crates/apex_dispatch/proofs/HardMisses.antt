@@ -1,8 +1,7 @@
 -- A process whose deadline is HARD, and passes at a tick, is dormant after that tick.
-use Rattle.std.proofs.Common.{◌≡◌, ◌≢◌, ℕ, zero, suc, ◌+◌, ◌<◌, ◌≤◌, ◌⊎◌, false, Option, None, Some, length, refl, sym, ◌∙◌, ap, inl, inr, subst, arith}
+use Rattle.std.proofs.Common.{◌≡◌, ◌≢◌, ℕ, zero, suc, ◌<◌, ◌≤◌, ◌⊎◌, false, Option, None, Some, length, refl, sym, ◌∙◌, ap, inl, inr, subst, arith}
 use Rattle.std.proofs.lemmas.Bool.{cases_eq, cond_both}
 use Rattle.std.proofs.lemmas.List.Sums.{count_by-le-length}
-use Rattle.std.proofs.lemmas.Option.{same_Some}
 use Rattle.apex_dispatch.specs.Laws.{HardMissesStop}
 use Rattle.apex_dispatch.specs.Terms.{DeadlineType, Holding, Record}
 use Rattle.apex_types.specs.declared.DeadlineType.TheVariants.{Soft, Hard}
@@ -11,22 +10,22 @@ use Rattle.apex_types.specs.declared.Queue.TheVariants as queues
 use Rattle.apex_types.specs.Dues.{first_missed, is_missed_at}
 use Rattle.apex_types.specs.Handovers.{hand_on, hand_to}
 use Rattle.apex_types.specs.InTurn.{Changed, in_turn, next_and}
-use Rattle.apex_types.specs.Machine.{Machine, happen, opening, run, tick}
+use Rattle.apex_types.specs.Machine.{opening, run, tick}
 use Rattle.apex_types.specs.Roster.{Roster, record_at, with_record}
 use Rattle.apex_types.specs.Running.{is_eligible}
-use Rattle.apex_types.specs.Stamps.{HasOrderlyStarts, advance_to, awake, newest, readied, set_deadline, stop, stopped}
-use Rattle.apex_types.specs.Table.{Table, IsLawful, process_config}
-use Rattle.apex_types.specs.Ticks.{miss, pass_time, serve_deadlines, serve_dues, serve_instant, serve_missed, tick_goal}
+use Rattle.apex_types.specs.Stamps.{HasOrderlyStarts, advance_to, awake, newest, set_deadline, stop, stopped}
+use Rattle.apex_types.specs.Table.{Table, IsLawful}
+use Rattle.apex_types.specs.Ticks.{miss, pass_time, serve_deadlines, serve_instant, serve_missed, tick_goal}
 use Rattle.apex_types.specs.Waiters.{first_waiter}
 use Rattle.apex_types.proofs.Dues.{first_missed_none, first_missed_within, goal_before_deadlines}
 use Rattle.apex_types.proofs.Handovers.{periods_hand_over}
-use Rattle.apex_types.proofs.Reaches.{another_newest, another_record, in_time_later, reaches_set_deadline}
+use Rattle.apex_types.proofs.Reaches.{another_newest, another_record}
 use Rattle.apex_types.proofs.Rosters.{at_record, changes_record}
 use Rattle.apex_types.proofs.Starts.{first_within}
 use Rattle.apex_dispatch.proofs.Counts.{count}
 use Rattle.apex_dispatch.proofs.DuesServed.{IsServable, reach_serve_dues}
 use Rattle.apex_dispatch.proofs.MissesServed.{missed_tells, reach_serve_deadlines, reach_serve_missed}
-use Rattle.apex_dispatch.proofs.Sound.{IsSound, goes, sound_run}
+use Rattle.apex_dispatch.proofs.Sound.{goes, sound_run}
 
 -- a mutex that changes hands leaves all deadlines
 deadline_handed : (roster : Roster) (holding : Holding) (found : Option ℕ) → first_waiter roster (queues.Mutex holding.mutex) ≡ found

@@ -1,6 +1,6 @@
 -- The releases of a process since its start, over a run: each lies whole periods behind the one before.
 use Rattle.std.proofs.Common.{◌≡◌, ℕ, List, [], ◌∷◌, ◌++◌, length, nat_lt, refl, sym, ap, subst}
-use Rattle.std.proofs.lemmas.Bool.{cond_both, ltb-true}
+use Rattle.std.proofs.lemmas.Bool.{cond_both}
 use Rattle.apex_dispatch.specs.Laws.{ReleasesLieInPeriods}
 use Rattle.apex_dispatch.specs.Terms.{Event}
 use Rattle.apex_types.specs.Machine.{Machine, accept, happen, opening, run}

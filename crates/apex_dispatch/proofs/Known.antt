@@ -3,14 +3,26 @@ use Rattle.std.proofs.Common.{◌≡◌, ◌∙◌, ap, sym, inl, inr, ℕ, ◌<
 use Rattle.std.proofs.lemmas.Bool.{cases_lt}
 use Rattle.std.proofs.lemmas.List.{get_or_past}
 use Rattle.std.proofs.lemmas.Option.{none-some, same_Some, slice_get_within, get_or_from_slice_get}
-use Rattle.apex_dispatch.specs.Terms.{Call, Origin}
+use Rattle.apex_dispatch.specs.Terms.{Call, Entry, Origin}
 use Rattle.apex_types.specs.declared.Call.TheVariants.{Partition, Process, Caller, Time, Semaphore, Buffer, Blackboard, Event, Mutex, Work}
 use Rattle.apex_types.specs.declared.Origin.TheVariants.{Init, Script}
 use Rattle.apex_types.specs.Table.{Table, ProcessConfig, Step, IsLawful, IsLawfulStep, IsKnown, no_step, step_at, call_in, no_process, process_config}
-use Rattle.apex_types.specs.Machine.{Objects}
+use Rattle.apex_types.specs.Machine.{Objects, objects_after}
+use Rattle.apex_types.proofs.Places.{length-map_places}
 use Rattle.apex_dispatch.specs.Premises.{AreOf, IsKnownTo}
 
--- there is an object for each entry of the table
+-- the objects that a history gives are those of the table
+pub objects_are : (table : Table) (history : List Entry) → AreOf table (objects_after table history)
+objects_are table history = record {
+  processes = length-map_places _ 0 table.processes;
+  semaphores = length-map_places _ 0 table.semaphores;
+  buffers = length-map_places _ 0 table.buffers;
+  blackboards = length-map_places _ 0 table.blackboards;
+  events = length-map_places _ 0 table.events;
+  mutexes = length-map_places _ 0 table.mutexes;
+}
+
+-- what a call names is one of the objects
 pub known_to : (table : Table) (objects : Objects) (call : Call) → AreOf table objects → IsKnown table call
     → IsKnownTo objects call
 known_to table objects (Partition call) all h = tt

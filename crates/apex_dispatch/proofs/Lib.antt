@@ -32,3 +32,5 @@ pub mod InVain
 pub mod OwnedInOrder
 pub mod States
 pub mod Replays
+pub mod Queued
+pub mod Gathering

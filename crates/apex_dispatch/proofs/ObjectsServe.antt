@@ -20,7 +20,7 @@ use Rattle.apex_types.proofs.Places.{get_or-map_places, map_places_same, set-map
 use Rattle.apex_types.proofs.Rows.{by_guard}
 use Rattle.apex_dispatch.specs.AskedWaits.{AreAsked}
 use Rattle.apex_dispatch.proofs.AskedWaits.{Frees, IsElsewhere, IsStill, still_elsewhere, still_freed}
-use Rattle.apex_dispatch.proofs.Satisfied.{AnsweredAt, Asks, AwaitsAt, BeginsAt, WokenAt, answered_at, handed, wakes}
+use Rattle.apex_dispatch.proofs.Satisfied.{AnsweredAt, Asks, WokenAt, answered_at, wakes}
 use Rattle.apex_dispatch.proofs.Serving.{Scene, Serves, ServesBy, serves_same}
 use Rattle.apex_dispatch.proofs.Truths.{and_false, other}
 

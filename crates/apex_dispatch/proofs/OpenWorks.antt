@@ -1,9 +1,9 @@
 -- The work that stands open on a core after an entry more: what the entry began, or what stood open before,
 -- looked at once more.
-use Rattle.std.proofs.Common.{◌≡◌, ℕ, suc, Bool, true, false, ◌&&◌, List, [], ◌∷◌, ◌++◌, length, Option, None, Some, option_map, option_and_then, if◌then◌else◌, cond, refl, sym, ◌∙◌, ap, arith}
+use Rattle.std.proofs.Common.{◌≡◌, ℕ, Bool, true, false, ◌&&◌, List, [], ◌∷◌, ◌++◌, length, Option, None, Some, option_map, option_and_then, if◌then◌else◌, refl, ◌∙◌, ap, arith}
 use Rattle.std.specs.Option.{option_or}
 use Rattle.std.proofs.lemmas.List.Folds.{list_all-append}
-use Rattle.apex_dispatch.specs.Terms.{Caller, Entry, OpenWork, Who, Work}
+use Rattle.apex_dispatch.specs.Terms.{Entry, OpenWork, Who, Work}
 use Rattle.apex_types.specs.Machine.{Deed, Machine, after_deed, open_work}
 use Rattle.apex_types.specs.Roster.{Roster}
 use Rattle.apex_types.specs.Running.{chosen, is_process}

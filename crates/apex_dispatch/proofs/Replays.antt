@@ -1,10 +1,9 @@
 -- What a kernel keeps: that its history replays, and with it all that holds after every run.
-use Rattle.std.proofs.Common.{◌≡◌, ℕ, ◌+◌, ◌*◌, ◌<◌, ◌≤◌, false, Option, None, arith, List, [], ◌∷◌, ◌++◌, length, Some, ap, ap₂, refl, sym, ◌∙◌, subst, option_map, if◌then◌else◌}
+use Rattle.std.proofs.Common.{◌≡◌, ℕ, ◌+◌, ◌*◌, ◌<◌, ◌≤◌, Option, None, arith, List, [], ◌∷◌, ◌++◌, length, ap, ap₂, refl, sym, ◌∙◌, subst, option_map, if◌then◌else◌}
 use Rattle.std.proofs.lemmas.List.Elements.{All-nil, All-push}
 use Rattle.std.proofs.lemmas.List.Sums.{sum_by-append}
 use Rattle.std.proofs.lemmas.Int.{ints}
 use Rattle.apex_dispatch.specs.Terms.{Call, Caller, Entry, Event, Notice, OpenWork, Reply}
-use Rattle.apex_types.specs.declared.Event.TheVariants.{Turn, Tick}
 use Rattle.apex_types.specs.Callers.{is_by_init}
 use Rattle.apex_types.specs.History.{init_count}
 use Rattle.apex_types.specs.Machine.{Machine, Objects, objects_after, happen, replay, machine_with, events_of, entry_of, open_work}

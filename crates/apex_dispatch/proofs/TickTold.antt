@@ -13,7 +13,7 @@ use Rattle.apex_types.specs.InTurn.{Changed, in_turn}
 use Rattle.apex_types.specs.Periods.{AreInTime}
 use Rattle.apex_types.specs.Roster.{Roster, record_at}
 use Rattle.apex_types.specs.Dues.{first_due, first_missed}
-use Rattle.apex_types.specs.Stamps.{HasOrderlyStarts, is_by_itself, set_deadline, without_due, advance_to}
+use Rattle.apex_types.specs.Stamps.{is_by_itself, set_deadline, without_due, advance_to}
 use Rattle.apex_types.specs.Table.{Table}
 use Rattle.apex_types.specs.Ticks.{miss, serve_missed, serve_deadlines, wait_over, serve_due, serve_dues, serve_instant, tick_goal, pass_time}
 use Rattle.apex_types.specs.Machine.{objects_after, tick_deed}

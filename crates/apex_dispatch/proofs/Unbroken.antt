@@ -1,18 +1,17 @@
 -- Work is done exactly where its process kept the core, and lost exactly where it did not.
-use Rattle.std.proofs.Common.{◌≡◌, ◌↔◌, ◌≢◌, ℕ, suc, ◌+◌, ◌-◌, ◌<◌, ◌≤◌, Bool, true, false, List, [], ◌∷◌, ◌++◌, length, Option, None, Some, option_and_then, All, get_or, drop, take, refl, sym, ◌∙◌, ap, subst, inl, inr, arith, length-append}
+use Rattle.std.proofs.Common.{◌≡◌, ℕ, ◌+◌, ◌-◌, ◌<◌, ◌≤◌, Bool, true, false, List, [], ◌∷◌, ◌++◌, length, Option, None, Some, option_and_then, All, get_or, drop, take, refl, sym, ◌∙◌, ap, subst, arith}
 use Rattle.std.proofs.lemmas.Bool.{both_ways, eq-eqb, eqb-true}
 use Rattle.std.proofs.lemmas.List.{get_or-drop, length-drop}
 use Rattle.std.proofs.lemmas.List.Elements.{All-head, All-tail}
 use Rattle.std.proofs.lemmas.List.Sums.{AllPass-from_list_all, list_all-from_AllPass}
-use Rattle.std.proofs.lemmas.Option.{none-some}
 use Rattle.std.specs.Option.{option_or}
-use Rattle.apex_dispatch.specs.Terms.{Entry, Event, OpenWork, Reply, Work}
+use Rattle.apex_dispatch.specs.Terms.{Entry, Work}
 use Rattle.apex_types.specs.declared.Reply.TheVariants.{Done, Lost}
 use Rattle.apex_types.specs.Machine.{Machine, Objects, deed_of, ended, events_of, objects_after, open_work, opening, run}
 use Rattle.apex_types.specs.Roster.{Roster}
 use Rattle.apex_types.specs.Running.{chosen, is_process}
 use Rattle.apex_types.specs.Table.{Table, IsLawful}
-use Rattle.apex_types.specs.Works.{Since, is_turn_of, is_unbroken, last_turn, open_since, own_turn}
+use Rattle.apex_types.specs.Works.{is_turn_of, is_unbroken, last_turn, open_since, own_turn}
 use Rattle.apex_dispatch.specs.Unbroken.{EndsAsItWasKept, HasBegun, KeptTheCore, WorkEndsAsItWasKept}
 use Rattle.apex_dispatch.proofs.Pasts.{PastIsTheRuns, past_is_the_runs}
 use Rattle.apex_dispatch.proofs.Sound.{sound_run}

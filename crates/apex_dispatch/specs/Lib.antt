@@ -9,3 +9,4 @@ pub mod States
 pub mod Unbroken
 pub mod Laws
 pub mod Worked
+pub mod Sections

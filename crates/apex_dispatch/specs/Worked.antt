@@ -1,5 +1,5 @@
 -- Worked histories: small tables and events, and the lines that the definitions give for them.
-use Rattle.std.specs.Prelude.{◌≡◌, ℕ, true, false, Option, None, Some, List, [], ◌∷◌, codes, flat_map, map, replicate, ◌++◌}
+use Rattle.std.specs.Prelude.{◌≡◌, ℕ, true, false, None, Some, List, [], ◌∷◌, codes, flat_map, map, replicate, ◌++◌}
 use Rattle.apex_dispatch.specs.Terms.{Attributes, Call, Event}
 use Rattle.apex_types.specs.declared.Call.TheVariants.{Partition, Process, Caller, Time, Semaphore, Work}
 use Rattle.apex_types.specs.declared.DeadlineType.TheVariants.{Soft}

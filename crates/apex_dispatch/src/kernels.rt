@@ -1,24 +1,29 @@
 //! The kernel of one partition: boot, turn, tick and run.
-ghost use Rattle.std.specs.Prelude.{◌≡◌, ◌<◌, ◌≤◌, ◌↔◌, ◌+◌, ◌^◌, [], ◌∷◌, ◌++◌, length, ◌&&◌, ◌==◌, if◌then◌else◌, None, All, IfOk, IfErr, OnOk, OnErr, IsOk};
+ghost use Rattle.std.specs.Prelude.{◌≡◌, ◌<◌, ◌≤◌, ◌↔◌, ◌+◌, ◌^◌, [], ◌∷◌, ◌++◌, length, ◌&&◌, ◌==◌, if◌then◌else◌, None, Some, slice_get, All, IfOk, IfErr, OnOk, OnErr, IsOk};
+ghost use Rattle.std.specs.Io.KnownBytes.{Appends};
 ghost use Rattle.apex_types.specs.Callers.{is_by_init};
 ghost use Rattle.apex_types.specs.Limits.{latest, most_entries, most_ticks};
 ghost use Rattle.apex_types.specs.Roster.{opening_roster, is_cold_start};
 ghost use Rattle.apex_types.specs.Lines.{IsPrintable};
+ghost use Rattle.apex_types.specs.Listing.{listing, listing_of};
 ghost use Rattle.apex_types.specs.Machine.{opening, turn, tick, happen, run, replay, events_of};
 ghost use Rattle.apex_types.specs.Table.{IsLawful, call_in};
 ghost use Rattle.apex_types.specs.Distinct.{HasDistinctStamps};
+ghost use Rattle.apex_history.specs.Counted.{inner_of, failures_of, CountsFailure, AppendsBeginning};
 ghost use Rattle.apex_dispatch.specs.Events.{IsWithin};
 ghost use Rattle.apex_dispatch.specs.Kernel.{kernel_in};
 
 use crate::deeds::{Deed, carry_out};
+use crate::listing::Listing;
 use crate::objects::Objects;
 use crate::ticks::pass_time;
 use crate::works::Works;
-use apex_history::{Entries, Log};
+use apex_history::{Counted, Entries, Log, Page, Sink};
 use apex_store::Store;
 use apex_table::Table;
 use apex_types::{Call, Caller, CoreId, Event, Full, LentEntry, Mode, Notices, Reply, Who};
 use std::alloc::{AllocError, Global};
+use std::io;
 use std::marker::Model;
 
 /// The kernel of one partition, over any store of its processes.
@@ -240,6 +245,40 @@ impl<S: Store> Kernel<S> {
         ensures { result ≡ self.now.machine.history }
     {
         self.log.entries()
+    }
+
+    /// The entry at this place of the history, counted from 0.
+    pub fn entry(&self, place: usize) -> LentEntry<'_>
+        requires { place < length self.now.machine.history }
+        ensures { slice_get self.now.machine.history place ≡ Some result }
+    {
+        self.log.entry(place)
+    }
+
+    /// What is listed of the partition.
+    fn listing(&self) -> Listing<'_, S>
+        ensures { listing_of result.table result.roster result.objects result.entries ≡ listing self.now.table self.now.machine }
+    {
+        let _cores = self.store.cores();
+        Listing {
+            table: &self.table,
+            store: &self.store,
+            objects: &self.objects,
+            entries: self.log.len() as u32,
+        }
+    }
+
+    /// Writes the status listing of the present state, many of its lines with one write (this
+    /// profile). Takes no memory: the lines are gathered in the page.
+    ///
+    /// Where a write failed, a beginning of the listing was written. What the page held is forgotten.
+    pub fn print_status<W: Sink>(&self, page: &mut Page, writer: &mut Counted<W>) -> io::Result<()>
+        ensures ok { OnOk result (Appends (W.contents (inner_of writer.old)) (W.contents (inner_of writer.new)) (listing self.now.table self.now.machine)) }
+        ensures err { OnErr result (AppendsBeginning (W.contents (inner_of writer.old)) (W.contents (inner_of writer.new)) (listing self.now.table self.now.machine)) }
+        ensures empty { page.new ≡ [] }
+        ensures counted { CountsFailure result (failures_of writer.old) (failures_of writer.new) }
+    {
+        self.listing().print(page, writer)
     }
 
     /// The time in ticks.

@@ -4,11 +4,13 @@
 mod deeds;
 mod kernels;
 mod laws;
+mod listing;
 mod objects;
 mod services;
 #[cfg(test)]
 mod tests;
 mod ticks;
+mod waiters;
 mod works;
 
 pub use kernels::Kernel;

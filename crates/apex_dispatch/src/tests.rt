@@ -1,4 +1,7 @@
 //! Kernels over `PlainStore`.
+
+mod listing;
+
 ghost use Rattle.std.specs.Prelude.{◌≡◌, ◌<◌, IfOk};
 
 use crate::{

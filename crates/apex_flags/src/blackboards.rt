@@ -45,6 +45,13 @@ impl Blackboard {
         }
     }
 
+    /// The message that it holds, if any.
+    pub fn message(&self) -> Option<Message>
+        ensures { result ≡ self.now.message }
+    {
+        self.message
+    }
+
     /// DISPLAY_BLACKBOARD: the message replaces the old one, and all who wait for one get it, who
     /// waits longest first. INVALID_PARAM where the blackboard isn't created or the message is empty
     /// or too long.

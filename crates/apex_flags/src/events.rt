@@ -42,6 +42,12 @@ impl Event {
         }
     }
 
+    pub fn is_up(&self) -> bool
+        ensures { result ≡ self.now.up }
+    {
+        self.up
+    }
+
     /// SET_EVENT: the event is up, and all who wait for it are woken, who waits longest first.
     /// INVALID_PARAM where the event isn't created.
     pub fn set<S: Store>(&mut self, store: &mut S, id: EventId, notices: &mut Notices) -> Reply

@@ -1,1 +1,2 @@
 pub mod Headline
+pub mod Seats

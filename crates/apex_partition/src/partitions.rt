@@ -1,7 +1,10 @@
 //! The value that lies under the lock.
-ghost use Rattle.std.specs.Prelude.{◌≡◌, ◌<◌, ◌≤◌, ◌↔◌, length, IfOk, IfErr, OnOk, OnErr, IsOk};
-ghost use Rattle.apex_types.specs.Limits.{most_ticks};
-ghost use Rattle.apex_types.specs.Machine.{opening, tick, turn};
+ghost use Rattle.std.specs.Prelude.{◌≡◌, ◌<◌, ◌≤◌, ◌↔◌, length, All, IfOk, IfErr, OnOk, OnErr, IsOk, None, Some, slice_get};
+ghost use Rattle.std.specs.List.{last_or};
+ghost use Rattle.apex_types.specs.Limits.{most_entries, most_ticks};
+ghost use Rattle.apex_types.specs.Lines.{IsPrintable};
+ghost use Rattle.apex_types.specs.Machine.{events_of, opening, tick, turn};
+ghost use Rattle.apex_dispatch.specs.Events.{IsWithin};
 ghost use Rattle.apex_dispatch.specs.Kernel.{kernel_in};
 ghost use Rattle.apex_partition.specs.Headline.{Headline};
 
@@ -9,7 +12,7 @@ use apex_dispatch::{Kernel, values_and_dues_are_in_range};
 use apex_history::Entries;
 use apex_store::PlainStore;
 use apex_table::Table;
-use apex_types::{CoreId, Full};
+use apex_types::{CoreId, Entry, Full, LentEntry};
 use std::alloc::{AllocError, Global};
 use std::marker::Model;
 
@@ -83,6 +86,36 @@ impl Partition {
         ensures { result ≡ self.now.machine.history }
     {
         self.kernel.entries()
+    }
+
+    /// The entry at this place of the history, counted from 0.
+    pub(crate) fn entry(&self, place: usize) -> LentEntry<'_>
+        requires { place < length self.now.machine.history }
+        ensures { slice_get self.now.machine.history place ≡ Some result }
+    {
+        self.kernel.entry(place)
+    }
+
+    /// The last entry of the history, which has one.
+    pub(crate) fn latest(&self) -> Entry
+        requires { 0 < length self.now.machine.history }
+        ensures { last_or None self.now.machine.history ≡ Some result }
+    {
+        match self.kernel.entries().latest() {
+            Some(entry) => entry.kept(),
+            None => unreachable!(),
+        }
+    }
+
+    /// The history is within its limit, which is few enough to be counted, tells of events of the
+    /// table's cores and of the ticker, and can be printed.
+    pub(crate) fn stays_within(&self)
+        ensures room { length self.now.machine.history ≤ self.now.table.limit }
+        ensures few { self.now.table.limit ≤ most_entries }
+        ensures events { All (IsWithin self.now.table.cores) (events_of self.now.machine.history) }
+        ensures printable { All (IsPrintable self.now.table) self.now.machine.history }
+    {
+        self.kernel.holds();
     }
 
     /// The table that the partition was booted with.

@@ -3,3 +3,7 @@ pub mod Homes
 pub mod Counts
 pub mod Alone
 pub mod Steps
+pub mod Own
+pub mod Written
+pub mod Exact
+pub mod Calls

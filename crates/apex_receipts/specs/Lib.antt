@@ -1,2 +1,3 @@
 pub mod Notes
 pub mod Rules
+pub mod Receipts

@@ -1,7 +1,8 @@
 -- The rule of the book, and what its steps tell.
-use Rattle.std.specs.Prelude.{◌≡◌, ℕ, ◌<◌, ◌⊎◌, true, false, List, [], ◌∷◌, ◌++◌}
+use Rattle.std.specs.Prelude.{◌≡◌, ℕ, ◌<◌, ◌≤◌, ◌⊎◌, true, false, List, [], ◌∷◌, ◌++◌, Some}
 use mathlib.Core.List.{IsPrefix}
 use Rattle.logbook.specs.Pages.{Book, Cell, Named, Nib, Step, View, cell, may_make}
+use Rattle.apex_types.specs.declared.entries.Entry.{Entry}
 use Rattle.apex_receipts.specs.declared.law.Note.{Note}
 use Rattle.apex_receipts.specs.Notes.{AllUsed, IsAlone, IsFair, IsHome, said, written}
 
@@ -62,3 +63,20 @@ pub record HasSaid (own known : List Note) (n : Note) (log : List Note) : Type 0
 -- who has written more notes than were written for it
 abbrev pub MaySay : List Note → List Note → Note → Type 0
 MaySay own known n = (n.of ≡ n.by) ⊎ (written n.by n.of own < said n.of known)
+
+-- speaker l went on from its own log to this one without a note of its own, and found what speaker o had
+-- heard in it; and it wrote no more notes for o than o wrote itself
+pub record HasMet (l o : ℕ) (own mine heard log : List Note) : Type 0 where
+  pub alone : IsAlone l own log
+  pub knew : IsPrefix heard log
+  pub most : written l o own ≤ said o mine
+
+-- and then wrote this entry down for o
+pub record HasWritten (l o : ℕ) (own mine heard : List Note) (e : Entry) (log : List Note) : Type 0 where
+  pub before : List Note
+  pub met : HasMet l o own mine heard before
+  pub note : Note
+  pub by : note.by ≡ l
+  pub of : note.of ≡ o
+  pub entry : note.entry ≡ Some e
+  pub added : log ≡ before ++ note ∷ []

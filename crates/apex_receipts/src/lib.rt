@@ -1,12 +1,22 @@
-//! The book of notes on which receipts of a locked history rest: who says what, and alone may.
+//! Receipts of a history that lies under a lock: who made an entry holds a receipt, which agrees with
+//! the history whenever the lock is taken again.
 #![tactic(auto)]
 
 mod law;
+mod meetings;
 mod naming;
 mod opened;
+mod receipts;
+mod scribes;
 mod speakers;
+mod stories;
+#[cfg(test)]
+mod tests;
+mod voices;
 
-pub use law::{Head, Known};
 pub use naming::Naming;
 pub use opened::Opened;
-pub use speakers::Speaker;
+pub use receipts::Receipt;
+pub use scribes::Scribe;
+pub use stories::Story;
+pub use voices::Voice;

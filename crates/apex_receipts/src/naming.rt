@@ -2,8 +2,8 @@
 
 use std::marker::Brand;
 
-/// Which partition a value is of: its book and the speakers there, the ledger of its ticks, and its
-/// table. Each call that opens a partition picks it.
+/// Which partition a value is of: its book, the speakers there, and its table. Each call that opens a
+/// partition picks it.
 pub trait Naming {
     ghost use Rattle.std.specs.Prelude.{ℕ};
     ghost use Rattle.logbook.specs.Pages.{Book};
@@ -16,8 +16,6 @@ pub trait Naming {
 
     ghost voice: { Who → ℕ };
 
-    ghost ledger: { ℕ };
-
     ghost table: { Table };
 }
 
@@ -29,8 +27,6 @@ impl Naming for Brand {
     ghost scribe = { 0 };
 
     ghost voice = { λ who. 0 };
-
-    ghost ledger = { 0 };
 
     ghost table = { record { cores = 0; limit = 0; processes = []; semaphores = []; buffers = []; blackboards = []; events = []; mutexes = []; init = [] } };
 }

@@ -83,13 +83,8 @@ impl Speaker {
         let mut all = self.seen.again();
         all.learn(known);
         let mut offer: Free = all.plain::<Nothing, (), Take>(&());
-        let _found = head.compare_exchange::<Hear, Nothing>(
-            0,
-            0,
-            &mut all,
-            &mut offer,
-            &mut self.pen,
-        );
+        let pen = &mut self.pen;
+        let _found = head.compare_exchange::<Hear, Nothing>(0, 0, &mut all, &mut offer, pen);
         self.seen = all;
     }
 
@@ -106,13 +101,8 @@ impl Speaker {
         ensures id { self.new.id ≡ self.old.id }
         ensures said { HasSaid self.old.log all.log offer.ask self.new.log }
     {
-        let _found = head.compare_exchange::<Say, Nothing>(
-            0,
-            0,
-            &mut all,
-            &mut offer,
-            &mut self.pen,
-        );
+        let pen = &mut self.pen;
+        let _found = head.compare_exchange::<Say, Nothing>(0, 0, &mut all, &mut offer, pen);
         self.seen = all;
         self.pen = next;
     }

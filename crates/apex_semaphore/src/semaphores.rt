@@ -45,6 +45,13 @@ impl Semaphore {
         }
     }
 
+    /// The value.
+    pub fn value(&self) -> u16
+        ensures { result ≡ self.now.value }
+    {
+        self.value
+    }
+
     /// WAIT_SEMAPHORE: takes one of the value, else the caller waits for the time in ticks that it
     /// may. INVALID_PARAM where the semaphore isn't created, INVALID_MODE where the caller owns a
     /// mutex and would wait, or no process calls, NOT_AVAILABLE where the caller may not wait.

@@ -1,4 +1,4 @@
-use Rattle.std.proofs.Common.{◌≡◌, ◌≤◌, length, ◌+◌, ◌*◌}
+use Rattle.std.proofs.Common.{◌≡◌, ◌≤◌, length, ◌*◌}
 use Rattle.apex_types.specs.Dues.{first_missed}
 use Rattle.apex_types.specs.InTurn.{behind}
 use Rattle.apex_types.specs.Stamps.{HasOrderlyStarts}

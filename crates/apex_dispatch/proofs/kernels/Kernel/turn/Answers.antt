@@ -2,9 +2,8 @@ use Rattle.std.proofs.Common.{◌&&◌, ◌==◌, ◌∙◌, ◌+◌, ◌<◌, l
 use Rattle.apex_types.specs.declared.Event.TheVariants.{Turn}
 use Rattle.apex_types.specs.Machine.{machine_with}
 use Rattle.apex_types.specs.Roster.{is_cold_start}
-use Rattle.apex_types.proofs.Places.{length-map_places}
 use Rattle.apex_dispatch.specs.Kernel.{kernel_with}
-use Rattle.apex_dispatch.proofs.Known.{known_due}
+use Rattle.apex_dispatch.proofs.Known.{known_due, objects_are}
 use Rattle.apex_dispatch.proofs.Replays.{IsAfter, kept_sound, kept_stamps, kept_time, after_does}
 use Rattle.apex_dispatch.proofs.kernels.Kernel.turn.Given.{Over}
 use Rattle.apex_dispatch.proofs.kernels.Kernel.turn.Goals.{After-append}
@@ -24,14 +23,7 @@ pub carry_out-deed-requires-clause-records : goal.carry_out-deed-requires-clause
 carry_out-deed-requires-clause-records g c = (kept_sound c.self.invariant).orderly.many
 
 pub carry_out-deed-requires-clause-objects : goal.carry_out-deed-requires-clause-objects
-carry_out-deed-requires-clause-objects g c = rw c.self.invariant.objects (record {
-  processes = length-map_places _ 0 c.self.inside.table.processes;
-  semaphores = length-map_places _ 0 c.self.inside.table.semaphores;
-  buffers = length-map_places _ 0 c.self.inside.table.buffers;
-  blackboards = length-map_places _ 0 c.self.inside.table.blackboards;
-  events = length-map_places _ 0 c.self.inside.table.events;
-  mutexes = length-map_places _ 0 c.self.inside.table.mutexes;
-})
+carry_out-deed-requires-clause-objects g c = rw c.self.invariant.objects (objects_are c.self.inside.table c.self.inside.log.entries)
 
 pub carry_out-deed-requires-clause-starts : goal.carry_out-deed-requires-clause-starts
 carry_out-deed-requires-clause-starts g c = (kept_sound c.self.invariant).orderly.starts

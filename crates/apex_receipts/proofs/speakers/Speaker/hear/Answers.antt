@@ -15,7 +15,7 @@ returns-clause-heard c =
     let key : c.self.inside.pen.nib.key ≡ key_of c.args.self.now.id c.args.self.now.log =
     c.self.invariant.2 ∙ (ap (λ k. key_of k c.self.inside.seen.log) id ∙ ap (λ (l : List Note). key_of c.args.self.now.id l) log) in
     let all = c.learn.new.self.log in
-    let own : IsPrefix c.args.self.now.log all = subst (λ (l : List Note). IsPrefix l all) (ap (λ s. s.log) c.again-all.ensures ∙ log) c.learn.ensures.2 in
+    let own : IsPrefix c.args.self.now.log all = subst (λ (l : List Note). IsPrefix l all) (ap {B = List Note} (λ s. s.log) c.again-all.ensures ∙ log) c.learn.ensures.2 in
     has_heard c.args.self.now.log c.args.known.now.log all c.self.inside.pen.nib c.args.self.now.id c.plain-offer.result.state
     (step c.args.head.now.key 0 0 c.plain-offer.result.ask) c.compare_exchange-found.result
     (c.compare_exchange-found.new.seen.log, (c.compare_exchange-found.new.pen.nib, c.compare_exchange-found.new.offer.state))

@@ -1,0 +1,113 @@
+//! The examples: each table of a folder, with its cases in a file beside it.
+use crate::faults::CaseFault;
+use crate::reports::Report;
+use crate::rows::{Case, cut_cases, is_silent};
+use crate::tellings::{Asked, difference_of};
+use std::alloc::{AllocGlobal, Global};
+use std::fs;
+use std::fs::Files;
+
+/// How a case of this table differs from what it tells; nothing where it does not.
+fn difference_in(alloc: Global, table: &str, case: &Case<'_>) -> Result<Option<String>, CaseFault> {
+    let asked = Asked::read(alloc, table, case.outline)?;
+    if asked.expected.text.as_str().is_empty() {
+        return Err(CaseFault::NoLines);
+    }
+    let told = asked.told(alloc)?;
+    Ok(difference_of(alloc, &asked.expected, &told)?)
+}
+
+/// Plays a case, and tells whether it is as it should be.
+fn check_case(
+    alloc: Global,
+    report: &mut Report,
+    example: &str,
+    table: &str,
+    case: &Case<'_>,
+) -> Result<(), CaseFault> {
+    report.histories = report.histories.saturating_add(1);
+    match difference_in(alloc, table, case) {
+        Ok(None) => report.confirm(example, case.name)?,
+        Ok(Some(difference)) => report.complain(example, case.name, difference.as_str())?,
+        Err(fault) => {
+            let fault = fault.to_string(alloc)?;
+            report.complain(example, case.name, fault.as_str())?;
+        }
+    }
+    Ok(())
+}
+
+/// Plays the cases of an example's table.
+fn check_example(
+    alloc: Global,
+    report: &mut Report,
+    example: &str,
+    table: &str,
+    cases: &str,
+) -> Result<(), CaseFault> {
+    report.examples = report.examples.saturating_add(1);
+    let (head, cases) = cut_cases(alloc, cases)?;
+    for line in head.lines().filter(|line| !is_silent(line)) {
+        report.complain(example, line, "no case")?;
+    }
+    if cases.is_empty() {
+        report.complain(example, "cases", "there is none")?;
+    }
+    for case in cases.iter() {
+        check_case(alloc, report, example, table, case)?;
+    }
+    Ok(())
+}
+
+/// The names of a folder's files, in order.
+fn names_in<R: Files + AllocGlobal + Clone + Drop>(
+    rt: &R,
+    folder: &str,
+) -> Result<Vec<String>, CaseFault> {
+    let mut names = Vec::new(rt.alloc());
+    for entry in fs::read_dir(rt, folder)? {
+        names.push(String::from_str(rt.alloc(), entry?.file_name())?)?;
+    }
+    names.sort()?;
+    Ok(names)
+}
+
+fn text_of<R: Files + AllocGlobal>(
+    rt: &R,
+    folder: &str,
+    example: &str,
+    ending: &str,
+) -> Result<String, CaseFault> {
+    let path = format!(in rt.alloc(); "{folder}/{example}.{ending}")?;
+    Ok(fs::read_to_string(rt, path.as_str())?)
+}
+
+/// Plays the cases of each table of the folder. A file `NAME.toml` is a table, and `NAME.cases` has
+/// its cases; neither may be there without the other one. Other files say nothing.
+pub fn check_examples<R: Files + AllocGlobal + Clone + Drop>(
+    rt: &R,
+    report: &mut Report,
+    folder: &str,
+) -> Result<(), CaseFault> {
+    for name in names_in(rt, folder)?.iter() {
+        match name.as_str().rsplit_once('.') {
+            Some((example, "toml")) => {
+                let table = text_of(rt, folder, example, "toml")?;
+                match text_of(rt, folder, example, "cases") {
+                    Ok(cases) => {
+                        check_example(rt.alloc(), report, example, table.as_str(), cases.as_str())?;
+                    }
+                    Err(_) => report.complain(example, "cases", "they cannot be read")?,
+                }
+            }
+            Some((example, "cases")) => {
+                if text_of(rt, folder, example, "toml").is_err() {
+                    report.complain(example, "table", "it cannot be read")?;
+                }
+            }
+            _ => {}
+        }
+    }
+    report.total_of_examples()?;
+    Ok(())
+}

@@ -1,0 +1,115 @@
+//! A case of an example: the table's edits, the schedule, and all that `apex` tells of it.
+ghost use Rattle.std.specs.Prelude.{◌≡◌, IfOk, IsNone, string_bytes};
+
+use crate::faults::CaseFault;
+use crate::plays::{Outcome, played};
+use crate::rows::is_silent;
+use std::alloc::{AllocError, Global};
+use std::str;
+
+/// What the program `apex` tells: its lines on standard output, then the one on standard error where
+/// there is one, and its status.
+#[derive(Drop)]
+pub struct Telling {
+    pub text: String,
+    pub status: u8,
+}
+
+/// What a case of an example asks for, and what is to be told.
+#[derive(Drop)]
+pub struct Asked<'a> {
+    /// The example's table, with the case's edits.
+    pub table: String,
+    pub schedule: &'a str,
+    pub expected: Telling,
+}
+
+/// The table with `OLD -> NEW` done wherever the old text stands; `Edit` where it stands nowhere.
+fn edited(alloc: Global, table: &str, edit: &str) -> Result<String, CaseFault> {
+    let (old, new) = edit.split_once(" -> ").ok_or(CaseFault::Edit)?;
+    if old.is_empty() || !table.contains(old) {
+        return Err(CaseFault::Edit);
+    }
+    Ok(table.replace(alloc, old, new)?)
+}
+
+impl<'a> Asked<'a> {
+    /// The case that these lines tell, over the example's table.
+    pub fn read(alloc: Global, table: &str, lines: &'a str) -> Result<Asked<'a>, CaseFault> {
+        let mut asked = Asked {
+            table: String::from_str(alloc, table)?,
+            schedule: "",
+            expected: Telling {
+                text: String::new(alloc),
+                status: 0,
+            },
+        };
+        for line in lines.lines().filter(|line| !is_silent(line)) {
+            asked.put(alloc, line)?;
+        }
+        Ok(asked)
+    }
+
+    fn put(&mut self, alloc: Global, line: &'a str) -> Result<(), CaseFault> {
+        match line.split_once(' ').unwrap_or((line, "")) {
+            ("edit", edit) => self.table = edited(alloc, self.table.as_str(), edit)?,
+            ("schedule", schedule) => self.schedule = schedule,
+            ("status", status) => {
+                self.expected.status = status.parse::<u8>().map_err(|_| CaseFault::Status)?;
+            }
+            _ => writeln!(self.expected.text, "{line}")?,
+        }
+        Ok(())
+    }
+
+    /// What the program `apex` tells where it is asked for this case.
+    pub fn told(&self, alloc: Global) -> Result<Telling, CaseFault> {
+        let mut text = String::new(alloc);
+        let ended = match played(alloc, self.table.as_str(), self.schedule) {
+            Ok(Outcome { lines, ended }) => {
+                text.push_str(str::from_utf8(lines.as_slice())?)?;
+                ended
+            }
+            Err(fault) => Err(fault),
+        };
+        let Err(fault) = ended else {
+            return Ok(Telling { text, status: 0 });
+        };
+        let status = match fault {
+            CaseFault::Table(_) => 3,
+            CaseFault::Full(_) => 4,
+            fault => return Err(fault),
+        };
+        writeln!(text, "apex: {fault}")?;
+        Ok(Telling { text, status })
+    }
+}
+
+/// The first line in which a text differs from what was expected.
+fn first_difference(alloc: Global, expected: &str, got: &str) -> Result<String, AllocError> {
+    let pairs = expected.lines().zip(got.lines());
+    let same = pairs.take_while(|(wanted, line)| wanted == line).count();
+    let number = same.saturating_add(1);
+    let wanted = expected.lines().nth(same).unwrap_or("no line");
+    let line = got.lines().nth(same).unwrap_or("no line");
+    format!(in alloc; "line {number}: expected {wanted}, but got {line}")
+}
+
+/// How what was told differs from what was expected; nothing where it does not.
+pub fn difference_of(
+    alloc: Global,
+    expected: &Telling,
+    told: &Telling,
+) -> Result<Option<String>, AllocError>
+    ensures { IfOk result (λ difference. IsNone difference → (expected.now.status ≡ told.now.status) × (string_bytes expected.now.text ≡ string_bytes told.now.text)) }
+{
+    let (wanted, got) = (expected.status, told.status);
+    if wanted != got {
+        return Ok(Some(format!(in alloc; "expected status {wanted}, but got {got}")?));
+    }
+    let (wanted, got) = (expected.text.as_str(), told.text.as_str());
+    if wanted == got {
+        return Ok(None);
+    }
+    Ok(Some(first_difference(alloc, wanted, got)?))
+}

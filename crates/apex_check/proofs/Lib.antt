@@ -1,0 +1,9 @@
+pub mod Coming
+pub mod FirstLines
+pub mod Named
+pub mod Separated
+pub mod MoreLines
+pub mod Endings
+pub mod Apart
+pub mod GoesOn
+pub mod Told

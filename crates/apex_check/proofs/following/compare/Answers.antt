@@ -1,0 +1,48 @@
+use Rattle.std.proofs.Common.{◌≡◌, ◌<◌, ap, length, None, Some, rules}
+use Rattle.std.specs.List.{last_or}
+use Rattle.apex_types.specs.Lines.{IsPrintable}
+use Rattle.apex_dispatch.specs.Kernel.{KernelState}
+use Rattle.apex_check.proofs.MoreLines.{latest_adds, latest_holds, latest_some}
+use Rattle.apex_check.proofs.following.compare.Goals as goal
+
+pub returns-in_default-latest-clause-answers : goal.returns-in_default-latest-clause-answers
+returns-in_default-latest-clause-answers c =
+    let old = c.args.kernel.now in
+    let room : length old.machine.history < old.table.limit = search rules in
+    let none : last_or None c.make.new.kernel.machine.history ≡ None = search rules in
+    absurd (latest_some old.table old.machine c.args.event c.make.new.kernel.machine.history room
+    (ap (λ (k : KernelState). k.machine.history) c.make.ensures.done) none)
+
+pub put_line-requires-clause-printable : goal.put_line-requires-clause-printable
+put_line-requires-clause-printable c =
+    let old = c.args.kernel.now in
+    let new = c.make.new.kernel in
+    let room : length old.machine.history < old.table.limit = search rules in
+    let is : last_or None new.machine.history ≡ Some c.in-Some.entry = search rules in
+    rw c.table.ensures (latest_holds old.table old.machine c.args.event new.machine.history room
+    (ap (λ (k : KernelState). k.machine.history) c.make.ensures.done) (IsPrintable new.table) c.in-Some.entry is c.holds.ensures.printable)
+
+pub returns-then-eq-clause-answers : goal.returns-then-eq-clause-answers
+returns-then-eq-clause-answers c =
+    let old = c.args.kernel.now in
+    let new = c.make.new.kernel in
+    let room : length old.machine.history < old.table.limit = search rules in
+    let is : last_or None new.machine.history ≡ Some c.in-Some.entry = search rules in (
+      c.in-Some.entry,
+      latest_adds old.table old.machine c.args.event new.machine.history room
+          (ap (λ (k : KernelState). k.machine.history) c.make.ensures.done) c.in-Some.entry is,
+      search rules,
+    )
+
+pub returns-else-eq-clause-answers : goal.returns-else-eq-clause-answers
+returns-else-eq-clause-answers c =
+    let old = c.args.kernel.now in
+    let new = c.make.new.kernel in
+    let room : length old.machine.history < old.table.limit = search rules in
+    let is : last_or None new.machine.history ≡ Some c.in-Some.entry = search rules in
+    let ran = ap (λ (k : KernelState). k.machine.history) c.make.ensures.done in
+    let adds = latest_adds old.table old.machine c.args.event new.machine.history room ran c.in-Some.entry is in
+    let table : new.table ≡ old.table = ap (λ (k : KernelState). k.table) c.make.ensures.done in
+    let printable = latest_holds old.table old.machine c.args.event new.machine.history room ran (IsPrintable old.table) c.in-Some.entry is
+    (rw table at c.holds.ensures.printable) in
+    rw c.kept.ensures (adds, search rules, printable)

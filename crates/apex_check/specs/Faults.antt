@@ -1,0 +1,22 @@
+-- Which faults a text has, and which a reader.
+use Rattle.std.specs.Prelude.{◌≡◌, ℕ, List, Option, Result, MatchResult}
+use Rattle.apex_history.specs.Counted.{one_more}
+use Rattle.apex_check.specs.declared.verdicts.CheckFault.{CheckFault}
+use Rattle.apex_check.specs.declared.verdicts.CheckFault.TheVariants.{Memory, Read}
+use Rattle.apex_check.specs.Ahead.{IsAhead}
+use Rattle.apex_check.specs.Verdicts.{IsAtFault}
+
+-- a failed read is counted, and nothing else is
+abbrev pub CountsRead : CheckFault → ℕ → ℕ → Type 0
+CountsRead Read old new = new ≡ one_more old
+CountsRead fault old new = new ≡ old
+
+-- the same of an answer
+abbrev pub CountsCheck : {T : Type 0} → Result T CheckFault → ℕ → ℕ → Type 0
+CountsCheck result old new = MatchResult result (λ _. new ≡ old) (λ fault. CountsRead fault old new)
+
+-- what is still to come has this fault, or memory was refused, or a read failed
+abbrev pub IsFaultOf : Option (List ℕ) → CheckFault → Type 0
+IsFaultOf known Memory = Unit {0}
+IsFaultOf known Read = Unit {0}
+IsFaultOf known fault = (text : List ℕ) × IsAhead text known × IsAtFault text fault

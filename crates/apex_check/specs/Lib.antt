@@ -1,0 +1,10 @@
+pub mod Terms
+pub mod Texts
+pub mod Ahead
+pub mod Histories
+pub mod Verdicts
+pub mod Faults
+pub mod Steps
+pub mod Checks
+pub mod Legal
+pub mod TableFaults

@@ -1,0 +1,61 @@
+-- What the machine answers to a line.
+use Rattle.std.specs.Prelude.{◌≡◌, ◌≢◌, ◌≤◌, ℕ, List, [], ◌∷◌, ◌++◌, length, Option, None, Some, Result, Ok, Err}
+use Rattle.apex_check.specs.Terms.{Entry, Event}
+use Rattle.apex_types.specs.Table.{Table}
+use Rattle.apex_types.specs.Machine.{Machine, accept, event_of, events_of}
+use Rattle.apex_types.specs.Lines.{line_of, IsPrintable}
+use Rattle.apex_check.specs.declared.following.Answer.{Answer}
+use Rattle.apex_check.specs.declared.following.Answer.TheVariants.{Same, Differs, Beyond}
+use Rattle.apex_check.specs.declared.verdicts.Verdict.{Verdict}
+use Rattle.apex_check.specs.declared.verdicts.Verdict.TheVariants.{Legal, DepartsAt}
+use Rattle.apex_check.specs.declared.verdicts.CheckFault.{CheckFault}
+use Rattle.apex_check.specs.declared.verdicts.CheckFault.TheVariants.{Read, BadLine, TooLong}
+use Rattle.apex_check.specs.Ahead.{IsAhead}
+use Rattle.apex_history.specs.declared.LineFault.{LineFault}
+use Rattle.apex_history.specs.declared.LineFault.TheVariants as line_fault
+use Rattle.apex_check.specs.Texts.{ended}
+use Rattle.apex_check.specs.Histories.{AreLines}
+use Rattle.apex_check.specs.Verdicts.{JudgesLines, LineIsAtFault}
+
+-- the event adds this entry to the history
+abbrev pub Adds : Table → Machine → Event → Entry → Type 0
+Adds table machine event entry =
+    ((accept table machine event).history ≡ machine.history ++ entry ∷ []) × (event_of entry ≡ event)
+
+-- how the line of the entry that the event adds compares with this one
+abbrev pub Answers : Table → Machine → Event → List ℕ → Answer → Type 0
+Answers table machine event line Same = (entry : Entry) × Adds table machine event entry × (line ≡ line_of table entry)
+Answers table machine event line (Differs entry) =
+    Adds table machine event entry × (line ≢ line_of table entry) × IsPrintable table entry
+Answers table machine event line Beyond = table.limit ≤ length machine.history
+
+-- what a line does to a text of which these bytes are its first lines: it is one more of them, or there
+-- is a verdict or a fault, whatever follows
+abbrev pub Judged : Table → List ℕ → List ℕ → List Entry → Result (Option Verdict) CheckFault → Type 0
+Judged table bytes line history (Ok None) = AreLines table (bytes ++ ended line) (events_of history)
+Judged table bytes line history (Ok (Some verdict)) =
+    (behind : List ℕ) → JudgesLines table (bytes ++ (ended line ++ behind)) verdict
+Judged table bytes line history (Err fault) =
+    (behind : List ℕ) → LineIsAtFault table (bytes ++ (ended line ++ behind)) fault
+
+-- the line of an entry that is told can be printed
+abbrev pub IsTellable : Table → Verdict → Type 0
+IsTellable table (Legal n) = Unit {0}
+IsTellable table (DepartsAt n (Some entry)) = IsPrintable table entry
+IsTellable table (DepartsAt n None) = Unit {0}
+
+-- what is still to come has this line at fault, or a read failed
+abbrev pub IsLineFaultOf : Table → Option (List ℕ) → CheckFault → Type 0
+IsLineFaultOf table known Read = Unit {0}
+IsLineFaultOf table known fault = (text : List ℕ) × IsAhead text known × LineIsAtFault table text fault
+
+-- the fault of a line
+abbrev pub fault_at : ℕ → LineFault → CheckFault
+fault_at line line_fault.BadLine = BadLine line
+fault_at line line_fault.TooLong = TooLong line
+
+-- a fault that a line may have
+abbrev pub IsOfLine : CheckFault → Type 0
+IsOfLine (BadLine line) = Unit {0}
+IsOfLine (TooLong line) = Unit {0}
+IsOfLine fault = ⊥

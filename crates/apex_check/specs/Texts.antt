@@ -1,0 +1,55 @@
+-- The text that is checked: a table's text, the separator `%%` as a line of its own, and the lines of a history.
+use Rattle.std.specs.Prelude.{◌≡◌, ◌≢◌, ◌==◌, ℕ, Bool, List, ◌++◌, codes, count_by, flat_map}
+use Rattle.std.specs.List.{AllByRecursion}
+use Rattle.apex_types.specs.Table.{Table}
+use Rattle.apex_table.specs.Reading.{table_of}
+use Rattle.std.specs.declared.result.Result.TheVariants.{Ok}
+
+abbrev pub is_line_feed : ℕ → Bool
+is_line_feed byte = byte == 10
+
+-- how many line feeds the bytes have
+abbrev pub line_feeds : List ℕ → ℕ
+line_feeds bytes = count_by is_line_feed bytes
+
+-- no byte of the line is a line feed
+abbrev pub IsOneLine : List ℕ → Type 0
+IsOneLine line = line_feeds line ≡ 0
+
+-- a line with its line feed
+abbrev pub ended : List ℕ → List ℕ
+ended line = line ++ codes "\n"
+
+-- lines, each with its line feed
+abbrev pub text_of : List (List ℕ) → List ℕ
+text_of lines = flat_map ended lines
+
+-- the line that ends a table's text
+abbrev pub separator : List ℕ
+separator = codes "%%"
+
+-- a line of a table's text is any but the separator
+abbrev pub IsOfTable : List ℕ → Type 0
+IsOfTable line = IsOneLine line × (line ≢ separator)
+
+-- whole lines of which none is the separator
+pub record IsTableText (front : List ℕ) : Type 0 where
+  pub lines : List (List ℕ)
+  pub whole : front ≡ text_of lines
+  pub others : AllByRecursion IsOfTable lines
+
+-- no line of the text is the separator; what has no line feed at its end is no line
+pub record HasNoSeparator (text : List ℕ) : Type 0 where
+  pub front : List ℕ
+  pub rest : List ℕ
+  pub whole : text ≡ front ++ rest
+  pub lines : IsTableText front
+  pub unended : IsOneLine rest
+
+-- the text is that of a table up to the first separator, which these bytes follow
+abbrev pub IsParted : List ℕ → List ℕ → List ℕ → Type 0
+IsParted text front behind = IsTableText front × (text ≡ front ++ ended separator ++ behind)
+
+-- the text begins with this table, by *reading*, and these bytes follow the separator
+abbrev pub BeginsWithTable : List ℕ → Table → List ℕ → Type 0
+BeginsWithTable text table behind = (front : List ℕ) × IsParted text front behind × (table_of front ≡ Ok table)

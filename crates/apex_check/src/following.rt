@@ -1,0 +1,178 @@
+//! The lines of a text beside the machine's.
+ghost use Rattle.std.specs.Prelude.{◌≡◌, ◌↔◌, ◌+◌, ◌<◌, ◌≤◌, ◌++◌, ℕ, List, length, IfOk, IfErr, IfSome, IsOk, None};
+ghost use Rattle.std.specs.Io.KnownBytes.{prepend_known};
+ghost use Rattle.apex_types.specs.Limits.{most_entries};
+ghost use Rattle.apex_types.specs.Machine.{opening, accept, events_of};
+ghost use Rattle.apex_dispatch.specs.Events.{IsWithin};
+ghost use Rattle.apex_dispatch.specs.Kernel.{kernel_in};
+ghost use Rattle.apex_history.specs.Counted.{inner_of, failures_of};
+ghost use Rattle.apex_check.specs.Ahead.{IsAhead};
+ghost use Rattle.apex_check.specs.Faults.{CountsCheck};
+ghost use Rattle.apex_check.specs.Histories.{AreLines, event_named, is_of_cores};
+ghost use Rattle.apex_check.specs.Steps.{Answers, IsLineFaultOf, IsOfLine, IsTellable, Judged, fault_at};
+ghost use Rattle.apex_check.specs.Texts.{IsOneLine, ended};
+ghost use Rattle.apex_check.specs.Verdicts.{JudgesLines};
+
+use crate::pending::{Next, Pending};
+use crate::verdicts::{CheckFault, Verdict};
+use apex_dispatch::Kernel;
+use apex_history::{Counted, LineFault, Lines, Source, put_line, read_line};
+use apex_store::PlainStore;
+use apex_types::{Entry, Event, Full};
+
+/// How the machine's line for an event compares with a line.
+#[derive(Debug, Drop)]
+pub(crate) enum Answer {
+    Same,
+    /// The machine's entry is this one.
+    Differs(Entry),
+    /// The history is full.
+    Beyond,
+}
+
+/// Whether the event is of one of so many cores.
+fn is_of_cores(cores: u8, event: &Event) -> bool
+    ensures { result ≡ is_of_cores cores event.now }
+{
+    match event {
+        Event::Turn(core) => core.number() < cores,
+        Event::Tick(_) => true,
+    }
+}
+
+/// The event that the line names, of a partition with so many cores.
+fn named(cores: u8, line: &[u8]) -> Result<Event, LineFault>
+    ensures { result ≡ event_named cores line.now }
+{
+    let event = read_line(line)?;
+    if is_of_cores(cores, &event) {
+        Ok(event)
+    } else {
+        Err(LineFault::BadLine)
+    }
+}
+
+/// The event that the line names, which a kernel with so many cores may be asked for.
+fn event_named(cores: u8, line: &[u8]) -> Result<Event, LineFault>
+    ensures value { result ≡ event_named cores line.now }
+    ensures within { IfOk result (IsWithin cores) }
+{
+    named(cores, line)
+}
+
+/// Makes the event, where the history has room for it.
+fn make(kernel: &mut Kernel<PlainStore>, event: Event) -> Result<(), Full>
+    requires { IsWithin kernel.old.table.cores event }
+    ensures done { kernel.new ≡ kernel_in kernel.old.table (accept kernel.old.table kernel.old.machine event) }
+    ensures accepted { IsOk result ↔ (length kernel.old.machine.history < kernel.old.table.limit) }
+{
+    kernel.holds();
+    kernel.run(&[event])
+}
+
+/// Makes the event, and compares the machine's line, which goes into `own`, with this one, which has its
+/// line feed.
+fn compare(kernel: &mut Kernel<PlainStore>, own: &mut Lines, event: Event, line: &[u8]) -> Answer
+    requires { IsWithin kernel.old.table.cores event }
+    ensures new { kernel.new ≡ kernel_in kernel.old.table (accept kernel.old.table kernel.old.machine event) }
+    ensures answers { Answers kernel.old.table kernel.old.machine event line.now result }
+{
+    let Ok(()) = make(kernel, event) else {
+        return Answer::Beyond;
+    };
+    kernel.holds();
+    let Some(entry) = kernel.entries().latest() else {
+        return Answer::Beyond;
+    };
+    own.clear();
+    put_line(own, kernel.table(), &entry);
+    if own.as_slice() == line {
+        Answer::Same
+    } else {
+        Answer::Differs(entry.kept())
+    }
+}
+
+/// How many entries the history has.
+fn count(kernel: &Kernel<PlainStore>) -> u32
+    ensures value { result ≡ length kernel.now.machine.history }
+    ensures range { result ≤ most_entries }
+{
+    kernel.holds();
+    kernel.table().lawful();
+    kernel.entries().len() as u32
+}
+
+/// The fault of the line of this number.
+fn fault_at(line: u32, fault: LineFault) -> CheckFault
+    ensures { result ≡ fault_at line fault }
+{
+    match fault {
+        LineFault::BadLine => CheckFault::BadLine(line),
+        LineFault::TooLong => CheckFault::TooLong(line),
+    }
+}
+
+/// Makes the event that the line names, and gives the verdict where the machine's line is not this one,
+/// which has its line feed. The machine's line goes into `own`.
+fn judge_line(
+    kernel: &mut Kernel<PlainStore>,
+    own: &mut Lines,
+    line: &[u8],
+) -> Result<Option<Verdict>, CheckFault>
+    requires { 0 < length line.now }
+    ensures table { kernel.new.table ≡ kernel.old.table }
+    ensures more { IfOk result (λ verdict. verdict ≡ None → length kernel.new.machine.history ≡ length kernel.old.machine.history + 1) }
+    ensures judged { (bytes found : List ℕ) → AreLines kernel.old.table bytes (events_of kernel.old.machine.history)
+        → IsOneLine found → line.now ≡ ended found
+        → Judged kernel.old.table bytes found kernel.new.machine.history result }
+    ensures tellable { IfOk result (λ verdict. IfSome verdict (IsTellable kernel.old.table)) }
+    ensures err { IfErr result (IsOfLine) }
+{
+    kernel.holds();
+    let number = count(kernel) + 1;
+    let event = match event_named(kernel.table().cores(), &line[..line.len() - 1]) {
+        Ok(event) => event,
+        Err(fault) => return Err(fault_at(number, fault)),
+    };
+    let answer = compare(kernel, own, event, line);
+    kernel.holds();
+    match answer {
+        Answer::Same => Ok(None),
+        Answer::Differs(entry) => Ok(Some(Verdict::DepartsAt(number, Some(entry)))),
+        Answer::Beyond => Ok(Some(Verdict::DepartsAt(number, None))),
+    }
+}
+
+/// The verdict on the lines that are still to come, by a kernel before any event.
+pub(crate) fn judge<R: Source>(
+    kernel: &mut Kernel<PlainStore>,
+    pending: &mut Pending,
+    reader: &mut Counted<R>,
+) -> Result<Verdict, CheckFault>
+    requires { kernel.old.machine ≡ opening kernel.old.table }
+    ensures table { kernel.new.table ≡ kernel.old.table }
+    ensures ok { IfOk result (λ verdict. (text : List ℕ) × IsAhead text (prepend_known pending.old (R.remaining (inner_of reader.old)))
+        × JudgesLines kernel.old.table text verdict) }
+    ensures tellable { IfOk result (IsTellable kernel.old.table) }
+    ensures err { IfErr result (IsLineFaultOf kernel.old.table (prepend_known pending.old (R.remaining (inner_of reader.old)))) }
+    ensures counted { CountsCheck result (failures_of reader.old) (failures_of reader.new) }
+{
+    kernel.holds();
+    let mut own = Lines::new();
+    loop {
+        let Ok(next) = pending.next(reader) else {
+            return Err(CheckFault::Read);
+        };
+        let end = match next {
+            Next::Line(end) => end,
+            Next::Part => return Err(CheckFault::TooLong(count(kernel) + 1)),
+            Next::Rest => return Err(CheckFault::BadLine(count(kernel) + 1)),
+            Next::End => return Ok(Verdict::Legal(count(kernel))),
+        };
+        if let Some(verdict) = judge_line(kernel, &mut own, &pending.bytes()[..end + 1])? {
+            return Ok(verdict);
+        }
+        pending.take(end + 1);
+    }
+}

@@ -1,0 +1,13 @@
+//! The streaming checker of one avionics partition's printed history: a table, `%%`, and lines.
+#![tactic(auto)]
+
+mod checking;
+mod following;
+mod pending;
+mod tables;
+#[cfg(test)]
+mod tests;
+mod verdicts;
+
+pub use checking::check;
+pub use verdicts::{CheckFault, Verdict};

@@ -1,0 +1,88 @@
+//! The table of a text: what stands before the first line that is exactly `%%`.
+ghost use Rattle.std.specs.Prelude.{◌≡◌, ◌≢◌, ◌≤◌, ◌++◌, ℕ, List, length, take, drop, IfOk, IfErr, OnOk, Ok, true, false};
+ghost use Rattle.std.specs.Io.KnownBytes.{Consumes, prepend_known};
+ghost use Rattle.apex_table.specs.Reading.{table_of};
+ghost use Rattle.apex_history.specs.Counted.{inner_of, failures_of};
+ghost use Rattle.apex_check.specs.Faults.{CountsCheck, IsFaultOf};
+ghost use Rattle.apex_check.specs.Texts.{IsTableText, ended, separator};
+
+use crate::pending::{Next, Pending};
+use crate::verdicts::CheckFault;
+use apex_history::{Counted, Source};
+use apex_table::{Table, read_table};
+use std::alloc::{AllocError, Global};
+
+/// Whether a line, with its line feed, is the separator.
+fn is_separator(line: &[u8]) -> bool
+    ensures yes { result ≡ true → line.now ≡ ended separator }
+    ensures no { result ≡ false → line.now ≢ ended separator }
+{
+    line == b"%%\n".as_slice()
+}
+
+/// Takes so many bytes into the text.
+fn gather(text: &mut Vec<u8>, pending: &mut Pending, count: usize) -> Result<(), AllocError>
+    requires { count ≤ length pending.old }
+    ensures text { OnOk result (text.new.items ≡ text.old.items ++ take count pending.old) }
+    ensures pending { OnOk result (pending.new ≡ drop count pending.old) }
+{
+    text.extend_from_slice(&pending.bytes()[..count])?;
+    pending.take(count);
+    Ok(())
+}
+
+/// The bytes up to the separator, which is taken too.
+fn table_text<R: Source>(
+    alloc: Global,
+    pending: &mut Pending,
+    reader: &mut Counted<R>,
+) -> Result<Vec<u8>, CheckFault>
+    ensures lines { IfOk result (λ text. IsTableText text.items) }
+    ensures taken { IfOk result (λ text. Consumes (prepend_known pending.old (R.remaining (inner_of reader.old)))
+        (prepend_known pending.new (R.remaining (inner_of reader.new))) (text.items ++ ended separator)) }
+    ensures err { IfErr result (IsFaultOf (prepend_known pending.old (R.remaining (inner_of reader.old)))) }
+    ensures counted { CountsCheck result (failures_of reader.old) (failures_of reader.new) }
+{
+    let mut text = Vec::new(alloc);
+    // Where the line begins that comes next.
+    let mut start = 0;
+    loop {
+        let Ok(next) = pending.next(reader) else {
+            return Err(CheckFault::Read);
+        };
+        let held = pending.bytes().len();
+        match next {
+            Next::Line(end) => {
+                gather(&mut text, pending, end + 1)?;
+                if is_separator(&text.as_slice()[start..]) {
+                    text.truncate(start);
+                    return Ok(text);
+                }
+                start = text.len();
+            }
+            Next::Part => gather(&mut text, pending, held)?,
+            Next::Rest | Next::End => return Err(CheckFault::NoSeparator),
+        }
+    }
+}
+
+/// The table with which the text begins. The separator is taken too.
+///
+/// The errors in the order of the checks: `Read`, `NoSeparator`, `Table`; `Memory` at any point.
+pub(crate) fn leading_table<R: Source>(
+    alloc: Global,
+    pending: &mut Pending,
+    reader: &mut Counted<R>,
+) -> Result<Table, CheckFault>
+    ensures ok { IfOk result (λ table. (front : List ℕ) × IsTableText front × (table_of front ≡ Ok table)
+        × Consumes (prepend_known pending.old (R.remaining (inner_of reader.old)))
+        (prepend_known pending.new (R.remaining (inner_of reader.new))) (front ++ ended separator)) }
+    ensures err { IfErr result (IsFaultOf (prepend_known pending.old (R.remaining (inner_of reader.old)))) }
+    ensures counted { CountsCheck result (failures_of reader.old) (failures_of reader.new) }
+{
+    let text = table_text(alloc, pending, reader)?;
+    match read_table(alloc, text.as_slice()) {
+        Ok(table) => Ok(table),
+        Err(fault) => Err(CheckFault::from(fault)),
+    }
+}

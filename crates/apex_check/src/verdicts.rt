@@ -1,0 +1,114 @@
+//! The verdict on a text, and why a text has none.
+ghost use Rattle.std.specs.Prelude.{◌≡◌, ◌+◌, ◌≤◌, ◌++◌, length, decimal};
+ghost use Rattle.arrayvec.specs.ArrayVec.{array_vec_len};
+ghost use Rattle.apex_check.specs.Steps.{IsTellable};
+ghost use Rattle.apex_check.specs.TableFaults.{fault_of_table};
+ghost use Rattle.apex_check.specs.Verdicts.{verdict_text};
+ghost use Rattle.apex_check.specs.declared.verdicts.CheckFault.TheVariants.{Memory};
+
+use apex_history::{Lines, put_line};
+use apex_table::{Table, TableFault};
+use apex_types::Entry;
+use itoa::Buffer;
+use std::alloc::AllocError;
+use thiserror::Error;
+
+/// What a text's history is.
+#[derive(Debug, Drop)]
+pub enum Verdict {
+    /// It has so many lines, and each is the machine's.
+    Legal(u32),
+    /// The line of this number, counted from 1, is the first that is not the machine's. The machine's
+    /// entry is this one, or there is none where the history is full.
+    DepartsAt(u32, Option<Entry>),
+}
+
+/// Why a text has no verdict, or why its verdict was not written whole.
+///
+/// A line is told by its number, counted from 1 behind the separator.
+#[derive(Clone, Copy, Debug, PartialEq, Eq, Error)]
+pub enum CheckFault {
+    /// A growth was refused.
+    #[error("out of memory")]
+    Memory,
+    /// The text before the separator is no table. The fault is never `TableFault::Memory`.
+    #[error("table refused: {0}")]
+    Table(TableFault),
+    /// No line is exactly `%%`.
+    #[error("no separator")]
+    NoSeparator,
+    /// The line names no event, or a core that the table lacks, or it has no line feed.
+    #[error("history refused: BadLine at line {0}")]
+    BadLine(u32),
+    /// The line has more than 4,096 bytes.
+    #[error("history refused: TooLong at line {0}")]
+    TooLong(u32),
+    #[error("read failed")]
+    Read,
+    #[error("write failed")]
+    Write,
+}
+
+impl From<AllocError> for CheckFault {
+    ghost from_gives = { λ _ fault. fault ≡ Memory };
+
+    fn from(_error: AllocError) -> CheckFault {
+        CheckFault::Memory
+    }
+}
+
+impl From<TableFault> for CheckFault {
+    ghost from_gives = { λ error fault. fault ≡ fault_of_table error };
+
+    fn from(error: TableFault) -> CheckFault {
+        match error {
+            TableFault::Memory => CheckFault::Memory,
+            fault => CheckFault::Table(fault),
+        }
+    }
+}
+
+fn put(text: &mut Lines, bytes: &[u8])
+    requires { array_vec_len text.old + length bytes.now ≤ 8192 }
+    ensures text { text.new.items ≡ text.old.items ++ bytes.now }
+    ensures len { array_vec_len text.new ≡ array_vec_len text.old + length bytes.now }
+{
+    let taken = text.try_extend_from_slice(bytes);
+    let fits = taken.is_ok();
+    prove!(fits);
+}
+
+fn put_number(text: &mut Lines, number: u32)
+    requires { array_vec_len text.old + 10 ≤ 8192 }
+    ensures text { text.new.items ≡ text.old.items ++ decimal number }
+    ensures short { array_vec_len text.new ≤ array_vec_len text.old + 10 }
+{
+    let mut buffer = Buffer::new();
+    put(text, buffer.format(number).as_bytes());
+}
+
+/// The text of the verdict on a history of the table.
+#[tactic(auto, using(std::proofs::Common::append_assoc))]
+pub(crate) fn verdict_text(table: &Table, verdict: &Verdict) -> Lines
+    requires { IsTellable table.now verdict.now }
+    ensures { result.items ≡ verdict_text table.now verdict.now }
+{
+    let mut text = Lines::new();
+    match verdict {
+        Verdict::Legal(count) => {
+            put(&mut text, b"legal ");
+            put_number(&mut text, *count);
+            put(&mut text, b"\n");
+        }
+        Verdict::DepartsAt(line, expected) => {
+            put(&mut text, b"departs at ");
+            put_number(&mut text, *line);
+            put(&mut text, b"\nexpected: ");
+            match expected {
+                Some(entry) => put_line(&mut text, table, &entry.lent()),
+                None => put(&mut text, b"nothing\n"),
+            }
+        }
+    }
+    text
+}

@@ -1,0 +1,43 @@
+//! What the program is asked to do.
+ghost use Rattle.std.specs.Prelude.{◌≡◌, IfOk, IfErr, IsErrOf, Some, None, map, string_bytes};
+ghost use Rattle.apex_cli.specs.Faults.{IsUsageOrMemory};
+ghost use Rattle.apex_cli.specs.Requests.{asked_by, asked_in, request_said, task_said};
+
+use crate::faults::CliFault;
+use crate::schedule::{Item, read_schedule};
+use crate::words::{Report, Request, request_in};
+use std::alloc::Global;
+
+/// What the program is asked to do.
+#[derive(Drop)]
+pub enum Task {
+    /// A report of the run for these items.
+    Report(Report, Vec<Item>),
+    /// The check of a history.
+    Check,
+}
+
+/// What a request asks for. `Usage` where its schedule is ill-formed.
+fn task_in(alloc: Global, request: Request<'_>) -> Result<Task, CliFault>
+    ensures ok { IfOk result (λ task. asked_in (request_said request.entry) ≡ Some (task_said task)) }
+    ensures usage { IsErrOf result CliFault.Usage → asked_in (request_said request.entry) ≡ None }
+    ensures faults { IfErr result IsUsageOrMemory }
+{
+    match request {
+        Request::Report(report, schedule) => {
+            let items = read_schedule(alloc, schedule.as_bytes())?;
+            Ok(Task::Report(report, items))
+        }
+        Request::Check => Ok(Task::Check),
+    }
+}
+
+/// What the words ask for. `Usage` where the words or the schedule are ill-formed.
+pub fn task_asked(alloc: Global, words: &[String]) -> Result<Task, CliFault>
+    ensures ok { IfOk result (λ task. asked_by (map string_bytes words.now) ≡ Some (task_said task)) }
+    ensures usage { IsErrOf result CliFault.Usage → asked_by (map string_bytes words.now) ≡ None }
+    ensures faults { IfErr result IsUsageOrMemory }
+{
+    let request = request_in(alloc, words)?;
+    task_in(alloc, request)
+}

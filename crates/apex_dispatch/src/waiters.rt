@@ -1,0 +1,73 @@
+//! Who waits in a queue, in the queue's order.
+ghost use Rattle.std.specs.Prelude.{◌≡◌, ◌<◌, ◌≤◌, [], ◌∷◌, ◌++◌, length};
+ghost use Rattle.apex_types.specs.Limits.{most_processes};
+ghost use Rattle.apex_types.specs.Listing.{waiters};
+
+use apex_store::Store;
+use apex_types::{ProcessId, Queue};
+use std::marker::Model;
+
+/// Processes one behind the other, 32 at the most.
+#[derive(Drop)]
+pub(crate) struct Waiters {
+    processes: [ProcessId; 32],
+    count: usize,
+}
+
+impl Model for Waiters {
+    ghost use Rattle.std.specs.Prelude.{◌≡◌, ◌≤◌, ℕ, List, length, take};
+    ghost use Rattle.apex_types.specs.Limits.{most_processes};
+
+    ghost Value = { List ℕ };
+
+    ghost view = { λ w. take w.count w.processes };
+
+    ghost invariant = { λ w. (w.count ≤ most_processes) × (length w.processes ≡ most_processes) };
+}
+
+impl Waiters {
+    /// Nobody.
+    pub(crate) fn new() -> Waiters
+        ensures { result ≡ [] }
+    {
+        Waiters {
+            processes: [ProcessId::at(0); 32],
+            count: 0,
+        }
+    }
+
+    fn push(&mut self, process: ProcessId)
+        requires { length self.old < most_processes }
+        ensures { self.new ≡ self.old ++ process ∷ [] }
+    {
+        self.processes[self.count] = process;
+        self.count += 1;
+    }
+
+    pub(crate) fn as_slice(&self) -> &[ProcessId]
+        ensures value { result.now ≡ self.now }
+        ensures few { length result.now ≤ most_processes }
+    {
+        &self.processes[..self.count]
+    }
+}
+
+/// Who waits in the queue, from the first waiter on.
+#[tactic(auto, unfolding(apex_types::specs::Listing::waiters))]
+pub(crate) fn waiters_in<S: Store>(store: &S, queue: &Queue) -> Waiters
+    requires { length (S.roster store.now).records ≤ most_processes }
+    ensures { result ≡ waiters (S.roster store.now) queue.now }
+{
+    let mut waiting = Waiters::new();
+    let mut next = store.first(*queue);
+    for turn in 0..store.process_count() {
+        match next {
+            Some(process) => {
+                waiting.push(process);
+                next = store.next_after(*queue, process);
+            }
+            None => return waiting,
+        }
+    }
+    waiting
+}

@@ -1,0 +1,2 @@
+pub mod Latest
+pub mod Seated

@@ -1,0 +1,55 @@
+-- What the seats of a partition and its ticker have made of the history.
+use Rattle.std.specs.Prelude.{◌≡◌, ℕ, ◌+◌, ◌<◌, true, List, [], ◌∷◌, ◌++◌, length, sum_by, ⊤}
+use Rattle.apex_types.specs.declared.entries.Entry.{Entry}
+use Rattle.apex_types.specs.declared.entries.Event.{Event}
+use Rattle.apex_types.specs.declared.entries.Who.{Who}
+use Rattle.apex_types.specs.declared.entries.Who.TheVariants.{Core, Ticker}
+use Rattle.apex_types.specs.Machine.{asked_ticks as asked_in, opening, run}
+use Rattle.apex_types.specs.Table.{Table}
+use Rattle.apex_receipts.specs.Receipts.{Spoken, own_entries}
+
+-- the history is that of a run of the table from its opening, for some list of events
+abbrev pub IsRun : Table → List Entry → Type 0
+IsRun table history = (events : List Event) × ((run table (opening table) events).history ≡ history)
+
+-- the ticks that an entry asks for; a core's asks for none
+abbrev pub asked_ticks : Entry → ℕ
+asked_ticks e = asked_in e.reply
+
+-- the ticks that these entries ask for, in all
+abbrev pub ticks_asked : List Entry → ℕ
+ticks_asked entries = sum_by asked_ticks entries
+
+-- the same seat after an entry more
+abbrev pub with_entry : Spoken → Entry → Spoken
+with_entry seat e = record { who = seat.who; own = seat.own ++ e ∷ []; told = seat.told }
+
+-- the same seat after it was told that the history is full
+abbrev pub told_full : Spoken → Spoken
+told_full seat = record { who = seat.who; own = seat.own; told = true }
+
+-- the seats of the cores from this one on, in order
+abbrev pub AreSeatsFrom : ℕ → List Spoken → Type 0
+AreSeatsFrom core [] = ⊤
+AreSeatsFrom core (seat ∷ seats) = (seat.who ≡ Core core) × AreSeatsFrom (core + 1) seats
+
+-- a seat of each core, in order, from core 0 on
+abbrev pub IsSeated : List Spoken → Type 0
+IsSeated seats = AreSeatsFrom 0 seats
+
+-- the history's entries of this core, or of the ticker, are those that the seat made and no others; and
+-- where the seat was told that the history is full, the history stands at its limit
+pub record IsSettled (table : Table) (history : List Entry) (who : Who) (seat : Spoken) : Type 0 where
+  pub own : own_entries who history ≡ seat.own
+  pub told : seat.told ≡ true → length history ≡ table.limit
+
+-- one of so many cores, or the ticker
+abbrev pub IsOneOf : ℕ → Who → Type 0
+IsOneOf cores (Core core) = core < cores
+IsOneOf cores Ticker = ⊤
+
+-- the entry is the one that this core, or the ticker, has added to the history before
+pub record IsLatest (before : List Entry) (who : Who) (e : Entry) (history : List Entry) : Type 0 where
+  pub added : history ≡ before ++ e ∷ []
+  pub by : e.who ≡ who
+  pub number : e.number ≡ length before + 1

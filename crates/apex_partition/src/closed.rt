@@ -1,0 +1,73 @@
+//! A partition that was closed.
+ghost use Rattle.std.specs.Prelude.{◌≡◌, ◌≤◌, All, length};
+ghost use Rattle.apex_receipts.specs.Receipts.{Stands};
+ghost use Rattle.apex_types.specs.Lines.{IsPrintable};
+
+use crate::partitions::Partition;
+use apex_history::Entries;
+use apex_receipts::{Naming, Receipt, Story};
+use apex_table::Table;
+use apex_types::LentEntry;
+use std::marker::Model;
+
+/// A partition to whose history nothing will be added. Contracts see it as that history.
+#[derive(Drop)]
+pub struct Closed<P: Naming> {
+    partition: Partition,
+    story: Story<P>,
+}
+
+impl<P: Naming> Model for Closed<P> {
+    ghost use Rattle.std.specs.Prelude.{◌≡◌, List};
+    ghost use Rattle.apex_types.specs.declared.entries.Entry.{Entry};
+
+    ghost Value = { List Entry };
+
+    ghost view = { λ c. c.story };
+
+    ghost invariant = { λ c. (c.partition.table ≡ P.table) × (c.story ≡ c.partition.machine.history) };
+}
+
+impl<P: Naming> Closed<P> {
+    /// The closed partition of this history, which its scribe has finished.
+    pub(crate) fn new(partition: Partition, story: Story<P>) -> Closed<P>
+        requires table { partition.table ≡ P.table }
+        requires history { story ≡ partition.machine.history }
+        ensures { result ≡ partition.machine.history }
+    {
+        Closed { partition, story }
+    }
+
+    /// The table that the partition was opened with.
+    pub fn table(&self) -> &Table
+        ensures { result.now ≡ P.table }
+    {
+        self.partition.table()
+    }
+
+    /// The history, the oldest entry first.
+    pub fn entries(&self) -> Entries<'_>
+        ensures { result ≡ self.now }
+    {
+        self.partition.entries()
+    }
+
+    /// The entry of this receipt, as the history has it: it stands there at its number, and it is the
+    /// so-manieth of its core or of the ticker as the receipt's place says.
+    pub fn confirm(&self, receipt: &Receipt<P>) -> LentEntry<'_>
+        ensures entry { result ≡ receipt.now.entry }
+        ensures stands { Stands self.now receipt.now.entry receipt.now.place }
+    {
+        self.story.confirm(receipt);
+        self.partition.entry(receipt.entry().number as usize - 1)
+    }
+
+    /// The history is within the table's limit, and the ids that its entries name are the table's: so
+    /// each of them can be printed.
+    pub fn holds(&self)
+        ensures within { length self.now ≤ P.table.limit }
+        ensures printable { All (IsPrintable P.table) self.now }
+    {
+        self.partition.stays_within();
+    }
+}

@@ -1,0 +1,156 @@
+//! The value under the lock: the partition, and the scribe of its history.
+ghost use Rattle.std.specs.Prelude.{◌≡◌, ℕ, ◌+◌, ◌<◌, ◌≤◌, ◌++◌, ◌∷◌, [], All, IfErr, IfOk, IfSome, IsOk, OnErr, ◌↔◌, length, slice_index_or, vec_len};
+ghost use Rattle.apex_types.specs.declared.entries.Entry.{Entry};
+ghost use Rattle.apex_types.specs.declared.entries.Who.TheVariants.{Core, Ticker as ToTicker};
+ghost use Rattle.apex_types.specs.Limits.{most_ticks};
+ghost use Rattle.apex_types.specs.Machine.{opening, tick, turn};
+ghost use Rattle.apex_dispatch.specs.Kernel.{kernel_in};
+ghost use Rattle.apex_receipts.specs.Receipts.{Spoken, Stands};
+ghost use Rattle.apex_partition.specs.Headline.{Headline};
+ghost use Rattle.apex_partition.specs.Seats.{IsLatest, IsOneOf, IsRun, IsSeated, IsSettled, asked_ticks, told_full, with_entry};
+
+use crate::closed::Closed;
+use crate::partitions::Partition;
+use crate::seats::{Seat, Ticker};
+use apex_receipts::{Naming, Receipt, Scribe, Voice};
+use apex_types::Full;
+use std::marker::Model;
+
+/// The partition with the scribe who writes its history down. Contracts see it as the partition.
+#[derive(Drop)]
+pub struct Locked<P: Naming> {
+    partition: Partition,
+    scribe: Scribe<P>,
+}
+
+impl<P: Naming> Model for Locked<P> {
+    ghost use Rattle.std.specs.Prelude.{◌≡◌};
+    ghost use Rattle.apex_dispatch.specs.Kernel.{KernelState};
+
+    ghost Value = { KernelState };
+
+    ghost view = { λ l. l.partition };
+
+    ghost invariant = { λ l. (l.partition.table ≡ P.table) × (l.scribe ≡ l.partition.machine.history) };
+}
+
+/// Writes down the entry that the partition has just made, for the voice whose it is.
+fn record_latest<P: Naming>(
+    partition: &Partition,
+    scribe: &mut Scribe<P>,
+    voice: &mut Voice<P>,
+) -> Receipt<P>
+    requires table { partition.now.table ≡ P.table }
+    requires latest { (e : Entry) × IsLatest scribe.old voice.old.who e partition.now.machine.history }
+    ensures history { scribe.new ≡ partition.now.machine.history }
+    ensures voice { voice.new ≡ with_entry voice.old result.entry }
+    ensures latest { IsLatest scribe.old voice.old.who result.entry partition.now.machine.history }
+    ensures place { result.place ≡ length voice.old.own + 1 }
+{
+    partition.stays_within();
+    scribe.record(voice, partition.latest())
+}
+
+impl<P: Naming> Locked<P> {
+    /// A partition before any event, and a scribe who has written nothing.
+    pub fn new(partition: Partition, scribe: Scribe<P>) -> Locked<P>
+        requires partition { partition ≡ kernel_in P.table (opening P.table) }
+        requires scribe { scribe ≡ [] }
+        ensures { result ≡ partition }
+    {
+        Locked { partition, scribe }
+    }
+
+    /// One turn of the seat's core, whole, and the receipt of its entry.
+    pub fn turn(&mut self, seat: &mut Seat<P>) -> Result<Receipt<P>, Full>
+        ensures accepted { IsOk result ↔ (length self.old.machine.history < self.old.table.limit) }
+        ensures done { IfOk result (λ r. (core : ℕ) × (seat.old.who ≡ Core core)
+            × (self.new ≡ kernel_in self.old.table (turn self.old.table self.old.machine core))
+            × (self.new.machine.history ≡ self.old.machine.history ++ r.entry ∷ [])) }
+        ensures ok { IfOk result (λ r. (seat.new ≡ with_entry seat.old r.entry)
+            × (r.entry.who ≡ seat.old.who) × (r.place ≡ length seat.old.own + 1)) }
+        ensures refused { OnErr result (self.new ≡ self.old) }
+        ensures full { IfErr result (λ e. (seat.new ≡ told_full seat.old) × (e.entries ≡ P.table.limit)) }
+    {
+        if let Err(full) = self.partition.turn(seat.core) {
+            self.scribe.refuse(&mut seat.voice);
+            return Err(full);
+        }
+        Ok(record_latest(&self.partition, &mut self.scribe, &mut seat.voice))
+    }
+
+    /// One tick of `n`, whole, and the receipt of its entry.
+    pub fn tick(&mut self, ticker: &mut Ticker<P>, n: u32) -> Result<Receipt<P>, Full>
+        requires range { (1 ≤ n) × (n ≤ most_ticks) }
+        ensures accepted { IsOk result ↔ (length self.old.machine.history < self.old.table.limit) }
+        ensures done { IfOk result (λ r. (self.new ≡ kernel_in self.old.table (tick self.old.table self.old.machine n))
+            × (self.new.machine.history ≡ self.old.machine.history ++ r.entry ∷ [])) }
+        ensures ok { IfOk result (λ r. (ticker.new ≡ with_entry ticker.old r.entry)
+            × (r.entry.who ≡ ticker.old.who) × (r.place ≡ length ticker.old.own + 1) × (asked_ticks r.entry ≡ n)) }
+        ensures refused { OnErr result (self.new ≡ self.old) }
+        ensures full { IfErr result (λ e. (ticker.new ≡ told_full ticker.old) × (e.entries ≡ P.table.limit)) }
+    {
+        if let Err(full) = self.partition.tick(n) {
+            self.scribe.refuse(&mut ticker.voice);
+            return Err(full);
+        }
+        let receipt = record_latest(&self.partition, &mut self.scribe, &mut ticker.voice);
+        ticker.sum += u64::from(n);
+        Ok(receipt)
+    }
+
+    /// The partition, in whose history the entry of the receipt stands, where one is given.
+    pub fn shown(&mut self, seen: Option<&Receipt<P>>) -> &Partition
+        ensures partition { result.now ≡ self.old }
+        ensures table { result.now.table ≡ P.table }
+        ensures headline { Headline result.now }
+        ensures stands { IfSome seen.entry (λ r. Stands result.now.machine.history r.now.entry r.now.place) }
+    {
+        if let Some(receipt) = seen {
+            self.scribe.shows(receipt);
+        }
+        self.partition.holds();
+        &self.partition
+    }
+
+    /// The entries of the voice's core, or of the ticker, are those that were made with it.
+    fn settle(&mut self, mut voice: Voice<P>)
+        ensures same { self.new ≡ self.old }
+        ensures settled { IsSettled P.table self.old.machine.history voice.who voice }
+    {
+        self.partition.stays_within();
+        self.scribe.settle(&mut voice);
+    }
+
+    /// The entries of each core are those that its seat made.
+    pub fn settle_seats(&mut self, seats: Vec<Seat<P>>)
+        requires { IsSeated seats.items }
+        ensures same { self.new ≡ self.old }
+        ensures settled { (core : ℕ) (seat : Spoken) → core < vec_len seats
+            → IsSettled P.table self.old.machine.history (Core core) (slice_index_or seats.items core seat) }
+    {
+        for seat in seats {
+            self.settle(seat.voice);
+        }
+    }
+
+    /// The ticker's entries are those that it made.
+    pub fn settle_ticker(&mut self, ticker: Ticker<P>)
+        ensures same { self.new ≡ self.old }
+        ensures settled { IsSettled P.table self.old.machine.history ToTicker ticker }
+    {
+        self.settle(ticker.voice);
+    }
+
+    /// Ends the partition.
+    pub fn close(self) -> Closed<P>
+        ensures history { result ≡ self.machine.history }
+        ensures run { IsRun P.table result }
+        ensures others { All (λ (e : Entry). IsOneOf P.table.cores e.who) result }
+    {
+        let Locked { partition, scribe } = self;
+        partition.holds();
+        partition.stays_within();
+        Closed::new(partition, scribe.finish())
+    }
+}

@@ -1,0 +1,78 @@
+-- What a receipt says of a history, and what a voice knows of it.
+use Rattle.std.specs.Prelude.{◌≡◌, ℕ, ◌+◌, ◌≤◌, Bool, true, false, List, [], ◌∷◌, ◌++◌, length, filter, map, slice_index_or}
+use Rattle.std.specs.List.{range_with_len}
+use Rattle.logbook.specs.Pages.{Book}
+use Rattle.apex_types.specs.declared.entries.Entry.{Entry}
+use Rattle.apex_types.specs.declared.entries.Who.{Who}
+use Rattle.apex_types.specs.declared.entries.Who.TheVariants.{Core, Ticker}
+use Rattle.apex_types.specs.Works.{is_turn_of}
+use Rattle.apex_receipts.specs.declared.law.Note.{Note}
+use Rattle.apex_receipts.specs.Notes.{entries_of, written}
+use Rattle.apex_receipts.specs.Rules.{Speech}
+
+-- these two are the same core, or both the ticker
+abbrev pub is_who : Who → Who → Bool
+is_who (Core core) other = is_turn_of core other
+is_who Ticker Ticker = true
+is_who Ticker (Core core) = false
+
+-- the entries of this core or of the ticker, in their order
+abbrev pub own_entries : Who → List Entry → List Entry
+own_entries who history = filter (λ (e : Entry). is_who who e.who) history
+
+-- how many they are
+abbrev pub count_who : Who → List Entry → ℕ
+count_who who history = length (own_entries who history)
+
+-- the entry stands in the history at its number, as the so-manieth of its core or of the ticker
+pub record Stands (history : List Entry) (e : Entry) (place : ℕ) : Type 0 where
+  pub before : List Entry
+  pub after : List Entry
+  pub parts : history ≡ before ++ e ∷ after
+  pub at_number : e.number ≡ length before + 1
+  pub at_place : place ≡ count_who e.who before + 1
+
+-- what contracts see of a receipt
+pub record Confirmed : Type 0 where
+  pub entry : Entry
+  pub place : ℕ
+
+-- what contracts see of a voice: whose it is, the entries that were written down for it, and whether it was
+-- told that the history is full
+pub record Spoken : Type 0 where
+  pub who : Who
+  pub own : List Entry
+  pub told : Bool
+
+-- a voice for which nothing was written down
+abbrev pub unspoken : Who → Spoken
+unspoken who = record { who = who; own = []; told = false }
+
+-- such voices of so many cores, in the order of their numbers
+abbrev pub unspoken_cores : ℕ → List Spoken
+unspoken_cores cores = map (λ (core : ℕ). unspoken (Core core)) (range_with_len 0 cores)
+
+-- what contracts see of a book that was opened: the book, and who its speakers are: the scribe, one for each
+-- core, and one for the ticker
+pub record Opening : Type 0 where
+  pub book : Book
+  pub scribe : ℕ
+  pub cores : List ℕ
+  pub ticker : ℕ
+
+-- the speaker is of this book and has seen no note
+abbrev pub IsSilent : Book → Speech → Type 0
+IsSilent book speaker = (speaker.book ≡ book) × (speaker.log ≡ [])
+
+-- who these speakers are
+abbrev pub speaker_ids : List Speech → List ℕ
+speaker_ids speakers = map (λ (s : Speech). s.id) speakers
+
+-- the speaker of a core or of the ticker
+abbrev pub voice_of : List ℕ → ℕ → Who → ℕ
+voice_of cores ticker (Core core) = slice_index_or cores core 0
+voice_of cores ticker Ticker = ticker
+
+-- no core and not the ticker has more entries than were written down for its speaker
+abbrev pub IsLabelled : ℕ → (Who → ℕ) → List Note → Type 0
+IsLabelled l voice log = (who : Who) → count_who who (entries_of l log) ≤ written l (voice who) log
