@@ -1,4 +1,4 @@
-use Rattle.std.proofs.Common.{subst, sym, ap}
+use Rattle.std.proofs.Common.{subst, sym}
 use Rattle.std.specs.Prelude.{All, List}
 use Rattle.apex_types.specs.Machine.{events_of}
 use Rattle.apex_types.specs.Table.{Table}
