@@ -9,10 +9,11 @@ use Rattle.apex_cli.specs.declared.schedule.Item.{Item}
 use Rattle.apex_cli.specs.declared.faults.CliFault.{CliFault}
 use Rattle.apex_cli.specs.declared.faults.CliFault.TheVariants.{Usage, Write}
 use Rattle.apex_cli.specs.declared.words.Report.{Report}
-use Rattle.apex_cli.specs.Exits.{Ends, Reports, no_memory, no_room, refused, reported, unread, unwritten, usage, written}
+use Rattle.apex_cli.specs.Exits.{Ends, Reports, no_memory, no_room, ran, refused, reported, unread, unwritten, usage, written}
+use Rattle.apex_cli.specs.Runs.{Runs}
 use Rattle.apex_cli.specs.Faults.{IsUsageOrMemory, fault_of_read, status_of, status_of_fault}
 use Rattle.apex_cli.specs.Reports.{Refuses, answer_of, writes}
-use Rattle.apex_cli.specs.Requests.{Asked, a_report}
+use Rattle.apex_cli.specs.Requests.{Asked, a_report, a_run}
 
 -- words or a schedule that ask for nothing, or no memory
 pub ends_unasked : {asked : Option Asked} {before after : Ports} → (fault : CliFault) → IsUsageOrMemory fault
@@ -54,3 +55,9 @@ pub ends_reported : {asked : Option Asked} {before after : Ports} {report : Repo
     → asked ≡ Some (a_report report items) → shown ≡ items → Reports report shown before fault after
     → Ends asked before (status_of fault) fault after
 ends_reported items shown fault is same ends = reported is (rw same at ends)
+
+-- threads that ran
+pub ends_ran : {asked : Option Asked} {before after : Ports} {turns ticks : ℕ} (fault : Option CliFault)
+    → asked ≡ Some (a_run turns ticks) → Runs turns ticks before fault after
+    → Ends asked before (status_of fault) fault after
+ends_ran fault is ends = ran is ends

@@ -1,4 +1,5 @@
 pub mod Endings
+pub mod RunEndings
 pub mod Parts
 pub mod ItemRuns
 pub mod CommandLemmas

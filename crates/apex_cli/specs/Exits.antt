@@ -13,7 +13,8 @@ use Rattle.apex_cli.specs.declared.faults.CliFault.TheVariants.{Usage, Memory, R
 use Rattle.apex_cli.specs.declared.words.Report.{Report}
 use Rattle.apex_cli.specs.Faults.{status_of, status_of_check, status_of_fault, fault_of_check}
 use Rattle.apex_cli.specs.Reports.{answer_of, refuses, writes}
-use Rattle.apex_cli.specs.Requests.{Asked, a_check, a_report}
+use Rattle.apex_cli.specs.Requests.{Asked, a_check, a_report, a_run}
+use Rattle.apex_cli.specs.Runs.{Runs}
 
 -- The ways in which a report of a run ends: by the items, the reader and the writer before, the
 -- fault, and the reader and the writer afterwards.
@@ -54,6 +55,10 @@ pub data Ends (asked : Option Asked) (before : Ports) : ℕ → Option CliFault 
   checked : {answer : Result Verdict CheckFault} {after : Ports} → asked ≡ Some a_check
       → Checks before answer after → TellsLegal before.left answer
       → Ends asked before (status_of_check answer) (fault_of_check answer) after
+  -- threads run
+  ran : {turns ticks : ℕ} {fault : Option CliFault} {after : Ports}
+      → asked ≡ Some (a_run turns ticks) → Runs turns ticks before fault after
+      → Ends asked before (status_of fault) fault after
 
 -- a line was written whole, or a beginning of it where a write failed
 abbrev pub Told : List ℕ → Option (List ℕ) → Option (List ℕ) → ℕ → ℕ → Type 0

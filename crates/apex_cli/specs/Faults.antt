@@ -6,10 +6,12 @@ use Rattle.apex_table.specs.declared.TableFault.{TableFault}
 use Rattle.apex_table.specs.Fault as tables
 use Rattle.apex_table.specs.declared.TableFault.TheVariants as table
 use Rattle.apex_cli.specs.declared.faults.CliFault.{CliFault}
-use Rattle.apex_cli.specs.declared.faults.CliFault.TheVariants.{Usage, Table, NoSeparator, BadLine, TooLong, HistoryFull, Memory, Read, Write}
+use Rattle.apex_cli.specs.declared.faults.CliFault.TheVariants.{Usage, Table, NoSeparator, BadLine, TooLong, HistoryFull, Memory, NoThread, Read, Write}
 use Rattle.apex_cli.specs.declared.program.Ending.{Ending}
 use Rattle.apex_cli.specs.declared.program.Ending.TheVariants.{Done, Departed}
 use Rattle.apex_check.specs.declared.CheckFault.{CheckFault}
+use Rattle.apex_cores.specs.declared.RunFault.{RunFault}
+use Rattle.apex_cores.specs.declared.RunFault.TheVariants as run
 use Rattle.apex_check.specs.declared.CheckFault.TheVariants as checking
 use Rattle.apex_check.specs.declared.Verdict.{Verdict}
 use Rattle.apex_check.specs.declared.Verdict.TheVariants.{Legal, DepartsAt}
@@ -38,8 +40,8 @@ fault_of_checking (checking.TooLong line) = TooLong line
 fault_of_checking checking.Read = Read
 fault_of_checking checking.Write = Write
 
--- 2 usage, 3 the table or the history's text is refused, 4 the history is full, 5 memory, 6 a read or
--- a write failed
+-- 2 usage, 3 the table or the history's text is refused, 4 the history is full, 5 memory or a thread was
+-- refused, 6 a read or a write failed
 abbrev pub status_of_fault : CliFault → ℕ
 status_of_fault Usage = 2
 status_of_fault (Table fault) = 3
@@ -48,6 +50,7 @@ status_of_fault (BadLine line) = 3
 status_of_fault (TooLong line) = 3
 status_of_fault (HistoryFull entries) = 4
 status_of_fault Memory = 5
+status_of_fault NoThread = 5
 status_of_fault Read = 6
 status_of_fault Write = 6
 
@@ -60,6 +63,11 @@ status_of (Some fault) = status_of_fault fault
 abbrev pub status_of_ending : Ending → ℕ
 status_of_ending Done = 0
 status_of_ending Departed = 1
+
+-- a fault of a run by threads
+abbrev pub fault_of_run : RunFault → CliFault
+fault_of_run run.Memory = Memory
+fault_of_run run.NoThread = NoThread
 
 -- the exit status of an outcome
 abbrev pub status_in : Result Ending CliFault → ℕ
@@ -95,6 +103,7 @@ fault_text (BadLine line) = codes "apex: history refused: BadLine at line " ++ d
 fault_text (TooLong line) = codes "apex: history refused: TooLong at line " ++ decimal line
 fault_text (HistoryFull entries) = codes "apex: history full after " ++ decimal entries ++ codes " entries"
 fault_text Memory = codes "apex: out of memory"
+fault_text NoThread = codes "apex: no thread"
 fault_text Read = codes "apex: read failed"
 fault_text Write = codes "apex: write failed"
 

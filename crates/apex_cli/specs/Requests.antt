@@ -1,5 +1,6 @@
 -- What the program is asked to do: by the words of the command line, and by the items of a schedule.
 use Rattle.std.specs.Prelude.{ℕ, List, Option, Some, option_and_then, option_map}
+use Rattle.apex_types.specs.Numbers.{at_most, number_of}
 use Rattle.apex_cli.specs.declared.schedule.Item.{Item}
 use Rattle.apex_cli.specs.declared.tasks.Task.{Task}
 use Rattle.apex_cli.specs.declared.tasks.Task.TheVariants as task
@@ -7,12 +8,13 @@ use Rattle.apex_cli.specs.declared.words.Report.{Report}
 use Rattle.apex_cli.specs.declared.words.Request.{Request as RequestIn}
 use Rattle.apex_cli.specs.declared.words.Request.TheVariants as request
 use Rattle.apex_cli.specs.Schedule.{items_of}
-use Rattle.apex_cli.specs.Words.{Request, reports, checks, request_of}
+use Rattle.apex_cli.specs.Words.{Request, reports, checks, runs, request_of}
 
 -- the request that a value of the program says
 abbrev pub request_said : RequestIn → Request
 request_said (request.Report report text) = reports report text.now
 request_said request.Check = checks
+request_said (request.Run turns ticks) = runs turns.now ticks.now
 
 -- what the program is asked to do
 pub data Asked : Type 0 where
@@ -20,16 +22,28 @@ pub data Asked : Type 0 where
   a_report : Report → List Item → Asked
   -- the check of a history
   a_check : Asked
+  -- a run by threads, with so many turns of each core and so many ticks
+  a_run : ℕ → ℕ → Asked
 
 -- the task that a value of the program says
 abbrev pub task_said : Task → Asked
 task_said (task.Report report items) = a_report report items.items
 task_said task.Check = a_check
+task_said (task.Run plan) = a_run plan.turns plan.ticks
 
--- what a request asks for; none where its schedule is ill-formed
+-- how many turns or ticks a text asks for, 0 to 65,536
+abbrev pub count_of : List ℕ → Option ℕ
+count_of text = at_most 65536 (number_of text)
+
+-- a run by threads, for the texts of its turns and of its ticks
+abbrev pub run_asked : List ℕ → List ℕ → Option Asked
+run_asked turns ticks = option_and_then (λ n. option_map (a_run n) (count_of ticks)) (count_of turns)
+
+-- what a request asks for; none where its schedule or a number is ill-formed
 abbrev pub asked_in : Request → Option Asked
 asked_in (reports report text) = option_map (a_report report) (items_of text)
 asked_in checks = Some a_check
+asked_in (runs turns ticks) = run_asked turns ticks
 
 -- what the words ask for; none where the words or the schedule are ill-formed
 abbrev pub asked_by : List (List ℕ) → Option Asked

@@ -9,22 +9,26 @@ use Rattle.clap.specs.Words.{with_rule, with_subcommand}
 use Rattle.apex_cli.specs.declared.words.Report.{Report}
 use Rattle.apex_cli.specs.declared.words.Report.TheVariants.{History, Status}
 
--- the option `--schedule S` of `replay` and of `status`, which must be given
-abbrev pub schedule_rule : Rule
-schedule_rule =
-    record (new_rule (codes "schedule")) { long = Some (codes "schedule"); action = Some Set; required = true }
+-- an option with a value, which must be given
+abbrev pub required_rule : Text → Rule
+required_rule name =
+    record (new_rule name) { long = Some name; action = Some Set; required = true }
 
 -- `replay --schedule S`
 abbrev pub replay : App
-replay = with_rule (new_app (codes "replay")) schedule_rule
+replay = with_rule (new_app (codes "replay")) (required_rule (codes "schedule"))
 
 -- `status --schedule S`
 abbrev pub status : App
-status = with_rule (new_app (codes "status")) schedule_rule
+status = with_rule (new_app (codes "status")) (required_rule (codes "schedule"))
 
 -- `check`
 abbrev pub check : App
 check = new_app (codes "check")
+
+-- `run --turns N --ticks K`
+abbrev pub run : App
+run = with_rule (with_rule (new_app (codes "run")) (required_rule (codes "turns"))) (required_rule (codes "ticks"))
 
 -- `apex`, which wants a command
 abbrev pub apex_alone : App
@@ -34,7 +38,8 @@ apex_alone =
 
 -- the program's command line, with its commands
 abbrev pub apex : App
-apex = with_subcommand (with_subcommand (with_subcommand apex_alone replay.top) status.top) check.top
+apex =
+    with_subcommand (with_subcommand (with_subcommand (with_subcommand apex_alone replay.top) status.top) check.top) run.top
 
 -- what the words of a command line ask for
 pub data Request : Type 0 where
@@ -42,17 +47,25 @@ pub data Request : Type 0 where
   reports : Report → Text → Request
   -- the check of a history
   checks : Request
+  -- a run by threads, by the texts of how many turns of each core and how many ticks
+  runs : Text → Text → Request
 
 -- a report of the run for the schedule among the rows of a command
 abbrev pub report_in : Report → List Row → Option Request
 report_in report rows = option_map (reports report) (first_of (codes "schedule") rows)
+
+-- a run by threads, for the turns and the ticks among the rows of a command
+abbrev pub run_in : List Row → Option Request
+run_in rows =
+    option_and_then (λ turns. option_map (runs turns) (first_of (codes "ticks") rows)) (first_of (codes "turns") rows)
 
 -- what the command of this name asks for, with its rows
 abbrev pub request_in : Text × List Row → Option Request
 request_in found =
     if bytes_eq found.0 (codes "replay") then report_in History found.1
     else if bytes_eq found.0 (codes "status") then report_in Status found.1
-    else if bytes_eq found.0 (codes "check") then Some checks else None
+    else if bytes_eq found.0 (codes "check") then Some checks
+    else if bytes_eq found.0 (codes "run") then run_in found.1 else None
 
 -- what the command that was found asks for, where no word is at fault
 abbrev pub request_unless : Kinds → Option (Text × List Row) → Option Request

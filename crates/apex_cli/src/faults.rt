@@ -2,10 +2,11 @@
 ghost use Rattle.std.specs.Prelude.{◌≡◌, ◌+◌, ◌≤◌, ◌++◌, Some, decimal};
 ghost use Rattle.arrayvec.specs.ArrayString.{array_string_len};
 ghost use Rattle.apex_table.specs.Fault as tables;
-ghost use Rattle.apex_cli.specs.Faults.{fault_of_checking, fault_of_read, fault_of_table, fault_text, line_told, status_of_fault};
+ghost use Rattle.apex_cli.specs.Faults.{fault_of_checking, fault_of_read, fault_of_run, fault_of_table, fault_text, line_told, status_of_fault};
 ghost use Rattle.apex_cli.specs.declared.faults.CliFault.TheVariants.{Memory};
 
 use apex_check::CheckFault;
+use apex_cores::RunFault;
 use apex_history::ReadFault;
 use apex_table::TableFault;
 use arrayvec::ArrayString;
@@ -39,6 +40,8 @@ pub enum CliFault {
     /// The history is full after so many entries, and the schedule has more events.
     HistoryFull(u32),
     Memory,
+    /// A thread was refused.
+    NoThread,
     Read,
     Write,
 }
@@ -55,7 +58,7 @@ impl CliFault {
             | CliFault::BadLine(_)
             | CliFault::TooLong(_) => 3,
             CliFault::HistoryFull(_) => 4,
-            CliFault::Memory => 5,
+            CliFault::Memory | CliFault::NoThread => 5,
             CliFault::Read | CliFault::Write => 6,
         }
     }
@@ -86,6 +89,7 @@ impl CliFault {
                 text.push_str(" entries");
             }
             CliFault::Memory => text.push_str("apex: out of memory"),
+            CliFault::NoThread => text.push_str("apex: no thread"),
             CliFault::Read => text.push_str("apex: read failed"),
             CliFault::Write => text.push_str("apex: write failed"),
         }
@@ -167,6 +171,17 @@ impl From<TableFault> for CliFault {
         match error {
             TableFault::Memory => CliFault::Memory,
             fault => CliFault::Table(fault),
+        }
+    }
+}
+
+impl From<RunFault> for CliFault {
+    ghost from_gives = { λ error fault. fault ≡ fault_of_run error };
+
+    fn from(error: RunFault) -> CliFault {
+        match error {
+            RunFault::Memory => CliFault::Memory,
+            RunFault::NoThread => CliFault::NoThread,
         }
     }
 }

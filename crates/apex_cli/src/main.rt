@@ -6,6 +6,7 @@ mod events;
 mod faults;
 mod program;
 mod reports;
+mod runs;
 mod schedule;
 mod tasks;
 #[cfg(test)]
@@ -39,6 +40,7 @@ fn main(rt: HostRuntime) -> ExitCode {
     let mut writer = Counted::new(io::writer(&rt));
     let mut error_writer = Counted::new(rt.stderr());
     let status = serve(
+        &rt,
         rt.alloc(),
         given_words(rt.alloc(), &rt),
         &mut reader,

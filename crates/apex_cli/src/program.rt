@@ -9,6 +9,7 @@ ghost use Rattle.apex_cli.specs.Exits.{Ends, EndsAtOnce, Reports, Told};
 
 use crate::faults::{CliFault, line_told};
 use crate::reports::{run_of, write_report};
+use crate::runs::run_threads;
 use crate::schedule::Item;
 use crate::tasks::{Task, task_asked};
 use crate::words::Report;
@@ -16,6 +17,8 @@ use apex_check::{Verdict, check};
 use apex_history::{Counted, Sink, Source, read_all};
 use std::alloc::Global;
 use std::io::Write;
+use std::sync::Wait;
+use std::thread::Threads;
 
 /// How the program ends where it meets no fault.
 #[derive(Clone, Copy, Debug, PartialEq, Eq)]
@@ -82,7 +85,8 @@ fn report_run<R: Source, W: Sink>(
     }
 }
 
-fn carry_out<R: Source, W: Sink>(
+fn carry_out<T: Threads + Wait + Sync, R: Source, W: Sink>(
+    rt: &T,
     alloc: Global,
     words: &[String],
     reader: &mut Counted<R>,
@@ -103,6 +107,10 @@ fn carry_out<R: Source, W: Sink>(
             Ok(Verdict::DepartsAt(..)) => Ok(Ending::Departed),
             Err(fault) => Err(CliFault::from(fault)),
         },
+        Task::Run(plan) => {
+            run_threads(rt, alloc, plan, reader, writer)?;
+            Ok(Ending::Done)
+        }
     }
 }
 
@@ -116,7 +124,11 @@ fn carry_out<R: Source, W: Sink>(
 ///
 /// For `check` a table, the line `%%` and the lines of a history come from the reader, and the
 /// verdict goes to the writer.
-pub fn run_on<R: Source, W: Sink>(
+///
+/// For `run --turns N --ticks K` the table comes from the reader. A thread for each core and one for the
+/// ticker run it, and then the lines of their history go to the writer.
+pub fn run_on<T: Threads + Wait + Sync, R: Source, W: Sink>(
+    rt: &T,
     alloc: Global,
     words: &[String],
     reader: &mut Counted<R>,
@@ -127,7 +139,7 @@ pub fn run_on<R: Source, W: Sink>(
         result.status result.fault
         (ports (R.remaining (inner_of reader.new)) (W.contents (inner_of writer.new)) (failures_of reader.new) (failures_of writer.new)) }
 {
-    Exit::of(carry_out(alloc, words, reader, writer))
+    Exit::of(carry_out(rt, alloc, words, reader, writer))
 }
 
 /// Tells of the fault, if there is one, on the error writer.
@@ -143,7 +155,8 @@ fn tell<E: Sink>(fault: Option<CliFault>, error_writer: &mut Counted<E>)
 
 /// The whole program: does what the words ask for, tells of the fault on the error writer, and
 /// gives the exit status. Where the words have a fault themselves, that one is told.
-pub fn serve<R: Source, W: Sink, E: Sink>(
+pub fn serve<T: Threads + Wait + Sync, R: Source, W: Sink, E: Sink>(
+    rt: &T,
     alloc: Global,
     words: Result<Vec<String>, CliFault>,
     reader: &mut Counted<R>,
@@ -164,7 +177,7 @@ pub fn serve<R: Source, W: Sink, E: Sink>(
         (λ found. EndsAtOnce found before result fault after) }
 {
     let exit = match words {
-        Ok(words) => run_on(alloc, words.as_slice(), reader, writer),
+        Ok(words) => run_on(rt, alloc, words.as_slice(), reader, writer),
         Err(fault) => Exit::of(Err(fault)),
     };
     tell(exit.fault, error_writer);

@@ -1,11 +1,13 @@
 //! What the program is asked to do.
 ghost use Rattle.std.specs.Prelude.{◌≡◌, IfOk, IfErr, IsErrOf, Some, None, map, string_bytes};
 ghost use Rattle.apex_cli.specs.Faults.{IsUsageOrMemory};
-ghost use Rattle.apex_cli.specs.Requests.{asked_by, asked_in, request_said, task_said};
+ghost use Rattle.apex_cli.specs.Requests.{asked_by, asked_in, count_of, request_said, task_said};
 
 use crate::faults::CliFault;
 use crate::schedule::{Item, read_schedule};
 use crate::words::{Report, Request, request_in};
+use apex_cores::RunPlan;
+use apex_types::number_at_most;
 use std::alloc::Global;
 
 /// What the program is asked to do.
@@ -15,9 +17,23 @@ pub enum Task {
     Report(Report, Vec<Item>),
     /// The check of a history.
     Check,
+    /// A run by threads.
+    Run(RunPlan),
 }
 
-/// What a request asks for. `Usage` where its schedule is ill-formed.
+/// How many turns or ticks a text asks for, 0 to 65,536. Any other text is `Usage`.
+fn read_count(text: &str) -> Result<u32, CliFault>
+    ensures ok { IfOk result (λ count. count_of text.now ≡ Some count) }
+    ensures usage { IsErrOf result CliFault.Usage → count_of text.now ≡ None }
+    ensures faults { IfErr result IsUsageOrMemory }
+{
+    match number_at_most(text.as_bytes(), 65_536) {
+        Some(count) => Ok(count),
+        None => Err(CliFault::Usage),
+    }
+}
+
+/// What a request asks for. `Usage` where its schedule or a number is ill-formed.
 fn task_in(alloc: Global, request: Request<'_>) -> Result<Task, CliFault>
     ensures ok { IfOk result (λ task. asked_in (request_said request.entry) ≡ Some (task_said task)) }
     ensures usage { IsErrOf result CliFault.Usage → asked_in (request_said request.entry) ≡ None }
@@ -29,10 +45,15 @@ fn task_in(alloc: Global, request: Request<'_>) -> Result<Task, CliFault>
             Ok(Task::Report(report, items))
         }
         Request::Check => Ok(Task::Check),
+        Request::Run(turns, ticks) => {
+            let turns = read_count(turns)?;
+            let ticks = read_count(ticks)?;
+            Ok(Task::Run(RunPlan { turns, ticks }))
+        }
     }
 }
 
-/// What the words ask for. `Usage` where the words or the schedule are ill-formed.
+/// What the words ask for. `Usage` where the words, the schedule or a number are ill-formed.
 pub fn task_asked(alloc: Global, words: &[String]) -> Result<Task, CliFault>
     ensures ok { IfOk result (λ task. asked_by (map string_bytes words.now) ≡ Some (task_said task)) }
     ensures usage { IsErrOf result CliFault.Usage → asked_by (map string_bytes words.now) ≡ None }

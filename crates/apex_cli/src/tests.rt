@@ -10,13 +10,16 @@ mod mutexes;
 mod outlines;
 mod periods;
 mod processes;
+mod runs;
 mod ticks;
 
 use crate::program::run_on;
 use apex_history::{Counted, FailAt, Source};
 use std::alloc::Global;
 use std::process::Abort;
+use std::sync::Wait;
 use std::test::Fail;
+use std::thread::Threads;
 
 const TWO_CORES: &str = "cores = 2\n";
 
@@ -204,6 +207,7 @@ fn words_of(alloc: Global, words: &[&str]) -> Result<Vec<String>, Fail> {
 
 // Runs the program; of the calls of the reader and of the writer those of these numbers fail.
 fn run_with(
+    rt: &(impl Threads + Wait + Sync),
     alloc: Global,
     words: &[&str],
     table: &[&str],
@@ -215,11 +219,12 @@ fn run_with(
     bytes.extend_from_slice(table.as_bytes())?;
     let reader = FailAt::new(bytes, failing_read);
     let paper = FailAt::new(Vec::with_capacity(alloc, 1 << 20)?, failing_write);
-    run_through(alloc, words, reader, paper)
+    run_through(rt, alloc, words, reader, paper)
 }
 
 // Runs the program from this reader to this paper.
 fn run_through<R: Source + Drop>(
+    rt: &(impl Threads + Wait + Sync),
     alloc: Global,
     words: &[&str],
     reader: R,
@@ -228,7 +233,7 @@ fn run_through<R: Source + Drop>(
     let words = words_of(alloc, words)?;
     let mut reader = Counted::new(reader);
     let mut writer = Counted::new(&mut paper);
-    let exit = run_on(alloc, words.as_slice(), &mut reader, &mut writer);
+    let exit = run_on(rt, alloc, words.as_slice(), &mut reader, &mut writer);
     let failed_writes = writer.failures();
     let fault = match exit.fault {
         Some(fault) => fault.to_string(alloc)?,
@@ -245,10 +250,14 @@ fn run_through<R: Source + Drop>(
     })
 }
 
-fn check(rt: &impl Abort, alloc: Global, case: &Case<'_>) -> Result<(), Fail> {
+fn check(
+    rt: &(impl Abort + Threads + Wait + Sync),
+    alloc: Global,
+    case: &Case<'_>,
+) -> Result<(), Fail> {
     let name = case.name;
     let wanted = joined(alloc, case.written)?;
-    let done = run_with(alloc, case.words, case.table, 0, 0)?;
+    let done = run_with(rt, alloc, case.words, case.table, 0, 0)?;
     assert_eq!(rt; done.status, case.status, "at {name}");
     assert_eq!(rt; done.fault.as_str(), case.fault, "at {name}");
     assert_eq!(rt; done.written.as_slice(), wanted.as_bytes(), "at {name}");
@@ -456,16 +465,16 @@ fn words_ask_for_nothing(rt: HostRuntime) -> Result<(), Fail> {
 fn a_failed_read_writes_nothing(rt: HostRuntime) -> Result<(), Fail> {
     let table = [TWO_CORES, WAITER, SIGNALLER, SEMAPHORE];
     for call in [1, 2] {
-        let done = run_with(rt.alloc(), FIRST_WAITS, &table, call, 0)?;
+        let done = run_with(&rt, rt.alloc(), FIRST_WAITS, &table, call, 0)?;
         assert_eq!(rt; done.status, 6, "at {call}");
         assert_eq!(rt; done.fault.as_str(), "apex: read failed", "at {call}");
         assert_eq!(rt; done.failed_reads, 1, "at {call}");
         assert!(rt; done.written.is_empty(), "at {call}");
     }
-    let done = run_with(rt.alloc(), FIRST_WAITS, &table, 3, 0)?;
+    let done = run_with(&rt, rt.alloc(), FIRST_WAITS, &table, 3, 0)?;
     assert_eq!(rt; done.status, 0);
     // The words come first, and are told without a read.
-    let done = run_with(rt.alloc(), &["replay"], &table, 1, 0)?;
+    let done = run_with(&rt, rt.alloc(), &["replay"], &table, 1, 0)?;
     assert_eq!(rt; done.status, 2);
     assert_eq!(rt; done.failed_reads, 0);
     Ok(())
@@ -476,13 +485,13 @@ fn a_failed_write_leaves_a_beginning(rt: HostRuntime) -> Result<(), Fail> {
     let table = ["cores = 1\nhistory = 8000\n", IDLER];
     // More events than the history's limit, and lines for four writes.
     let words = ["replay", "--schedule", "0*8001"];
-    let whole = run_with(rt.alloc(), &words, &table, 0, 0)?;
+    let whole = run_with(&rt, rt.alloc(), &words, &table, 0, 0)?;
     assert_eq!(rt; whole.status, 4);
     assert_eq!(rt; whole.failed_writes, 0);
     assert!(rt; whole.written.len() > 3 * 65_536);
     assert!(rt; whole.written.len() <= 4 * 65_536);
     for call in [1, 2, 3, 4] {
-        let done = run_with(rt.alloc(), &words, &table, 0, call)?;
+        let done = run_with(&rt, rt.alloc(), &words, &table, 0, call)?;
         assert_eq!(rt; done.status, 6, "at {call}");
         assert_eq!(rt; done.fault.as_str(), "apex: write failed", "at {call}");
         assert_eq!(rt; done.failed_writes, 1, "at {call}");
@@ -492,7 +501,7 @@ fn a_failed_write_leaves_a_beginning(rt: HostRuntime) -> Result<(), Fail> {
             "at {call}"
         );
     }
-    let done = run_with(rt.alloc(), &words, &table, 0, 5)?;
+    let done = run_with(&rt, rt.alloc(), &words, &table, 0, 5)?;
     assert_eq!(rt; done.status, 4);
     assert_eq!(rt; done.written.as_slice(), whole.written.as_slice());
     Ok(())

@@ -1,9 +1,9 @@
 //! The words of the command line.
-ghost use Rattle.std.specs.Prelude.{◌≡◌, IfOk, IfErr, IsErrOf, Some, None, map, string_bytes, option_map, option_and_then};
-ghost use Rattle.clap.specs.Words.{app_of, found_of, rows_of, subcommand_rows_of};
+ghost use Rattle.std.specs.Prelude.{◌≡◌, false, IfOk, IfErr, IsErrOf, Some, None, map, string_bytes, option_map, option_and_then};
+ghost use Rattle.clap.specs.Words.{app_of, found_of, rows_of, rule_of, subcommand_rows_of};
 ghost use Rattle.apex_cli.specs.Faults.{IsUsageOrMemory};
 ghost use Rattle.apex_cli.specs.Requests.{request_said};
-ghost use Rattle.apex_cli.specs.Words.{apex, report_in, request_in, request_of};
+ghost use Rattle.apex_cli.specs.Words.{apex, report_in, request_in, request_of, required_rule, run_in};
 
 use crate::faults::CliFault;
 use clap::error::ErrorKind;
@@ -26,30 +26,39 @@ pub enum Request<'a> {
     Report(Report, &'a str),
     /// The check of a history.
     Check,
+    /// A run by threads, by the texts of how many turns of each core and how many ticks.
+    Run(&'a str, &'a str),
+}
+
+/// An option with a value, which must be given.
+fn required<'a>(alloc: Global, name: &'static str) -> Arg<'a>
+    ensures rule { rule_of result ≡ required_rule name.now }
+    ensures local { result.global ≡ false }
+{
+    Arg::new(alloc, name)
+        .long(name)
+        .action(ArgAction::Set)
+        .required(true)
 }
 
 fn command<'a>(alloc: Global) -> Result<Command<'a>, AllocError>
     ensures { IfOk result (λ c. app_of c ≡ apex) }
 {
-    let of_replay = Arg::new(alloc, "schedule")
-        .long("schedule")
-        .action(ArgAction::Set)
-        .required(true);
-    let of_status = Arg::new(alloc, "schedule")
-        .long("schedule")
-        .action(ArgAction::Set)
-        .required(true);
-    let replay = Command::new(alloc, "replay").arg(of_replay)?;
-    let status = Command::new(alloc, "status").arg(of_status)?;
+    let replay = Command::new(alloc, "replay").arg(required(alloc, "schedule"))?;
+    let status = Command::new(alloc, "status").arg(required(alloc, "schedule"))?;
     let check = Command::new(alloc, "check");
+    let run_for = Command::new(alloc, "run").arg(required(alloc, "turns"))?;
+    let threads = run_for.arg(required(alloc, "ticks"))?;
     let with_replay = Command::new(alloc, "apex")
         .subcommand_required(true)
         .subcommand(replay)?;
     let with_status = with_replay.subcommand(status)?;
-    with_status.subcommand(check)
+    let with_check = with_status.subcommand(check)?;
+    with_check.subcommand(threads)
 }
 
-/// What the words ask for: `replay --schedule S`, `status --schedule S` or `check`.
+/// What the words ask for: `replay --schedule S`, `status --schedule S`, `check` or
+/// `run --turns N --ticks K`.
 ///
 /// The first word is the program's name. Words that `clap` refuses for another cause than memory
 /// are `Usage`, and so are those that ask for help.
@@ -79,6 +88,15 @@ fn report_given<'a>(report: Report, matches: &ArgMatches<'a>) -> Option<Request<
     Some(Request::Report(report, schedule))
 }
 
+/// A run by threads, for the turns and the ticks that a command's matches give.
+fn run_given<'a>(matches: &ArgMatches<'a>) -> Option<Request<'a>>
+    ensures { option_map request_said result ≡ run_in (rows_of (found_of matches.now)) }
+{
+    let turns = matches.get_str("turns")?;
+    let ticks = matches.get_str("ticks")?;
+    Some(Request::Run(turns, ticks))
+}
+
 fn request_given<'a>(matches: &ArgMatches<'a>) -> Option<Request<'a>>
     ensures { option_map request_said result ≡ option_and_then request_in (subcommand_rows_of matches.now) }
 {
@@ -86,6 +104,7 @@ fn request_given<'a>(matches: &ArgMatches<'a>) -> Option<Request<'a>>
         Some(("replay", replay)) => report_given(Report::History, replay),
         Some(("status", status)) => report_given(Report::Status, status),
         Some(("check", _)) => Some(Request::Check),
+        Some(("run", run)) => run_given(run),
         _ => None,
     }
 }

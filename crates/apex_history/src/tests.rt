@@ -1,16 +1,12 @@
 //! Logs, counted readers and writers, and printed histories.
 
-mod events;
 mod lines;
-mod messages;
-mod mutexes;
 mod reading;
 mod status;
-mod steps;
-mod ticks;
+mod widest;
 
 ghost use Rattle.std.specs.Prelude.{◌≡◌, ◌<◌, ◌↔◌, [], None, Some, IsErr};
-ghost use Rattle.apex_types.specs.declared.Call.TheVariants.{Process, Semaphore, Buffer, Blackboard, Event, Mutex};
+ghost use Rattle.apex_types.specs.declared.Call.TheVariants.{Process, Semaphore, Buffer};
 ghost use Rattle.apex_types.specs.declared.ObjectCall.TheVariants.{Own};
 ghost use Rattle.apex_types.specs.Lines.{IsPrintable};
 ghost use Rattle.apex_history.specs.Counted.{inner_of, reads_left_of};
@@ -18,10 +14,8 @@ ghost use Rattle.apex_history.specs.Counted.{inner_of, reads_left_of};
 use crate::{Counted, FailAt, Log, Page, ReadFault, Sink, Source, print_entry, read_all};
 use apex_table::Table;
 use apex_types::{
-    BlackboardCall, BlackboardId, BlackboardService, BufferCall, BufferId, BufferService, Call,
-    Caller, CoreId, Entry, EventCall, EventId, EventService, MutexCall, MutexId, MutexService,
-    Notices, ProcessCall, ProcessId, ProcessService, Reply, ReturnCode, SemaphoreCall, SemaphoreId,
-    SemaphoreService, Who,
+    BufferCall, BufferId, BufferService, Call, Caller, CoreId, Entry, Notices, ProcessCall,
+    ProcessId, ProcessService, Reply, SemaphoreCall, SemaphoreId, SemaphoreService, Who,
 };
 use std::io;
 use std::io::{ErrorKind, Read, Write};
@@ -94,28 +88,6 @@ fn of_buffer(buffer: BufferId, service: BufferService) -> Call
     ensures { result ≡ Buffer (Own buffer service) }
 {
     Call::Buffer(BufferCall::Own(buffer, service))
-}
-
-fn of_blackboard(blackboard: BlackboardId, service: BlackboardService) -> Call
-    ensures { result ≡ Blackboard (Own blackboard service) }
-{
-    Call::Blackboard(BlackboardCall::Own(blackboard, service))
-}
-
-fn of_event(event: EventId, service: EventService) -> Call
-    ensures { result ≡ Event (Own event service) }
-{
-    Call::Event(EventCall::Own(event, service))
-}
-
-fn of_mutex(mutex: MutexId, service: MutexService) -> Call
-    ensures { result ≡ Mutex (Own mutex service) }
-{
-    Call::Mutex(MutexCall::Own(mutex, service))
-}
-
-fn code(code: ReturnCode) -> Reply {
-    Reply::Code(code)
 }
 
 #[test]

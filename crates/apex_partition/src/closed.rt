@@ -70,4 +70,12 @@ impl<P: Naming> Closed<P> {
     {
         self.partition.stays_within();
     }
+
+    /// The partition itself, which is named after nothing any more.
+    pub fn into_partition(self) -> Partition
+        ensures table { result.table ≡ P.table }
+        ensures history { result.machine.history ≡ self }
+    {
+        self.partition
+    }
 }

@@ -125,6 +125,13 @@ impl Partition {
         self.kernel.table()
     }
 
+    /// Each entry of the history can be printed: what it names is the table's.
+    pub fn printable(&self)
+        ensures { All (IsPrintable self.now.table) self.now.machine.history }
+    {
+        self.kernel.holds();
+    }
+
     /// The headline: whenever the partition's lock is free, each core's running process is the
     /// highest-priority, longest-ready one bound to it, every process is in exactly one state and at
     /// most one queue, each semaphore's value is its start plus accepted signals less satisfied waits,

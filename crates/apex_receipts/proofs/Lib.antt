@@ -7,3 +7,4 @@ pub mod Own
 pub mod Written
 pub mod Exact
 pub mod Calls
+pub mod Crossing

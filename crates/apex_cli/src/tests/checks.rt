@@ -4,7 +4,9 @@ use super::{
 };
 use std::alloc::Global;
 use std::process::Abort;
+use std::sync::Wait;
 use std::test::Fail;
+use std::thread::Threads;
 
 const CHECK: &[&str] = &["check"];
 
@@ -221,7 +223,7 @@ fn a_line_of_4097_bytes_is_too_long(rt: HostRuntime) -> Result<(), Fail> {
         line.as_str(),
         "\n",
     ];
-    let done = run_with(rt.alloc(), CHECK, &table, 0, 0)?;
+    let done = run_with(&rt, rt.alloc(), CHECK, &table, 0, 0)?;
     assert_eq!(rt; done.status, 1);
     let table = [
         TWO_CORES,
@@ -232,7 +234,7 @@ fn a_line_of_4097_bytes_is_too_long(rt: HostRuntime) -> Result<(), Fail> {
         line.as_str(),
         "!\n",
     ];
-    let done = run_with(rt.alloc(), CHECK, &table, 0, 0)?;
+    let done = run_with(&rt, rt.alloc(), CHECK, &table, 0, 0)?;
     assert_eq!(rt; done.status, 3);
     assert_eq!(rt;
         done.fault.as_str(),
@@ -244,11 +246,11 @@ fn a_line_of_4097_bytes_is_too_long(rt: HostRuntime) -> Result<(), Fail> {
 #[test]
 fn reads_and_writes_of_a_check_fail(rt: HostRuntime) -> Result<(), Fail> {
     let table = [TWO_CORES, WAITER, SIGNALLER, SEMAPHORE, "%%\n", STARTED];
-    let done = run_with(rt.alloc(), CHECK, &table, 1, 0)?;
+    let done = run_with(&rt, rt.alloc(), CHECK, &table, 1, 0)?;
     assert_eq!(rt; done.status, 6);
     assert_eq!(rt; done.fault.as_str(), "apex: read failed");
     assert!(rt; done.written.is_empty());
-    let done = run_with(rt.alloc(), CHECK, &table, 0, 1)?;
+    let done = run_with(&rt, rt.alloc(), CHECK, &table, 0, 1)?;
     assert_eq!(rt; done.status, 6);
     assert_eq!(rt; done.fault.as_str(), "apex: write failed");
     assert!(rt; "legal 8\n".as_bytes().starts_with(done.written.as_slice()));
@@ -277,7 +279,11 @@ fn put_counted(alloc: Global, text: &mut String, words: &str, number: u32) -> Re
 }
 
 // What a check of this history has to answer, by a replay of the events that its lines name.
-fn judged(alloc: Global, history: &[u8]) -> Result<(u8, String), Fail> {
+fn judged(
+    rt: &(impl Threads + Wait + Sync),
+    alloc: Global,
+    history: &[u8],
+) -> Result<(u8, String), Fail> {
     let mut schedule = String::new(alloc);
     let mut lines: u32 = 0;
     let mut bad = false;
@@ -302,7 +308,7 @@ fn judged(alloc: Global, history: &[u8]) -> Result<(u8, String), Fail> {
     if lines > 0 {
         let words = ["replay", "--schedule", schedule.as_str()];
         let table = [TWO_CORES, WAITER, SIGNALLER, SEMAPHORE];
-        let done = run_with(alloc, &words, &table, 0, 0)?;
+        let done = run_with(rt, alloc, &words, &table, 0, 0)?;
         let mut given = history;
         let mut made = done.written.as_slice();
         for number in 1..1_000_000 {
@@ -326,7 +332,11 @@ fn judged(alloc: Global, history: &[u8]) -> Result<(u8, String), Fail> {
 }
 
 // The history with one byte changed at this place, checked.
-fn check_changed(rt: &impl Abort, alloc: Global, place: usize) -> Result<(), Fail> {
+fn check_changed(
+    rt: &(impl Abort + Threads + Wait + Sync),
+    alloc: Global,
+    place: usize,
+) -> Result<(), Fail> {
     let mut history = Vec::new(alloc);
     history.extend_from_slice(STARTED.as_bytes())?;
     history.extend_from_slice(NINTH.as_bytes())?;
@@ -335,7 +345,7 @@ fn check_changed(rt: &impl Abort, alloc: Global, place: usize) -> Result<(), Fai
         return Ok(());
     };
     *byte ^= 1;
-    let (status, beginning) = judged(alloc, history.as_slice())?;
+    let (status, beginning) = judged(rt, alloc, history.as_slice())?;
     let Ok(text) = String::from_utf8(history) else {
         return Ok(());
     };
@@ -347,7 +357,7 @@ fn check_changed(rt: &impl Abort, alloc: Global, place: usize) -> Result<(), Fai
         "%%\n",
         text.as_str(),
     ];
-    let done = run_with(alloc, CHECK, &table, 0, 0)?;
+    let done = run_with(rt, alloc, CHECK, &table, 0, 0)?;
     assert_eq!(rt; done.status, status, "at {place}");
     assert_eq!(rt; done.written.is_empty(), status == 3, "at {place}");
     assert!(rt;
@@ -368,7 +378,7 @@ fn a_changed_byte_is_judged_as_a_replay_judges_it(rt: HostRuntime) -> Result<(),
 #[test]
 fn a_printed_history_is_legal(rt: HostRuntime) -> Result<(), Fail> {
     let table = [TWO_CORES, WAITER, SIGNALLER, SEMAPHORE];
-    let done = run_with(rt.alloc(), FIRST_WAITS, &table, 0, 0)?;
+    let done = run_with(&rt, rt.alloc(), FIRST_WAITS, &table, 0, 0)?;
     let Ok(history) = String::from_utf8(done.written) else {
         assert!(rt; false);
         return Ok(());
@@ -381,7 +391,7 @@ fn a_printed_history_is_legal(rt: HostRuntime) -> Result<(), Fail> {
         "%%\n",
         history.as_str(),
     ];
-    let done = run_with(rt.alloc(), CHECK, &table, 0, 0)?;
+    let done = run_with(&rt, rt.alloc(), CHECK, &table, 0, 0)?;
     assert_eq!(rt; done.written.as_slice(), b"legal 10\n".as_slice());
     Ok(())
 }

@@ -8,7 +8,9 @@ use crate::program::{Exit, serve};
 use apex_history::{Counted, FailAt};
 use apex_table::{Place, Section, TableFault};
 use std::alloc::Global;
+use std::sync::Wait;
 use std::test::Fail;
+use std::thread::Threads;
 
 const FIRST: Place = Place {
     section: Section::Process,
@@ -75,6 +77,7 @@ struct Served {
 
 // The whole program; of the calls of the error writer the one of this number fails.
 fn serve_devices(
+    rt: &(impl Threads + Wait + Sync),
     alloc: Global,
     words: Result<Vec<String>, CliFault>,
     table: &[&str],
@@ -88,7 +91,14 @@ fn serve_devices(
     let mut told = FailAt::new(Vec::with_capacity(alloc, 4096)?, failing_told);
     let mut writer = Counted::new(&mut written);
     let mut error_writer = Counted::new(&mut told);
-    let status = serve(alloc, words, &mut reader, &mut writer, &mut error_writer);
+    let status = serve(
+        rt,
+        alloc,
+        words,
+        &mut reader,
+        &mut writer,
+        &mut error_writer,
+    );
     Ok(Served {
         status,
         written,
@@ -101,7 +111,7 @@ fn a_full_history_is_written_and_told(rt: HostRuntime) -> Result<(), Fail> {
     let alloc = rt.alloc();
     let table = [TWO_CORES, "history = 8\n", WAITER, SIGNALLER, SEMAPHORE];
     let words = words_of(alloc, FIRST_WAITS)?;
-    let done = serve_devices(alloc, Ok(words), &table, 0)?;
+    let done = serve_devices(&rt, alloc, Ok(words), &table, 0)?;
     assert_eq!(rt; done.status, 4);
     assert_eq!(rt; done.written.held(), STARTED.as_bytes());
     assert_eq!(rt;
@@ -110,7 +120,7 @@ fn a_full_history_is_written_and_told(rt: HostRuntime) -> Result<(), Fail> {
     );
     // The status stays where the line cannot be told.
     let words = words_of(alloc, FIRST_WAITS)?;
-    let done = serve_devices(alloc, Ok(words), &table, 1)?;
+    let done = serve_devices(&rt, alloc, Ok(words), &table, 1)?;
     assert_eq!(rt; done.status, 4);
     assert_eq!(rt; done.written.held(), STARTED.as_bytes());
     assert!(rt; done.told.held().is_empty());
@@ -121,7 +131,7 @@ fn a_full_history_is_written_and_told(rt: HostRuntime) -> Result<(), Fail> {
 fn a_refused_table_is_told_alone(rt: HostRuntime) -> Result<(), Fail> {
     let alloc = rt.alloc();
     let words = words_of(alloc, FIRST_WAITS)?;
-    let done = serve_devices(alloc, Ok(words), &[TWO_CORES, WAITER], 0)?;
+    let done = serve_devices(&rt, alloc, Ok(words), &[TWO_CORES, WAITER], 0)?;
     assert_eq!(rt; done.status, 3);
     assert!(rt; done.written.held().is_empty());
     let line = b"apex: table refused: UnknownName in process 1\n";
@@ -134,7 +144,7 @@ fn nothing_is_told_where_all_was_done(rt: HostRuntime) -> Result<(), Fail> {
     let alloc = rt.alloc();
     let words = words_of(alloc, &["replay", "--schedule", "0*8"])?;
     let table = [TWO_CORES, WAITER, SIGNALLER, SEMAPHORE];
-    let done = serve_devices(alloc, Ok(words), &table, 0)?;
+    let done = serve_devices(&rt, alloc, Ok(words), &table, 0)?;
     assert_eq!(rt; done.status, 0);
     assert_eq!(rt; done.written.held(), STARTED.as_bytes());
     assert!(rt; done.told.held().is_empty());
@@ -144,7 +154,7 @@ fn nothing_is_told_where_all_was_done(rt: HostRuntime) -> Result<(), Fail> {
 #[test]
 fn words_that_are_not_there_are_told(rt: HostRuntime) -> Result<(), Fail> {
     let alloc = rt.alloc();
-    let done = serve_devices(alloc, Err(CliFault::Memory), &[TWO_CORES, WAITER], 0)?;
+    let done = serve_devices(&rt, alloc, Err(CliFault::Memory), &[TWO_CORES, WAITER], 0)?;
     assert_eq!(rt; done.status, 5);
     assert!(rt; done.written.held().is_empty());
     assert_eq!(rt; done.told.held(), b"apex: out of memory\n".as_slice());

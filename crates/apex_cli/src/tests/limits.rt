@@ -8,7 +8,9 @@ use std::alloc::Global;
 use std::io;
 use std::io::Read;
 use std::process::Abort;
+use std::sync::Wait;
 use std::test::Fail;
+use std::thread::Threads;
 
 // A reader that gives one byte at a time.
 #[derive(Drop)]
@@ -41,16 +43,31 @@ struct Limit<'a> {
     lines: &'a str,
 }
 
-fn replay<R: Source + Drop>(alloc: Global, reader: R, schedule: &str) -> Result<Done, Fail> {
+fn replay<R: Source + Drop>(
+    rt: &(impl Threads + Wait + Sync),
+    alloc: Global,
+    reader: R,
+    schedule: &str,
+) -> Result<Done, Fail> {
     let paper = FailAt::new(Vec::with_capacity(alloc, 1 << 22)?, 0);
-    run_through(alloc, &["replay", "--schedule", schedule], reader, paper)
+    run_through(
+        rt,
+        alloc,
+        &["replay", "--schedule", schedule],
+        reader,
+        paper,
+    )
 }
 
-fn check_limit(rt: &impl Abort, alloc: Global, limit: &Limit<'_>) -> Result<(), Fail> {
+fn check_limit(
+    rt: &(impl Abort + Threads + Wait + Sync),
+    alloc: Global,
+    limit: &Limit<'_>,
+) -> Result<(), Fail> {
     let name = limit.name;
     let mut bytes = Vec::new(alloc);
     bytes.extend_from_slice(limit.table.as_bytes())?;
-    let done = replay(alloc, FailAt::new(bytes, 0), limit.schedule)?;
+    let done = replay(rt, alloc, FailAt::new(bytes, 0), limit.schedule)?;
     assert_eq!(rt; done.fault.as_str(), limit.fault, "at {name}");
     assert_eq!(rt; done.status, limit.status, "at {name}");
     let tail = lines_from(alloc, done.written.as_slice(), limit.lines)?;
@@ -196,7 +213,7 @@ fn thirty_two_processes_of_64_steps(rt: HostRuntime) -> Result<(), Fail> {
     let reader = ByteByByte {
         rest: table.as_str().as_bytes(),
     };
-    let done = replay(rt.alloc(), reader, limit.schedule)?;
+    let done = replay(&rt, rt.alloc(), reader, limit.schedule)?;
     assert_eq!(rt; done.status, 0);
     let tail = lines_from(rt.alloc(), done.written.as_slice(), limit.lines)?;
     assert_eq!(rt; tail.as_str(), limit.lines);

@@ -149,11 +149,11 @@ mutex 1 name M owner 1 depth 1 waiting 2,3
 #[test]
 fn a_failed_write_leaves_a_beginning_of_the_listing(rt: HostRuntime) -> Result<(), Fail> {
     let table = [TWO_CORES, WAITER, SIGNALLER, SEMAPHORE];
-    let done = run_with(rt.alloc(), OF_A_WAITER, &table, 0, 1)?;
+    let done = run_with(&rt, rt.alloc(), OF_A_WAITER, &table, 0, 1)?;
     assert_eq!(rt; done.status, 6);
     assert_eq!(rt; done.fault.as_str(), "apex: write failed");
     assert!(rt; WAITING.as_bytes().starts_with(done.written.as_slice()));
-    let done = run_with(rt.alloc(), OF_A_WAITER, &table, 1, 0)?;
+    let done = run_with(&rt, rt.alloc(), OF_A_WAITER, &table, 1, 0)?;
     assert_eq!(rt; done.status, 6);
     assert_eq!(rt; done.fault.as_str(), "apex: read failed");
     assert!(rt; done.written.is_empty());

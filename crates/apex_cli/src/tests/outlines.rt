@@ -4,7 +4,9 @@ use super::run_with;
 use std::alloc::Global;
 use std::process::Abort;
 use std::str;
+use std::sync::Wait;
 use std::test::Fail;
+use std::thread::Threads;
 
 // A case as text: a partition table in short, a schedule, and the last lines of the history.
 //
@@ -193,12 +195,17 @@ pub fn table_of(alloc: Global, text: &str) -> Result<String, Fail> {
 }
 
 /// Replays the outline's table to its end, and compares the last lines of the history.
-pub fn check_outline(rt: &impl Abort, alloc: Global, name: &str, text: &str) -> Result<(), Fail> {
+pub fn check_outline(
+    rt: &(impl Abort + Threads + Wait + Sync),
+    alloc: Global,
+    name: &str,
+    text: &str,
+) -> Result<(), Fail> {
     let outline = Outline::read(alloc, text)?;
     assert!(rt; !outline.lines.is_empty(), "in case {name}");
     let table = outline.table(alloc)?;
     let words = ["replay", "--schedule", outline.schedule];
-    let done = run_with(alloc, &words, &[table.as_str()], 0, 0)?;
+    let done = run_with(rt, alloc, &words, &[table.as_str()], 0, 0)?;
     assert_eq!(rt; done.fault.as_str(), "", "in case {name}");
     assert_eq!(rt; done.status, 0, "in case {name}");
     let tail = lines_from(alloc, done.written.as_slice(), outline.lines.as_str())?;
@@ -207,7 +214,11 @@ pub fn check_outline(rt: &impl Abort, alloc: Global, name: &str, text: &str) -> 
 }
 
 /// Checks each case of a text, which begins at a line `case NAME`.
-pub fn check_cases(rt: &impl Abort, alloc: Global, text: &str) -> Result<(), Fail> {
+pub fn check_cases(
+    rt: &(impl Abort + Threads + Wait + Sync),
+    alloc: Global,
+    text: &str,
+) -> Result<(), Fail> {
     for case in text.split("\ncase ").skip(1) {
         let (name, outline) = case.split_once('\n').ok_or("a case has no lines")?;
         check_outline(rt, alloc, name, outline)?;

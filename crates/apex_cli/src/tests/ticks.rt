@@ -229,7 +229,7 @@ fn ill_formed_ticks_are_usage_without_a_read(rt: HostRuntime) -> Result<(), Fail
     ] {
         // The first read fails, where there is one.
         let words = ["replay", "--schedule", schedule];
-        let done = run_with(rt.alloc(), &words, &table, 1, 0)?;
+        let done = run_with(&rt, rt.alloc(), &words, &table, 1, 0)?;
         assert_eq!(rt; done.status, 2, "at {schedule}");
         assert_eq!(rt; done.fault.as_str(), USAGE, "at {schedule}");
         assert_eq!(rt; done.failed_reads, 0, "at {schedule}");

@@ -4,7 +4,7 @@ use Rattle.std.proofs.lemmas.Result.{err_from_is_err_and}
 use Rattle.apex_cli.specs.declared.tasks.Task.{Task}
 use Rattle.apex_cli.specs.Exits.{checked}
 use Rattle.apex_cli.specs.Requests.{task_said}
-use Rattle.apex_cli.proofs.Endings.{ends_reported, ends_unasked}
+use Rattle.apex_cli.proofs.Endings.{ends_ran, ends_reported, ends_unasked}
 use Rattle.apex_cli.proofs.program.carry_out.Goals as goal
 
 pub returns-in_err-report : goal.returns-in_err-report
@@ -41,3 +41,15 @@ pub returns-in-Err : goal.returns-in-Err
 returns-in-Err g c =
     let asked = c.in_ok-report.ensures.ok ∙ ap (λ (task : Task). Some (task_said task)) c.in-Check.is in
     rw c.from.ensures (checked asked c.in-Err.ensures.ends c.in-Err.ensures.legal)
+
+pub returns-in_err-run_threads-in-Run : goal.returns-in_err-run_threads-in-Run
+returns-in_err-run_threads-in-Run g c =
+    let p = err_from_is_err_and c.from_residual-in_err-run_threads-in-Run.result
+    c.from_residual-in_err-run_threads-in-Run.ensures.1 in
+    let asked = c.in_ok-report.ensures.ok ∙ ap (λ (task : Task). Some (task_said task)) c.in-Run.is in
+    rw (p.1, p.2) (ends_ran _ asked c.in_err-run_threads-in-Run.ensures)
+
+pub returns-in_ok-run_threads-in-Run : goal.returns-in_ok-run_threads-in-Run
+returns-in_ok-run_threads-in-Run g c =
+    let asked = c.in_ok-report.ensures.ok ∙ ap (λ (task : Task). Some (task_said task)) c.in-Run.is in
+    ends_ran None asked c.in_ok-run_threads-in-Run.ensures

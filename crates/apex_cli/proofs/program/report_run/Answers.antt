@@ -1,4 +1,4 @@
-use Rattle.std.proofs.Common.{rules, ◌∙◌, ap, ap₂, sym, refl, Err, None, Some}
+use Rattle.std.proofs.Common.{rules, ◌∙◌, ap, sym, refl, None, Some}
 use Rattle.std.proofs.KnownBytes.{Keeps-refl}
 use Rattle.std.proofs.lemmas.Result.{err_from_is_err_and}
 use Rattle.apex_cli.specs.Reports.{answer_of}

@@ -1,0 +1,39 @@
+use Rattle.std.proofs.Common.{rules, ◌∙◌, ap, sym, refl}
+use Rattle.std.proofs.KnownBytes.{Keeps-refl}
+use Rattle.std.proofs.lemmas.Result.{err_from_is_err_and}
+use Rattle.apex_table.specs.Reading.{table_of}
+use Rattle.apex_cli.specs.Runs.{unwritten, written}
+use Rattle.apex_cli.proofs.RunEndings.{runs_refused, runs_unread}
+use Rattle.apex_cli.proofs.runs.run_threads.Goals as goal
+
+pub returns-in_err-text : goal.returns-in_err-text
+returns-in_err-text g c =
+    let p = err_from_is_err_and c.from_residual.result c.from_residual.ensures.1 in
+    rw (p.1, p.2) (runs_unread c.in_err-text.field-0.0
+    c.in_err-text.ensures.counted refl (Keeps-refl _))
+
+pub returns-in_err-ran : goal.returns-in_err-ran
+returns-in_err-ran g c =
+    let p = err_from_is_err_and c.from_residual-in_err-ran.result c.from_residual-in_err-ran.ensures.1 in
+    rw (p.1, p.2) (runs_refused c.in_ok-text.text.items c.in_err-ran.field-0.0
+    c.in_ok-text.ensures.bytes (search rules) (Keeps-refl _) (c.in_ok-text.ensures.counted, refl))
+
+pub returns-in-None : goal.returns-in-None
+returns-in-None g c =
+    let read = ap table_of (sym c.as_slice.ensures.value) ∙ c.in_ok-ran.ensures.table in
+    written c.in_ok-text.text.items _ _ c.in_ok-text.ensures.bytes read c.in_ok-ran.ensures.ran
+    (sym c.in-None.is ∙ c.in-Ok.ensures.fault ∙ c.in_ok-ran.ensures.fault)
+    c.in-Ok.ensures.ok (c.in_ok-text.ensures.counted, c.in-Ok.ensures.counted)
+
+pub returns-in-Ok : goal.returns-in-Ok
+returns-in-Ok g c =
+    let read = ap table_of (sym c.as_slice.ensures.value) ∙ c.in_ok-ran.ensures.table in
+    written c.in_ok-text.text.items _ _ c.in_ok-text.ensures.bytes read c.in_ok-ran.ensures.ran
+    (sym c.in-Some.is ∙ c.in-Ok.ensures.fault ∙ c.in_ok-ran.ensures.fault)
+    c.in-Ok.ensures.ok (c.in_ok-text.ensures.counted, c.in-Ok.ensures.counted)
+
+pub returns : goal.returns
+returns g c =
+    let read = ap table_of (sym c.as_slice.ensures.value) ∙ c.in_ok-ran.ensures.table in
+    unwritten c.in_ok-text.text.items _ _ c.in_ok-text.ensures.bytes read c.in_ok-ran.ensures.ran
+    c.in-Err.ensures.err (c.in_ok-text.ensures.counted, c.in-Err.ensures.counted)

@@ -1,0 +1,35 @@
+-- What threads share, and what each of them owns and gives back, may go to other threads, as a set for `search`.
+use denote.RattleType.{RattleType}
+use denote.Param.Send.{IsSend, IsSync, sendable}
+use Rattle.std.proofs.Crossing.{crosses as below}
+use Rattle.apex_receipts.specs.declared.naming.Naming.{Ghosts}
+use Rattle.apex_receipts.specs.contracts.receipts.Receipt as Receipt
+use Rattle.apex_receipts.proofs.Crossing.{crosses as receipts}
+use Rattle.apex_receipts.proofs.receipts.Receipt.TheSendSync as receipt
+use Rattle.apex_partition.proofs.partitions.Partition.TheSendSync as partition
+use Rattle.apex_partition.specs.contracts.locked.Locked as Locked
+use Rattle.apex_partition.specs.contracts.seats.Seat as Seat
+use Rattle.apex_partition.specs.contracts.seats.Ticker as Ticker
+use Rattle.apex_partition.specs.contracts.shared.Shared as Shared
+use Rattle.apex_cores.specs.contracts.cores.CoreReport as CoreReport
+
+module _ (P : RattleType) (g : Ghosts P.Denot) where
+  pub seat_send : IsSend P → IsSend (Seat.the_row P g)
+  seat_send s = search (sendable, below, receipts) depth 30 fits 20000
+
+  pub ticker_send : IsSend P → IsSend (Ticker.the_row P g)
+  ticker_send s = search (sendable, below, receipts) depth 30 fits 20000
+
+  locked_send : IsSend P → IsSend (Locked.the_row P g)
+  locked_send s = search (sendable, receipts, partition.the_send) depth 30 fits 20000
+
+  pub shared_sync : IsSend P → IsSync (Shared.the_row P g)
+  shared_sync s = search (sendable, below, locked_send) depth 30 fits 20000
+
+  receipt_send : IsSend P → IsSync P → IsSend (Receipt.the_row P g)
+  receipt_send s y = search (sendable, receipt.the_send) depth 20
+
+  pub report_send : IsSend P → IsSync P → IsSend (CoreReport.the_row P g)
+  report_send s y = search (sendable, below, seat_send, receipt_send) depth 30 fits 20000
+
+pub ruleset crosses = (seat_send, ticker_send, shared_sync)

@@ -1,0 +1,5 @@
+pub mod Counting
+pub mod Running
+pub mod Rows
+pub mod Closing
+pub mod Crossing

@@ -1,0 +1,3 @@
+pub mod Runs
+pub mod Threads
+pub mod Plans

@@ -1,0 +1,58 @@
+//! The worker of one core.
+ghost use Rattle.std.specs.Prelude.{◌≡◌, ◌<◌, MatchOption};
+ghost use Rattle.apex_cores.specs.Runs.{HasRun, IsLast};
+
+use crate::gates::{Gate, between_turns};
+use apex_partition::{Naming, Receipt, Seat, Shared};
+use crossbeam_utils::Backoff;
+use std::sync::Wait;
+
+/// What the worker of a core has done.
+#[derive(Drop)]
+pub struct CoreReport<P: Naming> {
+    /// The seat, with the entries of these turns.
+    pub seat: Seat<P>,
+    /// How many turns it made.
+    pub turns: u32,
+    /// The receipt of the last of them, if there was one.
+    pub last: Option<Receipt<P>>,
+    /// Whether a full history stopped it.
+    pub full: bool,
+}
+
+/// Takes so many turns of the seat's core, one after the other, and stops earlier only where the
+/// history is full. The work that a turn has begun is done at the gate before the next turn, and after
+/// an idle turn the worker backs off. Takes no memory, if the gate takes none.
+pub fn run_core<P: Naming, G: Gate, R: Wait>(
+    rt: &R,
+    shared: &Shared<P>,
+    seat: Seat<P>,
+    turns: u32,
+    gate: &G,
+) -> CoreReport<P>
+    ensures ran { HasRun seat turns result.seat result.turns result.full }
+    ensures last { MatchOption result.last (result.turns ≡ 0) (λ r. (0 < result.turns) × IsLast result.seat r) }
+{
+    let backoff = Backoff::new();
+    let core = seat.core();
+    let mut seat = seat;
+    let mut last = None;
+    for made in 0..turns {
+        let Ok(receipt) = shared.turn(rt, &mut seat) else {
+            return CoreReport {
+                seat,
+                turns: made,
+                last,
+                full: true,
+            };
+        };
+        between_turns(gate, &backoff, core, receipt.entry());
+        last = Some(receipt);
+    }
+    CoreReport {
+        seat,
+        turns,
+        last,
+        full: false,
+    }
+}

@@ -1,0 +1,10 @@
+//! What a run is to make.
+
+/// What a run is to make (this profile).
+#[derive(Clone, Copy, Debug, PartialEq, Eq)]
+pub struct RunPlan {
+    /// The turns of each core.
+    pub turns: u32,
+    /// The ticks of the ticker, each of 1.
+    pub ticks: u32,
+}
