@@ -19,7 +19,7 @@ use arrayvec::ArrayVec;
 use std::marker::Model;
 
 /// A buffer as its services see it.
-#[derive(Debug, Drop)]
+#[derive(Drop)]
 pub struct Buffer {
     longest: u8,
     capacity: u8,

@@ -5,7 +5,5 @@
 #![tactic(auto)]
 
 mod buffers;
-#[cfg(test)]
-mod tests;
 
 pub use buffers::Buffer;

@@ -2,12 +2,14 @@
 ghost use Rattle.std.specs.Prelude.{◌≡◌, ◌-◌, length, drop, IsTrue};
 
 use crate::faults::CaseFault;
+use crate::folds::unfolded;
 use crate::outlines::Outline;
 use crate::plays::played;
 use crate::reports::Report;
 use crate::rows::{Case, Row, Told, is_silent};
 use std::alloc::{AllocError, Global};
-use std::str;
+use std::sync::Wait;
+use std::thread::Threads;
 
 /// Whether a history ends in these lines, the first of which begins a line of it.
 fn ends_in(history: &[u8], lines: &[u8]) -> bool
@@ -25,44 +27,55 @@ fn first_word(line: &str) -> Option<&str> {
 }
 
 /// The lines of a history from that one on with which these lines begin.
-fn lines_from(alloc: Global, history: &[u8], lines: &str) -> Result<String, CaseFault> {
+fn lines_from(alloc: Global, history: &str, lines: &str) -> Result<String, AllocError> {
     let mut tail = String::new(alloc);
     let first = first_word(lines);
-    let history = str::from_utf8(history)?;
     for line in history.lines().skip_while(|line| first_word(line) != first) {
         writeln!(tail, "{line}")?;
     }
     Ok(tail)
 }
 
-/// How the history of a case differs from its lines; nothing where it does not.
-fn difference_in(alloc: Global, case: &Case<'_>) -> Result<Option<String>, CaseFault> {
-    let outline = Outline::read(alloc, case.outline)?;
+/// What is not as it should be of a case; nothing where all is.
+fn complaint_of<T: Threads + Wait + Sync>(
+    rt: &T,
+    alloc: Global,
+    case: &Case<'_>,
+) -> Result<Option<String>, CaseFault> {
+    let text = unfolded(alloc, case.outline)?;
+    let outline = Outline::read(alloc, text.as_str())?;
     let lines = outline.lines.as_str();
     if lines.is_empty() {
         return Err(CaseFault::NoLines);
     }
     let table = outline.table(alloc)?;
-    let played = played(alloc, table.as_str(), outline.schedule)?;
-    played.ended?;
-    let history = played.lines.as_slice();
-    if ends_in(history, lines.as_bytes()) {
+    let told = played(
+        rt,
+        alloc,
+        &["replay", "--schedule", outline.schedule],
+        table.as_str(),
+    )?;
+    let history = told.text.as_str();
+    let ends = told.status == 0 && ends_in(history.as_bytes(), lines.as_bytes());
+    if ends != outline.differs {
         return Ok(None);
     }
     let got = lines_from(alloc, history, lines)?;
-    Ok(Some(format!(in alloc; "expected\n{lines}but got\n{got}")?))
+    let status = told.status;
+    Ok(Some(format!(in alloc; "expected\n{lines}but got, with status {status},\n{got}")?))
 }
 
 /// Plays a case, and complains where its history is not as it should be.
-fn check_case(
+fn check_case<T: Threads + Wait + Sync>(
+    rt: &T,
     alloc: Global,
     report: &mut Report,
     row: &str,
     case: &Case<'_>,
 ) -> Result<(), AllocError> {
-    match difference_in(alloc, case) {
+    match complaint_of(rt, alloc, case) {
         Ok(None) => Ok(()),
-        Ok(Some(difference)) => report.complain(row, case.name, difference.as_str()),
+        Ok(Some(complaint)) => report.complain(row, case.name, complaint.as_str()),
         Err(fault) => {
             let fault = fault.to_string(alloc)?;
             report.complain(row, case.name, fault.as_str())
@@ -100,26 +113,36 @@ fn check_head(report: &mut Report, row: &Row<'_>) -> Result<(), AllocError> {
     report.complain(row.name, "effect", "the row has none")
 }
 
-fn check_row(alloc: Global, report: &mut Report, row: &Row<'_>) -> Result<(), AllocError> {
+fn check_row<T: Threads + Wait + Sync>(
+    rt: &T,
+    alloc: Global,
+    report: &mut Report,
+    row: &Row<'_>,
+) -> Result<(), AllocError> {
     check_head(report, row)?;
     for case in row.cases.iter() {
         if !row.tells(case.name) {
             report.complain(row.name, case.name, "no guard and no effect of the row")?;
         }
-        check_case(alloc, report, row.name, case)?;
+        check_case(rt, alloc, report, row.name, case)?;
     }
     report.count(row.name, row.cases.len())
 }
 
 /// Reports on all rows of the data.
-pub fn check_rows(alloc: Global, report: &mut Report, data: &str) -> Result<(), CaseFault> {
+pub fn check_rows<T: Threads + Wait + Sync>(
+    rt: &T,
+    alloc: Global,
+    report: &mut Report,
+    data: &str,
+) -> Result<(), CaseFault> {
     let mut parts = data.split("\nrow ");
     let before = parts.next().unwrap_or("");
     for line in before.lines().filter(|line| !is_silent(line)) {
         report.complain("before the first row", line, "no row")?;
     }
     for part in parts {
-        check_row(alloc, report, &Row::read(alloc, part)?)?;
+        check_row(rt, alloc, report, &Row::read(alloc, part)?)?;
     }
     report.total()?;
     Ok(())

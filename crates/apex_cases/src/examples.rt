@@ -1,24 +1,49 @@
 //! The examples: each table of a folder, with its cases in a file beside it.
 use crate::faults::CaseFault;
+use crate::folds::unfolded;
+use crate::plays::played;
 use crate::reports::Report;
 use crate::rows::{Case, cut_cases, is_silent};
 use crate::tellings::{Asked, difference_of};
 use std::alloc::{AllocGlobal, Global};
 use std::fs;
 use std::fs::Files;
+use std::sync::Wait;
+use std::thread::Threads;
 
-/// How a case of this table differs from what it tells; nothing where it does not.
-fn difference_in(alloc: Global, table: &str, case: &Case<'_>) -> Result<Option<String>, CaseFault> {
-    let asked = Asked::read(alloc, table, case.outline)?;
+/// What comes of a case.
+#[derive(Drop)]
+enum Verdict {
+    AsTold,
+    DiffersAsItMust,
+    /// What is not as it should be.
+    Wrong(String),
+}
+
+/// What comes of a case of this table.
+fn verdict_on<T: Threads + Wait + Sync>(
+    rt: &T,
+    alloc: Global,
+    table: &str,
+    case: &Case<'_>,
+) -> Result<Verdict, CaseFault> {
+    let text = unfolded(alloc, case.outline)?;
+    let asked = Asked::read(alloc, table, text.as_str())?;
     if asked.expected.text.as_str().is_empty() {
         return Err(CaseFault::NoLines);
     }
-    let told = asked.told(alloc)?;
-    Ok(difference_of(alloc, &asked.expected, &told)?)
+    let told = played(rt, alloc, asked.words.as_slice(), asked.table.as_str())?;
+    match difference_of(alloc, &asked.expected, &told)? {
+        None if asked.differs => Ok(Verdict::Wrong(format!(in alloc; "it must differ")?)),
+        None => Ok(Verdict::AsTold),
+        Some(_) if asked.differs => Ok(Verdict::DiffersAsItMust),
+        Some(difference) => Ok(Verdict::Wrong(difference)),
+    }
 }
 
 /// Plays a case, and tells whether it is as it should be.
-fn check_case(
+fn check_case<T: Threads + Wait + Sync>(
+    rt: &T,
     alloc: Global,
     report: &mut Report,
     example: &str,
@@ -26,9 +51,10 @@ fn check_case(
     case: &Case<'_>,
 ) -> Result<(), CaseFault> {
     report.histories = report.histories.saturating_add(1);
-    match difference_in(alloc, table, case) {
-        Ok(None) => report.confirm(example, case.name)?,
-        Ok(Some(difference)) => report.complain(example, case.name, difference.as_str())?,
+    match verdict_on(rt, alloc, table, case) {
+        Ok(Verdict::AsTold) => report.confirm(example, case.name, "as told")?,
+        Ok(Verdict::DiffersAsItMust) => report.confirm(example, case.name, "differs, as it must")?,
+        Ok(Verdict::Wrong(what)) => report.complain(example, case.name, what.as_str())?,
         Err(fault) => {
             let fault = fault.to_string(alloc)?;
             report.complain(example, case.name, fault.as_str())?;
@@ -38,7 +64,8 @@ fn check_case(
 }
 
 /// Plays the cases of an example's table.
-fn check_example(
+fn check_example<T: Threads + Wait + Sync>(
+    rt: &T,
     alloc: Global,
     report: &mut Report,
     example: &str,
@@ -54,13 +81,13 @@ fn check_example(
         report.complain(example, "cases", "there is none")?;
     }
     for case in cases.iter() {
-        check_case(alloc, report, example, table, case)?;
+        check_case(rt, alloc, report, example, table, case)?;
     }
     Ok(())
 }
 
 /// The names of a folder's files, in order.
-fn names_in<R: Files + AllocGlobal + Clone + Drop>(
+pub fn names_in<R: Files + AllocGlobal + Clone + Drop>(
     rt: &R,
     folder: &str,
 ) -> Result<Vec<String>, CaseFault> {
@@ -72,7 +99,8 @@ fn names_in<R: Files + AllocGlobal + Clone + Drop>(
     Ok(names)
 }
 
-fn text_of<R: Files + AllocGlobal>(
+/// The text of a file of the folder.
+pub fn text_of<R: Files + AllocGlobal>(
     rt: &R,
     folder: &str,
     example: &str,
@@ -84,7 +112,7 @@ fn text_of<R: Files + AllocGlobal>(
 
 /// Plays the cases of each table of the folder. A file `NAME.toml` is a table, and `NAME.cases` has
 /// its cases; neither may be there without the other one. Other files say nothing.
-pub fn check_examples<R: Files + AllocGlobal + Clone + Drop>(
+pub fn check_examples<R: Files + AllocGlobal + Threads + Wait + Sync + Clone + Drop>(
     rt: &R,
     report: &mut Report,
     folder: &str,
@@ -95,7 +123,14 @@ pub fn check_examples<R: Files + AllocGlobal + Clone + Drop>(
                 let table = text_of(rt, folder, example, "toml")?;
                 match text_of(rt, folder, example, "cases") {
                     Ok(cases) => {
-                        check_example(rt.alloc(), report, example, table.as_str(), cases.as_str())?;
+                        check_example(
+                            rt,
+                            rt.alloc(),
+                            report,
+                            example,
+                            table.as_str(),
+                            cases.as_str(),
+                        )?;
                     }
                     Err(_) => report.complain(example, "cases", "they cannot be read")?,
                 }

@@ -1,7 +1,5 @@
 //! Why a case was not played to its end.
 use apex_history::ReadFault;
-use apex_table::TableFault;
-use apex_types::Full;
 use std::alloc::{AllocError, AllocFailed};
 use std::io;
 use std::str::Utf8Error;
@@ -23,18 +21,17 @@ pub enum CaseFault {
     NoLines,
     #[error("no folder of examples")]
     NoFolder,
-    /// A line `edit` has no arrow, or its text is not in the table.
+    /// A line `edit` has no arrow, or its text or that of a line `at` is not in the table.
     #[error("no such edit")]
     Edit,
+    #[error("ill-formed reading")]
+    Reading,
     #[error("the status is no number")]
     Status,
-    #[error("table refused: {0}")]
-    Table(TableFault),
-    /// An item is ill-formed, or of a core that the table lacks.
-    #[error("ill-formed schedule")]
-    Schedule,
-    #[error("history full after {0} entries")]
-    Full(u32),
+    #[error("no words, or words twice")]
+    Words,
+    #[error("ill-formed fold")]
+    Fold,
 }
 
 impl From<AllocError> for CaseFault {
@@ -64,17 +61,5 @@ impl From<ReadFault> for CaseFault {
 impl From<Utf8Error> for CaseFault {
     fn from(_error: Utf8Error) -> CaseFault {
         CaseFault::Text
-    }
-}
-
-impl From<TableFault> for CaseFault {
-    fn from(fault: TableFault) -> CaseFault {
-        CaseFault::Table(fault)
-    }
-}
-
-impl From<Full> for CaseFault {
-    fn from(full: Full) -> CaseFault {
-        CaseFault::Full(full.entries)
     }
 }

@@ -6,23 +6,27 @@
 mod checks;
 mod examples;
 mod faults;
+mod folds;
 mod outlines;
 mod plays;
+mod readings;
 mod reports;
 mod rows;
-mod schedules;
 mod tellings;
 
 use apex_history::{Counted, Sink, Source, read_all};
 use checks::check_rows;
 use examples::check_examples;
 use faults::CaseFault;
+use readings::check_readings;
 use reports::Report;
 use std::alloc::{AllocGlobal, Global};
 use std::env::Env;
 use std::fs::Files;
 use std::io::Write;
 use std::process::ExitCode;
+use std::sync::Wait;
+use std::thread::Threads;
 use std::{env, io, str};
 
 /// The first argument: the folder of the examples.
@@ -33,31 +37,30 @@ fn folder_given<E: Env>(alloc: Global, env: &E) -> Result<String, CaseFault> {
 
 /// Plays the cases of a reader's text and of the examples, writes the report, and says whether all
 /// is as it should be.
-fn checked<R: Files + AllocGlobal + Clone + Drop, S: Source, W: Sink>(
+fn checked<R, S: Source, W: Sink>(
     rt: &R,
-    folder: &str,
+    folder: Result<String, CaseFault>,
     reader: &mut Counted<S>,
     writer: &mut Counted<W>,
-) -> Result<bool, CaseFault> {
-    let alloc = rt.alloc();
+) -> Result<bool, CaseFault>
+where
+    R: Files + AllocGlobal + Threads + Wait + Sync + Clone + Drop,
+{
+    let (alloc, folder) = (rt.alloc(), folder?);
     let bytes = read_all(alloc, reader)?;
     let mut report = Report::new(alloc);
-    check_rows(alloc, &mut report, str::from_utf8(bytes.as_slice())?)?;
-    check_examples(rt, &mut report, folder)?;
+    check_rows(rt, alloc, &mut report, str::from_utf8(bytes.as_slice())?)?;
+    check_examples(rt, &mut report, folder.as_str())?;
+    check_readings(rt, &mut report, folder.as_str())?;
     writer.write_all(report.text().as_bytes())?;
     Ok(report.is_clean())
 }
 
-/// Plays what standard input and the folder have, and says whether all is as it should be.
-fn is_as_told(rt: &HostRuntime) -> Result<bool, CaseFault> {
-    let folder = folder_given(rt.alloc(), rt)?;
-    let mut reader = Counted::new(rt.reader());
-    let mut writer = Counted::new(io::writer(rt));
-    checked(rt, folder.as_str(), &mut reader, &mut writer)
-}
-
 fn main(rt: HostRuntime) -> ExitCode {
-    match is_as_told(&rt) {
+    let mut reader = Counted::new(rt.reader());
+    let mut writer = Counted::new(io::writer(&rt));
+    let folder = folder_given(rt.alloc(), &rt);
+    match checked(&rt, folder, &mut reader, &mut writer) {
         Ok(true) => ExitCode::from(0),
         Ok(false) => ExitCode::from(1),
         Err(fault) => {

@@ -13,6 +13,8 @@ pub struct Outline<'a> {
     sections: String,
     /// The schedule's text.
     pub schedule: &'a str,
+    /// Whether the history must not end in these lines.
+    pub differs: bool,
     /// The last lines of the history, each with its line feed.
     pub lines: String,
 }
@@ -27,6 +29,7 @@ impl<'a> Outline<'a> {
             init: String::new(alloc),
             sections: String::new(alloc),
             schedule: "",
+            differs: false,
             lines: String::new(alloc),
         };
         for line in text.lines().filter(|line| !is_silent(line)) {
@@ -44,6 +47,7 @@ impl<'a> Outline<'a> {
                 put_steps(&mut self.init, steps)?;
             }
             ("schedule", schedule) => self.schedule = schedule,
+            ("differs", "") => self.differs = true,
             ("process", process) => put_process(&mut self.sections, process)?,
             (kind, words) => match keys_of(kind) {
                 [] => writeln!(self.lines, "{line}")?,

@@ -51,14 +51,21 @@ impl Report {
         writeln!(self.text, "{row}: {cases} {noun}")
     }
 
-    /// Tells that a case of an example is as it should be.
-    pub fn confirm(&mut self, example: &str, case: &str) -> Result<(), AllocError>
+    /// Tells how a case of an example is as it should be.
+    pub fn confirm(&mut self, example: &str, case: &str, how: &str) -> Result<(), AllocError>
         ensures { self.new.is_clean ≡ self.old.is_clean }
     {
-        writeln!(self.text, "{example}: {case}: as told")
+        writeln!(self.text, "{example}: {case}: {how}")
     }
 
-    /// Tells of a guard, an effect or a case what is not as it should be.
+    /// Tells how many readings of an example's table are as told.
+    pub fn count_readings(&mut self, example: &str, readings: usize) -> Result<(), AllocError>
+        ensures { self.new.is_clean ≡ self.old.is_clean }
+    {
+        writeln!(self.text, "{example}: {readings} readings as told")
+    }
+
+    /// Tells of a guard, an effect, a case or a reading what is not as it should be.
     pub fn complain(&mut self, row: &str, told: &str, what: &str) -> Result<(), AllocError>
         ensures { self.new.is_clean ≡ false }
     {

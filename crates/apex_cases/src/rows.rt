@@ -28,7 +28,7 @@ pub struct Row<'a> {
 }
 
 /// The first line of a text, and the rest.
-fn cut_line(text: &str) -> (&str, &str) {
+pub fn cut_line(text: &str) -> (&str, &str) {
     text.split_once('\n').unwrap_or((text, ""))
 }
 

@@ -1,27 +1,21 @@
-//! A case of an example: the table's edits, the schedule, and all that `apex` tells of it.
+//! A case of an example: the table's edits, the words, and all that `apex` tells of it.
 ghost use Rattle.std.specs.Prelude.{◌≡◌, IfOk, IsNone, string_bytes};
 
 use crate::faults::CaseFault;
-use crate::plays::{Outcome, played};
+use crate::plays::Telling;
 use crate::rows::is_silent;
 use std::alloc::{AllocError, Global};
-use std::str;
-
-/// What the program `apex` tells: its lines on standard output, then the one on standard error where
-/// there is one, and its status.
-#[derive(Drop)]
-pub struct Telling {
-    pub text: String,
-    pub status: u8,
-}
 
 /// What a case of an example asks for, and what is to be told.
 #[derive(Drop)]
 pub struct Asked<'a> {
     /// The example's table, with the case's edits.
     pub table: String,
-    pub schedule: &'a str,
+    /// The words behind the program's name.
+    pub words: Vec<&'a str>,
     pub expected: Telling,
+    /// Whether something else must be told.
+    pub differs: bool,
 }
 
 /// The table with `OLD -> NEW` done wherever the old text stands; `Edit` where it stands nowhere.
@@ -38,14 +32,18 @@ impl<'a> Asked<'a> {
     pub fn read(alloc: Global, table: &str, lines: &'a str) -> Result<Asked<'a>, CaseFault> {
         let mut asked = Asked {
             table: String::from_str(alloc, table)?,
-            schedule: "",
+            words: Vec::new(alloc),
             expected: Telling {
                 text: String::new(alloc),
                 status: 0,
             },
+            differs: false,
         };
         for line in lines.lines().filter(|line| !is_silent(line)) {
             asked.put(alloc, line)?;
+        }
+        if asked.words.is_empty() {
+            return Err(CaseFault::Words);
         }
         Ok(asked)
     }
@@ -53,35 +51,24 @@ impl<'a> Asked<'a> {
     fn put(&mut self, alloc: Global, line: &'a str) -> Result<(), CaseFault> {
         match line.split_once(' ').unwrap_or((line, "")) {
             ("edit", edit) => self.table = edited(alloc, self.table.as_str(), edit)?,
-            ("schedule", schedule) => self.schedule = schedule,
+            ("schedule", schedule) => self.ask(&["replay", "--schedule", schedule])?,
+            ("listing", schedule) => self.ask(&["status", "--schedule", schedule])?,
             ("status", status) => {
                 self.expected.status = status.parse::<u8>().map_err(|_| CaseFault::Status)?;
             }
+            ("differs", "") => self.differs = true,
             _ => writeln!(self.expected.text, "{line}")?,
         }
         Ok(())
     }
 
-    /// What the program `apex` tells where it is asked for this case.
-    pub fn told(&self, alloc: Global) -> Result<Telling, CaseFault> {
-        let mut text = String::new(alloc);
-        let ended = match played(alloc, self.table.as_str(), self.schedule) {
-            Ok(Outcome { lines, ended }) => {
-                text.push_str(str::from_utf8(lines.as_slice())?)?;
-                ended
-            }
-            Err(fault) => Err(fault),
-        };
-        let Err(fault) = ended else {
-            return Ok(Telling { text, status: 0 });
-        };
-        let status = match fault {
-            CaseFault::Table(_) => 3,
-            CaseFault::Full(_) => 4,
-            fault => return Err(fault),
-        };
-        writeln!(text, "apex: {fault}")?;
-        Ok(Telling { text, status })
+    /// Asks for these words, and `Words` where some were asked for before.
+    fn ask(&mut self, words: &[&'a str]) -> Result<(), CaseFault> {
+        if !self.words.is_empty() {
+            return Err(CaseFault::Words);
+        }
+        self.words.extend_from_slice(words)?;
+        Ok(())
     }
 }
 

@@ -8,7 +8,7 @@ use Rattle.apex_types.specs.declared.Event.TheVariants.{Turn, Tick}
 use Rattle.apex_dispatch.specs.Events.{IsWithin}
 use Rattle.apex_history.specs.declared.LineFault.TheVariants.{BadLine, TooLong}
 use Rattle.apex_history.specs.ReadLines as words
-use Rattle.apex_history.specs.ReadLines.{turn_named, tick_named, either_event, line_result, or_bad_line}
+use Rattle.apex_history.specs.ReadLines.{turn_named, tick_named, either_event, or_bad_line}
 use Rattle.apex_history.specs.Words.{parts, core_of, ticks_of}
 use Rattle.apex_check.specs.Histories.{event_named, of_cores}
 

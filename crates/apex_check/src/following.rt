@@ -21,7 +21,7 @@ use apex_store::PlainStore;
 use apex_types::{Entry, Event, Full};
 
 /// How the machine's line for an event compares with a line.
-#[derive(Debug, Drop)]
+#[derive(Drop)]
 pub(crate) enum Answer {
     Same,
     /// The machine's entry is this one.

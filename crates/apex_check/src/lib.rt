@@ -5,8 +5,6 @@ mod checking;
 mod following;
 mod pending;
 mod tables;
-#[cfg(test)]
-mod tests;
 mod verdicts;
 
 pub use checking::check;

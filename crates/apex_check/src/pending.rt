@@ -15,7 +15,7 @@ use std::marker::Model;
 const LINE_ROOM: usize = 4096;
 
 /// What comes next in a text.
-#[derive(Clone, Copy, Debug, PartialEq, Eq)]
+#[derive(Clone, Copy, PartialEq, Eq)]
 pub(crate) enum Next {
     /// A line of so many bytes, and its line feed.
     Line(usize),

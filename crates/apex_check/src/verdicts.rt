@@ -14,7 +14,7 @@ use std::alloc::AllocError;
 use thiserror::Error;
 
 /// What a text's history is.
-#[derive(Debug, Drop)]
+#[derive(Drop)]
 pub enum Verdict {
     /// It has so many lines, and each is the machine's.
     Legal(u32),

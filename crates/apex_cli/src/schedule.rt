@@ -10,7 +10,7 @@ use apex_types::{CoreId, number_at_most};
 use std::alloc::Global;
 
 /// An item of a schedule.
-#[derive(Clone, Copy, Debug, PartialEq, Eq)]
+#[derive(Clone, Copy, PartialEq, Eq)]
 pub enum Item {
     /// So many turns of a core.
     Turns {

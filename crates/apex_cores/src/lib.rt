@@ -8,8 +8,6 @@ mod gates;
 mod plans;
 mod pool;
 mod runs;
-#[cfg(test)]
-mod tests;
 mod ticking;
 
 pub use cores::{CoreReport, run_core};

@@ -1,7 +1,7 @@
 //! What a run is to make.
 
 /// What a run is to make (this profile).
-#[derive(Clone, Copy, Debug, PartialEq, Eq)]
+#[derive(Clone, Copy, PartialEq, Eq)]
 pub struct RunPlan {
     /// The turns of each core.
     pub turns: u32,

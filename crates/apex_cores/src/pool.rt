@@ -87,7 +87,7 @@ fn start_ticker<'s, E, P: Naming + Send + Sync, R: Threads + Wait + Sync>(
     }
 }
 
-/// Starts the worker of each core, one after the other. Where a thread is refused it starts no more.
+/// Starts the worker of each core, one after the other. Where a thread is refused, it starts no other.
 fn start_cores<'s, E, P: Naming + Send + Sync, G: Gate + Sync, R: Threads + Wait + Sync>(
     rt: &'s R,
     scope: &'s Scope<'s, E>,

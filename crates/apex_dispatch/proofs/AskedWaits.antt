@@ -225,7 +225,7 @@ module _ (Lacks : Wait → Type 0) (queue : Queue) where
   held_nobody roster none p w waits is =
       absurd (both_ways _ (none p) (waits_in_queue queue (record_at roster p) w waits is))
 
--- who has what it waited for waits no more
+-- who has what it waited for no longer waits
 pub frees_granted : (message : Option Message) (roster : Roster) (p : ℕ) → Frees roster (granted message roster p).roster
 frees_granted None roster p = frees_unblock roster p
 frees_granted (Some message) roster p =

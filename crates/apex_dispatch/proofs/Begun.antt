@@ -8,7 +8,8 @@ use Rattle.apex_types.specs.declared.Queue.TheVariants as queues
 use Rattle.apex_types.specs.PartitionServices.{first_to_start, begin_waiter, delay_of, enter_normal}
 use Rattle.apex_types.specs.Roster.{Roster, record_at, is_normal}
 use Rattle.apex_types.specs.Stamps.{HasOrderlyStarts, set_mode}
-use Rattle.apex_types.proofs.Reaches.{Reaches, reaches_then, reaches_more, reaches_begin, reaches_set_mode, reaches_in_turn, mode_begin}
+use Rattle.apex_types.proofs.Reaches.{Reaches, reaches_then, reaches_more, reaches_begin, reaches_in_turn}
+use Rattle.apex_types.proofs.Modes.{mode_begin, reaches_set_mode}
 use Rattle.apex_types.proofs.Starts.{first_awaits, first_stands, first_within, queued_started}
 
 -- while the starts begin, the mode is NORMAL and starts are in order

@@ -31,7 +31,8 @@ use Rattle.apex_types.proofs.Dues.{due_later, from_now}
 use Rattle.apex_types.proofs.Handovers.{reaches_halted}
 use Rattle.apex_types.proofs.InTurn.{holds_in_turn}
 use Rattle.apex_types.proofs.Periods.{release_later, release_whole}
-use Rattle.apex_types.proofs.Reaches.{arrives_of, reaches_await_release, reaches_set_deadline, reaches_suspend_self, reaches_place_newest, reaches_enter_idle}
+use Rattle.apex_types.proofs.Reaches.{arrives_of, reaches_await_release, reaches_set_deadline, reaches_suspend_self, reaches_place_newest}
+use Rattle.apex_types.proofs.Modes.{reaches_enter_idle}
 use Rattle.apex_types.proofs.Rows.{by_guard, by_caller}
 use Rattle.apex_dispatch.specs.AskedWaits.{awaited}
 use Rattle.apex_dispatch.proofs.Begun.{reach_enter_normal}

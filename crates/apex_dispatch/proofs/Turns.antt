@@ -21,7 +21,8 @@ use Rattle.apex_types.specs.Stamps.{WaitsForOne, HasOrderlyStarts, is_by_itself,
 use Rattle.apex_types.specs.Table.{Table, ProcessConfig, no_process, process_config, IsLawful, IsKnown}
 use Rattle.apex_types.specs.Works.{is_turn_of, work_begun}
 use Rattle.apex_types.proofs.Periods.{HasSomeTicks}
-use Rattle.apex_types.proofs.Reaches.{Arrives, Reaches, arrives_of, arrives_then, normal_late, reaches_more, reaches_none, reaches_set_step, started_step}
+use Rattle.apex_types.proofs.Reaches.{Arrives, Reaches, arrives_of, arrives_then, reaches_more, reaches_none, reaches_set_step, started_step}
+use Rattle.apex_types.proofs.Modes.{normal_late}
 use Rattle.apex_types.proofs.Starts.{chosen_core, chosen_ready, ready_step, runnable}
 use Rattle.apex_dispatch.specs.AskedWaits.{asked_of, or_suspended, awaited}
 use Rattle.apex_dispatch.proofs.AskedWaits.{Frees, asks_freed, asks_later, frees_moved, frees_none}

@@ -7,8 +7,6 @@ mod laws;
 mod listing;
 mod objects;
 mod services;
-#[cfg(test)]
-mod tests;
 mod ticks;
 mod waiters;
 mod works;

@@ -21,7 +21,7 @@ use std::io::Result;
 use std::marker::Model;
 
 /// The sections of the listing, in their order.
-#[derive(Clone, Copy, Debug, PartialEq, Eq)]
+#[derive(Clone, Copy, PartialEq, Eq)]
 pub(crate) enum Section {
     Time,
     Mode,

@@ -16,7 +16,7 @@ use apex_types::{
 use std::marker::Model;
 
 /// A blackboard as its services see it.
-#[derive(Clone, Copy, Debug)]
+#[derive(Clone, Copy)]
 pub struct Blackboard {
     longest: u8,
     created: bool,

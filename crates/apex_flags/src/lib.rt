@@ -7,8 +7,6 @@
 
 mod blackboards;
 mod events;
-#[cfg(test)]
-mod tests;
 
 pub use blackboards::Blackboard;
 pub use events::Event;

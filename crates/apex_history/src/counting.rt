@@ -65,7 +65,7 @@ impl<R: Source> Read for Counted<R> {
         ensures given { 0 < reads_left_of self.old
             → R.gives (inner_of self.old) buf.old result buf.new (inner_of self.new) }
 
-        // No read is let through any more.
+        // No further read is let through.
         ensures spent { reads_left_of self.old ≡ 0 → IsErr result }
         ensures unasked { reads_left_of self.old ≡ 0 → inner_of self.new ≡ inner_of self.old }
     {

@@ -30,6 +30,3 @@ pub use sources::{Sink, Source};
 pub use status::{gather_row, print_row};
 pub use status_rows::StatusRow;
 pub use words::{Ticks, cut, read_core, read_ticks};
-
-#[cfg(test)]
-mod tests;

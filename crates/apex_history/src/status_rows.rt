@@ -7,7 +7,7 @@ use apex_types::{
 
 /// One line of the status listing (this profile). Those who wait stand in the order of their queue,
 /// 32 at the most.
-#[derive(Clone, Copy, Debug, Drop)]
+#[derive(Clone, Copy, Drop)]
 pub enum StatusRow<'a> {
     /// The time in ticks.
     Time(u64),

@@ -8,7 +8,7 @@ use apex_types::{CoreId, number_at_most};
 use std::marker::Model;
 
 /// So many ticks of time, 1 to 1,048,576.
-#[derive(Clone, Copy, Debug, PartialEq, Eq)]
+#[derive(Clone, Copy, PartialEq, Eq)]
 pub struct Ticks {
     count: u32,
 }

@@ -5,7 +5,5 @@
 #![tactic(auto)]
 
 mod mutexes;
-#[cfg(test)]
-mod tests;
 
 pub use mutexes::Mutex;

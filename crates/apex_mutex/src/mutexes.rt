@@ -17,7 +17,7 @@ use apex_types::{
 use std::marker::Model;
 
 /// A mutex as its services see it.
-#[derive(Clone, Copy, Debug)]
+#[derive(Clone, Copy)]
 pub struct Mutex {
     created: bool,
 }

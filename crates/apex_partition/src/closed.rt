@@ -71,7 +71,7 @@ impl<P: Naming> Closed<P> {
         self.partition.stays_within();
     }
 
-    /// The partition itself, which is named after nothing any more.
+    /// The partition itself, which is no longer named after anything.
     pub fn into_partition(self) -> Partition
         ensures table { result.table ≡ P.table }
         ensures history { result.machine.history ≡ self }

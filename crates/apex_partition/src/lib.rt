@@ -7,8 +7,6 @@ mod opening;
 mod partitions;
 mod seats;
 mod shared;
-#[cfg(test)]
-mod tests;
 
 pub use apex_receipts::{Naming, Opened, Receipt};
 pub use closed::Closed;

@@ -10,8 +10,6 @@ mod receipts;
 mod scribes;
 mod speakers;
 mod stories;
-#[cfg(test)]
-mod tests;
 mod voices;
 
 pub use naming::Naming;

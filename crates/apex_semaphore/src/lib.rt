@@ -5,7 +5,5 @@
 #![tactic(auto)]
 
 mod semaphores;
-#[cfg(test)]
-mod tests;
 
 pub use semaphores::Semaphore;

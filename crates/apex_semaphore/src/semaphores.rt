@@ -16,7 +16,7 @@ use apex_types::{
 use std::marker::Model;
 
 /// A semaphore as its services see it.
-#[derive(Clone, Copy, Debug)]
+#[derive(Clone, Copy)]
 pub struct Semaphore {
     maximum: u16,
     created: bool,

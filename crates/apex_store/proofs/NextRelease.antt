@@ -1,7 +1,7 @@
 -- The next release of a periodic process, as its law says it and as code computes it.
-use Rattle.std.proofs.Common.{◌≡◌, ℕ, ◌≤◌, Some, subst}
+use Rattle.std.proofs.Common.{◌≡◌, ℕ, ◌≤◌, subst}
 use Rattle.std.proofs.lemmas.Option.{same_Some}
-use Rattle.apex_types.specs.Periods.{next_release, release_after}
+use Rattle.apex_types.specs.Periods.{next_release}
 use Rattle.apex_types.specs.Roster.{Roster, record_at}
 use Rattle.apex_types.proofs.Periods.{next_later, next_least, next_once}
 use Rattle.apex_store.specs.Laws.{IsNextRelease, NextReleaseIsLeast}

@@ -1,3 +1,2 @@
 pub mod Terms
 pub mod Laws
-pub mod Opened

@@ -13,8 +13,6 @@ mod periods;
 mod plain_store;
 mod scan;
 mod store;
-#[cfg(test)]
-mod tests;
 mod waiting;
 mod waking;
 

@@ -127,7 +127,7 @@ pub trait Store: Drop {
         requires stamps { stamps.HasStamps (roster self.old) }
         ensures { roster self.new ≡ stamps.suspend_self (roster self.old) process due };
 
-    /// The process is suspended no more: one that suspended itself wakes, another one's wait goes on.
+    /// The process is no longer suspended: one that suspended itself wakes, another one's wait goes on.
     fn resume(&mut self, process: ProcessId)
         requires known { process < length (roster self.old).records }
         requires stamps { stamps.HasStamps (roster self.old) }

@@ -8,7 +8,7 @@ use apex_types::{Attributes, Call, CoreId, Discipline, Name, Step};
 use std::marker::Model;
 
 /// A process as the table gives it (ARINC 653 Part 1, process management).
-#[derive(Debug, Drop)]
+#[derive(Drop)]
 pub struct ProcessConfig {
     name: Name,
     attributes: Attributes,
@@ -105,7 +105,7 @@ impl ProcessConfig {
 }
 
 /// A semaphore as the table gives it (ARINC 653 Part 1, semaphores).
-#[derive(Debug, Drop)]
+#[derive(Drop)]
 pub struct SemaphoreConfig {
     name: Name,
     maximum: u16,
@@ -167,7 +167,7 @@ impl SemaphoreConfig {
 }
 
 /// A buffer as the table gives it (ARINC 653 Part 1, buffers).
-#[derive(Debug, Drop)]
+#[derive(Drop)]
 pub struct BufferConfig {
     name: Name,
     length: u8,
@@ -224,7 +224,7 @@ impl BufferConfig {
 }
 
 /// A blackboard as the table gives it (ARINC 653 Part 1, blackboards).
-#[derive(Debug, Drop)]
+#[derive(Drop)]
 pub struct BlackboardConfig {
     name: Name,
     length: u8,
@@ -260,7 +260,7 @@ impl BlackboardConfig {
 }
 
 /// An event as the table gives it (ARINC 653 Part 1, events).
-#[derive(Debug, Drop)]
+#[derive(Drop)]
 pub struct EventConfig {
     name: Name,
 }
@@ -288,7 +288,7 @@ impl EventConfig {
 }
 
 /// A mutex as the table gives it (ARINC 653 Part 1, mutexes).
-#[derive(Debug, Drop)]
+#[derive(Drop)]
 pub struct MutexConfig {
     name: Name,
     ceiling: u8,

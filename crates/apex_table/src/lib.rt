@@ -28,6 +28,3 @@ pub use configs::{
 pub use fault::{Place, Section, TableFault};
 pub use reading::read_table;
 pub use table::Table;
-
-#[cfg(test)]
-mod tests;

@@ -15,7 +15,7 @@ use std::alloc::Global;
 use std::marker::Model;
 
 /// The objects of a table, kind by kind.
-#[derive(Debug, Drop)]
+#[derive(Drop)]
 pub struct Objects {
     pub semaphores: Vec<SemaphoreConfig>,
     pub buffers: Vec<BufferConfig>,

@@ -15,7 +15,7 @@ use apex_types::{
 use std::marker::Model;
 
 /// A partition's table. By its type every range and every reference in it holds.
-#[derive(Debug, Drop)]
+#[derive(Drop)]
 pub struct Table {
     cores: u8,
     limit: u32,

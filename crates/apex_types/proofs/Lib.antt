@@ -8,6 +8,7 @@ pub mod Starts
 pub mod Owners
 pub mod Periods
 pub mod Reaches
+pub mod Modes
 pub mod Rows
 pub mod Dues
 pub mod Digits

@@ -1,5 +1,5 @@
 -- The status listing of a machine, and the order in which processes wait (this profile).
-use Rattle.std.specs.Prelude.{ℕ, zero, suc, Bool, List, [], ◌∷◌, ◌++◌, length, Option, None, Some, slice_index_or, if◌then◌else◌}
+use Rattle.std.specs.Prelude.{ℕ, zero, suc, List, [], ◌∷◌, ◌++◌, length, Option, None, Some, slice_index_or, if◌then◌else◌}
 use Rattle.apex_types.specs.Terms.{Queue}
 use Rattle.apex_types.specs.declared.records.Queue.TheVariants as queues
 use Rattle.apex_types.specs.Table.{Table}
@@ -13,7 +13,7 @@ use Rattle.apex_types.specs.SemaphoreServices.{SemaphoreObject, semaphore_kind}
 use Rattle.apex_types.specs.BufferServices.{BufferObject, buffer_kind}
 use Rattle.apex_types.specs.BlackboardServices.{BlackboardObject, blackboard_kind}
 use Rattle.apex_types.specs.EventServices.{EventObject, event_kind}
-use Rattle.apex_types.specs.MutexServices.{MutexObject, mutex_kind}
+use Rattle.apex_types.specs.MutexServices.{mutex_kind}
 use Rattle.apex_types.specs.Machine.{Machine, Objects, objects_after}
 use Rattle.apex_types.specs.Status.{time_line, mode_line, history_line, core_line, process_line, semaphore_line, buffer_line, blackboard_line, event_line, mutex_line}
 

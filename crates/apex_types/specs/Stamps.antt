@@ -121,11 +121,11 @@ self_suspended r due = record r { suspended = Some Itself; wait = None; due = du
 abbrev pub suspend_self : Roster → ℕ → Option ℕ → Roster
 suspend_self roster p due = newest roster p (self_suspended (record_at roster p) due)
 
--- a process suspended no more; its wait goes on
+-- a process that is no longer suspended; its wait goes on
 abbrev pub unsuspended : Record → Record
 unsuspended r = record r { suspended = None }
 
--- the process is suspended no more: one that suspended itself wakes, another one's wait goes on
+-- the process is no longer suspended: one that suspended itself wakes, another one's wait goes on
 abbrev pub resume : Roster → ℕ → Roster
 resume roster p =
     let r = record_at roster p in
@@ -166,16 +166,16 @@ place_newest roster p = newest roster p (record_at roster p)
 abbrev pub advance_to : Roster → ℕ → Roster
 advance_to roster t = record roster { now = t }
 
--- the process has no due any more
+-- the process no longer has a due
 abbrev pub without_due : Roster → ℕ → Roster
 without_due roster p = with_record roster p (record (record_at roster p) { due = None })
 
--- where there is such a process it has no due any more
+-- where there is such a process it no longer has a due
 abbrev pub without_due_of : Roster → Option ℕ → Roster
 without_due_of roster None = roster
 without_due_of roster (Some p) = without_due roster p
 
--- the first process whose due is now has it no more
+-- the first process whose due is now no longer has it
 abbrev pub take_due : Roster → Roster
 take_due roster = without_due_of roster (first_due roster)
 
@@ -183,12 +183,12 @@ take_due roster = without_due_of roster (first_due roster)
 abbrev pub set_deadline : Roster → ℕ → Option ℕ → Roster
 set_deadline roster p deadline = with_record roster p (record (record_at roster p) { deadline = deadline })
 
--- where there is such a process it has no deadline any more
+-- where there is such a process it no longer has a deadline
 abbrev pub without_deadline_of : Roster → Option ℕ → Roster
 without_deadline_of roster None = roster
 without_deadline_of roster (Some p) = set_deadline roster p None
 
--- the first process whose deadline is now has it no more
+-- the first process whose deadline is now no longer has it
 abbrev pub take_missed : Roster → Roster
 take_missed roster = without_deadline_of roster (first_missed roster)
 

@@ -1,5 +1,5 @@
 -- The lines of the status listing, each from its plain parts (this profile).
-use Rattle.std.specs.Prelude.{ℕ, List, [], ◌∷◌, ◌++◌, flat_map, Option, None, Some, option_map, Bool, codes, decimal, if◌then◌else◌}
+use Rattle.std.specs.Prelude.{ℕ, List, [], ◌∷◌, ◌++◌, flat_map, Option, None, Some, Bool, codes, decimal, if◌then◌else◌}
 use Rattle.apex_types.specs.Terms.{Holding, Message, Mode, Record, State, Suspender, Wait}
 use Rattle.apex_types.specs.declared.records.Mode.TheVariants.{Idle, ColdStart, Normal}
 use Rattle.apex_types.specs.declared.records.State.TheVariants.{Dormant, Ready, Running, Waiting}

@@ -40,7 +40,7 @@ wait_over roster p (Some Start) = released roster p
 wait_over roster p (Some Period) = released roster p
 wait_over roster p _ = woken roster p TimedOut
 
--- process p, whose due is now, has it no more, and its wait ends
+-- process p, whose due is now, no longer has it, and its wait ends
 abbrev pub serve_due : Roster → ℕ → Changed
 serve_due roster p = wait_over (without_due roster p) p (record_at roster p).wait
 
@@ -53,7 +53,7 @@ abbrev pub miss : Roster → ℕ → DeadlineType → Changed
 miss roster p Soft = unchanged roster
 miss roster p Hard = halted roster p
 
--- process p, whose deadline is now, has it no more, and is told that it missed it
+-- process p, whose deadline is now, no longer has it, and is told that it missed it
 abbrev pub serve_missed : Roster → ℕ → Changed
 serve_missed roster p =
     let kind = (record_at roster p).attributes.deadline in

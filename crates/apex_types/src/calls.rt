@@ -6,7 +6,7 @@ use crate::identifiers::{BlackboardId, BufferId, EventId, MutexId, ProcessId, Se
 use crate::spans::Span;
 
 /// How long a call may wait.
-#[derive(Clone, Copy, Debug, PartialEq, Eq)]
+#[derive(Clone, Copy, PartialEq, Eq)]
 pub enum Timeout {
     /// Not at all: `0`.
     Poll,
@@ -17,14 +17,14 @@ pub enum Timeout {
 }
 
 /// The mode that SET_PARTITION_MODE asks for.
-#[derive(Clone, Copy, Debug, PartialEq, Eq)]
+#[derive(Clone, Copy, PartialEq, Eq)]
 pub enum RequestedMode {
     Idle,
     Normal,
 }
 
 /// A call of a service of partition management.
-#[derive(Clone, Copy, Debug, PartialEq, Eq)]
+#[derive(Clone, Copy, PartialEq, Eq)]
 pub enum PartitionCall {
     SetPartitionMode(RequestedMode),
     GetPartitionStatus,
@@ -57,7 +57,7 @@ impl Default for Message {
 }
 
 /// A thing by the name that a step gives, which need not be an entry's.
-#[derive(Clone, Copy, Debug, PartialEq, Eq)]
+#[derive(Clone, Copy, PartialEq, Eq)]
 pub enum Named<I> {
     Known(I),
     /// No entry has the name. It is the literal of the step that stands there.
@@ -65,7 +65,7 @@ pub enum Named<I> {
 }
 
 /// A call about one thing of a kind: the three services that each kind has, and those of its own.
-#[derive(Clone, Copy, Debug, PartialEq, Eq)]
+#[derive(Clone, Copy, PartialEq, Eq)]
 pub enum ObjectCall<I, W> {
     Create(Named<I>),
     GetId(Named<I>),
@@ -119,7 +119,7 @@ impl<I: Copy, W> ObjectCall<I, W> {
 }
 
 /// A service for a process that is named, but for the three that each kind has.
-#[derive(Clone, Copy, Debug, PartialEq, Eq)]
+#[derive(Clone, Copy, PartialEq, Eq)]
 pub enum ProcessService {
     /// The core is any number from 0 to 255: the service tests it.
     InitializeCoreAffinity(u8),
@@ -137,7 +137,7 @@ pub enum ProcessService {
 pub type ProcessCall = ObjectCall<ProcessId, ProcessService>;
 
 /// A call of a service of process management that a process asks for itself.
-#[derive(Clone, Copy, Debug, PartialEq, Eq)]
+#[derive(Clone, Copy, PartialEq, Eq)]
 pub enum CallerCall {
     StopSelf,
     SuspendSelf(Timeout),
@@ -146,7 +146,7 @@ pub enum CallerCall {
 }
 
 /// A call of a service of time management.
-#[derive(Clone, Copy, Debug, PartialEq, Eq)]
+#[derive(Clone, Copy, PartialEq, Eq)]
 pub enum TimeCall {
     TimedWait(Timeout),
     PeriodicWait,
@@ -156,7 +156,7 @@ pub enum TimeCall {
 }
 
 /// A service of semaphores, but for the three that each kind has.
-#[derive(Clone, Copy, Debug, PartialEq, Eq)]
+#[derive(Clone, Copy, PartialEq, Eq)]
 pub enum SemaphoreService {
     Wait(Timeout),
     Signal,
@@ -166,7 +166,7 @@ pub enum SemaphoreService {
 pub type SemaphoreCall = ObjectCall<SemaphoreId, SemaphoreService>;
 
 /// A service of buffers, but for the three that each kind has.
-#[derive(Clone, Copy, Debug, PartialEq, Eq)]
+#[derive(Clone, Copy, PartialEq, Eq)]
 pub enum BufferService {
     Send(Message, Timeout),
     Receive(Timeout),
@@ -176,7 +176,7 @@ pub enum BufferService {
 pub type BufferCall = ObjectCall<BufferId, BufferService>;
 
 /// A service of blackboards, but for the three that each kind has.
-#[derive(Clone, Copy, Debug, PartialEq, Eq)]
+#[derive(Clone, Copy, PartialEq, Eq)]
 pub enum BlackboardService {
     Display(Message),
     Read(Timeout),
@@ -187,7 +187,7 @@ pub enum BlackboardService {
 pub type BlackboardCall = ObjectCall<BlackboardId, BlackboardService>;
 
 /// A service of events, but for the three that each kind has.
-#[derive(Clone, Copy, Debug, PartialEq, Eq)]
+#[derive(Clone, Copy, PartialEq, Eq)]
 pub enum EventService {
     Set,
     Reset,
@@ -198,7 +198,7 @@ pub enum EventService {
 pub type EventCall = ObjectCall<EventId, EventService>;
 
 /// A service of mutexes, but for the three that each kind has.
-#[derive(Clone, Copy, Debug, PartialEq, Eq)]
+#[derive(Clone, Copy, PartialEq, Eq)]
 pub enum MutexService {
     Acquire(Timeout),
     Release,
@@ -208,7 +208,7 @@ pub enum MutexService {
 pub type MutexCall = ObjectCall<MutexId, MutexService>;
 
 /// A service with its literal arguments, as a step of a script or of the init list asks for it.
-#[derive(Clone, Copy, Debug, PartialEq, Eq)]
+#[derive(Clone, Copy, PartialEq, Eq)]
 pub enum Call {
     Partition(PartitionCall),
     Process(ProcessCall),

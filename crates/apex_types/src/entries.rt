@@ -31,14 +31,14 @@ pub enum Event {
 }
 
 /// Who made an event.
-#[derive(Clone, Copy, Debug, PartialEq, Eq)]
+#[derive(Clone, Copy, PartialEq, Eq)]
 pub enum Who {
     Core(CoreId),
     Ticker,
 }
 
 /// Who asked for an entry's call.
-#[derive(Clone, Copy, Debug, PartialEq, Eq)]
+#[derive(Clone, Copy, PartialEq, Eq)]
 pub enum Caller {
     Process(ProcessId),
     /// The init list.
@@ -74,7 +74,7 @@ pub enum Reply {
 }
 
 /// What an event did to a process other than its caller.
-#[derive(Clone, Copy, Debug, PartialEq, Eq)]
+#[derive(Clone, Copy, PartialEq, Eq)]
 pub enum Notice {
     /// The process's wait, or its suspension of itself, ended with this code.
     Woken(ProcessId, ReturnCode),
@@ -91,7 +91,7 @@ impl Default for Notice {
 }
 
 /// The notices of one event, in order: 64 at the most, kept inline.
-#[derive(Debug, Drop)]
+#[derive(Drop)]
 pub struct Notices {
     notices: ArrayVec<Notice, 64>,
 }
@@ -149,7 +149,7 @@ impl Notices {
 }
 
 /// One event of a history, with all that it did.
-#[derive(Debug, Drop)]
+#[derive(Drop)]
 pub struct Entry {
     /// The entry's place in the history, counted from 1.
     pub number: u32,
@@ -181,7 +181,7 @@ impl Entry {
 }
 
 /// An [`Entry`] whose notices are lent, as a log lends it.
-#[derive(Debug, Drop)]
+#[derive(Drop)]
 pub struct LentEntry<'a> {
     pub number: u32,
     pub now: u64,

@@ -92,23 +92,23 @@ impl<K> Id<K> {
 pub struct ProcessKind;
 
 /// What an id of a semaphore stands for.
-#[derive(Clone, Copy, Debug, PartialEq, Eq)]
+#[derive(Clone, Copy, PartialEq, Eq)]
 pub struct SemaphoreKind;
 
 /// What an id of a buffer stands for.
-#[derive(Clone, Copy, Debug, PartialEq, Eq)]
+#[derive(Clone, Copy, PartialEq, Eq)]
 pub struct BufferKind;
 
 /// What an id of a blackboard stands for.
-#[derive(Clone, Copy, Debug, PartialEq, Eq)]
+#[derive(Clone, Copy, PartialEq, Eq)]
 pub struct BlackboardKind;
 
 /// What an id of an event of APEX stands for.
-#[derive(Clone, Copy, Debug, PartialEq, Eq)]
+#[derive(Clone, Copy, PartialEq, Eq)]
 pub struct EventKind;
 
 /// What an id of a mutex stands for.
-#[derive(Clone, Copy, Debug, PartialEq, Eq)]
+#[derive(Clone, Copy, PartialEq, Eq)]
 pub struct MutexKind;
 
 /// A process of the partition.

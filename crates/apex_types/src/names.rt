@@ -9,7 +9,7 @@ ghost use Rattle.apex_types.specs.Name.{is_visible, is_name, padded};
 use std::marker::Model;
 
 /// The name of a process or of an object: 1 to 30 bytes from 0x21 to 0x7E, compared byte by byte.
-#[derive(Clone, Copy, Debug)]
+#[derive(Clone, Copy)]
 pub struct Name {
     /// The name's bytes, and zeros behind them: so a name has one form alone.
     bytes: [u8; 30],

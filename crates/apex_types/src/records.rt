@@ -12,7 +12,7 @@ use crate::identifiers::{BlackboardId, BufferId, CoreId, EventId, MutexId, Semap
 use crate::spans::Span;
 
 /// The partition's operating mode (ARINC 653 Part 1, partition management).
-#[derive(Clone, Copy, Debug, PartialEq, Eq)]
+#[derive(Clone, Copy, PartialEq, Eq)]
 pub enum Mode {
     Idle,
     ColdStart,
@@ -28,7 +28,7 @@ impl Mode {
 }
 
 /// A process's state (ARINC 653 Part 1, process management).
-#[derive(Clone, Copy, Debug, PartialEq, Eq)]
+#[derive(Clone, Copy, PartialEq, Eq)]
 pub enum State {
     Dormant,
     Ready,
@@ -37,7 +37,7 @@ pub enum State {
 }
 
 /// What a process waits for.
-#[derive(Clone, Copy, Debug, PartialEq, Eq)]
+#[derive(Clone, Copy, PartialEq, Eq)]
 pub enum Wait {
     /// The partition's entry into NORMAL, where its start begins with this delay in ticks.
     Normal(u32),
@@ -61,7 +61,7 @@ pub enum Wait {
 }
 
 /// Where processes stand one behind the other while they wait.
-#[derive(Clone, Copy, Debug, PartialEq, Eq)]
+#[derive(Clone, Copy, PartialEq, Eq)]
 pub enum Queue {
     /// Those that wait for the entry into NORMAL.
     Normal,
@@ -91,7 +91,7 @@ impl Wait {
 }
 
 /// Who suspended a process.
-#[derive(Clone, Copy, Debug, PartialEq, Eq)]
+#[derive(Clone, Copy, PartialEq, Eq)]
 pub enum Suspender {
     Itself,
     Other,
@@ -99,7 +99,7 @@ pub enum Suspender {
 
 /// Who comes first in the queue of a semaphore, a buffer or a mutex (ARINC 653 Part 1, intrapartition
 /// communication).
-#[derive(Clone, Copy, Debug, PartialEq, Eq)]
+#[derive(Clone, Copy, PartialEq, Eq)]
 pub enum Discipline {
     /// Who waits longest.
     Fifo,
@@ -108,7 +108,7 @@ pub enum Discipline {
 }
 
 /// What a process has of the mutex that it owns (this profile).
-#[derive(Clone, Copy, Debug, PartialEq, Eq)]
+#[derive(Clone, Copy, PartialEq, Eq)]
 pub struct Holding {
     pub mutex: MutexId,
     /// The priority to which the mutex raises its owner, 1 to 239.
@@ -118,7 +118,7 @@ pub struct Holding {
 }
 
 /// What a missed deadline does to its process (ARINC 653 Part 1, process management).
-#[derive(Clone, Copy, Debug, PartialEq, Eq)]
+#[derive(Clone, Copy, PartialEq, Eq)]
 pub enum DeadlineType {
     /// Nothing.
     Soft,
@@ -127,7 +127,7 @@ pub enum DeadlineType {
 }
 
 /// What the table gives a process for good.
-#[derive(Clone, Copy, Debug)]
+#[derive(Clone, Copy)]
 pub struct Attributes {
     /// The base priority to which a START goes back.
     pub priority: u8,
@@ -139,7 +139,7 @@ pub struct Attributes {
 }
 
 /// What the partition keeps of a process.
-#[derive(Clone, Copy, Debug)]
+#[derive(Clone, Copy)]
 pub struct Record {
     pub attributes: Attributes,
     pub core: CoreId,

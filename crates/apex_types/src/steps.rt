@@ -7,7 +7,7 @@ use arrayvec::ArrayVec;
 use std::marker::Model;
 
 /// The bytes that a step alone has, as a name that no entry has: 64 at the most, kept inline.
-#[derive(Debug, Drop)]
+#[derive(Drop)]
 pub struct Literal {
     bytes: ArrayVec<u8, 64>,
 }
@@ -52,7 +52,7 @@ impl Literal {
 
 /// A step of a script or of the init list: its call, and the literal that the call names by the
 /// step's origin.
-#[derive(Debug, Drop)]
+#[derive(Drop)]
 pub struct Step {
     call: Call,
     literal: Literal,

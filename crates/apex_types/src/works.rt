@@ -4,14 +4,14 @@ use crate::identifiers::ProcessId;
 use crate::spans::Span;
 
 /// Work that a process has begun, of so many units, 1 to 1,048,576 (this profile).
-#[derive(Clone, Copy, Debug)]
+#[derive(Clone, Copy)]
 pub struct Work {
     pub process: ProcessId,
     pub amount: Span,
 }
 
 /// Work that a core has begun and not ended.
-#[derive(Clone, Copy, Debug)]
+#[derive(Clone, Copy)]
 pub struct OpenWork {
     pub work: Work,
     /// Its process has been the core's chosen one ever since.

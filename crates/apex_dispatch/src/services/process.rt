@@ -18,7 +18,7 @@ use apex_types::{
 use std::marker::Model;
 
 /// A process as its services see it, besides its record.
-#[derive(Clone, Copy, Debug)]
+#[derive(Clone, Copy)]
 pub(crate) struct ProcessObject {
     created: bool,
 }
