@@ -32,6 +32,9 @@ pub enum CaseFault {
     Words,
     #[error("ill-formed fold")]
     Fold,
+    /// A kernel over linked lists makes another history than the program.
+    #[error("another history over linked lists")]
+    Linked,
 }
 
 impl From<AllocError> for CaseFault {

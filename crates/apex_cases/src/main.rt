@@ -7,6 +7,7 @@ mod checks;
 mod examples;
 mod faults;
 mod folds;
+mod linked;
 mod outlines;
 mod plays;
 mod readings;

@@ -1,5 +1,6 @@
 //! What the program `apex` tells where it is given words and a table.
 use crate::faults::CaseFault;
+use crate::linked::check_linked;
 use apex_cli::run_on;
 use apex_history::Counted;
 use std::alloc::{AllocError, Global};
@@ -25,7 +26,13 @@ fn words_of(alloc: Global, given: &[&str]) -> Result<Vec<String>, AllocError> {
     Ok(words)
 }
 
-/// What the program tells where these words stand behind its name, and it reads this table.
+/// Whether a call of the program with these words writes a history.
+fn is_replay(given: &[&str]) -> bool {
+    given.first().is_some_and(|word| *word == "replay")
+}
+
+/// What the program tells where these words stand behind its name, and it reads this table. `Linked`
+/// where a kernel over linked lists makes another history of the same events.
 pub fn played<T: Threads + Wait + Sync>(
     rt: &T,
     alloc: Global,
@@ -38,6 +45,9 @@ pub fn played<T: Threads + Wait + Sync>(
     let mut writer = Counted::new(&mut written);
     let exit = run_on(rt, alloc, words.as_slice(), &mut reader, &mut writer);
     let mut text = String::from_str(alloc, str::from_utf8(written.as_slice())?)?;
+    if is_replay(given) && !text.as_str().is_empty() {
+        check_linked(alloc, table, text.as_str())?;
+    }
     if let Some(fault) = exit.fault {
         writeln!(text, "{fault}")?;
     }

@@ -1,0 +1,5 @@
+mod Neighbours
+mod Splices
+mod Kept
+mod Walks
+mod Steps

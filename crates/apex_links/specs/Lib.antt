@@ -1,0 +1,3 @@
+pub mod Neighbours
+pub mod Links
+pub mod Chains

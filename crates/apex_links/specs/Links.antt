@@ -1,0 +1,59 @@
+-- What a contract sees of linked lists: how many processes there are, and who stands in each list, from its
+-- first to its last.
+use Rattle.std.specs.Prelude.{◌≡◌, ℕ, ◌<◌, ◌≤◌, true, false, ◌==◌, if◌then◌else◌, List, [], ◌∷◌, ◌++◌, map, length, slice_index_or, slice_set}
+use Rattle.apex_links.specs.Neighbours.{stands_in, IsDistinct}
+
+pub record Links : Type 0 where
+  pub processes : ℕ
+  pub lists : List (List ℕ)
+
+-- who stands in list l
+abbrev pub list_at : Links → ℕ → List ℕ
+list_at links l = slice_index_or links.lists l []
+
+-- process p stands in no list
+abbrev pub IsFree : Links → ℕ → Type 0
+IsFree links p = (l : ℕ) → stands_in p (list_at links l) ≡ false
+
+-- process p stands in list l, and in no other
+pub record IsOnlyIn (links : Links) (p l : ℕ) : Type 0 where
+  pub known : l < length links.lists
+  pub here : stands_in p (list_at links l) ≡ true
+  pub alone : (m : ℕ) → stands_in p (list_at links m) ≡ true → m ≡ l
+
+-- list l has these from now on, and the others keep theirs
+abbrev pub with_list : Links → ℕ → List ℕ → Links
+with_list links l xs = record links { lists = slice_set links.lists l xs }
+
+-- process p is behind all others of list l from now on
+abbrev pub pushed_back : Links → ℕ → ℕ → Links
+pushed_back links l p = with_list links l (list_at links l ++ p ∷ [])
+
+-- process p is before all others of list l from now on
+abbrev pub pushed_front : Links → ℕ → ℕ → Links
+pushed_front links l p = with_list links l (p ∷ list_at links l)
+
+-- the list without process p
+abbrev pub without : ℕ → List ℕ → List ℕ
+without p [] = []
+without p (x ∷ xs) = if p == x then xs else x ∷ without p xs
+
+-- process p stands in no list from now on
+abbrev pub removed : Links → ℕ → Links
+removed links p = record links { lists = map (without p) links.lists }
+
+-- the list with process p right before another one
+abbrev pub put_before : ℕ → ℕ → List ℕ → List ℕ
+put_before other p [] = []
+put_before other p (x ∷ xs) = if other == x then p ∷ x ∷ xs else x ∷ put_before other p xs
+
+-- process p stands right before another one from now on
+abbrev pub inserted_before : Links → ℕ → ℕ → Links
+inserted_before links other p = record links { lists = map (put_before other p) links.lists }
+
+-- no process stands in two places
+pub record IsSound (links : Links) : Type 0 where
+  pub known : (l p : ℕ) → stands_in p (list_at links l) ≡ true → p < links.processes
+  pub distinct : (l : ℕ) → IsDistinct (list_at links l)
+  pub apart : (l m p : ℕ) → stands_in p (list_at links l) ≡ true → stands_in p (list_at links m) ≡ true → l ≡ m
+  pub short : (l : ℕ) → length (list_at links l) ≤ links.processes

@@ -1,0 +1,10 @@
+//! Linked lists of processes, by index: a process stands in at most one list at a time, and each change
+//! touches its neighbours alone.
+#![tactic(auto)]
+
+mod chains;
+mod links;
+mod lists;
+
+pub use links::LinkSet;
+pub use lists::ListId;

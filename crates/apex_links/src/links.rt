@@ -1,0 +1,135 @@
+//! Linked lists of processes.
+ghost use Rattle.std.specs.Prelude.{◌≡◌, ◌+◌, ◌<◌, ℕ, [], length, replicate, slice_get, None, Some, IfOk, MatchOption, true};
+ghost use Rattle.apex_links.specs.Links.{inserted_before, list_at, pushed_back, pushed_front, removed, IsFree, IsOnlyIn, IsSound};
+ghost use Rattle.apex_links.specs.Neighbours.{after_in, first_of, stands_in};
+
+use crate::chains::{Chains, Node};
+use crate::lists::ListId;
+use apex_types::ProcessId;
+use std::alloc::{AllocError, Global};
+use std::marker::Model;
+
+/// A set of linked lists of processes.
+///
+/// A process stands in at most one list, and a contract sees each list whole. Every call takes the same
+/// few steps, however many processes stand in the lists, and none but `new` takes memory.
+#[derive(Drop)]
+pub struct LinkSet {
+    chains: Chains,
+}
+
+impl Model for LinkSet {
+    ghost use Rattle.std.specs.Prelude.{[], length, slice_index_or};
+    ghost use Rattle.apex_links.specs.Links.{Links};
+    ghost use Rattle.apex_links.specs.Chains.{lists_of, AreLinked};
+
+    ghost Value = { Links };
+
+    ghost view = { λ s. record { processes = length s.chains.nodes.items; lists = lists_of s.chains.nodes.items s.chains.ends.items } };
+
+    ghost invariant = { λ s. AreLinked s.chains.nodes.items s.chains.ends.items (λ l. slice_index_or (lists_of s.chains.nodes.items s.chains.ends.items) l []) };
+}
+
+impl LinkSet {
+    /// So many processes, which stand in none of so many lists. Fails only for want of memory.
+    pub fn new(alloc: Global, processes: u16, lists: u16) -> Result<LinkSet, AllocError>
+        ensures { IfOk result (λ links. links ≡ record { processes = processes; lists = replicate lists [] }) }
+    {
+        Ok(LinkSet {
+            chains: Chains::new(alloc, processes, lists)?,
+        })
+    }
+
+    /// A process stands in one place of one list at most.
+    pub fn holds(&self)
+        ensures { IsSound self.now }
+    {
+        let _ = &self.chains;
+    }
+
+    /// The list in which the process stands.
+    pub fn list_of(&self, process: ProcessId) -> Option<ListId>
+        requires { process < self.now.processes }
+        ensures { MatchOption result (IsFree self.now process) (λ l. IsOnlyIn self.now process l) }
+    {
+        self.chains.node(process).list
+    }
+
+    /// The first of the list.
+    pub fn front(&self, list: ListId) -> Option<ProcessId>
+        requires { list < length self.now.lists }
+        ensures { result ≡ first_of (list_at self.now list) }
+    {
+        self.chains.ends(list).first
+    }
+
+    /// Who comes behind the process in its list; none for one that stands in no list.
+    pub fn next(&self, process: ProcessId) -> Option<ProcessId>
+        requires { process < self.now.processes }
+        ensures free { IsFree self.now process → result ≡ None }
+        ensures after { (l : ℕ) → stands_in process (list_at self.now l) ≡ true → result ≡ after_in process (list_at self.now l) }
+        ensures at { (l k : ℕ) → slice_get (list_at self.now l) k ≡ Some process → result ≡ slice_get (list_at self.now l) (k + 1) }
+    {
+        self.chains.node(process).after
+    }
+
+    /// The process, which stands in no list, goes behind all others of this one.
+    pub fn push_back(&mut self, list: ListId, process: ProcessId)
+        requires list { list < length self.old.lists }
+        requires process { process < self.old.processes }
+        requires free { IsFree self.old process }
+        ensures { self.new ≡ pushed_back self.old list process }
+    {
+        let place = Node {
+            list: Some(list),
+            before: self.chains.ends(list).last,
+            after: None,
+        };
+        self.chains.join(list, process, place);
+    }
+
+    /// The process, which stands in no list, goes before all others of this one.
+    pub fn push_front(&mut self, list: ListId, process: ProcessId)
+        requires list { list < length self.old.lists }
+        requires process { process < self.old.processes }
+        requires free { IsFree self.old process }
+        ensures { self.new ≡ pushed_front self.old list process }
+    {
+        let place = Node {
+            list: Some(list),
+            before: None,
+            after: self.chains.ends(list).first,
+        };
+        self.chains.join(list, process, place);
+    }
+
+    /// The process, which stands in no list, goes right before another one. Nothing changes where that one
+    /// stands in no list.
+    pub fn insert_before(&mut self, other: ProcessId, process: ProcessId)
+        requires other { other < self.old.processes }
+        requires process { process < self.old.processes }
+        requires free { IsFree self.old process }
+        ensures { self.new ≡ inserted_before self.old other process }
+    {
+        let place = self.chains.node(other);
+        if let Some(list) = place.list {
+            let place = Node {
+                after: Some(other),
+                ..place
+            };
+            self.chains.join(list, process, place);
+        }
+    }
+
+    /// The process stands in no list from now on.
+    pub fn remove(&mut self, process: ProcessId)
+        requires { process < self.old.processes }
+        ensures lists { self.new ≡ removed self.old process }
+        ensures free { IsFree self.new process }
+    {
+        let place = self.chains.node(process);
+        if let Some(list) = place.list {
+            self.chains.part(list, process, place);
+        }
+    }
+}

@@ -1,0 +1,6 @@
+mod Rising
+mod Changes
+mod Top
+mod Empty
+mod Renewals
+mod Kept

@@ -1,0 +1,2 @@
+pub mod Queued
+pub mod ReadyLists

@@ -1,0 +1,6 @@
+use Rattle.std.proofs.Common.{◌≡◌, ℕ, ◌+◌, ◌*◌, ◌<◌, ◌≤◌, false}
+use Rattle.apex_ready.specs.ReadyOrders.{is_marked, ready_list}
+use Rattle.apex_ready.proofs.orders.ReadyOrders.highest.Given as goal
+
+abbrev pub invariant-loop-turn : goal.invariant-loop-turn
+invariant-loop-turn l = (p : ℕ) → p < 256 → 256 ≤ p + 64 * l.turn → is_marked l.self-inside.words (ready_list l.fn.core p) ≡ false
