@@ -1,4 +1,5 @@
-//! A case of an example: the table's edits, the words, and all that `apex` tells of it.
+//! A case of an example: the table's edits, what is given behind it, the words, and all that `apex`
+//! tells of it.
 ghost use Rattle.std.specs.Prelude.{◌≡◌, IfOk, IsNone, string_bytes};
 
 use crate::faults::CaseFault;
@@ -9,7 +10,7 @@ use std::alloc::{AllocError, Global};
 /// What a case of an example asks for, and what is to be told.
 #[derive(Drop)]
 pub struct Asked<'a> {
-    /// The example's table, with the case's edits.
+    /// What the program reads: the example's table, with the case's edits, and what is given behind it.
     pub table: String,
     /// The words behind the program's name.
     pub words: Vec<&'a str>,
@@ -53,11 +54,25 @@ impl<'a> Asked<'a> {
             ("edit", edit) => self.table = edited(alloc, self.table.as_str(), edit)?,
             ("schedule", schedule) => self.ask(&["replay", "--schedule", schedule])?,
             ("listing", schedule) => self.ask(&["status", "--schedule", schedule])?,
+            ("words", words) => self.ask_all(words)?,
+            ("given", line) => writeln!(self.table, "{line}")?,
+            ("cut", line) => self.table.push_str(line)?,
             ("status", status) => {
                 self.expected.status = status.parse::<u8>().map_err(|_| CaseFault::Status)?;
             }
             ("differs", "") => self.differs = true,
             _ => writeln!(self.expected.text, "{line}")?,
+        }
+        Ok(())
+    }
+
+    /// Asks for the words that spaces part, and `Words` where some were asked for before.
+    fn ask_all(&mut self, words: &'a str) -> Result<(), CaseFault> {
+        if !self.words.is_empty() {
+            return Err(CaseFault::Words);
+        }
+        for word in words.split(' ') {
+            self.words.push(word)?;
         }
         Ok(())
     }

@@ -4,7 +4,6 @@ mod checks;
 mod devices;
 mod faults;
 mod given;
-mod listings;
 mod runs;
 mod words;
 
@@ -12,7 +11,6 @@ use crate::tables::{joined, paper};
 use apex_cli::run_on;
 use apex_history::{Counted, FailAt, Source};
 use std::alloc::Global;
-use std::process::Abort;
 use std::sync::Wait;
 use std::test::Fail;
 use std::thread::Threads;
@@ -25,16 +23,6 @@ const FIRST_WAITS: &[&str] = &["replay", "--schedule", "0*8 0 1"];
 const SIX_TURNS: &[&str] = &["run", "--turns", "6", "--ticks", "0"];
 
 const CHECK: &[&str] = &["check"];
-
-/// What the program is asked, and what it must do.
-struct Case<'a> {
-    name: &'a str,
-    words: &'a [&'a str],
-    text: &'a [&'a str],
-    status: u8,
-    written: &'a [&'a str],
-    fault: &'a str,
-}
 
 /// What the program did.
 #[derive(Drop)]
@@ -102,18 +90,4 @@ fn run_with(
         reader,
         paper(alloc, 1 << 20, failing_write)?,
     )
-}
-
-fn check(
-    rt: &(impl Abort + Threads + Wait + Sync),
-    alloc: Global,
-    case: &Case<'_>,
-) -> Result<(), Fail> {
-    let name = case.name;
-    let wanted = joined(alloc, case.written)?;
-    let done = run_with(rt, alloc, case.words, case.text, 0, 0)?;
-    assert_eq!(rt; done.status, case.status, "at {name}");
-    assert_eq!(rt; done.fault.as_str(), case.fault, "at {name}");
-    assert_eq!(rt; done.written.as_slice(), wanted.as_bytes(), "at {name}");
-    Ok(())
 }

@@ -3,13 +3,6 @@ use apex_history::FailAt;
 use std::alloc::Global;
 use std::test::Fail;
 
-/// A device that holds this text, with no room for more, and whose call of this number fails.
-pub fn device(alloc: Global, text: &str, call: u64) -> Result<FailAt, Fail> {
-    let mut bytes = Vec::with_capacity(alloc, text.len())?;
-    bytes.extend_from_slice(text.as_bytes())?;
-    Ok(FailAt::new(bytes, call))
-}
-
 /// An empty device with room for so many bytes, and whose call of this number fails.
 pub fn paper(alloc: Global, room: usize, call: u64) -> Result<FailAt, Fail> {
     Ok(FailAt::new(Vec::with_capacity(alloc, room)?, call))
@@ -35,13 +28,6 @@ core = 0
 start = true
 script = []
 "#;
-
-/// The init list of the idler's table.
-pub const IDLER_STARTED: &str = "1 0 core0 init CREATE_PROCESS X0 -> NO_ERROR
-2 0 core0 init INITIALIZE_PROCESS_CORE_AFFINITY X0 0 -> NO_ERROR
-3 0 core0 init START X0 -> NO_ERROR
-4 0 core0 init SET_PARTITION_MODE NORMAL -> NO_ERROR | released 1
-";
 
 /// Two cores, a process that waits for a semaphore on the one, and one that signals it on the other.
 pub const WAITER_AND_SIGNALLER: &str = r#"

@@ -1,11 +1,10 @@
-//! The lines of the widest numbers, the longest line, and one that finds no room.
+//! The lines of the widest numbers, and the longest line.
 ghost use Rattle.std.specs.Prelude.{◌≡◌, [], None, Some, length};
 ghost use Rattle.apex_types.specs.declared.Call.TheVariants.{Buffer};
 ghost use Rattle.apex_types.specs.declared.ObjectCall.TheVariants.{Own};
 ghost use Rattle.apex_types.specs.Lines.{IsPrintable};
 
-use super::idle;
-use crate::tables::{IDLER, paper};
+use crate::tables::paper;
 use apex_history::{Counted, Sink, print_entry};
 use apex_table::{Table, read_table};
 use apex_types::{
@@ -163,16 +162,5 @@ fn the_longest_line(rt: HostRuntime) -> Result<(), Fail> {
     assert!(rt; paper.held().starts_with(LONGEST.as_bytes()));
     assert_eq!(rt; paper.held().len(), 2_028);
     assert!(rt; paper.held().ends_with(b" | woken 32 INVALID_CONFIG\n"));
-    Ok(())
-}
-
-#[test]
-fn a_line_that_finds_no_room_is_begun(rt: HostRuntime) -> Result<(), Fail> {
-    let table = read_table(rt.alloc(), IDLER.as_bytes())?;
-    let mut paper = paper(rt.alloc(), 7, 0)?;
-    let mut writer = Counted::new(&mut paper);
-    assert!(rt; print(&table, &idle(1), &mut writer).is_err());
-    assert_eq!(rt; writer.failures(), 1);
-    assert_eq!(rt; paper.held(), b"1 0 cor".as_slice());
     Ok(())
 }

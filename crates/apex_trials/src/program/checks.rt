@@ -1,6 +1,6 @@
-//! Checks of histories: each verdict, each fault, and each byte changed.
+//! Checks of a history with each of its bytes changed in turn, and with a carriage return.
 
-use super::{CHECK, Case, check, run_through, run_with};
+use super::{CHECK, run_through, run_with};
 use crate::tables::{joined, paper};
 use apex_history::FailAt;
 use std::alloc::Global;
@@ -33,195 +33,6 @@ const STARTED: &str = "1 0 core0 init CREATE_PROCESS P -> NO_ERROR
 const STOPPED: &str = "5 0 core0 1 STOP_SELF -> GONE\n";
 
 const TICKED: &str = "6 7 ticker - tick 7 -> ADVANCED 7\n";
-
-const NO_GONE: &str = "5 0 core0 1 STOP_SELF -> NO_ERROR\n";
-
-const BAD_TABLE: &str = "cores = 2\nproc\n";
-
-const CASES: &[Case<'static>] = &[
-    Case {
-        name: "the whole history",
-        words: CHECK,
-        text: &[TABLE, SEPARATOR, STARTED, STOPPED, TICKED],
-        status: 0,
-        written: &["legal 6\n"],
-        fault: "",
-    },
-    Case {
-        name: "a beginning",
-        words: CHECK,
-        text: &[TABLE, SEPARATOR, STARTED],
-        status: 0,
-        written: &["legal 4\n"],
-        fault: "",
-    },
-    Case {
-        name: "no line",
-        words: CHECK,
-        text: &[TABLE, SEPARATOR],
-        status: 0,
-        written: &["legal 0\n"],
-        fault: "",
-    },
-    Case {
-        name: "a changed reply",
-        words: CHECK,
-        text: &[TABLE, SEPARATOR, STARTED, NO_GONE],
-        status: 1,
-        written: &["departs at 5\nexpected: ", STOPPED],
-        fault: "",
-    },
-    Case {
-        name: "what follows a departure is not looked at",
-        words: CHECK,
-        text: &[TABLE, SEPARATOR, STARTED, NO_GONE, "no line"],
-        status: 1,
-        written: &["departs at 5\nexpected: ", STOPPED],
-        fault: "",
-    },
-    Case {
-        name: "another core",
-        words: CHECK,
-        text: &[TABLE, SEPARATOR, STARTED, "5 0 core1 1 STOP_SELF -> GONE\n"],
-        status: 1,
-        written: &["departs at 5\nexpected: 5 0 core1 - idle -> IDLE\n"],
-        fault: "",
-    },
-    Case {
-        name: "a line beyond the limit",
-        words: CHECK,
-        text: &[
-            TABLE,
-            SEPARATOR,
-            STARTED,
-            STOPPED,
-            TICKED,
-            "7 7 core0 - idle -> IDLE\n",
-        ],
-        status: 1,
-        written: &["departs at 7\nexpected: nothing\n"],
-        fault: "",
-    },
-    Case {
-        name: "a carriage return",
-        words: CHECK,
-        text: &[
-            TABLE,
-            SEPARATOR,
-            "1 0 core0 init CREATE_PROCESS P -> NO_ERROR\r\n",
-        ],
-        status: 1,
-        written: &["departs at 1\nexpected: 1 0 core0 init CREATE_PROCESS P -> NO_ERROR\n"],
-        fault: "",
-    },
-    Case {
-        name: "a cut line",
-        words: CHECK,
-        text: &[TABLE, SEPARATOR, STARTED, "5 0 core0 1 STO"],
-        status: 3,
-        written: &[],
-        fault: "apex: history refused: BadLine at line 5",
-    },
-    Case {
-        name: "a whole line without a line feed",
-        words: CHECK,
-        text: &[TABLE, SEPARATOR, STARTED, "5 0 core0 1 STOP_SELF -> GONE"],
-        status: 3,
-        written: &[],
-        fault: "apex: history refused: BadLine at line 5",
-    },
-    Case {
-        name: "an empty line",
-        words: CHECK,
-        text: &[TABLE, SEPARATOR, STARTED, "\n"],
-        status: 3,
-        written: &[],
-        fault: "apex: history refused: BadLine at line 5",
-    },
-    Case {
-        name: "core 8",
-        words: CHECK,
-        text: &[TABLE, SEPARATOR, STARTED, "5 0 core8 - idle -> IDLE\n"],
-        status: 3,
-        written: &[],
-        fault: "apex: history refused: BadLine at line 5",
-    },
-    Case {
-        name: "a core that the table lacks",
-        words: CHECK,
-        text: &[TABLE, SEPARATOR, STARTED, "5 0 core2 - idle -> IDLE\n"],
-        status: 3,
-        written: &[],
-        fault: "apex: history refused: BadLine at line 5",
-    },
-    Case {
-        name: "no separator",
-        words: CHECK,
-        text: &[TABLE, STARTED],
-        status: 3,
-        written: &[],
-        fault: "apex: no separator",
-    },
-    Case {
-        name: "a separator without a line feed",
-        words: CHECK,
-        text: &[TABLE, "%%"],
-        status: 3,
-        written: &[],
-        fault: "apex: no separator",
-    },
-    Case {
-        name: "no separator behind a bad table",
-        words: CHECK,
-        text: &[BAD_TABLE],
-        status: 3,
-        written: &[],
-        fault: "apex: no separator",
-    },
-    Case {
-        name: "a bad table",
-        words: CHECK,
-        text: &[BAD_TABLE, SEPARATOR, STARTED],
-        status: 3,
-        written: &[],
-        fault: "apex: table refused: NotToml",
-    },
-    Case {
-        name: "a value out of its range",
-        words: CHECK,
-        text: &["cores = 9\n", SEPARATOR],
-        status: 3,
-        written: &[],
-        fault: "apex: table refused: OutOfRange in top 0",
-    },
-];
-
-#[test]
-fn histories_are_judged(rt: HostRuntime) -> Result<(), Fail> {
-    for case in CASES {
-        check(&rt, rt.alloc(), case)?;
-    }
-    Ok(())
-}
-
-#[test]
-fn a_line_of_4097_bytes_is_too_long(rt: HostRuntime) -> Result<(), Fail> {
-    // 256 pieces of 16 bytes.
-    let mut text = ["5 0 core0 - idle"; 260];
-    text[0] = TABLE;
-    text[1] = SEPARATOR;
-    text[2] = STARTED;
-    text[259] = "\n";
-    let done = run_with(&rt, rt.alloc(), CHECK, &text, 0, 0)?;
-    assert_eq!(rt; done.status, 1);
-    text[259] = "!\n";
-    let done = run_with(&rt, rt.alloc(), CHECK, &text, 0, 0)?;
-    assert_eq!(rt; done.status, 3);
-    let fault = "apex: history refused: TooLong at line 5";
-    assert_eq!(rt; done.fault.as_str(), fault);
-    assert!(rt; done.written.is_empty());
-    Ok(())
-}
 
 /// What is told of a line that is not the machine's, for each line of the history but the last.
 const DEPARTURES: &[&str] = &[
@@ -278,5 +89,15 @@ fn each_changed_byte_is_found(rt: HostRuntime) -> Result<(), Fail> {
             check_changed(&rt, rt.alloc(), departure, line, place)?;
         }
     }
+    Ok(())
+}
+
+#[test]
+fn a_carriage_return_is_a_departure(rt: HostRuntime) -> Result<(), Fail> {
+    let line = "1 0 core0 init CREATE_PROCESS P -> NO_ERROR\r\n";
+    let done = run_with(&rt, rt.alloc(), CHECK, &[TABLE, SEPARATOR, line], 0, 0)?;
+    assert_eq!(rt; done.status, 1);
+    let departure = DEPARTURES[0].as_bytes();
+    assert_eq!(rt; done.written.as_slice(), departure);
     Ok(())
 }

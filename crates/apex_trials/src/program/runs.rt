@@ -1,85 +1,12 @@
-//! Runs by threads: those whose lines are certain, and others whose lines are checked.
+//! Runs by threads, whose lines are checked.
 
-use super::{CHECK, Case, Done, SIX_TURNS, check, run_with};
-use crate::tables::{CROWD, IDLER, IDLER_STARTED, WAITER_AND_SIGNALLER};
+use super::{CHECK, Done, run_with};
+use crate::tables::{CROWD, WAITER_AND_SIGNALLER};
 use std::alloc::Global;
 use std::str;
 use std::sync::Wait;
 use std::test::Fail;
 use std::thread::Threads;
-
-const SECOND_IDLER: &str = r#"
-[[process]]
-name = "X0"
-priority = 10
-script = []
-"#;
-
-const STOPPED: &str = "5 0 core0 1 STOP_SELF -> GONE\n";
-
-const IDLE: &str = "6 0 core0 - idle -> IDLE\n";
-
-const CERTAIN: &[Case<'static>] = &[
-    Case {
-        name: "one core",
-        words: SIX_TURNS,
-        text: &[IDLER],
-        status: 0,
-        written: &[IDLER_STARTED, STOPPED, IDLE],
-        fault: "",
-    },
-    Case {
-        name: "one core to a full history",
-        words: SIX_TURNS,
-        text: &["history = 4\n", IDLER],
-        status: 4,
-        written: &[IDLER_STARTED],
-        fault: "apex: history full after 4 entries",
-    },
-    Case {
-        name: "as many as the history may have",
-        words: SIX_TURNS,
-        text: &["history = 6\n", IDLER],
-        status: 0,
-        written: &[IDLER_STARTED, STOPPED, IDLE],
-        fault: "",
-    },
-    Case {
-        name: "the ticker alone",
-        words: &["run", "--turns", "0", "--ticks", "2"],
-        text: &[WAITER_AND_SIGNALLER],
-        status: 0,
-        written: &[
-            "1 1 ticker - tick 1 -> ADVANCED 1\n",
-            "2 2 ticker - tick 1 -> ADVANCED 1\n",
-        ],
-        fault: "",
-    },
-    Case {
-        name: "nobody",
-        words: &["run", "--turns", "0", "--ticks", "0"],
-        text: &[WAITER_AND_SIGNALLER],
-        status: 0,
-        written: &[],
-        fault: "",
-    },
-    Case {
-        name: "a table that is refused",
-        words: SIX_TURNS,
-        text: &[IDLER, SECOND_IDLER],
-        status: 3,
-        written: &[],
-        fault: "apex: table refused: DoubleName in process 2",
-    },
-];
-
-#[test]
-fn certain_runs_are_written(rt: HostRuntime) -> Result<(), Fail> {
-    for case in CERTAIN {
-        check(&rt, rt.alloc(), case)?;
-    }
-    Ok(())
-}
 
 /// A run whose lines depend on how the threads came along, and what is certain of it all the same: how
 /// many lines each core and the ticker have, a text that stands somewhere, and what a check tells.
