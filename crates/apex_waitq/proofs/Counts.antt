@@ -1,0 +1,126 @@
+-- The counts stay those of the lists as one process enters a list or leaves it.
+use Rattle.std.proofs.Common.{◌≡◌, ◌≢◌, ℕ, suc, ◌+◌, ◌-◌, ◌<◌, ◌≤◌, true, false, List, [], ◌∷◌, ◌++◌, length, set, get_or, inl, inr, refl, ap, sym, subst, ◌∙◌, arith}
+use Rattle.std.specs.Prelude.{nat_lt}
+use Rattle.std.proofs.lemmas.Bool.{cases_eq, cases_Bool}
+use Rattle.std.proofs.lemmas.Grind.{get_or-set_at}
+use Rattle.std.proofs.lemmas.List.{get_or_default, get_or-set_other}
+use Rattle.apex_types.specs.declared.records.Discipline.{Discipline}
+use Rattle.apex_types.specs.declared.records.Discipline.TheVariants.{Fifo, Priority}
+use Rattle.apex_links.specs.Neighbours.{stands_in}
+use Rattle.apex_links.specs.Links.{Links, list_at, with_list, without, removed, IsFree, IsOnlyIn}
+use Rattle.apex_waitq.specs.WaitQueues.{first_list, most_queues, priority_of, queued, ranked, AreCounted}
+use Rattle.apex_waitq.proofs.Ranks.{at_map}
+
+-- a list is longer by one with one process more
+length_behind : (p : ℕ) (xs : List ℕ) → length (xs ++ p ∷ []) ≡ suc (length xs)
+length_behind p [] = refl
+length_behind p (x ∷ xs) = ap suc (length_behind p xs)
+
+length_ranked : (ps : List ℕ) (p priority : ℕ) (xs : List ℕ) → length (ranked ps p priority xs) ≡ suc (length xs)
+length_ranked ps p priority [] = refl
+length_ranked ps p priority (x ∷ xs) = elim (cases_Bool (nat_lt (priority_of ps x) priority)) [
+  | inl low ↦ rw low refl
+  | inr high ↦ rw high (ap suc (length_ranked ps p priority xs))
+]
+
+pub length_queued : (d : Discipline) (ps : List ℕ) (p priority : ℕ) (xs : List ℕ) → length (queued d ps p priority xs) ≡ suc (length xs)
+length_queued Fifo ps p priority xs = length_behind p xs
+length_queued Priority ps p priority xs = length_ranked ps p priority xs
+
+-- the list without a process that stands in it, or does not
+without_out : (p : ℕ) (xs : List ℕ) → stands_in p xs ≡ false → without p xs ≡ xs
+without_out p [] out = refl
+without_out p (x ∷ xs) out = grind (arith, out, without_out p xs)
+
+pub length_without : (p : ℕ) (xs : List ℕ) → stands_in p xs ≡ true → suc (length (without p xs)) ≡ length xs
+length_without p [] here = absurd (grind (arith, here))
+length_without p (x ∷ xs) here = elim (cases_eq p x) [
+  | inl e ↦ grind (arith, e)
+  | inr apart ↦ grind (arith, apart, here, length_without p xs)
+]
+
+-- what is read of the counts is the length of the list
+pub count_is : (counts : List ℕ) (links : Links) (l value : ℕ) → AreCounted counts links → length counts ≡ most_queues
+    → first_list ≤ l → l < first_list + most_queues → value ≡ get_or counts (l - first_list) value → value ≡ length (list_at links l)
+count_is counts links l value counted long from to read =
+    let place : first_list + (l - first_list) ≡ l = omega (arith, from) in
+    let known : l - first_list < most_queues = omega (arith, from, to) in
+    let here : get_or counts (l - first_list) 0 ≡ length (list_at links l) =
+    subst (λ (m : ℕ). get_or counts (l - first_list) 0 ≡ length (list_at links m)) place (counted (l - first_list) known) in
+    read ∙ get_or_default counts (l - first_list) value 0 (omega (arith, long, known)) ∙ here
+
+-- one queue has another list, and another count
+module _ (counts : List ℕ) (links : Links) (n count : ℕ) (xs : List ℕ) (counted : AreCounted counts links) (long : length counts ≡ most_queues)
+    (room : first_list + most_queues ≤ length links.lists) (known : n < most_queues) (e : count ≡ length xs) where
+  pub change_counted : AreCounted (set counts n count) (with_list links (first_list + n) xs)
+  change_counted m inside = elim (cases_eq m n) as (λ _. get_or (set counts n count) m 0 ≡ length (get_or (set links.lists (first_list + n) xs) (first_list + m) [])) [
+    | inl same ↦
+        let here = get_or-set_at counts n m count 0 same (omega (arith, long, known)) in
+        let there = get_or-set_at links.lists (first_list + n) (first_list + m) xs [] (omega (arith, same)) (omega (arith, room, known)) in
+        rw (here, there) e
+    | inr apart ↦
+        let here = get_or-set_other counts n m count 0 apart in
+        let there = get_or-set_other links.lists (first_list + n) (first_list + m) xs [] (λ f. apart (omega (arith, f))) in
+        rw (here, there) (counted m inside)
+  ]
+
+-- a process enters the list of a queue
+pub entered_counted : (counts : List ℕ) (links : Links) (l value : ℕ) (ys : List ℕ) → AreCounted counts links → length counts ≡ most_queues
+    → first_list + most_queues ≤ length links.lists → first_list ≤ l → l < first_list + most_queues
+    → value ≡ get_or counts (l - first_list) value → length ys ≡ suc (length (list_at links l))
+    → AreCounted (set counts (l - first_list) (value + 1)) (with_list links l ys)
+entered_counted counts links l value ys counted long room from to read longer =
+    let place : l ≡ first_list + (l - first_list) = omega (arith, from) in
+    let known : l - first_list < most_queues = omega (arith, from, to) in
+    let before : value ≡ length (list_at links l) = count_is counts links l value counted long from to read in
+    subst (λ (m : ℕ). AreCounted (set counts (l - first_list) (value + 1)) (with_list links m ys)) (sym place)
+    (change_counted counts links (l - first_list) (value + 1) ys counted long room known (omega (arith, before, longer)))
+
+-- a process leaves its list
+module _ (counts : List ℕ) (links : Links) (p : ℕ) (counted : AreCounted counts links) where
+  at_removed : (m : ℕ) → list_at (removed links p) m ≡ without p (list_at links m)
+  at_removed m = at_map (without p) refl links.lists m
+
+  kept : (m : ℕ) → stands_in p (list_at links m) ≡ false → list_at (removed links p) m ≡ list_at links m
+  kept m out = at_removed m ∙ without_out p (list_at links m) out
+
+  -- it stood in none, or in one that is no queue's
+  pub other_counted : ((m : ℕ) → m < most_queues → stands_in p (list_at links (first_list + m)) ≡ false) → AreCounted counts (removed links p)
+  other_counted out m inside = rw (kept (first_list + m) (out m inside)) (counted m inside)
+
+  pub free_counted : IsFree links p → AreCounted counts (removed links p)
+  free_counted out = other_counted (λ m _. out (first_list + m))
+
+  -- it stood in that of a queue
+  module _ (l : ℕ) (only : IsOnlyIn links p l) where
+    elsewhere : (m : ℕ) → m ≢ l → stands_in p (list_at links m) ≡ false
+    elsewhere m apart = elim (cases_Bool (stands_in p (list_at links m))) [
+      | inl e ↦ absurd (apart (only.alone m e))
+      | inr e ↦ e
+    ]
+
+    pub left_counted : (value : ℕ) → length counts ≡ most_queues → first_list ≤ l → l < first_list + most_queues → value ≡ get_or counts (l - first_list) value
+        → AreCounted (set counts (l - first_list) (value - 1)) (removed links p)
+    left_counted value long from to read m inside =
+        let n = l - first_list in
+        let place : first_list + n ≡ l = omega (arith, from) in
+        let before = count_is counts links l value counted long from to read in
+        elim (cases_eq m n) as (λ _. get_or (set counts n (value - 1)) m 0 ≡ length (list_at (removed links p) (first_list + m))) [
+          | inl same ↦
+              let here = get_or-set_at counts n m (value - 1) 0 same (omega (arith, long, from, to)) in
+              let shorter = length_without p (list_at links l) only.here in
+              let there : first_list + m ≡ l = omega (arith, same, place) in
+              subst (λ (k : ℕ). get_or (set counts n (value - 1)) m 0 ≡ length (list_at (removed links p) k)) (sym there)
+              (rw (here, at_removed l) (omega (arith, before, shorter)))
+          | inr apart ↦
+              let here = get_or-set_other counts n m (value - 1) 0 apart in
+              rw (here, kept (first_list + m) (elsewhere (first_list + m) (λ f. apart (omega (arith, f, place))))) (counted m inside)
+        ]
+
+    pub outside_counted : ((m : ℕ) → m < most_queues → l ≢ first_list + m) → AreCounted counts (removed links p)
+    outside_counted none = other_counted (λ m inside. elsewhere (first_list + m) (λ f. none m inside (sym f)))
+
+    -- somebody is counted where the process stands
+    pub counted_here : (value : ℕ) → length counts ≡ most_queues → first_list ≤ l → l < first_list + most_queues → value ≡ get_or counts (l - first_list) value → 0 < value
+    counted_here value long from to read =
+        omega (arith, count_is counts links l value counted long from to read, length_without p (list_at links l) only.here)

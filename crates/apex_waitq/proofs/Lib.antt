@@ -1,0 +1,2 @@
+mod Ranks
+mod Counts

@@ -1,0 +1,69 @@
+-- The wait queues: a list for each queue, and how many stand in it.
+use Rattle.std.specs.Prelude.{◌≡◌, ℕ, ◌+◌, ◌<◌, nat_lt, if◌then◌else◌, List, [], ◌∷◌, ◌++◌, length, slice_index_or, Option, None, Some}
+use Rattle.apex_types.specs.declared.records.Discipline.{Discipline}
+use Rattle.apex_types.specs.declared.records.Queue.{Queue}
+use Rattle.apex_types.specs.declared.records.Discipline.TheVariants.{Fifo, Priority}
+use Rattle.apex_types.specs.declared.records.Queue.TheVariants as queues
+use Rattle.apex_links.specs.Links.{Links, list_at, with_list, put_before}
+
+-- how many lists of a set come before those of the queues
+abbrev pub first_list : ℕ
+first_list = 2048
+
+-- how many queues there may be: six kinds of 256
+abbrev pub most_queues : ℕ
+most_queues = 1536
+
+-- the place of a queue among all
+abbrev pub queue_place : Queue → ℕ
+queue_place queues.Normal = 0
+queue_place (queues.Semaphore s) = 256 + s
+queue_place (queues.Buffer b) = 512 + b
+queue_place (queues.Blackboard b) = 768 + b
+queue_place (queues.Event e) = 1024 + e
+queue_place (queues.Mutex m) = 1280 + m
+
+-- the list of a queue
+abbrev pub wait_list : Queue → ℕ
+wait_list queue = first_list + queue_place queue
+
+-- what a contract sees of the queues: how many wait in each, and the priority that each process had when
+-- it began to wait
+pub record Waits : Type 0 where
+  pub counts : List ℕ
+  pub priorities : List ℕ
+
+-- the priority of process p
+abbrev pub priority_of : List ℕ → ℕ → ℕ
+priority_of priorities p = slice_index_or priorities p 0
+
+-- the first of these that has a lower priority
+abbrev pub first_lower : List ℕ → ℕ → List ℕ → Option ℕ
+first_lower priorities priority [] = None
+first_lower priorities priority (x ∷ xs) =
+    if nat_lt (priority_of priorities x) priority then Some x else first_lower priorities priority xs
+
+-- process p before the first of these that has a lower priority, and behind all where nobody has
+abbrev pub ranked : List ℕ → ℕ → ℕ → List ℕ → List ℕ
+ranked priorities p priority [] = p ∷ []
+ranked priorities p priority (x ∷ xs) =
+    if nat_lt (priority_of priorities x) priority then p ∷ x ∷ xs else x ∷ ranked priorities p priority xs
+
+-- process p behind these, or by its priority among them
+abbrev pub queued : Discipline → List ℕ → ℕ → ℕ → List ℕ → List ℕ
+queued Fifo priorities p priority xs = xs ++ p ∷ []
+queued Priority priorities p priority xs = ranked priorities p priority xs
+
+-- process p, of this priority, waits in the queue from now on
+abbrev pub joined : List ℕ → Links → Queue → Discipline → ℕ → ℕ → Links
+joined priorities links queue discipline p priority =
+    with_list links (wait_list queue) (queued discipline priorities p priority (list_at links (wait_list queue)))
+
+-- process p before another one, or behind all
+abbrev pub entered : Option ℕ → ℕ → List ℕ → List ℕ
+entered None p xs = xs ++ p ∷ []
+entered (Some other) p xs = put_before other p xs
+
+-- the counts are those of the lists
+abbrev pub AreCounted : List ℕ → Links → Type 0
+AreCounted counts links = (n : ℕ) → n < most_queues → slice_index_or counts n 0 ≡ length (list_at links (first_list + n))
