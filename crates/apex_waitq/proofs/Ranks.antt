@@ -5,6 +5,7 @@ use Rattle.std.proofs.lemmas.Bool.{cases_eq, cases_Bool}
 use Rattle.std.proofs.lemmas.Grind.{get_or-set_at}
 use Rattle.std.proofs.lemmas.List.{ext_get_or, get_or_default, get_or-set_other, length-map, length-set}
 use Rattle.std.proofs.lemmas.Option.{same_Some}
+use Rattle.std.proofs.Math.ListN.{get_or-map}
 use Rattle.apex_links.specs.Neighbours.{stands_in}
 use Rattle.apex_links.specs.Links.{Links, list_at, with_list, put_before, inserted_before, IsSound}
 use Rattle.apex_waitq.specs.WaitQueues.{entered, first_lower, priority_of, ranked}
@@ -73,12 +74,6 @@ at_stands x [] k there = absurd (grind (arith, there))
 at_stands x (y ∷ ys) zero there = grind (arith, there)
 at_stands x (y ∷ ys) (suc k) there = grind (arith, at_stands x ys k there)
 
--- a list of a changed set
-pub at_map : (f : List ℕ → List ℕ) → f [] ≡ [] → (xs : List (List ℕ)) (l : ℕ) → get_or (map f xs) l [] ≡ f (get_or xs l [])
-at_map f e [] l = sym e
-at_map f e (x ∷ xs) zero = refl
-at_map f e (x ∷ xs) (suc l) = at_map f e xs l
-
 put_out : (other p : ℕ) (xs : List ℕ) → stands_in other xs ≡ false → put_before other p xs ≡ xs
 put_out other p [] out = refl
 put_out other p (x ∷ xs) out = grind (arith, out, put_out other p xs)
@@ -93,8 +88,8 @@ module _ (links : Links) (sound : IsSound links) (l p other : ℕ) (inside : l <
 
   each : (m : ℕ) → get_or (map (put_before other p) links.lists) m [] ≡ get_or (set links.lists l (put_before other p (list_at links l))) m []
   each m = elim (cases_eq m l) as (λ _. get_or (map (put_before other p) links.lists) m [] ≡ get_or (set links.lists l (put_before other p (list_at links l))) m []) [
-    | inl e ↦ rw (at_map (put_before other p) refl links.lists m, get_or-set_at links.lists l m (put_before other p (list_at links l)) [] e inside, e) refl
-    | inr apart ↦ rw (at_map (put_before other p) refl links.lists m, get_or-set_other links.lists l m (put_before other p (list_at links l)) [] apart)
+    | inl e ↦ rw (get_or-map (put_before other p) links.lists m [], get_or-set_at links.lists l m (put_before other p (list_at links l)) [] e inside, e) refl
+    | inr apart ↦ rw (get_or-map (put_before other p) links.lists m [], get_or-set_other links.lists l m (put_before other p (list_at links l)) [] apart)
         (put_out other p (list_at links m) (elsewhere m apart))
   ]
 

@@ -64,6 +64,10 @@ abbrev pub entered : Option ℕ → ℕ → List ℕ → List ℕ
 entered None p xs = xs ++ p ∷ []
 entered (Some other) p xs = put_before other p xs
 
+-- this is the one before whom a process of this priority goes into the list, or none where it goes behind all
+abbrev pub IsPlace : Discipline → List ℕ → ℕ → List ℕ → Option ℕ → Type 0
+IsPlace discipline priorities priority xs other = (p : ℕ) → entered other p xs ≡ queued discipline priorities p priority xs
+
 -- the counts are those of the lists
 abbrev pub AreCounted : List ℕ → Links → Type 0
 AreCounted counts links = (n : ℕ) → n < most_queues → slice_index_or counts n 0 ≡ length (list_at links (first_list + n))

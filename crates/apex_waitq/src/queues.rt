@@ -1,8 +1,9 @@
 //! Who waits in which queue.
-ghost use Rattle.std.specs.Prelude.{◌≡◌, ◌+◌, ◌<◌, ◌≤◌, ◌^◌, ℕ, true, length, replicate, slice_set, Option, None, Some, IfOk, IfSome};
+ghost use Rattle.std.specs.Prelude.{◌≡◌, ◌+◌, ◌<◌, ◌≤◌, ◌^◌, true, length, replicate, slice_set, IfOk, IfSome};
 ghost use Rattle.apex_links.specs.Neighbours.{first_of, stands_in};
 ghost use Rattle.apex_links.specs.Links.{list_at, removed, with_list, IsFree};
-ghost use Rattle.apex_waitq.specs.WaitQueues.{entered, first_list, first_lower, joined, most_queues, queued, wait_list, AreCounted};
+ghost use Rattle.apex_waitq.specs.WaitQueues.{first_list, most_queues, wait_list};
+ghost use Rattle.apex_waitq.specs.WaitQueues.{entered, first_lower, joined, AreCounted, IsPlace};
 
 use crate::lists::{queue_place, wait_list};
 use apex_links::{LinkSet, ListId};
@@ -94,7 +95,7 @@ impl WaitQueues {
     ) -> Option<ProcessId>
         requires list { list < length links.now.lists }
         requires processes { links.now.processes ≤ length self.now.priorities }
-        ensures value { (p : ℕ) → entered result p (list_at links.now list) ≡ queued discipline self.now.priorities p priority (list_at links.now list) }
+        ensures value { IsPlace discipline self.now.priorities priority (list_at links.now list) result }
         ensures there { IfSome result (λ q. stands_in q (list_at links.now list) ≡ true) }
     {
         match discipline {
