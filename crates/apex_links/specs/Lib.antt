@@ -1,3 +1,4 @@
 pub mod Neighbours
 pub mod Links
 pub mod Chains
+pub mod Placing

@@ -50,6 +50,13 @@ impl Chains {
         Ok(Chains { nodes, ends })
     }
 
+    /// How many processes there are.
+    pub(crate) fn process_count(&self) -> usize
+        ensures { result ≡ length self.now.nodes.items }
+    {
+        self.nodes.len()
+    }
+
     /// The node of the process.
     pub(crate) fn node(&self, process: ProcessId) -> Node
         requires { process < length self.now.nodes.items }

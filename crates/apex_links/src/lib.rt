@@ -5,6 +5,8 @@
 mod chains;
 mod links;
 mod lists;
+mod placing;
 
 pub use links::LinkSet;
 pub use lists::ListId;
+pub use placing::Test;

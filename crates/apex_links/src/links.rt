@@ -47,6 +47,13 @@ impl LinkSet {
         let _ = &self.chains;
     }
 
+    /// How many processes there are.
+    pub(crate) fn process_count(&self) -> usize
+        ensures { result ≡ self.now.processes }
+    {
+        self.chains.process_count()
+    }
+
     /// The list in which the process stands.
     pub fn list_of(&self, process: ProcessId) -> Option<ListId>
         requires { process < self.now.processes }

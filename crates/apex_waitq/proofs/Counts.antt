@@ -1,6 +1,5 @@
 -- The counts stay those of the lists as one process enters a list or leaves it.
 use Rattle.std.proofs.Common.{◌≡◌, ◌≢◌, ℕ, suc, ◌+◌, ◌-◌, ◌<◌, ◌≤◌, true, false, List, [], ◌∷◌, length, set, get_or, inl, inr, refl, ap, sym, subst, ◌∙◌, arith}
-use Rattle.std.specs.Prelude.{nat_lt}
 use Rattle.std.proofs.lemmas.Bool.{cases_eq, cases_Bool}
 use Rattle.std.proofs.lemmas.Grind.{get_or-set_at}
 use Rattle.std.proofs.lemmas.List.{get_or_default, get_or-set_other, length-append}
@@ -8,26 +7,16 @@ use Rattle.apex_types.specs.declared.records.Discipline.{Discipline}
 use Rattle.apex_types.specs.declared.records.Discipline.TheVariants.{Fifo, Priority}
 use Rattle.apex_links.specs.Neighbours.{stands_in}
 use Rattle.apex_links.specs.Links.{Links, list_at, with_list, without, removed, IsFree, IsOnlyIn}
-use Rattle.apex_waitq.specs.WaitQueues.{first_list, most_queues, priority_of, queued, ranked, AreCounted}
-use Rattle.std.proofs.Math.ListN.{get_or-map}
+use Rattle.apex_waitq.specs.WaitQueues.{first_list, is_lower, most_queues, queued, AreCounted}
+use Rattle.apex_links.proofs.Places.{at_map, without_out}
+use Rattle.apex_links.proofs.Walking.{length_placed}
 
 -- a list is longer by one with one process more
-length_ranked : (ps : List ℕ) (p priority : ℕ) (xs : List ℕ) → length (ranked ps p priority xs) ≡ suc (length xs)
-length_ranked ps p priority [] = refl
-length_ranked ps p priority (x ∷ xs) = elim (cases_Bool (nat_lt (priority_of ps x) priority)) [
-  | inl low ↦ rw low refl
-  | inr high ↦ rw high (ap suc (length_ranked ps p priority xs))
-]
-
 pub length_queued : (d : Discipline) (ps : List ℕ) (p priority : ℕ) (xs : List ℕ) → length (queued d ps p priority xs) ≡ suc (length xs)
 length_queued Fifo ps p priority xs = omega (arith, length-append xs (p ∷ []))
-length_queued Priority ps p priority xs = length_ranked ps p priority xs
+length_queued Priority ps p priority xs = length_placed (is_lower ps priority) p xs
 
--- the list without a process that stands in it, or does not
-without_out : (p : ℕ) (xs : List ℕ) → stands_in p xs ≡ false → without p xs ≡ xs
-without_out p [] out = refl
-without_out p (x ∷ xs) out = grind (arith, out, without_out p xs)
-
+-- the list without a process that stands in it
 pub length_without : (p : ℕ) (xs : List ℕ) → stands_in p xs ≡ true → suc (length (without p xs)) ≡ length xs
 length_without p [] here = absurd (grind (arith, here))
 length_without p (x ∷ xs) here = elim (cases_eq p x) [
@@ -75,7 +64,7 @@ entered_counted counts links l value ys counted long room from to read longer =
 -- a process leaves its list
 module _ (counts : List ℕ) (links : Links) (p : ℕ) (counted : AreCounted counts links) where
   at_removed : (m : ℕ) → list_at (removed links p) m ≡ without p (list_at links m)
-  at_removed m = get_or-map (without p) links.lists m []
+  at_removed m = at_map (without p) refl links.lists m
 
   kept : (m : ℕ) → stands_in p (list_at links m) ≡ false → list_at (removed links p) m ≡ list_at links m
   kept m out = at_removed m ∙ without_out p (list_at links m) out

@@ -1,2 +1,1 @@
-mod Ranks
 mod Counts

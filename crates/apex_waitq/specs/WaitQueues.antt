@@ -1,10 +1,11 @@
 -- The wait queues: a list for each queue, and how many stand in it.
-use Rattle.std.specs.Prelude.{◌≡◌, ℕ, ◌+◌, ◌<◌, nat_lt, if◌then◌else◌, List, [], ◌∷◌, ◌++◌, length, slice_index_or, Option, None, Some}
+use Rattle.std.specs.Prelude.{◌≡◌, ℕ, ◌+◌, ◌<◌, nat_lt, Bool, List, [], ◌∷◌, ◌++◌, length, slice_index_or}
 use Rattle.apex_types.specs.declared.records.Discipline.{Discipline}
 use Rattle.apex_types.specs.declared.records.Queue.{Queue}
 use Rattle.apex_types.specs.declared.records.Discipline.TheVariants.{Fifo, Priority}
 use Rattle.apex_types.specs.declared.records.Queue.TheVariants as queues
-use Rattle.apex_links.specs.Links.{Links, list_at, with_list, put_before}
+use Rattle.apex_links.specs.Links.{Links, list_at, with_list}
+use Rattle.apex_links.specs.Placing.{placed}
 
 -- how many lists of a set come before those of the queues
 abbrev pub first_list : ℕ
@@ -37,36 +38,19 @@ pub record Waits : Type 0 where
 abbrev pub priority_of : List ℕ → ℕ → ℕ
 priority_of priorities p = slice_index_or priorities p 0
 
--- the first of these that has a lower priority
-abbrev pub first_lower : List ℕ → ℕ → List ℕ → Option ℕ
-first_lower priorities priority [] = None
-first_lower priorities priority (x ∷ xs) =
-    if nat_lt (priority_of priorities x) priority then Some x else first_lower priorities priority xs
-
--- process p before the first of these that has a lower priority, and behind all where nobody has
-abbrev pub ranked : List ℕ → ℕ → ℕ → List ℕ → List ℕ
-ranked priorities p priority [] = p ∷ []
-ranked priorities p priority (x ∷ xs) =
-    if nat_lt (priority_of priorities x) priority then p ∷ x ∷ xs else x ∷ ranked priorities p priority xs
+-- process x has a lower priority than this one
+abbrev pub is_lower : List ℕ → ℕ → ℕ → Bool
+is_lower priorities priority x = nat_lt (priority_of priorities x) priority
 
 -- process p behind these, or by its priority among them
 abbrev pub queued : Discipline → List ℕ → ℕ → ℕ → List ℕ → List ℕ
 queued Fifo priorities p priority xs = xs ++ p ∷ []
-queued Priority priorities p priority xs = ranked priorities p priority xs
+queued Priority priorities p priority xs = placed (is_lower priorities priority) p xs
 
 -- process p, of this priority, waits in the queue from now on
 abbrev pub joined : List ℕ → Links → Queue → Discipline → ℕ → ℕ → Links
 joined priorities links queue discipline p priority =
     with_list links (wait_list queue) (queued discipline priorities p priority (list_at links (wait_list queue)))
-
--- process p before another one, or behind all
-abbrev pub entered : Option ℕ → ℕ → List ℕ → List ℕ
-entered None p xs = xs ++ p ∷ []
-entered (Some other) p xs = put_before other p xs
-
--- this is the one before whom a process of this priority goes into the list, or none where it goes behind all
-abbrev pub IsPlace : Discipline → List ℕ → ℕ → List ℕ → Option ℕ → Type 0
-IsPlace discipline priorities priority xs other = (p : ℕ) → entered other p xs ≡ queued discipline priorities p priority xs
 
 -- the counts are those of the lists
 abbrev pub AreCounted : List ℕ → Links → Type 0

@@ -1,12 +1,11 @@
 //! Who waits in which queue.
-ghost use Rattle.std.specs.Prelude.{◌≡◌, ◌+◌, ◌<◌, ◌≤◌, ◌^◌, true, length, replicate, slice_set, IfOk, IfSome};
-ghost use Rattle.apex_links.specs.Neighbours.{first_of, stands_in};
+ghost use Rattle.std.specs.Prelude.{◌≡◌, ◌+◌, ◌<◌, ◌≤◌, ◌^◌, length, replicate, slice_set, IfOk};
+ghost use Rattle.apex_links.specs.Neighbours.{first_of};
 ghost use Rattle.apex_links.specs.Links.{list_at, removed, with_list, IsFree};
-ghost use Rattle.apex_waitq.specs.WaitQueues.{first_list, most_queues, wait_list};
-ghost use Rattle.apex_waitq.specs.WaitQueues.{entered, first_lower, joined, AreCounted, IsPlace};
+ghost use Rattle.apex_waitq.specs.WaitQueues.{first_list, is_lower, joined, most_queues, queued, wait_list, AreCounted};
 
 use crate::lists::{queue_place, wait_list};
-use apex_links::{LinkSet, ListId};
+use apex_links::{LinkSet, ListId, Test};
 use apex_types::{Discipline, ProcessId, Queue};
 use std::alloc::{AllocError, Global};
 use std::marker::Model;
@@ -37,19 +36,20 @@ impl Model for WaitQueues {
     ghost invariant = { λ q. length q.counts.items ≡ most_queues };
 }
 
-/// The process, which stands in no list, goes into this one: before another one that stands there, or
-/// behind all others.
-fn enter(links: &mut LinkSet, list: ListId, other: Option<ProcessId>, process: ProcessId)
-    requires list { list < length links.old.lists }
-    requires process { process < links.old.processes }
-    requires free { IsFree links.old process }
-    requires other { IfSome other (λ q. stands_in q (list_at links.old list) ≡ true) }
-    ensures { links.new ≡ with_list links.old list (entered other process (list_at links.old list)) }
-{
-    links.holds();
-    match other {
-        Some(other) => links.insert_before(other, process),
-        None => links.push_back(list, process),
+/// The test that finds those of a lower priority.
+#[derive(Drop)]
+struct Lower<'a> {
+    priorities: &'a [u8],
+    priority: u8,
+}
+
+impl Test for Lower<'_> {
+    ghost passes = { λ t. is_lower t.priorities.now t.priority };
+
+    ghost known = { λ t. length t.priorities.now };
+
+    fn passes(&self, process: ProcessId) -> bool {
+        self.priorities[process.place()] < self.priority
     }
 }
 
@@ -64,43 +64,30 @@ impl WaitQueues {
         Ok(WaitQueues { counts, priorities })
     }
 
-    /// The first of the list that has a lower priority than this one.
-    fn first_lower(&self, links: &LinkSet, list: ListId, priority: u8) -> Option<ProcessId>
-        requires list { list < length links.now.lists }
-        requires processes { links.now.processes ≤ length self.now.priorities }
-        ensures value { result ≡ first_lower self.now.priorities priority (list_at links.now list) }
-        ensures there { IfSome result (λ q. stands_in q (list_at links.now list) ≡ true) }
-    {
-        links.holds();
-        let mut at = links.front(list);
-        for _turn in 0..self.priorities.len() {
-            let Some(process) = at else {
-                return None;
-            };
-            if self.priorities[process.place()] < priority {
-                return at;
-            }
-            at = links.next(process);
-        }
-        None
-    }
-
-    /// The one in the list before whom a process of this priority goes; none where it goes behind all.
-    fn place(
+    /// The process, which stands in no list, goes into this one by the discipline.
+    fn enter(
         &self,
-        links: &LinkSet,
+        links: &mut LinkSet,
         list: ListId,
         discipline: Discipline,
+        process: ProcessId,
         priority: u8,
-    ) -> Option<ProcessId>
-        requires list { list < length links.now.lists }
-        requires processes { links.now.processes ≤ length self.now.priorities }
-        ensures value { IsPlace discipline self.now.priorities priority (list_at links.now list) result }
-        ensures there { IfSome result (λ q. stands_in q (list_at links.now list) ≡ true) }
+    )
+        requires list { list < length links.old.lists }
+        requires process { process < links.old.processes }
+        requires processes { links.old.processes ≤ length self.now.priorities }
+        requires free { IsFree links.old process }
+        ensures { links.new ≡ with_list links.old list (queued discipline self.now.priorities process priority (list_at links.old list)) }
     {
         match discipline {
-            Discipline::Fifo => None,
-            Discipline::Priority => self.first_lower(links, list, priority),
+            Discipline::Fifo => links.push_back(list, process),
+            Discipline::Priority => {
+                let lower = Lower {
+                    priorities: &self.priorities,
+                    priority,
+                };
+                links.place(list, process, &lower);
+            }
         }
     }
 
@@ -126,8 +113,7 @@ impl WaitQueues {
     {
         links.holds();
         let list = wait_list(queue);
-        let other = self.place(links, list, discipline, priority);
-        enter(links, list, other, process);
+        self.enter(links, list, discipline, process, priority);
         self.priorities[process.place()] = priority;
         self.counts[list.place() - FIRST_LIST] += 1;
     }

@@ -1,4 +1,4 @@
-use Rattle.std.proofs.Common.{◌≤◌, length, ◌∙◌, ap, arith}
+use Rattle.std.proofs.Common.{◌≤◌, arith}
 use Rattle.apex_links.specs.Links.{list_at}
 use Rattle.apex_waitq.specs.WaitQueues.{first_list}
 use Rattle.apex_waitq.proofs.Counts.{count_is, entered_counted, length_queued}
@@ -19,6 +19,6 @@ returns-clause-counted c =
     let list = c.wait_list-list.ensures.value in
     let from : first_list ≤ c.wait_list-list.result = rw list (omega arith) in
     let counted = rw (← c.self.view_is) at c.requires.counted in
-    let longer = ap length (c.place-other.ensures.value c.args.process) ∙ length_queued c.args.discipline _ c.args.process c.args.priority (list_at c.args.links.now c.wait_list-list.result) in
+    let longer = length_queued c.args.discipline _ c.args.process c.args.priority (list_at c.args.links.now c.wait_list-list.result) in
     rw (place, c.enter.ensures) (entered_counted _ c.args.links.now c.wait_list-list.result c.index_mut-2.result.now _ counted c.self.invariant c.requires.lists
     from c.wait_list-list.ensures.known (rw place at c.index_mut-2.ensures.value) longer)

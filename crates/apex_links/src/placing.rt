@@ -1,0 +1,60 @@
+//! A process goes into a list before the first one that passes a test.
+ghost use Rattle.std.specs.Prelude.{◌≡◌, ◌<◌, ◌≤◌, ℕ, Bool, length, true, IfSome};
+ghost use Rattle.apex_links.specs.Neighbours.{stands_in};
+ghost use Rattle.apex_links.specs.Links.{list_at, with_list, IsFree};
+ghost use Rattle.apex_links.specs.Placing.{first_such, placed};
+
+use crate::links::LinkSet;
+use crate::lists::ListId;
+use apex_types::ProcessId;
+
+/// A test of the processes that stand in a list.
+pub trait Test {
+    ghost passes: { Self → ℕ → Bool };
+
+    /// How many processes the test knows, from number 0 on.
+    ghost known: { Self → ℕ };
+
+    fn passes(&self, process: ProcessId) -> bool
+        requires { process < known self.now }
+        ensures { result ≡ passes self.now process };
+}
+
+impl LinkSet {
+    /// The first of the list that passes the test.
+    fn first_such<T: Test>(&self, list: ListId, test: &T) -> Option<ProcessId>
+        requires list { list < length self.now.lists }
+        requires known { self.now.processes ≤ T.known test.now }
+        ensures value { result ≡ first_such (T.passes test.now) (list_at self.now list) }
+        ensures there { IfSome result (λ q. stands_in q (list_at self.now list) ≡ true) }
+    {
+        self.holds();
+        let mut at = self.front(list);
+        for _turn in 0..self.process_count() {
+            let Some(process) = at else {
+                return None;
+            };
+            if test.passes(process) {
+                return at;
+            }
+            at = self.next(process);
+        }
+        None
+    }
+
+    /// The process, which stands in no list, goes into this one: right before the first that passes the
+    /// test, or behind all others where nobody does.
+    pub fn place<T: Test>(&mut self, list: ListId, process: ProcessId, test: &T)
+        requires list { list < length self.old.lists }
+        requires process { process < self.old.processes }
+        requires free { IsFree self.old process }
+        requires known { self.old.processes ≤ T.known test.now }
+        ensures { self.new ≡ with_list self.old list (placed (T.passes test.now) process (list_at self.old list)) }
+    {
+        self.holds();
+        match self.first_such(list, test) {
+            Some(other) => self.insert_before(other, process),
+            None => self.push_back(list, process),
+        }
+    }
+}

@@ -1,0 +1,135 @@
+//! Processes in the order of their instants.
+ghost use Rattle.std.specs.Prelude.{◌≡◌, ◌<◌, [], false, length, replicate, IfOk, IfSome};
+ghost use Rattle.apex_links.specs.Neighbours.{first_of, stands_in};
+ghost use Rattle.apex_timeouts.specs.Timeline.{armed, disarmed, due_at, instant_of, is_later, next_of, without_due_at, IsTimed};
+
+use apex_links::{LinkSet, ListId, Test};
+use apex_types::ProcessId;
+use std::alloc::{AllocError, Global};
+use std::marker::Model;
+
+/// The test that finds those who come later than a process at this instant.
+#[derive(Drop)]
+struct Later<'a> {
+    instants: &'a [u64],
+    process: ProcessId,
+    instant: u64,
+}
+
+impl Test for Later<'_> {
+    ghost passes = { λ t. is_later t.instants.now t.process t.instant };
+
+    ghost known = { λ t. length t.instants.now };
+
+    fn passes(&self, other: ProcessId) -> bool {
+        let instant = self.instants[other.place()];
+        self.instant < instant || self.instant == instant && self.process.place() < other.place()
+    }
+}
+
+/// The one list of the link set.
+fn line() -> ListId
+    ensures { result ≡ 0 }
+{
+    ListId::at(0)
+}
+
+/// Some of the processes, each with an instant of its own, in ticks: the soonest first, and of those at the
+/// same instant that of the lowest number.
+#[derive(Drop)]
+pub struct Timeline {
+    links: LinkSet,
+    instants: Vec<u64>,
+}
+
+impl Model for Timeline {
+    ghost use Rattle.apex_links.specs.Links.{list_at};
+    ghost use Rattle.apex_timeouts.specs.Timeline.{Times, AreTimed};
+
+    ghost Value = { Times };
+
+    ghost view = { λ t. record { order = list_at t.links 0; instants = t.instants.items } };
+
+    ghost invariant = { λ t. AreTimed t.links t.instants.items };
+}
+
+impl Timeline {
+    /// So many processes, none of which is on the line. Fails only for want of memory.
+    pub fn new(alloc: Global, processes: u16) -> Result<Timeline, AllocError>
+        ensures { IfOk result (λ line. line ≡ record { order = []; instants = replicate processes 0 }) }
+    {
+        Ok(Timeline {
+            links: LinkSet::new(alloc, processes, 1)?,
+            instants: vec![in alloc; 0; usize::from(processes)]?,
+        })
+    }
+
+    /// The processes stand in the order of their instants, and none of them twice.
+    pub fn holds(&self)
+        ensures { IsTimed self.now }
+    {
+        self.links.holds();
+    }
+
+    /// The process, which is not on the line, has this instant from now on.
+    pub fn arm(&mut self, process: ProcessId, instant: u64)
+        requires process { process < length self.old.instants }
+        requires idle { stands_in process self.old.order ≡ false }
+        ensures { self.new ≡ armed self.old process instant }
+    {
+        let later = Later {
+            instants: &self.instants,
+            process,
+            instant,
+        };
+        self.links.place(line(), process, &later);
+        self.instants[process.place()] = instant;
+    }
+
+    /// The process is not on the line from now on.
+    pub fn disarm(&mut self, process: ProcessId)
+        requires { process < length self.old.instants }
+        ensures { self.new ≡ disarmed self.old process }
+    {
+        self.links.remove(process);
+    }
+
+    /// The first process on the line.
+    fn first(&self) -> Option<ProcessId>
+        ensures value { result ≡ first_of self.now.order }
+        ensures known { IfSome result (λ p. p < length self.now.instants) }
+    {
+        self.links.holds();
+        self.links.front(line())
+    }
+
+    /// The instant of the process.
+    fn instant(&self, process: ProcessId) -> u64
+        requires { process < length self.now.instants }
+        ensures { result ≡ instant_of self.now.instants process }
+    {
+        self.instants[process.place()]
+    }
+
+    /// The soonest instant.
+    pub fn next_instant(&self) -> Option<u64>
+        ensures { result ≡ next_of self.now }
+    {
+        let process = self.first()?;
+        Some(self.instant(process))
+    }
+
+    /// Takes the first process off the line where this is its instant.
+    pub fn pop_at(&mut self, instant: u64) -> Option<ProcessId>
+        ensures value { result ≡ due_at self.old instant }
+        ensures known { IfSome result (λ p. p < length self.old.instants) }
+        ensures line { self.new ≡ without_due_at self.old instant }
+    {
+        let process = self.first()?;
+        if self.instant(process) != instant {
+            return None;
+        }
+        self.disarm(process);
+        Some(process)
+    }
+}
