@@ -1,1 +1,3 @@
-mod Orders
+pub mod Orders
+pub mod Instants
+pub mod Fronts

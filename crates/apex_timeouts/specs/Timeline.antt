@@ -31,6 +31,15 @@ armed times p instant = record { order = placed (is_later times.instants p insta
 abbrev pub disarmed : Times → ℕ → Times
 disarmed times p = record times { order = without p times.order }
 
+-- process p has this instant from now on, or none
+abbrev pub retimed : Times → ℕ → Option ℕ → Times
+retimed times p None = disarmed times p
+retimed times p (Some instant) = armed (disarmed times p) p instant
+
+-- the instant of process p, or none where it is not on the line
+abbrev pub instant_on : Times → ℕ → Option ℕ
+instant_on times p = if stands_in p times.order then Some (instant_of times.instants p) else None
+
 -- the instant of this process, where there is one
 abbrev pub instant_at : List ℕ → Option ℕ → Option ℕ
 instant_at instants None = None

@@ -1,7 +1,7 @@
 //! Processes in the order of their instants.
 ghost use Rattle.std.specs.Prelude.{◌≡◌, ◌<◌, [], false, length, replicate, IfOk, IfSome};
 ghost use Rattle.apex_links.specs.Neighbours.{first_of, stands_in};
-ghost use Rattle.apex_timeouts.specs.Timeline.{armed, disarmed, due_at, instant_of, is_later, next_of, without_due_at, IsTimed};
+ghost use Rattle.apex_timeouts.specs.Timeline.{armed, disarmed, due_at, instant_of, is_later, next_of, retimed, without_due_at, IsTimed};
 
 use apex_links::{LinkSet, ListId, Test};
 use apex_types::ProcessId;
@@ -89,9 +89,21 @@ impl Timeline {
     /// The process is not on the line from now on.
     pub fn disarm(&mut self, process: ProcessId)
         requires { process < length self.old.instants }
-        ensures { self.new ≡ disarmed self.old process }
+        ensures line { self.new ≡ disarmed self.old process }
+        ensures idle { stands_in process self.new.order ≡ false }
     {
         self.links.remove(process);
+    }
+
+    /// The process has this instant from now on, or none.
+    pub fn set(&mut self, process: ProcessId, instant: Option<u64>)
+        requires { process < length self.old.instants }
+        ensures { self.new ≡ retimed self.old process instant }
+    {
+        self.disarm(process);
+        if let Some(instant) = instant {
+            self.arm(process, instant);
+        }
     }
 
     /// The first process on the line.
