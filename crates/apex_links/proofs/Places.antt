@@ -46,6 +46,21 @@ pub put_out : (other p : ℕ) (xs : List ℕ) → stands_in other xs ≡ false �
 put_out other p [] out = refl
 put_out other p (x ∷ xs) out = grind (arith, out, put_out other p xs)
 
+-- who stands in the list without p
+pub stays_without : (p q : ℕ) (xs : List ℕ) → q ≢ p → stands_in q (without p xs) ≡ stands_in q xs
+stays_without p q [] apart = refl
+stays_without p q (x ∷ xs) apart = elim (cases_eq p x) as (λ _. stands_in q (without p (x ∷ xs)) ≡ stands_in q (x ∷ xs)) [
+  | inl same ↦ grind (arith, same, apart)
+  | inr other ↦ grind (arith, other, stays_without p q xs apart)
+]
+
+pub stood_before : (p q : ℕ) (xs : List ℕ) → stands_in q (without p xs) ≡ true → stands_in q xs ≡ true
+stood_before p q [] here = here
+stood_before p q (x ∷ xs) here = elim (cases_eq p x) as (λ _. stands_in q (x ∷ xs) ≡ true) [
+  | inl same ↦ grind (arith, here, same)
+  | inr apart ↦ grind (arith, here, apart, stood_before p q xs)
+]
+
 -- a list of a changed set
 pub at_map : (f : List ℕ → List ℕ) → f [] ≡ [] → (xs : List (List ℕ)) (l : ℕ) → get_or (map f xs) l [] ≡ f (get_or xs l [])
 at_map f e [] l = sym e
@@ -91,4 +106,3 @@ pub same_all : {A : Type 0} (x : A) (many i : ℕ) → get_or (replicate many x)
 same_all x zero i = refl
 same_all x (suc many) zero = refl
 same_all x (suc many) (suc i) = same_all x many i
-

@@ -1,12 +1,12 @@
 -- What each call makes of the lists.
-use Rattle.std.proofs.Common.{◌≡◌, ◌≢◌, ℕ, zero, suc, ◌+◌, ◌<◌, Bool, true, false, ◌||◌, List, [], ◌∷◌, ◌++◌, length, map, set, get_or, slice_get, replicate, Option, None, Some, IfSome, inl, inr, refl, ap, sym, subst, ◌∙◌, arith}
-use Rattle.std.proofs.lemmas.Bool.{cases_eq, cases_Bool}
+use Rattle.std.proofs.Common.{◌≡◌, ◌≢◌, ℕ, ◌+◌, ◌<◌, Bool, true, false, ◌||◌, List, [], ◌∷◌, ◌++◌, length, map, set, get_or, slice_get, replicate, Option, None, Some, IfSome, inl, inr, refl, ap, sym, subst, ◌∙◌, arith}
+use Rattle.std.proofs.lemmas.Bool.{cases_Bool}
 use Rattle.std.proofs.lemmas.Grind.{get_or-set_at}
-use Rattle.std.proofs.lemmas.List.{append-nil, ext_get_or, get_or-set_other, length-map, length-replicate, length-set}
+use Rattle.std.proofs.lemmas.List.{append-nil, get_or-set_other, length-map, length-replicate, length-set}
 use Rattle.std.proofs.lemmas.Option.{same_Some}
 use Rattle.apex_links.specs.declared.chains.Node.{Node}
 use Rattle.apex_links.specs.declared.chains.Ends.{Ends}
-use Rattle.apex_links.specs.Neighbours.{stands_in, IsDistinct, after_in, first_of, last_of}
+use Rattle.apex_links.specs.Neighbours.{stands_in, first_of, last_of}
 use Rattle.apex_links.specs.Links.{Links, pushed_back, pushed_front, removed, inserted_before, without, put_before, IsFree, IsSound}
 use Rattle.apex_links.specs.Chains.{free, no_ends, node_at, ends_at, lists_of, spliced, respliced, AreLinked}
 use Rattle.apex_links.proofs.Neighbours.{stands_in-append, before_here, after_here}

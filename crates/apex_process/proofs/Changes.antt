@@ -10,9 +10,10 @@ use Rattle.apex_types.specs.Roster.{Roster, record_at}
 use Rattle.apex_types.specs.Running.{current_priority, IsEligible, IsIneligible}
 use Rattle.apex_links.specs.Neighbours.{stands_in}
 use Rattle.apex_links.specs.Links.{Links, list_at, with_list, without, removed, pushed_back, pushed_front}
+use Rattle.apex_links.proofs.Places.{stays_without}
 use Rattle.apex_ready.specs.ReadyOrders.{ready_list, ready_lists}
 use Rattle.apex_process.specs.ReadyLists.{is_ready_at, AreReadyLists, HasPlace, IsRising}
-use Rattle.apex_process.proofs.Rising.{at_removed, rising_without, rising_same, rising_back, stands_behind, without_gone, without_stands}
+use Rattle.apex_process.proofs.Rising.{at_removed, rising_without, rising_same, rising_back, stands_behind, without_gone}
 
 -- the two differ in the record of process p alone
 pub record DifferIn (old new : Roster) (p : ℕ) : Type 0 where
@@ -33,7 +34,7 @@ ready_same old new core priority q mode same = rw (mode, same) refl
 pub leave_keeps : (old new : Roster) (links : Links) (p : ℕ) → AreReadyLists old links → DifferIn old new p → AreReadyListsBut new (removed links p) p
 leave_keeps old new links p are differ = record {
   gone = λ core priority c k. rw (at_removed links p (ready_list core priority)) (without_gone old p _ (are.rising core priority c k));
-  members = λ core priority q c k apart. rw (at_removed links p (ready_list core priority), without_stands old p q _ (are.rising core priority c k) apart)
+  members = λ core priority q c k apart. rw (at_removed links p (ready_list core priority), stays_without p q _ apart)
       (are.members core priority q c k ∙ sym (ready_same old new core priority q differ.mode (differ.others q apart)));
   rising = λ core priority c k. rw (at_removed links p (ready_list core priority)) (stays core priority c k);
 } where

@@ -1,22 +1,18 @@
 -- Lists in which nobody stands.
-use Rattle.std.proofs.Common.{◌≡◌, ℕ, zero, suc, ◌+◌, ◌<◌, ◌≤◌, false, List, [], ◌∷◌, length, map, get_or, replicate, inl, inr, refl, sym, ◌∙◌, arith}
+use Rattle.std.proofs.Common.{◌≡◌, ℕ, ◌+◌, ◌<◌, ◌≤◌, false, List, [], ◌∷◌, length, map, get_or, replicate, inl, inr, refl, sym, ◌∙◌, arith}
 use Rattle.std.proofs.lemmas.List.{ext_get_or, length-map, length-replicate}
 use Rattle.std.proofs.lemmas.Bool.{cases_Bool, cases_eq, false≢true}
 use Rattle.apex_links.specs.Neighbours.{stands_in}
 use Rattle.apex_links.specs.Links.{Links, list_at, removed, IsFree, IsSound}
+use Rattle.apex_links.proofs.Places.{at_map, same_all, stood_before}
 use Rattle.apex_ready.specs.ReadyOrders.{is_marked, ready_lists, AreMarked}
 use Rattle.apex_process.specs.ReadyLists.{emptied, none_of}
-use Rattle.apex_process.proofs.Rising.{at_removed, without_less}
-
-pub same_all : (many l : ℕ) → get_or (replicate {A = List ℕ} many []) l [] ≡ []
-same_all zero l = refl
-same_all (suc many) zero = refl
-same_all (suc many) (suc l) = same_all many l
+use Rattle.apex_process.proofs.Rising.{at_removed}
 
 -- no list is marked, and in none of the ready lists stands anybody
 pub unmarked : (words : List ℕ) (processes : ℕ) → ((l : ℕ) → is_marked words l ≡ false)
     → AreMarked words (record { processes = processes; lists = replicate ready_lists [] }) × (ready_lists ≤ length (replicate {A = List ℕ} ready_lists []))
-unmarked words processes none = (λ l known. rw (none l, same_all ready_lists l) refl, omega (arith, length-replicate {A = List ℕ} ready_lists []))
+unmarked words processes none = (λ l known. rw (none l, same_all {A = List ℕ} [] ready_lists l) refl, omega (arith, length-replicate {A = List ℕ} ready_lists []))
 
 -- a list in which nobody stands is empty
 no_member : (ps : List ℕ) → ((p : ℕ) → stands_in p ps ≡ false) → ps ≡ []
@@ -24,9 +20,7 @@ no_member [] out = refl
 no_member (x ∷ xs) out = absurd (grind (arith, out x))
 
 pub at_emptied : (xs : List (List ℕ)) (l : ℕ) → get_or (map none_of xs) l [] ≡ []
-at_emptied [] l = refl
-at_emptied (x ∷ xs) zero = refl
-at_emptied (x ∷ xs) (suc l) = at_emptied xs l
+at_emptied xs l = at_map none_of refl xs l
 
 -- where no process stands in any list, all are empty
 module _ (links old : Links) (same : links.processes ≡ old.processes) (many : length links.lists ≡ length old.lists)
@@ -49,7 +43,7 @@ pub left_out : (links new : Links) (n place : ℕ) → new ≡ removed links n �
 left_out links new n place left out same before p below l = elim (cases_eq p place) [
   | inl e ↦ rw (e, ← same) (out l)
   | inr apart ↦ rw left (elim (cases_Bool (stands_in p (list_at (removed links n) l))) [
-    | inl e ↦ absurd (false≢true (sym (before p (omega (arith, below, apart)) l) ∙ without_less n p (list_at links l) (rw (at_removed links n l) at e)))
+    | inl e ↦ absurd (false≢true (sym (before p (omega (arith, below, apart)) l) ∙ stood_before n p (list_at links l) (rw (at_removed links n l) at e)))
     | inr e ↦ e
   ])
 ]

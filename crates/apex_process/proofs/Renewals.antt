@@ -22,7 +22,8 @@ use Rattle.apex_ready.specs.ReadyOrders.{ready_list, ready_lists}
 use Rattle.apex_links.specs.Links.{Links}
 use Rattle.apex_process.specs.ReadyLists.{emptied, none_of}
 use Rattle.apex_process.specs.Queued.{IsQueued}
-use Rattle.apex_process.proofs.Empty.{at_emptied, same_all}
+use Rattle.apex_links.proofs.Places.{same_all}
+use Rattle.apex_process.proofs.Empty.{at_emptied}
 use Rattle.apex_types.proofs.Places.{length-map_places}
 use Rattle.apex_types.proofs.Rosters.{changes_record, changes_newest, changes_oldest, at_record, at_newest}
 use Rattle.apex_types.proofs.DistinctStamps.{stamped_record, stamped_newest, stamped_oldest, stamped_advance_to, stamped_opening, stamped_set_mode}
@@ -266,8 +267,8 @@ module _ (old : Roster) (p : ℕ) (owned : Option Holding) (known : p < length o
 pub opens : (table : Table) → length table.processes ≤ most_processes → IsQueued (opening_roster table) (record { processes = length table.processes; lists = replicate ready_lists [] })
 opens table few = record {
   lists = record {
-    members = λ core priority q c k. rw (same_all ready_lists (ready_list core priority)) refl;
-    rising = λ core priority c k. rw (same_all ready_lists (ready_list core priority)) tt;
+    members = λ core priority q c k. rw (same_all {A = List ℕ} [] ready_lists (ready_list core priority)) refl;
+    rising = λ core priority c k. rw (same_all {A = List ℕ} [] ready_lists (ready_list core priority)) tt;
   };
   places = λ q e. absurd (false≢true e);
   stamped = stamped_opening table;

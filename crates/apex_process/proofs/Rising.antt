@@ -1,11 +1,12 @@
 -- Lists of processes that rise by their stamps.
-use Rattle.std.proofs.Common.{◌≡◌, ◌≢◌, ℕ, zero, suc, ◌<ℤ◌, true, false, ◌||◌, List, [], ◌∷◌, ◌++◌, map, get_or, inl, inr, refl, arith}
+use Rattle.std.proofs.Common.{◌≡◌, ℕ, ◌<ℤ◌, true, false, ◌||◌, List, [], ◌∷◌, ◌++◌, inl, inr, refl, arith}
 use Rattle.std.specs.Prelude.{◌==◌}
 use Rattle.std.proofs.lemmas.Bool.{cases_eq, cases_Bool}
 use Rattle.std.proofs.lemmas.Int.{ints}
 use Rattle.apex_types.specs.Roster.{Roster, record_at}
 use Rattle.apex_links.specs.Neighbours.{stands_in}
 use Rattle.apex_links.specs.Links.{Links, list_at, without, removed}
+use Rattle.apex_links.proofs.Places.{at_map, stood_before}
 use Rattle.apex_process.specs.ReadyLists.{IsOlderThan, IsRising}
 
 -- nobody is older than itself
@@ -15,14 +16,6 @@ apart_from_older roster p ps older = elim (cases_Bool (stands_in p ps)) [
   | inr e ↦ e
 ]
 
--- who stands in the list without p stands in the list, and is another one
-pub without_stands : (roster : Roster) (p q : ℕ) (ps : List ℕ) → IsRising roster ps → q ≢ p → stands_in q (without p ps) ≡ stands_in q ps
-without_stands roster p q [] r apart = refl
-without_stands roster p q (x ∷ xs) r apart = elim (cases_eq p x) as (λ _. stands_in q (without p (x ∷ xs)) ≡ stands_in q (x ∷ xs)) [
-  | inl e ↦ grind (arith, e, apart)
-  | inr other ↦ grind (arith, other, without_stands roster p q xs r.1 apart)
-]
-
 pub without_gone : (roster : Roster) (p : ℕ) (ps : List ℕ) → IsRising roster ps → stands_in p (without p ps) ≡ false
 without_gone roster p [] r = refl
 without_gone roster p (x ∷ xs) r = elim (cases_eq p x) as (λ _. stands_in p (without p (x ∷ xs)) ≡ false) [
@@ -30,18 +23,11 @@ without_gone roster p (x ∷ xs) r = elim (cases_eq p x) as (λ _. stands_in p (
   | inr other ↦ grind (arith, other, without_gone roster p xs r.1)
 ]
 
-pub without_less : (p q : ℕ) (ps : List ℕ) → stands_in q (without p ps) ≡ true → stands_in q ps ≡ true
-without_less p q [] e = e
-without_less p q (x ∷ xs) e = elim (cases_eq p x) [
-  | inl same ↦ grind (arith, same, e)
-  | inr other ↦ grind (arith, other, e, without_less p q xs)
-]
-
 pub rising_without : (roster : Roster) (p : ℕ) (ps : List ℕ) → IsRising roster ps → IsRising roster (without p ps)
 rising_without roster p [] r = tt
 rising_without roster p (x ∷ xs) r = elim (cases_Bool (p == x)) as (λ _. IsRising roster (without p (x ∷ xs))) [
   | inl e ↦ rw e r.1
-  | inr e ↦ rw e (λ q stands. r.0 q (without_less p q xs stands), rising_without roster p xs r.1)
+  | inr e ↦ rw e (λ q stands. r.0 q (stood_before p q xs stands), rising_without roster p xs r.1)
 ]
 
 -- a list stays rising where nobody in it has another stamp
@@ -72,8 +58,4 @@ rising_back roster p (x ∷ xs) newer r = (
 
 -- the lists of a set without p
 pub at_removed : (links : Links) (p l : ℕ) → list_at (removed links p) l ≡ without p (list_at links l)
-at_removed links p l = at_map links.lists l where
-  at_map : (xs : List (List ℕ)) (l : ℕ) → get_or (map (without p) xs) l [] ≡ without p (get_or xs l [])
-  at_map [] l = refl
-  at_map (x ∷ xs) zero = refl
-  at_map (x ∷ xs) (suc l) = at_map xs l
+at_removed links p l = at_map (without p) refl links.lists l

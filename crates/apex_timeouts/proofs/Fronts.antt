@@ -1,10 +1,10 @@
 -- The front of a line: the soonest instant, and among equals the lowest number.
-use Rattle.std.proofs.Common.{◌≡◌, ◌≢◌, ◌⊎◌, ℕ, ◌<◌, ◌≤◌, Bool, true, false, ◌==◌, List, [], ◌∷◌, Option, None, Some, inl, inr, refl, ap, sym, subst, ◌∙◌, arith}
+use Rattle.std.proofs.Common.{◌≡◌, ◌⊎◌, ℕ, ◌≤◌, true, false, ◌==◌, List, [], ◌∷◌, Option, None, Some, inl, inr, refl, ap, sym, subst, ◌∙◌, arith}
 use Rattle.std.specs.Prelude.{if◌then◌else◌}
 use Rattle.std.proofs.lemmas.Bool.{cases_eq, cases_Bool}
 use Rattle.std.proofs.lemmas.Option.{none-some, same_Some}
 use Rattle.apex_links.specs.Neighbours.{stands_in, first_of}
-use Rattle.apex_timeouts.specs.Timeline.{Times, due_at, instant_of, instant_on, is_later, next_of, IsOrdered, IsTimed}
+use Rattle.apex_timeouts.specs.Timeline.{Times, due_at, instant_of, instant_on, is_later, next_of, IsOrdered}
 use Rattle.apex_timeouts.proofs.Orders.{pair_later}
 
 -- who has an instant is on the line

@@ -1,23 +1,12 @@
 -- What a line tells of each process: its instant, who is first, and what a new instant changes.
-use Rattle.std.proofs.Common.{◌≡◌, ◌≢◌, ℕ, ◌<◌, ◌≤◌, true, false, ◌||◌, ◌==◌, List, [], ◌∷◌, length, set, Option, None, Some, inl, inr, refl, ap, sym, subst, ◌∙◌, arith}
-use Rattle.std.specs.Prelude.{if◌then◌else◌}
-use Rattle.std.proofs.lemmas.Bool.{cases_eq, cases_Bool}
+use Rattle.std.proofs.Common.{◌≡◌, ◌≢◌, ℕ, ◌<◌, true, length, Option, None, Some, refl, ap, ◌∙◌, arith}
 use Rattle.std.proofs.lemmas.Grind.{get_or-set_at}
 use Rattle.std.proofs.lemmas.List.{get_or-set_other, length-set}
-use Rattle.std.proofs.lemmas.Option.{same_Some}
-use Rattle.apex_links.specs.Neighbours.{stands_in, first_of, IsDistinct}
+use Rattle.apex_links.specs.Neighbours.{stands_in, IsDistinct}
 use Rattle.apex_links.specs.Links.{without}
-use Rattle.apex_links.proofs.Places.{without_gone}
+use Rattle.apex_links.proofs.Places.{stays_without, without_gone}
 use Rattle.apex_links.proofs.Walking.{stands_placed}
-use Rattle.apex_timeouts.specs.Timeline.{Times, armed, disarmed, due_at, instant_of, instant_on, is_later, next_of, retimed, IsOrdered, IsTimed}
-
--- the others stay on the line without process p
-pub stays_without : (p q : ℕ) (xs : List ℕ) → q ≢ p → stands_in q (without p xs) ≡ stands_in q xs
-stays_without p q [] apart = refl
-stays_without p q (x ∷ xs) apart = elim (cases_eq p x) as (λ _. stands_in q (without p (x ∷ xs)) ≡ stands_in q (x ∷ xs)) [
-  | inl same ↦ grind (arith, same, apart)
-  | inr other ↦ grind (arith, other, stays_without p q xs apart)
-]
+use Rattle.apex_timeouts.specs.Timeline.{Times, armed, disarmed, instant_on, is_later, retimed}
 
 -- process p has another instant, or none
 module _ (times : Times) (p : ℕ) (known : p < length times.instants) (distinct : IsDistinct times.order) where

@@ -1,16 +1,16 @@
 -- The order of the instants stays as a process comes or goes.
-use Rattle.std.proofs.Common.{◌≡◌, ◌≢◌, ℕ, zero, suc, ◌<◌, ◌≤◌, Bool, true, false, ◌||◌, ◌&&◌, ◌==◌, List, [], ◌∷◌, length, map, set, get_or, Option, None, Some, IfSome, inl, inr, refl, ap, sym, subst, ◌∙◌, arith}
+use Rattle.std.proofs.Common.{◌≡◌, ◌≢◌, ℕ, ◌<◌, Bool, true, false, ◌||◌, ◌&&◌, ◌==◌, List, [], ◌∷◌, length, set, Option, None, Some, IfSome, inl, inr, refl, sym, subst, ◌∙◌, arith}
 use Rattle.std.specs.Prelude.{nat_lt}
 use Rattle.std.proofs.lemmas.Bool.{cases_eq, cases_Bool}
 use Rattle.std.proofs.lemmas.Option.{same_Some}
 use Rattle.std.proofs.lemmas.Grind.{get_or-set_at}
 use Rattle.std.proofs.lemmas.List.{get_or-set_other, length-map, length-set}
-use Rattle.apex_links.specs.Neighbours.{stands_in, first_of, IsDistinct}
-use Rattle.apex_links.specs.Links.{Links, list_at, with_list, removed, without, IsFree, IsSound}
+use Rattle.apex_links.specs.Neighbours.{stands_in, first_of}
+use Rattle.apex_links.specs.Links.{Links, list_at, with_list, removed, without, IsSound}
 use Rattle.apex_links.specs.Placing.{placed}
-use Rattle.apex_links.proofs.Places.{at_map, without_out}
+use Rattle.apex_links.proofs.Places.{at_map, stood_before}
 use Rattle.apex_links.proofs.Walking.{stands_placed}
-use Rattle.apex_timeouts.specs.Timeline.{instant_of, is_later, IsOrdered, IsTimed, AreTimed}
+use Rattle.apex_timeouts.specs.Timeline.{instant_of, is_later, IsOrdered, AreTimed}
 
 -- a pair of an instant and a number comes later than another one
 abbrev pub pair_later : ℕ → ℕ → ℕ → ℕ → Bool
@@ -69,13 +69,6 @@ module _ (instants : List ℕ) (p i : ℕ) where
           ])
 
 -- a process goes
-stands_without : (p q : ℕ) (xs : List ℕ) → stands_in q (without p xs) ≡ true → stands_in q xs ≡ true
-stands_without p q [] here = here
-stands_without p q (x ∷ xs) here = elim (cases_eq p x) as (λ _. stands_in q (x ∷ xs) ≡ true) [
-  | inl same ↦ grind (arith, here, same)
-  | inr apart ↦ grind (arith, here, apart, stands_without p q xs)
-]
-
 pub ordered_without : (instants : List ℕ) (p : ℕ) (xs : List ℕ) → IsOrdered instants xs → IsOrdered instants (without p xs)
 ordered_without instants p [] o = tt
 ordered_without instants p (x ∷ xs) o = elim (cases_eq p x) as (λ _. IsOrdered instants (without p (x ∷ xs))) [
@@ -84,7 +77,7 @@ ordered_without instants p (x ∷ xs) o = elim (cases_eq p x) as (λ _. IsOrdere
       subst (λ (ys : List ℕ). IsOrdered instants ys) (sym gone) o.1
   | inr apart ↦
       let stays : without p (x ∷ xs) ≡ x ∷ without p xs = grind (arith, apart) in
-      subst (λ (ys : List ℕ). IsOrdered instants ys) (sym stays) ((λ q here. o.0 q (stands_without p q xs here)), ordered_without instants p xs o.1)
+      subst (λ (ys : List ℕ). IsOrdered instants ys) (sym stays) ((λ q here. o.0 q (stood_before p q xs here)), ordered_without instants p xs o.1)
 ]
 
 -- the processes of the one list, after a call
