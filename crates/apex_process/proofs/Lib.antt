@@ -4,3 +4,5 @@ mod Top
 mod Empty
 mod Renewals
 mod Kept
+mod Timers
+mod Firsts

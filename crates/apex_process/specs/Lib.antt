@@ -1,2 +1,3 @@
 pub mod Queued
 pub mod ReadyLists
+pub mod Timed

@@ -1,4 +1,4 @@
-//! A store of processes that keeps who is ready in linked lists.
+//! A store of processes that keeps who is ready, and what is due, in linked lists.
 #![tactic(auto)]
 
 mod queue_store;

@@ -1,13 +1,16 @@
-//! A store that keeps who is ready in linked lists.
+//! A store that keeps who is ready, and what is due, in linked lists.
 ghost use Rattle.std.specs.Prelude.{◌≡◌, ◌<◌, ◌&&◌, is_some, length, IfOk};
 ghost use Rattle.apex_types.specs.Roster.{opening_roster, record_at};
 ghost use Rattle.apex_types.specs.Running.{IsEligible};
 ghost use Rattle.apex_types.specs.Stamps.{is_level};
+ghost use Rattle.apex_timeouts.specs.Timeline.{IsReset};
 ghost use Rattle.apex_process.specs.ReadyLists.{placed_newest, placed_oldest, AreReadyLists, HasPlace};
+ghost use Rattle.apex_process.specs.Timed.{deadline_of, due_of};
 
 use crate::ready::Ready;
 use apex_store::{PlainStore, Store};
 use apex_table::Table;
+use apex_timeouts::Timers;
 use apex_types::{CoreId, Holding, Message, Mode, MutexId, ProcessId, Queue, Record, State, Wait};
 use std::alloc::{AllocError, Global};
 use std::marker::Model;
@@ -16,21 +19,24 @@ use std::marker::Model;
 /// the chosen process of a core, and the place of a process that becomes ready, in a few steps.
 ///
 /// A running process stays in its list, at the front of the highest that is not empty. Neither compares
-/// two stamps. Who waits, and until when, is found by scans of the records.
+/// two stamps. The dues and the deadlines lie in two lines, in the order of their instants. Who waits in a
+/// queue, whose due is now, and who owns a mutex is found by scans of the records.
 #[derive(Drop)]
 pub struct QueueStore {
     records: PlainStore,
     ready: Ready,
+    timers: Timers,
 }
 
 impl Model for QueueStore {
     ghost use Rattle.apex_process.specs.Queued.{Queued, IsQueued};
+    ghost use Rattle.apex_process.specs.Timed.{AreTimers};
 
     ghost Value = { Queued };
 
     ghost view = { λ s. record { roster = s.records; links = s.ready } };
 
-    ghost invariant = { λ s. IsQueued s.records s.ready };
+    ghost invariant = { λ s. IsQueued s.records s.ready × AreTimers s.records s.timers.dues s.timers.deadlines };
 }
 
 /// The process goes behind all others of its priority where it is eligible, else it is ready no longer.
@@ -53,6 +59,19 @@ fn put_oldest(ready: &mut Ready, records: &PlainStore, process: ProcessId)
 {
     let row = records.record(process);
     ready.place_oldest(records.mode(), process, row);
+}
+
+/// The timers of the process become those of its record.
+fn retime(timers: &mut Timers, records: &PlainStore, process: ProcessId)
+    requires there { process < length records.now.records }
+    requires due_count { length timers.old.dues.instants ≡ length records.now.records }
+    requires deadline_count { length timers.old.deadlines.instants ≡ length records.now.records }
+    ensures dues { IsReset timers.old.dues timers.new.dues process (due_of records.now process) }
+    ensures deadlines { IsReset timers.old.deadlines timers.new.deadlines process (deadline_of records.now process) }
+{
+    let row = records.record(process);
+    timers.dues.set(process, row.due);
+    timers.deadlines.set(process, row.deadline);
 }
 
 /// The process of this record owns a mutex, and its current priority stays with this base priority.
@@ -82,7 +101,12 @@ impl QueueStore {
         let count = table.process_count() as u16;
         let records = PlainStore::new(alloc, table)?;
         let ready = Ready::new(alloc, count)?;
-        Ok(QueueStore { records, ready })
+        let timers = Timers::new(alloc, count)?;
+        Ok(QueueStore {
+            records,
+            ready,
+            timers,
+        })
     }
 
     /// The lists are the ready lists of the state.
@@ -155,32 +179,39 @@ impl Store for QueueStore {
     }
 
     fn next_instant(&self) -> Option<u64> {
-        self.records.next_instant()
+        self.timers.dues.holds();
+        self.timers.deadlines.holds();
+        self.timers.next_instant()
     }
 
     fn start(&mut self, process: ProcessId, delay: u32) {
         self.records.start(process, delay);
         put_newest(&mut self.ready, &self.records, process);
+        retime(&mut self.timers, &self.records, process);
     }
 
     fn stop(&mut self, process: ProcessId) {
         self.records.stop(process);
         put_newest(&mut self.ready, &self.records, process);
+        retime(&mut self.timers, &self.records, process);
     }
 
     fn block(&mut self, process: ProcessId, wait: Wait, due: Option<u64>) {
         self.records.block(process, wait, due);
         put_newest(&mut self.ready, &self.records, process);
+        retime(&mut self.timers, &self.records, process);
     }
 
     fn unblock(&mut self, process: ProcessId) {
         self.records.unblock(process);
         put_newest(&mut self.ready, &self.records, process);
+        retime(&mut self.timers, &self.records, process);
     }
 
     fn release(&mut self, process: ProcessId) {
         self.records.release(process);
         put_newest(&mut self.ready, &self.records, process);
+        retime(&mut self.timers, &self.records, process);
     }
 
     fn suspend(&mut self, process: ProcessId) {
@@ -191,11 +222,13 @@ impl Store for QueueStore {
     fn suspend_self(&mut self, process: ProcessId, due: Option<u64>) {
         self.records.suspend_self(process, due);
         put_newest(&mut self.ready, &self.records, process);
+        retime(&mut self.timers, &self.records, process);
     }
 
     fn resume(&mut self, process: ProcessId) {
         self.records.resume(process);
         put_newest(&mut self.ready, &self.records, process);
+        retime(&mut self.timers, &self.records, process);
     }
 
     fn set_priority(&mut self, process: ProcessId, base: u8) {
@@ -217,6 +250,7 @@ impl Store for QueueStore {
     fn inherit(&mut self, process: ProcessId, holding: Holding) {
         self.records.inherit(process, holding);
         put_newest(&mut self.ready, &self.records, process);
+        retime(&mut self.timers, &self.records, process);
     }
 
     fn place_newest(&mut self, process: ProcessId) {
@@ -230,14 +264,20 @@ impl Store for QueueStore {
 
     fn set_deadline(&mut self, process: ProcessId, deadline: Option<u64>) {
         self.records.set_deadline(process, deadline);
+        retime(&mut self.timers, &self.records, process);
     }
 
     fn take_missed(&mut self) -> Option<ProcessId> {
-        self.records.take_missed()
+        self.timers.deadlines.holds();
+        let process = self.timers.deadlines.pop_at(self.records.now())?;
+        self.records.set_deadline(process, None);
+        Some(process)
     }
 
     fn take_due(&mut self) -> Option<ProcessId> {
-        self.records.take_due()
+        let process = self.records.take_due()?;
+        self.timers.dues.set(process, None);
+        Some(process)
     }
 
     fn set_mode(&mut self, mode: Mode) {

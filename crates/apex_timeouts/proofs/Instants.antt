@@ -1,12 +1,12 @@
 -- What a line tells of each process: its instant, who is first, and what a new instant changes.
-use Rattle.std.proofs.Common.{◌≡◌, ◌≢◌, ℕ, ◌<◌, true, length, Option, None, Some, refl, ap, ◌∙◌, arith}
+use Rattle.std.proofs.Common.{◌≡◌, ◌≢◌, ℕ, ◌<◌, true, length, None, Some, refl, ap, ◌∙◌, arith}
 use Rattle.std.proofs.lemmas.Grind.{get_or-set_at}
 use Rattle.std.proofs.lemmas.List.{get_or-set_other, length-set}
 use Rattle.apex_links.specs.Neighbours.{stands_in, IsDistinct}
 use Rattle.apex_links.specs.Links.{without}
 use Rattle.apex_links.proofs.Places.{stays_without, without_gone}
 use Rattle.apex_links.proofs.Walking.{stands_placed}
-use Rattle.apex_timeouts.specs.Timeline.{Times, armed, disarmed, instant_on, is_later, retimed}
+use Rattle.apex_timeouts.specs.Timeline.{Times, armed, disarmed, instant_on, is_later, IsReset}
 
 -- process p has another instant, or none
 module _ (times : Times) (p : ℕ) (known : p < length times.instants) (distinct : IsDistinct times.order) where
@@ -27,14 +27,8 @@ module _ (times : Times) (p : ℕ) (known : p < length times.instants) (distinct
       stands_placed (is_later times.instants p i) p q (without p times.order) ∙ grind (arith, apart, stays_without p q times.order apart) in
       rw (there, get_or-set_other times.instants p q i 0 apart) refl
 
-  pub retimed_here : (instant : Option ℕ) → instant_on (retimed times p instant) p ≡ instant
-  retimed_here None = gone
-  retimed_here (Some i) = here_armed i
+  pub reset_none : IsReset times (disarmed times p) p None
+  reset_none = record { here = gone; others = stays; count = refl }
 
-  pub retimed_others : (instant : Option ℕ) (q : ℕ) → q ≢ p → instant_on (retimed times p instant) q ≡ instant_on times q
-  retimed_others None q apart = stays q apart
-  retimed_others (Some i) q apart = others_armed i q apart
-
-  pub retimed_count : (instant : Option ℕ) → length (retimed times p instant).instants ≡ length times.instants
-  retimed_count None = refl
-  retimed_count (Some i) = length-set times.instants p i
+  pub reset_some : (i : ℕ) → IsReset times (armed (disarmed times p) p i) p (Some i)
+  reset_some i = record { here = here_armed i; others = others_armed i; count = length-set times.instants p i }

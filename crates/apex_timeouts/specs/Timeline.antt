@@ -1,5 +1,5 @@
 -- Processes in the order of their instants.
-use Rattle.std.specs.Prelude.{◌≡◌, ℕ, nat_lt, Bool, true, ◌==◌, ◌&&◌, ◌||◌, if◌then◌else◌, List, [], ◌∷◌, length, slice_index_or, slice_set, Option, None, Some, ⊤, ◌<◌}
+use Rattle.std.specs.Prelude.{◌≡◌, ◌≢◌, ℕ, nat_lt, Bool, true, ◌==◌, ◌&&◌, ◌||◌, if◌then◌else◌, List, [], ◌∷◌, length, slice_index_or, slice_set, Option, None, Some, ⊤, ◌<◌}
 use Rattle.apex_links.specs.Neighbours.{stands_in, first_of, IsDistinct}
 use Rattle.apex_links.specs.Links.{Links, list_at, without}
 use Rattle.apex_links.specs.Placing.{placed}
@@ -31,14 +31,15 @@ armed times p instant = record { order = placed (is_later times.instants p insta
 abbrev pub disarmed : Times → ℕ → Times
 disarmed times p = record times { order = without p times.order }
 
--- process p has this instant from now on, or none
-abbrev pub retimed : Times → ℕ → Option ℕ → Times
-retimed times p None = disarmed times p
-retimed times p (Some instant) = armed (disarmed times p) p instant
-
 -- the instant of process p, or none where it is not on the line
 abbrev pub instant_on : Times → ℕ → Option ℕ
 instant_on times p = if stands_in p times.order then Some (instant_of times.instants p) else None
+
+-- process p has this instant from now on, or none, and the others keep theirs
+pub record IsReset (old new : Times) (p : ℕ) (instant : Option ℕ) : Type 0 where
+  pub here : instant_on new p ≡ instant
+  pub others : (q : ℕ) → q ≢ p → instant_on new q ≡ instant_on old q
+  pub count : length new.instants ≡ length old.instants
 
 -- the instant of this process, where there is one
 abbrev pub instant_at : List ℕ → Option ℕ → Option ℕ

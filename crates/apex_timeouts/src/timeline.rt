@@ -1,7 +1,7 @@
 //! Processes in the order of their instants.
 ghost use Rattle.std.specs.Prelude.{◌≡◌, ◌<◌, [], false, length, replicate, IfOk, IfSome};
 ghost use Rattle.apex_links.specs.Neighbours.{first_of, stands_in};
-ghost use Rattle.apex_timeouts.specs.Timeline.{armed, disarmed, due_at, instant_of, is_later, next_of, retimed, without_due_at, IsTimed};
+ghost use Rattle.apex_timeouts.specs.Timeline.{armed, disarmed, due_at, instant_of, instant_on, is_later, next_of, without_due_at, IsReset, IsTimed};
 
 use apex_links::{LinkSet, ListId, Test};
 use apex_types::ProcessId;
@@ -95,11 +95,24 @@ impl Timeline {
         self.links.remove(process);
     }
 
-    /// The process has this instant from now on, or none.
+    /// The instant of the process, or none where it is not on the line.
+    pub fn instant_on(&self, process: ProcessId) -> Option<u64>
+        requires { process < length self.now.instants }
+        ensures { result ≡ instant_on self.now process }
+    {
+        self.links.list_of(process)?;
+        Some(self.instant(process))
+    }
+
+    /// The process has this instant from now on, or none. Nothing is walked where it has it already.
     pub fn set(&mut self, process: ProcessId, instant: Option<u64>)
         requires { process < length self.old.instants }
-        ensures { self.new ≡ retimed self.old process instant }
+        ensures { IsReset self.old self.new process instant }
     {
+        self.holds();
+        if self.instant_on(process) == instant {
+            return;
+        }
         self.disarm(process);
         if let Some(instant) = instant {
             self.arm(process, instant);

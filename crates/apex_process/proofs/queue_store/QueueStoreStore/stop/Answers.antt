@@ -1,8 +1,14 @@
 use Rattle.apex_process.proofs.Renewals.{renews_stop}
 use Rattle.apex_process.proofs.Kept.{renewed_by}
+use Rattle.apex_process.proofs.Timers.{retimes_stop, retimed_by}
 use Rattle.apex_process.proofs.queue_store.QueueStoreStore.stop.Goals as goal
 
 pub invariant_of-self : goal.invariant_of-self
-invariant_of-self c = renewed_by c.self.inside.records _ _ c.self.inside.ready _ c.args.process c.self.invariant c.stop.ensures
-    (renews_stop c.self.inside.records c.args.process (rw (← c.self.view_is) at c.requires.known) c.self.invariant.stamped)
-    c.put_newest.ensures.lists c.put_newest.ensures.place
+invariant_of-self c = (
+  renewed_by c.self.inside.records _ _ c.self.inside.ready _ c.args.process c.self.invariant.0 c.stop.ensures
+      (renews_stop c.self.inside.records c.args.process (rw (← c.self.view_is) at c.requires.known) c.self.invariant.0.stamped)
+      c.put_newest.ensures.lists c.put_newest.ensures.place,
+  retimed_by c.self.inside.records _ _ c.self.inside.timers.dues c.self.inside.timers.deadlines _ _ c.args.process c.self.invariant.1 c.stop.ensures
+      (retimes_stop c.self.inside.records c.args.process (rw (← c.self.view_is) at c.requires.known))
+      c.retime.ensures.dues c.retime.ensures.deadlines,
+)
