@@ -8,11 +8,11 @@ use Rattle.apex_types.specs.Roster.{Roster, nobody, record_at}
 use Rattle.apex_types.specs.Running.{chosen, is_before, is_eligible, runs_on}
 use Rattle.apex_store.specs.Laws.{IsMoreUrgent, IsTheLeast, MayRun, RunsMostUrgent}
 
-runs_parts : (mode : Mode) (core : ℕ) (r : Record) → runs_on mode core r ≡ true → (is_eligible mode r ≡ true) × (r.core ≡ core)
+pub runs_parts : (mode : Mode) (core : ℕ) (r : Record) → runs_on mode core r ≡ true → (is_eligible mode r ≡ true) × (r.core ≡ core)
 unfolding runs_on
 runs_parts mode core r e = let both = and_parts _ _ e in (both.0, eqb-true r.core core both.1)
 
-runs_from : (mode : Mode) (core : ℕ) (r : Record) → is_eligible mode r ≡ true → r.core ≡ core → runs_on mode core r ≡ true
+pub runs_from : (mode : Mode) (core : ℕ) (r : Record) → is_eligible mode r ≡ true → r.core ≡ core → runs_on mode core r ≡ true
 unfolding runs_on
 runs_from mode core r e f = and_from _ _ e (eq-eqb r.core core f)
 

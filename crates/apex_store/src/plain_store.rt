@@ -177,8 +177,9 @@ impl PlainStore {
         })
     }
 
-    /// The discipline of the queue: a semaphore's, a buffer's and a mutex's is the table's.
-    fn discipline(&self, queue: &Queue) -> Discipline
+    /// The discipline of the queue: a semaphore's, a buffer's and a mutex's is the table's, and all others
+    /// are first in, first out.
+    pub fn discipline(&self, queue: &Queue) -> Discipline
         ensures { result ≡ discipline_of self.now queue.now }
     {
         match queue {
@@ -187,6 +188,14 @@ impl PlainStore {
             Queue::Mutex(mutex) => discipline_at(&self.mutexes, mutex.place()),
             Queue::Normal | Queue::Blackboard(_) | Queue::Event(_) => Discipline::Fifo,
         }
+    }
+
+    /// The process has no due from now on.
+    pub fn clear_due(&mut self, process: ProcessId)
+        requires { process < length self.old.records }
+        ensures { self.new ≡ stamps.without_due self.old process }
+    {
+        self.records[process.place()].due = None;
     }
 
     /// There is a queue, and the more urgent comes first in it.
@@ -486,7 +495,7 @@ impl Store for PlainStore {
 
     fn take_due(&mut self) -> Option<ProcessId> {
         let process = first_due(self.time, &self.records)?;
-        self.records[process.place()].due = None;
+        self.clear_due(process);
         Some(process)
     }
 
