@@ -7,7 +7,7 @@ ghost use Rattle.apex_cli.specs.Schedule.{is_core_below, are_cores_below, events
 
 use crate::schedule::Item;
 use apex_dispatch::Kernel;
-use apex_store::PlainStore;
+use apex_process::QueueStore;
 use apex_types::{Event, Full};
 
 /// The event of an item, and how often it comes.
@@ -23,7 +23,7 @@ fn repeated(item: &Item) -> (Event, u32)
 }
 
 /// Runs one event, where the history has room for it.
-fn run_one(kernel: &mut Kernel<PlainStore>, event: &Event) -> Result<(), Full>
+fn run_one(kernel: &mut Kernel<QueueStore>, event: &Event) -> Result<(), Full>
     requires { IsWithin kernel.old.table.cores event.now }
     ensures done { kernel.new ≡ kernel_in kernel.old.table (accept kernel.old.table kernel.old.machine event.now) }
     ensures accepted { IsOk result ↔ (length kernel.old.machine.history < kernel.old.table.limit) }
@@ -34,7 +34,7 @@ fn run_one(kernel: &mut Kernel<PlainStore>, event: &Event) -> Result<(), Full>
 }
 
 /// Runs the event so many times, up to the first for which the history has no room.
-fn run_repeated(kernel: &mut Kernel<PlainStore>, event: &Event, times: u32) -> Result<(), Full>
+fn run_repeated(kernel: &mut Kernel<QueueStore>, event: &Event, times: u32) -> Result<(), Full>
     requires { IsWithin kernel.old.table.cores event.now }
     ensures done { kernel.new ≡ kernel_in kernel.old.table
         (run kernel.old.table kernel.old.machine (replicate times event.now)) }
@@ -50,7 +50,7 @@ fn run_repeated(kernel: &mut Kernel<PlainStore>, event: &Event, times: u32) -> R
 
 /// Runs the events of the items, up to the first for which the history has no room. Takes no memory:
 /// there is no list of them.
-pub fn run_items(kernel: &mut Kernel<PlainStore>, items: &[Item]) -> Result<(), Full>
+pub fn run_items(kernel: &mut Kernel<QueueStore>, items: &[Item]) -> Result<(), Full>
     requires { are_cores_below kernel.old.table.cores items.now ≡ true }
     ensures done { kernel.new ≡ kernel_in kernel.old.table
         (run kernel.old.table kernel.old.machine (events_of_items items.now)) }

@@ -12,7 +12,7 @@ use crate::schedule::{Item, are_cores_below};
 use crate::words::Report;
 use apex_dispatch::Kernel;
 use apex_history::{Counted, Page, Sink, print_history};
-use apex_store::PlainStore;
+use apex_process::QueueStore;
 use apex_table::read_table;
 use std::alloc::Global;
 use std::io;
@@ -20,7 +20,7 @@ use std::io;
 /// A run that is to be reported.
 #[derive(Drop)]
 pub struct Run {
-    pub kernel: Kernel<PlainStore>,
+    pub kernel: Kernel<QueueStore>,
     /// The buffer for the lines of the report.
     pub page: Page,
     /// `HistoryFull` where there were more events.
@@ -42,7 +42,7 @@ pub fn run_of(alloc: Global, items: &[Item], text: &[u8]) -> Result<Run, CliFaul
     if !are_cores_below(table.cores(), items) {
         return Err(CliFault::Usage);
     }
-    let store = PlainStore::new(alloc, &table)?;
+    let store = QueueStore::new(alloc, &table)?;
     let mut kernel = Kernel::boot(alloc, table, store)?;
     let page = Page::new(alloc)?;
     let fault = match run_items(&mut kernel, items) {

@@ -1,10 +1,12 @@
 -- Lists of processes, and lists of such lists.
-use Rattle.std.proofs.Common.{◌≡◌, ◌≢◌, ℕ, zero, suc, ◌+◌, ◌<◌, true, false, List, [], ◌∷◌, ◌++◌, length, map, get_or, slice_get, replicate, Some, inl, inr, refl, sym, subst, ◌∙◌, arith}
-use Rattle.std.proofs.lemmas.Bool.{cases_eq}
-use Rattle.std.proofs.lemmas.List.{ext_get_or, length-map}
-use Rattle.std.proofs.lemmas.Option.{same_Some}
-use Rattle.apex_links.specs.Neighbours.{stands_in, IsDistinct, after_in}
-use Rattle.apex_links.specs.Links.{without, put_before}
+use Rattle.std.proofs.Common.{◌≡◌, ◌≢◌, ℕ, zero, suc, ◌+◌, ◌<◌, Bool, true, false, ◌||◌, ◌==◌, List, [], ◌∷◌, ◌++◌, length, map, get_or, slice_get, replicate, None, Some, inl, inr, refl, ap, sym, subst, ◌∙◌, arith}
+use Rattle.std.proofs.lemmas.Bool.{cases_eq, cases_Bool}
+use Rattle.std.proofs.lemmas.Grind.{get_or-set_at}
+use Rattle.std.proofs.lemmas.List.{ext_get_or, get_or-set_other, length-map, length-set}
+use Rattle.std.proofs.lemmas.Option.{none-some, same_Some}
+use Rattle.apex_links.specs.Neighbours.{stands_in, first_of, IsDistinct, after_in}
+use Rattle.apex_links.specs.Links.{Links, list_at, with_list, removed, without, put_before, IsOnlyIn}
+use Rattle.apex_links.specs.Placing.{placed}
 use Rattle.apex_links.proofs.Walks.{past}
 
 -- where a process stands, a list has a front and a rest
@@ -61,6 +63,72 @@ stood_before p q (x ∷ xs) here = elim (cases_eq p x) as (λ _. stands_in q (x 
   | inr apart ↦ grind (arith, here, apart, stood_before p q xs)
 ]
 
+pub left_out : (p q : ℕ) (xs : List ℕ) → stands_in q xs ≡ false → stands_in q (without p xs) ≡ false
+left_out p q xs out = elim (cases_Bool (stands_in q (without p xs))) [
+  | inl here ↦ absurd (grind (arith, stood_before p q xs here, out))
+  | inr gone ↦ gone
+]
+
+-- the first of a list stands in it
+pub first_stands : (p : ℕ) (xs : List ℕ) → first_of xs ≡ Some p → stands_in p xs ≡ true
+first_stands p [] e = absurd (grind (arith, e))
+first_stands p (x ∷ xs) e = grind (arith, same_Some x p e)
+
+pub first_none : (p : ℕ) (xs : List ℕ) → first_of xs ≡ None → stands_in p xs ≡ false
+first_none p [] e = refl
+first_none p (x ∷ xs) e = absurd (none-some x (sym e))
+
+-- a list of which one is taken out
+pub distinct_without : (p : ℕ) (xs : List ℕ) → IsDistinct xs → IsDistinct (without p xs)
+distinct_without p [] d = tt
+distinct_without p (x ∷ xs) d = elim (cases_eq p x) as (λ _. IsDistinct (without p (x ∷ xs))) [
+  | inl same ↦
+      let gone : without p (x ∷ xs) ≡ xs = grind (arith, same) in
+      subst (λ (ys : List ℕ). IsDistinct ys) (sym gone) d.1
+  | inr apart ↦
+      let stays : without p (x ∷ xs) ≡ x ∷ without p xs = grind (arith, apart) in
+      subst (λ (ys : List ℕ). IsDistinct ys) (sym stays) (left_out p x xs d.0, distinct_without p xs d.1)
+]
+
+pub length_without : (p : ℕ) (xs : List ℕ) → stands_in p xs ≡ true → suc (length (without p xs)) ≡ length xs
+length_without p [] here = absurd (grind (arith, here))
+length_without p (x ∷ xs) here = elim (cases_eq p x) [
+  | inl e ↦ grind (arith, e)
+  | inr apart ↦ grind (arith, apart, here, length_without p xs)
+]
+
+-- a list with one process more, behind all others
+pub stands_behind : (p q : ℕ) (xs : List ℕ) → stands_in q (xs ++ p ∷ []) ≡ (q == p || stands_in q xs)
+stands_behind p q [] = refl
+stands_behind p q (x ∷ xs) = grind (arith, stands_behind p q xs)
+
+pub distinct_behind : (p : ℕ) (xs : List ℕ) → IsDistinct xs → stands_in p xs ≡ false → IsDistinct (xs ++ p ∷ [])
+distinct_behind p [] d out = (refl, tt)
+distinct_behind p (x ∷ xs) d out = (grind (arith, stands_behind p x xs, d.0, out), distinct_behind p xs d.1 (grind (arith, out)))
+
+-- a list with one process more, at its place by a test
+module _ (passes : ℕ → Bool) where
+  pub length_placed : (p : ℕ) (xs : List ℕ) → length (placed passes p xs) ≡ suc (length xs)
+  length_placed p [] = refl
+  length_placed p (x ∷ xs) = elim (cases_Bool (passes x)) [
+    | inl is ↦ rw is refl
+    | inr isnt ↦ rw isnt (ap suc (length_placed p xs))
+  ]
+
+  pub stands_placed : (p q : ℕ) (xs : List ℕ) → stands_in q (placed passes p xs) ≡ (q == p || stands_in q xs)
+  stands_placed p q [] = refl
+  stands_placed p q (x ∷ xs) = elim (cases_Bool (passes x)) [
+    | inl is ↦ rw is refl
+    | inr isnt ↦ rw isnt (grind (arith, stands_placed p q xs))
+  ]
+
+  pub distinct_placed : (p : ℕ) (xs : List ℕ) → IsDistinct xs → stands_in p xs ≡ false → IsDistinct (placed passes p xs)
+  distinct_placed p [] d out = (refl, tt)
+  distinct_placed p (x ∷ xs) d out = elim (cases_Bool (passes x)) as (λ _. IsDistinct (placed passes p (x ∷ xs))) [
+    | inl is ↦ rw is (out, d)
+    | inr isnt ↦ rw isnt (grind (arith, stands_placed p x xs, d.0, out), distinct_placed p xs d.1 (grind (arith, out)))
+  ]
+
 -- a list of a changed set
 pub at_map : (f : List ℕ → List ℕ) → f [] ≡ [] → (xs : List (List ℕ)) (l : ℕ) → get_or (map f xs) l [] ≡ f (get_or xs l [])
 at_map f e [] l = sym e
@@ -106,3 +174,32 @@ pub same_all : {A : Type 0} (x : A) (many i : ℕ) → get_or (replicate many x)
 same_all x zero i = refl
 same_all x (suc many) zero = refl
 same_all x (suc many) (suc i) = same_all x many i
+
+-- a list of a set of which one process is taken out, or of which one list has changed
+module _ (links : Links) where
+  pub at_removed : (p l : ℕ) → list_at (removed links p) l ≡ without p (list_at links l)
+  at_removed p l = at_map (without p) refl links.lists l
+
+  pub at_with : (l : ℕ) (xs : List ℕ) → l < length links.lists → list_at (with_list links l xs) l ≡ xs
+  at_with l xs inside = get_or-set_at links.lists l l xs [] refl inside
+
+  pub at_with_other : (l m : ℕ) (xs : List ℕ) → m ≢ l → list_at (with_list links l xs) m ≡ list_at links m
+  at_with_other l m xs apart = get_or-set_other links.lists l m xs [] apart
+
+  -- who stands in one list alone stands in no other
+  pub only_there : (p l m : ℕ) → IsOnlyIn links p l → m ≢ l → stands_in p (list_at links m) ≡ false
+  only_there p l m only apart = elim (cases_Bool (stands_in p (list_at links m))) [
+    | inl e ↦ absurd (apart (only.alone m e))
+    | inr e ↦ e
+  ]
+
+  -- another process stands where it stood as one is taken out
+  pub stays_removed : (p q l : ℕ) → q ≢ p → stands_in q (list_at (removed links p) l) ≡ stands_in q (list_at links l)
+  stays_removed p q l apart = rw (at_removed p l) (stays_without p q (list_at links l) apart)
+
+  -- a set of so many lists stays one
+  pub as_many_removed : (p : ℕ) → length (removed links p).lists ≡ length links.lists
+  as_many_removed p = length-map links.lists (without p)
+
+  pub as_many_with : (l : ℕ) (xs : List ℕ) → length (with_list links l xs).lists ≡ length links.lists
+  as_many_with l xs = length-set links.lists l xs

@@ -8,25 +8,17 @@ use Rattle.apex_links.specs.declared.chains.Node.{Node}
 use Rattle.apex_links.specs.declared.chains.Ends.{Ends}
 use Rattle.apex_links.specs.Neighbours.{stands_in, first_of, last_of}
 use Rattle.apex_links.specs.Links.{Links, pushed_back, pushed_front, removed, inserted_before, without, put_before, IsFree, IsSound}
-use Rattle.apex_links.specs.Chains.{free, no_ends, node_at, ends_at, lists_of, spliced, respliced, AreLinked}
+use Rattle.apex_links.specs.Chains.{free, no_ends, node_at, ends_at, lists_of, links_of, spliced, respliced, AreLinked, IsLinked}
 use Rattle.apex_links.proofs.Neighbours.{stands_in-append, before_here, after_here}
 use Rattle.apex_links.proofs.Splices.{length-spliced, length-respliced}
 use Rattle.apex_links.proofs.Kept.{IsPut, last_known, first_known, link_keeps, unlink_keeps}
 use Rattle.apex_links.proofs.Places.{HasParts, parts, without_parts, without_out, put_parts, put_out, at_map, map_same, at_stands, after_at, known_list, without_gone, same_all}
 use Rattle.apex_links.proofs.Walks.{lists_are, short_list}
 
--- the lists as a contract sees them
-abbrev pub view : List Node → List Ends → Links
-view nodes ends = record { processes = length nodes; lists = lists_of nodes ends }
-
--- the nodes and the ends are linked as they say themselves
-abbrev pub IsLinked : List Node → List Ends → Type 0
-IsLinked nodes ends = AreLinked nodes ends (λ l. get_or (lists_of nodes ends) l [])
-
 -- the nodes and the ends are linked, and a contract sees these lists
 pub record Shows (nodes : List Node) (ends : List Ends) (links : Links) : Type 0 where
   pub linked : IsLinked nodes ends
-  pub seen : view nodes ends ≡ links
+  pub seen : links_of nodes ends ≡ links
 
 pub shown : (nodes : List Node) (ends : List Ends) (many : ℕ) (lists : List (List ℕ)) → length nodes ≡ many → length lists ≡ length ends
     → AreLinked nodes ends (λ l. get_or lists l []) → Shows nodes ends (record { processes = many; lists = lists })
@@ -92,7 +84,7 @@ module _ (nodes : List Node) (ends : List Ends) (linked : IsLinked nodes ends) w
   pub known_last : (l : ℕ) → IfSome (ends_at ends l).last (λ q. q < length nodes)
   known_last l = rw (linked.edges l) (last_known nodes ends at l (at l) [] linked (λ p stands. just _ stands))
 
-  module _ (n : ℕ) (known : n < length nodes) (out : IsFree (view nodes ends) n) (news : List Node) (newends : List Ends) where
+  module _ (n : ℕ) (known : n < length nodes) (out : IsFree (links_of nodes ends) n) (news : List Node) (newends : List Ends) where
     -- a process that stands in no list is put into one
     put_shows : (l : ℕ) (front rest : List ℕ) (others : List (List ℕ)) → l < length lists → length others ≡ length lists
         → IsPut at (λ m. get_or others m []) l n front rest
@@ -116,7 +108,7 @@ module _ (nodes : List Node) (ends : List Ends) (linked : IsLinked nodes ends) w
     pub push_back_shows : (l : ℕ) → l < length lists
         → news ≡ spliced nodes n (record { list = Some l; before = (ends_at ends l).last; after = None }) (ends_at ends l).last None (Some n) (Some n)
         → newends ≡ respliced ends l (ends_at ends l).last None (Some n) (Some n)
-        → Shows news newends (pushed_back (view nodes ends) l n)
+        → Shows news newends (pushed_back (links_of nodes ends) l n)
     push_back_shows l inside are were =
         let put = put_set l (at l) [] inside (sym (append-nil (at l))) in
         let last : (ends_at ends l).last ≡ last_of (at l) = rw (linked.edges l) refl in
@@ -125,7 +117,7 @@ module _ (nodes : List Node) (ends : List Ends) (linked : IsLinked nodes ends) w
     pub push_front_shows : (l : ℕ) → l < length lists
         → news ≡ spliced nodes n (record { list = Some l; before = None; after = (ends_at ends l).first }) None (ends_at ends l).first (Some n) (Some n)
         → newends ≡ respliced ends l None (ends_at ends l).first (Some n) (Some n)
-        → Shows news newends (pushed_front (view nodes ends) l n)
+        → Shows news newends (pushed_front (links_of nodes ends) l n)
     push_front_shows l inside are were =
         let put = put_set l [] (at l) inside refl in
         let first : (ends_at ends l).first ≡ first_of (at l) = rw (linked.edges l) refl in
@@ -134,7 +126,7 @@ module _ (nodes : List Node) (ends : List Ends) (linked : IsLinked nodes ends) w
     pub insert_shows : (other l : ℕ) → (node_at nodes other).list ≡ Some l
         → news ≡ spliced nodes n (record (node_at nodes other) { after = Some other }) (node_at nodes other).before (Some other) (Some n) (Some n)
         → newends ≡ respliced ends l (node_at nodes other).before (Some other) (Some n) (Some n)
-        → Shows news newends (inserted_before (view nodes ends) other n)
+        → Shows news newends (inserted_before (links_of nodes ends) other n)
     insert_shows other l is are were =
         let stands = linked.members l other is in
         let there = parts other (at l) stands in
@@ -153,7 +145,7 @@ module _ (nodes : List Node) (ends : List Ends) (linked : IsLinked nodes ends) w
   pub remove_shows : (n l : ℕ) → (node_at nodes n).list ≡ Some l → (news : List Node) (newends : List Ends)
       → news ≡ spliced nodes n free (node_at nodes n).before (node_at nodes n).after (node_at nodes n).after (node_at nodes n).before
       → newends ≡ respliced ends l (node_at nodes n).before (node_at nodes n).after (node_at nodes n).after (node_at nodes n).before
-      → Shows news newends (removed (view nodes ends) n)
+      → Shows news newends (removed (links_of nodes ends) n)
   remove_shows n l is news newends are were =
       let stands = linked.members l n is in
       let there = parts n (at l) stands in
@@ -170,7 +162,7 @@ module _ (nodes : List Node) (ends : List Ends) (linked : IsLinked nodes ends) w
           kept = λ m differs. rw (at_map (without n) refl lists m, without_out n (at m) (nowhere n l m is differs)) refl;
         }
 
-  pub removed_out : (n : ℕ) → IsFree (removed (view nodes ends) n) n
+  pub removed_out : (n : ℕ) → IsFree (removed (links_of nodes ends) n) n
   removed_out n l = rw (at_map (without n) refl lists l) (without_gone n (at l) (linked.distinct l))
 
   -- nothing changes for who stands in no list
@@ -180,16 +172,16 @@ module _ (nodes : List Node) (ends : List Ends) (linked : IsLinked nodes ends) w
     | inr e ↦ e
   ]
 
-  pub removed_free : (n : ℕ) → (node_at nodes n).list ≡ None → view nodes ends ≡ removed (view nodes ends) n
+  pub removed_free : (n : ℕ) → (node_at nodes n).list ≡ None → links_of nodes ends ≡ removed (links_of nodes ends) n
   removed_free n is = ap (λ (ls : List (List ℕ)). record { processes = length nodes; lists = ls })
       (sym (map_same (without n) refl lists (λ l. without_out n (at l) (not_listed n is l))))
 
-  pub inserted_free : (other n : ℕ) → (node_at nodes other).list ≡ None → view nodes ends ≡ inserted_before (view nodes ends) other n
+  pub inserted_free : (other n : ℕ) → (node_at nodes other).list ≡ None → links_of nodes ends ≡ inserted_before (links_of nodes ends) other n
   inserted_free other n is = ap (λ (ls : List (List ℕ)). record { processes = length nodes; lists = ls })
       (sym (map_same (put_before other n) refl lists (λ l. put_out other n (at l) (not_listed other is l))))
 
   -- who stands in no list has no list's number, and nobody behind it
-  pub next_free : (n : ℕ) → IsFree (view nodes ends) n → (node_at nodes n).after ≡ None
+  pub next_free : (n : ℕ) → IsFree (links_of nodes ends) n → (node_at nodes n).after ≡ None
   next_free n out = bare_after (node_at nodes n).list refl where
     bare_after : (list : Option ℕ) → (node_at nodes n).list ≡ list → (node_at nodes n).after ≡ None
     bare_after None is = rw (linked.bare n is) refl
@@ -198,7 +190,7 @@ module _ (nodes : List Node) (ends : List Ends) (linked : IsLinked nodes ends) w
   pub next_at : (n l k : ℕ) → slice_get (at l) k ≡ Some n → (node_at nodes n).after ≡ slice_get (at l) (k + 1)
   next_at n l k there = rw (linked.links l n (at_stands n (at l) k there)) (after_at n (at l) k (linked.distinct l) there)
 
-  pub sound : IsSound (view nodes ends)
+  pub sound : IsSound (links_of nodes ends)
   sound = record {
     known = linked.known;
     distinct = linked.distinct;

@@ -1,5 +1,5 @@
 -- Where a process goes by a test, and how a walk finds the place.
-use Rattle.std.proofs.Common.{◌≡◌, ◌≢◌, ℕ, zero, suc, ◌<◌, ◌≤◌, Bool, true, false, ◌||◌, ◌==◌, List, [], ◌∷◌, ◌++◌, length, map, set, get_or, slice_get, Option, None, Some, inl, inr, refl, ap, sym, subst, ◌∙◌, arith}
+use Rattle.std.proofs.Common.{◌≡◌, ◌≢◌, ℕ, zero, suc, ◌<◌, ◌≤◌, Bool, true, false, List, [], ◌∷◌, ◌++◌, length, map, set, get_or, slice_get, Option, None, Some, inl, inr, refl, ap, sym, subst, ◌∙◌, arith}
 use Rattle.std.proofs.lemmas.Bool.{cases_eq, cases_Bool}
 use Rattle.std.proofs.lemmas.Grind.{get_or-set_at}
 use Rattle.std.proofs.lemmas.List.{ext_get_or, get_or-set_other, length-map, length-set}
@@ -34,21 +34,6 @@ module _ (passes : ℕ → Bool) where
   placed_behind p (x ∷ xs) e = elim (cases_Bool (passes x)) [
     | inl is ↦ absurd (grind (arith, rw is at e))
     | inr isnt ↦ rw isnt (ap (λ (ys : List ℕ). x ∷ ys) (placed_behind p xs (rw isnt at e)))
-  ]
-
-  -- a list is longer by one with one process more, who stands there beside the others
-  pub length_placed : (p : ℕ) (xs : List ℕ) → length (placed passes p xs) ≡ suc (length xs)
-  length_placed p [] = refl
-  length_placed p (x ∷ xs) = elim (cases_Bool (passes x)) [
-    | inl is ↦ rw is refl
-    | inr isnt ↦ rw isnt (ap suc (length_placed p xs))
-  ]
-
-  pub stands_placed : (p q : ℕ) (xs : List ℕ) → stands_in q (placed passes p xs) ≡ (q == p || stands_in q xs)
-  stands_placed p q [] = refl
-  stands_placed p q (x ∷ xs) = elim (cases_Bool (passes x)) [
-    | inl is ↦ rw is refl
-    | inr isnt ↦ rw isnt (grind (arith, stands_placed p q xs))
   ]
 
   -- the first that passes the test, from this place of the list on

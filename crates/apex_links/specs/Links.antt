@@ -1,11 +1,15 @@
 -- What a contract sees of linked lists: how many processes there are, and who stands in each list, from its
 -- first to its last.
-use Rattle.std.specs.Prelude.{◌≡◌, ℕ, ◌<◌, ◌≤◌, true, false, ◌==◌, if◌then◌else◌, List, [], ◌∷◌, ◌++◌, map, length, slice_index_or, slice_set}
-use Rattle.apex_links.specs.Neighbours.{stands_in, IsDistinct}
+use Rattle.std.specs.Prelude.{◌≡◌, ℕ, ◌+◌, ◌<◌, ◌≤◌, true, false, ◌==◌, if◌then◌else◌, List, [], ◌∷◌, ◌++◌, map, length, replicate, slice_get, slice_index_or, slice_set, Option, Some}
+use Rattle.apex_links.specs.Neighbours.{stands_in, after_in, IsDistinct}
 
 pub record Links : Type 0 where
   pub processes : ℕ
   pub lists : List (List ℕ)
+
+-- so many processes, which stand in none of so many lists
+abbrev pub empty_links : ℕ → ℕ → Links
+empty_links processes lists = record { processes = processes; lists = replicate lists [] }
 
 -- who stands in list l
 abbrev pub list_at : Links → ℕ → List ℕ
@@ -20,6 +24,16 @@ pub record IsOnlyIn (links : Links) (p l : ℕ) : Type 0 where
   pub known : l < length links.lists
   pub here : stands_in p (list_at links l) ≡ true
   pub alone : (m : ℕ) → stands_in p (list_at links m) ≡ true → m ≡ l
+
+-- this one, or nobody, comes behind process p in the list in which it stands
+abbrev pub IsBehind : Links → ℕ → Option ℕ → Type 0
+IsBehind links p next =
+    (l : ℕ) → stands_in p (list_at links l) ≡ true → next ≡ after_in p (list_at links l)
+
+-- this one, or nobody, is at the next place of the list where process p is at place k
+abbrev pub IsNextAt : Links → ℕ → Option ℕ → Type 0
+IsNextAt links p next =
+    (l k : ℕ) → slice_get (list_at links l) k ≡ Some p → next ≡ slice_get (list_at links l) (k + 1)
 
 -- list l has these from now on, and the others keep theirs
 abbrev pub with_list : Links → ℕ → List ℕ → Links
@@ -55,5 +69,6 @@ inserted_before links other p = record links { lists = map (put_before other p) 
 pub record IsSound (links : Links) : Type 0 where
   pub known : (l p : ℕ) → stands_in p (list_at links l) ≡ true → p < links.processes
   pub distinct : (l : ℕ) → IsDistinct (list_at links l)
-  pub apart : (l m p : ℕ) → stands_in p (list_at links l) ≡ true → stands_in p (list_at links m) ≡ true → l ≡ m
+  pub apart : (l m p : ℕ) → stands_in p (list_at links l) ≡ true
+      → stands_in p (list_at links m) ≡ true → l ≡ m
   pub short : (l : ℕ) → length (list_at links l) ≤ links.processes

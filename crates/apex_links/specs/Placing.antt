@@ -1,5 +1,6 @@
 -- Where a process goes by a test: right before the first that passes it.
 use Rattle.std.specs.Prelude.{ℕ, Bool, if◌then◌else◌, List, [], ◌∷◌, Option, None, Some}
+use Rattle.apex_links.specs.Links.{Links, list_at, with_list}
 
 -- the first of these that passes the test
 abbrev pub first_such : (ℕ → Bool) → List ℕ → Option ℕ
@@ -10,3 +11,7 @@ first_such passes (x ∷ xs) = if passes x then Some x else first_such passes xs
 abbrev pub placed : (ℕ → Bool) → ℕ → List ℕ → List ℕ
 placed passes p [] = p ∷ []
 placed passes p (x ∷ xs) = if passes x then p ∷ x ∷ xs else x ∷ placed passes p xs
+
+-- process p stands in list l from now on, at its place by the test
+abbrev pub placed_in : (ℕ → Bool) → Links → ℕ → ℕ → Links
+placed_in passes links l p = with_list links l (placed passes p (list_at links l))

@@ -1,8 +1,9 @@
 //! How linked lists lie in memory: a node for each process and the two ends of each list.
-ghost use Rattle.std.specs.Prelude.{◌≡◌, ◌<◌, length, replicate, None, Some, IfOk, IfSome};
-ghost use Rattle.apex_links.specs.Chains.{ends_at, followed, free, no_ends, node_at, preceded, respliced, spliced};
+ghost use Rattle.std.specs.Prelude.{◌≡◌, ◌<◌, length, replicate, slice_set, IfOk};
+ghost use Rattle.apex_links.specs.Chains.{ends_at, ends_with, ends_without, followed, free, no_ends, node_at, nodes_with, nodes_without, preceded, rebound, IsKnown};
 
 use crate::lists::ListId;
+use crate::visits::Visits;
 use apex_types::ProcessId;
 use std::alloc::{AllocError, Global};
 
@@ -33,6 +34,7 @@ pub(crate) struct Ends {
 pub(crate) struct Chains {
     nodes: Vec<Node>,
     ends: Vec<Ends>,
+    visits: Visits,
 }
 
 impl Chains {
@@ -47,7 +49,11 @@ impl Chains {
             last: None,
         };
         let ends = vec![in alloc; empty; usize::from(lists)]?;
-        Ok(Chains { nodes, ends })
+        Ok(Chains {
+            nodes,
+            ends,
+            visits: Visits::new(),
+        })
     }
 
     /// How many processes there are.
@@ -57,12 +63,28 @@ impl Chains {
         self.nodes.len()
     }
 
-    /// The node of the process.
+    /// How many nodes have been read or written so far.
+    pub(crate) fn visits(&self) -> u64 {
+        self.visits.count()
+    }
+
+    /// The node of the process. Every node is read here.
     pub(crate) fn node(&self, process: ProcessId) -> Node
         requires { process < length self.now.nodes.items }
         ensures { result ≡ node_at self.now.nodes.items process }
     {
+        self.visits.note();
         self.nodes[process.place()]
+    }
+
+    /// The process has this node from now on. Every node is written here.
+    fn put(&mut self, process: ProcessId, node: Node)
+        requires { process < length self.old.nodes.items }
+        ensures nodes { self.new.nodes.items ≡ slice_set self.old.nodes.items process node }
+        ensures ends { self.new.ends.items ≡ self.old.ends.items }
+    {
+        self.visits.note();
+        self.nodes[process.place()] = node;
     }
 
     /// The ends of the list.
@@ -75,23 +97,25 @@ impl Chains {
 
     /// Behind the first process, where there is one, comes the other one from now on.
     fn follow(&mut self, before: Option<ProcessId>, after: Option<ProcessId>)
-        requires { IfSome before (λ p. p < length self.old.nodes.items) }
+        requires { IsKnown self.old.nodes.items before }
         ensures nodes { self.new.nodes.items ≡ followed self.old.nodes.items before after }
         ensures ends { self.new.ends.items ≡ self.old.ends.items }
     {
         if let Some(process) = before {
-            self.nodes[process.place()].after = after;
+            let node = self.node(process);
+            self.put(process, Node { after, ..node });
         }
     }
 
     /// Before the first process, where there is one, comes the other one from now on.
     fn precede(&mut self, after: Option<ProcessId>, before: Option<ProcessId>)
-        requires { IfSome after (λ p. p < length self.old.nodes.items) }
+        requires { IsKnown self.old.nodes.items after }
         ensures nodes { self.new.nodes.items ≡ preceded self.old.nodes.items after before }
         ensures ends { self.new.ends.items ≡ self.old.ends.items }
     {
         if let Some(process) = after {
-            self.nodes[process.place()].before = before;
+            let node = self.node(process);
+            self.put(process, Node { before, ..node });
         }
     }
 
@@ -106,7 +130,7 @@ impl Chains {
     )
         requires { list < length self.old.ends.items }
         ensures nodes { self.new.nodes.items ≡ self.old.nodes.items }
-        ensures ends { self.new.ends.items ≡ respliced self.old.ends.items list place.now.before place.now.after first last }
+        ensures ends { self.new.ends.items ≡ rebound self.old.ends.items list place.now first last }
     {
         let ends = self.ends[list.place()];
         self.ends[list.place()] = Ends {
@@ -127,14 +151,14 @@ impl Chains {
     pub(crate) fn join(&mut self, list: ListId, process: ProcessId, place: Node)
         requires list { list < length self.old.ends.items }
         requires process { process < length self.old.nodes.items }
-        requires before { IfSome place.before (λ p. p < length self.old.nodes.items) }
-        requires after { IfSome place.after (λ p. p < length self.old.nodes.items) }
-        ensures nodes { self.new.nodes.items ≡ spliced self.old.nodes.items process place place.before place.after (Some process) (Some process) }
-        ensures ends { self.new.ends.items ≡ respliced self.old.ends.items list place.before place.after (Some process) (Some process) }
+        requires before { IsKnown self.old.nodes.items place.before }
+        requires after { IsKnown self.old.nodes.items place.after }
+        ensures nodes { self.new.nodes.items ≡ nodes_with self.old.nodes.items process place }
+        ensures ends { self.new.ends.items ≡ ends_with self.old.ends.items list process place }
     {
         self.follow(place.before, Some(process));
         self.precede(place.after, Some(process));
-        self.nodes[process.place()] = place;
+        self.put(process, place);
         self.bound(list, &place, Some(process), Some(process));
     }
 
@@ -142,14 +166,14 @@ impl Chains {
     pub(crate) fn part(&mut self, list: ListId, process: ProcessId, place: Node)
         requires list { list < length self.old.ends.items }
         requires process { process < length self.old.nodes.items }
-        requires before { IfSome place.before (λ p. p < length self.old.nodes.items) }
-        requires after { IfSome place.after (λ p. p < length self.old.nodes.items) }
-        ensures nodes { self.new.nodes.items ≡ spliced self.old.nodes.items process free place.before place.after place.after place.before }
-        ensures ends { self.new.ends.items ≡ respliced self.old.ends.items list place.before place.after place.after place.before }
+        requires before { IsKnown self.old.nodes.items place.before }
+        requires after { IsKnown self.old.nodes.items place.after }
+        ensures nodes { self.new.nodes.items ≡ nodes_without self.old.nodes.items process place }
+        ensures ends { self.new.ends.items ≡ ends_without self.old.ends.items list place }
     {
         self.follow(place.before, place.after);
         self.precede(place.after, place.before);
-        self.nodes[process.place()] = FREE;
+        self.put(process, FREE);
         self.bound(list, &place, place.after, place.before);
     }
 }

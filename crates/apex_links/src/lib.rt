@@ -6,7 +6,9 @@ mod chains;
 mod links;
 mod lists;
 mod placing;
+mod visits;
 
 pub use links::LinkSet;
 pub use lists::ListId;
 pub use placing::Test;
+pub use visits::Visits;

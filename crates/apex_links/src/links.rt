@@ -1,7 +1,7 @@
 //! Linked lists of processes.
-ghost use Rattle.std.specs.Prelude.{◌≡◌, ◌+◌, ◌<◌, ℕ, [], length, replicate, slice_get, None, Some, IfOk, MatchOption, true};
-ghost use Rattle.apex_links.specs.Links.{inserted_before, list_at, pushed_back, pushed_front, removed, IsFree, IsOnlyIn, IsSound};
-ghost use Rattle.apex_links.specs.Neighbours.{after_in, first_of, stands_in};
+ghost use Rattle.std.specs.Prelude.{◌≡◌, ◌<◌, length, None, IfOk, MatchOption};
+ghost use Rattle.apex_links.specs.Links.{empty_links, inserted_before, list_at, pushed_back, pushed_front, removed, IsBehind, IsFree, IsNextAt, IsOnlyIn, IsSound};
+ghost use Rattle.apex_links.specs.Neighbours.{first_of};
 
 use crate::chains::{Chains, Node};
 use crate::lists::ListId;
@@ -19,21 +19,20 @@ pub struct LinkSet {
 }
 
 impl Model for LinkSet {
-    ghost use Rattle.std.specs.Prelude.{[], length, slice_index_or};
     ghost use Rattle.apex_links.specs.Links.{Links};
-    ghost use Rattle.apex_links.specs.Chains.{lists_of, AreLinked};
+    ghost use Rattle.apex_links.specs.Chains.{links_of, IsLinked};
 
     ghost Value = { Links };
 
-    ghost view = { λ s. record { processes = length s.chains.nodes.items; lists = lists_of s.chains.nodes.items s.chains.ends.items } };
+    ghost view = { λ s. links_of s.chains.nodes.items s.chains.ends.items };
 
-    ghost invariant = { λ s. AreLinked s.chains.nodes.items s.chains.ends.items (λ l. slice_index_or (lists_of s.chains.nodes.items s.chains.ends.items) l []) };
+    ghost invariant = { λ s. IsLinked s.chains.nodes.items s.chains.ends.items };
 }
 
 impl LinkSet {
     /// So many processes, which stand in none of so many lists. Fails only for want of memory.
     pub fn new(alloc: Global, processes: u16, lists: u16) -> Result<LinkSet, AllocError>
-        ensures { IfOk result (λ links. links ≡ record { processes = processes; lists = replicate lists [] }) }
+        ensures { IfOk result (λ links. links ≡ empty_links processes lists) }
     {
         Ok(LinkSet {
             chains: Chains::new(alloc, processes, lists)?,
@@ -45,6 +44,11 @@ impl LinkSet {
         ensures { IsSound self.now }
     {
         let _ = &self.chains;
+    }
+
+    /// How many nodes the calls, reading ones too, have read or written since the set was made.
+    pub fn visits(&self) -> u64 {
+        self.chains.visits()
     }
 
     /// How many processes there are.
@@ -74,8 +78,8 @@ impl LinkSet {
     pub fn next(&self, process: ProcessId) -> Option<ProcessId>
         requires { process < self.now.processes }
         ensures free { IsFree self.now process → result ≡ None }
-        ensures after { (l : ℕ) → stands_in process (list_at self.now l) ≡ true → result ≡ after_in process (list_at self.now l) }
-        ensures at { (l k : ℕ) → slice_get (list_at self.now l) k ≡ Some process → result ≡ slice_get (list_at self.now l) (k + 1) }
+        ensures after { IsBehind self.now process result }
+        ensures at { IsNextAt self.now process result }
     {
         self.chains.node(process).after
     }

@@ -1,8 +1,8 @@
 //! A process goes into a list before the first one that passes a test.
 ghost use Rattle.std.specs.Prelude.{◌≡◌, ◌<◌, ◌≤◌, ℕ, Bool, length, true, IfSome};
 ghost use Rattle.apex_links.specs.Neighbours.{stands_in};
-ghost use Rattle.apex_links.specs.Links.{list_at, with_list, IsFree};
-ghost use Rattle.apex_links.specs.Placing.{first_such, placed};
+ghost use Rattle.apex_links.specs.Links.{list_at, IsFree};
+ghost use Rattle.apex_links.specs.Placing.{first_such, placed_in};
 
 use crate::links::LinkSet;
 use crate::lists::ListId;
@@ -49,7 +49,7 @@ impl LinkSet {
         requires process { process < self.old.processes }
         requires free { IsFree self.old process }
         requires known { self.old.processes ≤ T.known test.now }
-        ensures { self.new ≡ with_list self.old list (placed (T.passes test.now) process (list_at self.old list)) }
+        ensures { self.new ≡ placed_in (T.passes test.now) self.old list process }
     {
         self.holds();
         match self.first_such(list, test) {

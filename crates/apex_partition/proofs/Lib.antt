@@ -1,2 +1,3 @@
 pub mod Latest
 pub mod Seated
+pub mod Standing

@@ -1,2 +1,3 @@
+pub mod Standing
 pub mod Headline
 pub mod Seats

@@ -6,7 +6,7 @@ ghost use Rattle.apex_types.specs.Limits.{most_ticks};
 ghost use Rattle.apex_types.specs.Machine.{opening, tick, turn};
 ghost use Rattle.apex_dispatch.specs.Kernel.{kernel_in};
 ghost use Rattle.apex_receipts.specs.Receipts.{Spoken, Stands};
-ghost use Rattle.apex_partition.specs.Headline.{Headline};
+ghost use Rattle.apex_partition.specs.Headline.{HasHeadline};
 ghost use Rattle.apex_partition.specs.Seats.{IsLatest, IsOneOf, IsRun, IsSeated, IsSettled, asked_ticks, told_full, with_entry};
 
 use crate::closed::Closed;
@@ -103,7 +103,7 @@ impl<P: Naming> Locked<P> {
     pub fn shown(&mut self, seen: Option<&Receipt<P>>) -> &Partition
         ensures partition { result.now ≡ self.old }
         ensures table { result.now.table ≡ P.table }
-        ensures headline { Headline result.now }
+        ensures headline { HasHeadline result.now }
         ensures stands { IfSome seen.entry (λ r. Stands result.now.machine.history r.now.entry r.now.place) }
     {
         if let Some(receipt) = seen {

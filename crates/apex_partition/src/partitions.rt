@@ -1,45 +1,58 @@
 //! The value that lies under the lock.
-ghost use Rattle.std.specs.Prelude.{◌≡◌, ◌<◌, ◌≤◌, ◌↔◌, length, All, IfOk, IfErr, OnOk, OnErr, IsOk, None, Some, slice_get};
+ghost use Rattle.std.specs.Prelude.{◌≡◌, ◌<◌, ◌≤◌, ◌↔◌, length, All, IfOk, IfErr, IfSome, OnOk, OnErr, IsOk, None, Some, slice_get};
 ghost use Rattle.std.specs.List.{last_or};
 ghost use Rattle.apex_types.specs.Limits.{most_entries, most_ticks};
 ghost use Rattle.apex_types.specs.Lines.{IsPrintable};
 ghost use Rattle.apex_types.specs.Machine.{events_of, opening, tick, turn};
+ghost use Rattle.apex_types.specs.Running.{chosen, process_state};
 ghost use Rattle.apex_dispatch.specs.Events.{IsWithin};
 ghost use Rattle.apex_dispatch.specs.Kernel.{kernel_in};
-ghost use Rattle.apex_partition.specs.Headline.{Headline};
+ghost use Rattle.apex_store.specs.Laws.{RunsMostUrgent};
+ghost use Rattle.apex_partition.specs.Headline.{HasHeadline, Headline};
 
 use apex_dispatch::{Kernel, values_and_dues_are_in_range};
 use apex_history::Entries;
-use apex_store::PlainStore;
+use apex_process::QueueStore;
+use apex_store::Store;
 use apex_table::Table;
-use apex_types::{CoreId, Entry, Full, LentEntry};
+use apex_types::{CoreId, Entry, Full, LentEntry, ProcessId, State};
 use std::alloc::{AllocError, Global};
 use std::marker::Model;
 
-/// A partition. The headline holds of every value of this type, so of what each holder of the lock
-/// gets and of what each holder leaves.
+/// A partition over linked lists. The headline holds of every value of this type, so of what each holder
+/// of the lock gets and of what each holder leaves.
 #[derive(Drop)]
 pub struct Partition {
-    kernel: Kernel<PlainStore>,
+    kernel: Kernel<QueueStore>,
 }
 
 impl Model for Partition {
     ghost use Rattle.apex_dispatch.specs.Kernel.{KernelState};
-    ghost use Rattle.apex_partition.specs.Headline.{Headline};
+    ghost use Rattle.apex_partition.specs.Headline.{HasHeadline};
 
     ghost Value = { KernelState };
 
     ghost view = { λ p. p.kernel };
 
-    ghost invariant = { λ p. Headline p.kernel };
+    ghost invariant = { λ p. HasHeadline p.kernel };
 }
 
-/// The headline holds of every kernel.
-fn stands(kernel: &Kernel<PlainStore>)
-    ensures { Headline kernel.now }
+/// The store of the kernel. The headline holds of every kernel over linked lists, and of its store.
+fn store_of(kernel: &Kernel<QueueStore>) -> &QueueStore
+    ensures { Headline kernel.now result.now }
 {
     kernel.holds();
     values_and_dues_are_in_range(kernel);
+    let store = kernel.store();
+    store.holds();
+    store
+}
+
+/// The headline holds of every kernel over linked lists.
+fn stands(kernel: &Kernel<QueueStore>)
+    ensures { HasHeadline kernel.now }
+{
+    let _store = store_of(kernel);
 }
 
 impl Partition {
@@ -48,7 +61,7 @@ impl Partition {
     pub fn boot(alloc: Global, table: Table) -> Result<Partition, AllocError>
         ensures { IfOk result (λ partition. partition ≡ kernel_in table (opening table)) }
     {
-        let store = PlainStore::new(alloc, &table)?;
+        let store = QueueStore::new(alloc, &table)?;
         let kernel = Kernel::boot(alloc, table, store)?;
         stands(&kernel);
         Ok(Partition { kernel })
@@ -79,6 +92,33 @@ impl Partition {
         let result = self.kernel.tick(n);
         stands(&self.kernel);
         result
+    }
+
+    /// The process that the core runs: its highest-priority, longest-ready one, which is the first of its
+    /// highest ready list that is not empty.
+    pub fn chosen(&self, core: CoreId) -> Option<ProcessId>
+        ensures value { result ≡ chosen self.now.machine.roster core }
+        ensures known { IfSome result (λ p. p < length self.now.machine.roster.records) }
+        ensures urgent { RunsMostUrgent self.now.machine.roster core }
+    {
+        self.store().chosen(core)
+    }
+
+    /// The state of the process.
+    pub fn state(&self, process: ProcessId) -> State
+        requires known { process < length self.now.machine.roster.records }
+        ensures { result ≡ process_state self.now.machine.roster process }
+    {
+        self.store().state(process)
+    }
+
+    /// The store in which the partition keeps its processes. The headline holds of the partition and of
+    /// this store.
+    pub fn store(&self) -> &QueueStore
+        ensures roster { result.now.roster ≡ self.now.machine.roster }
+        ensures headline { Headline self.now result.now }
+    {
+        store_of(&self.kernel)
     }
 
     /// The history so far, the oldest entry first.
@@ -136,9 +176,10 @@ impl Partition {
     /// highest-priority, longest-ready one bound to it, every process is in exactly one state and at
     /// most one queue, each semaphore's value is its start plus accepted signals less satisfied waits,
     /// and the stored history replays on the one-thread machine with the same return codes and
-    /// releases.
+    /// releases. It speaks of the lists that the partition keeps in its store, which
+    /// [`Partition::store`] lends.
     pub fn holds(&self)
-        ensures { Headline self.now }
+        ensures { HasHeadline self.now }
     {
         let _entries = self.kernel.entries();
     }

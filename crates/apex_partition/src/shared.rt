@@ -6,7 +6,7 @@ ghost use Rattle.apex_types.specs.declared.entries.Who.TheVariants.{Core, Ticker
 ghost use Rattle.apex_types.specs.Limits.{most_ticks};
 ghost use Rattle.apex_dispatch.specs.Kernel.{KernelState};
 ghost use Rattle.apex_receipts.specs.Receipts.{Spoken, Stands};
-ghost use Rattle.apex_partition.specs.Headline.{Headline};
+ghost use Rattle.apex_partition.specs.Headline.{HasHeadline};
 ghost use Rattle.apex_partition.specs.Seats.{IsOneOf, IsRun, IsSeated, IsSettled, asked_ticks, told_full, with_entry};
 
 use crate::closed::Closed;
@@ -59,7 +59,7 @@ impl<P: Naming> Shared<P> {
         f: F,
     ) -> T
         requires { F.IsAlwaysCallable f }
-        ensures { (partition : KernelState) × (partition.table ≡ P.table) × Headline partition
+        ensures { (partition : KernelState) × (partition.table ≡ P.table) × HasHeadline partition
             × IfSome seen.entry (λ r. Stands partition.machine.history r.now.entry r.now.place)
             × FnOnceReturnsAt F.FnOnce f partition result }
     {

@@ -1,12 +1,12 @@
 -- The front of a line is who is due first, and the sooner front of the two lines the next instant.
 use Rattle.std.proofs.Common.{◌≡◌, ◌≢◌, ℕ, ◌<◌, ◌≤◌, length, Option, None, Some, inl, inr, min, refl, ap, sym, ◌∙◌, arith}
-use Rattle.apex_types.specs.Dues.{earliest, first_missed, sooner}
+use Rattle.apex_types.specs.Dues.{earliest, first_due, first_missed, sooner}
 use Rattle.apex_types.specs.Roster.{Roster, record_at}
-use Rattle.apex_types.proofs.Dues.{earliest_among, earliest_below, earliest_none, first_missed_now, first_missed_lowest, first_missed_none}
+use Rattle.apex_types.proofs.Dues.{earliest_among, earliest_below, earliest_none, first_due_now, first_due_lowest, first_due_none, first_missed_now, first_missed_lowest, first_missed_none}
 use Rattle.apex_timeouts.specs.Timeline.{Times, due_at, instant_on, next_of, without_due_at, IsReset, IsTimed}
 use Rattle.apex_timeouts.proofs.Fronts.{next_among, next_least, next_none, due_among, due_lowest, due_none}
 use Rattle.apex_timeouts.proofs.Instants.{reset_none}
-use Rattle.apex_process.specs.Timed.{deadline_of, AreTimers, IsLineOf}
+use Rattle.apex_process.specs.Timed.{deadline_of, due_of, AreTimers, IsLineOf}
 
 -- a line of instants, none of which is past
 module _ (now many : ℕ) (instants : ℕ → Option ℕ) (times : Times) (line : IsLineOf now many instants times) (timed : IsTimed times) where
@@ -25,6 +25,11 @@ module _ (now many : ℕ) (instants : ℕ → Option ℕ) (times : Times) (line 
       let above : q ≤ p = lowest q p refl (sym (line.each p) ∙ due_among times timed.ordered now p is) in
       let same : p ≡ q = omega (arith, below, above) in
       ap Some same
+
+pub due_is : (roster : Roster) (dues deadlines : Times) → AreTimers roster dues deadlines → IsTimed dues → due_at dues roster.now ≡ first_due roster
+due_is roster dues deadlines timers timed =
+    lowest_cases roster.now _ (due_of roster) dues timers.dues timed _ (first_due roster) refl
+    (first_due_now roster) (first_due_lowest roster) (first_due_none roster)
 
 pub missed_is : (roster : Roster) (dues deadlines : Times) → AreTimers roster dues deadlines → IsTimed deadlines → due_at deadlines roster.now ≡ first_missed roster
 missed_is roster dues deadlines timers timed =
@@ -97,3 +102,7 @@ module _ (roster : Roster) (dues deadlines : Times) (timers : AreTimers roster d
 -- who was due has left the line
 pub taken_reset : (times news : Times) (p t : ℕ) → IsTimed times → p < length times.instants → due_at times t ≡ Some p → news ≡ without_due_at times t → IsReset times news p None
 taken_reset times news p t timed known is line = rw (line, is) (reset_none times p known timed.distinct)
+
+-- nobody is taken off a line at whose front nobody is due
+pub none_taken : (times news : Times) (t : ℕ) → due_at times t ≡ None → news ≡ without_due_at times t → news ≡ times
+none_taken times news t none line = rw none at line

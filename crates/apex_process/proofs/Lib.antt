@@ -1,8 +1,11 @@
-mod Rising
-mod Changes
-mod Top
-mod Empty
-mod Renewals
-mod Kept
-mod Timers
-mod Firsts
+pub mod Standing
+pub mod Places
+pub mod Renewals
+pub mod Kept
+pub mod Timers
+pub mod Owning
+pub mod Emptied
+pub mod States
+pub mod Top
+pub mod Firsts
+pub mod Waiting

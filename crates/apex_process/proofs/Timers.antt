@@ -1,7 +1,7 @@
 -- The timers stay those of the state as one process's record changes, and its timers are set.
-use Rattle.std.proofs.Common.{◌≡◌, ◌≢◌, ℕ, zero, suc, ◌+◌, ◌<◌, List, [], ◌∷◌, get_or, replicate, Option, None, Some, length, inl, inr, refl, ap, sym, subst, ◌∙◌}
+use Rattle.std.proofs.Common.{◌≡◌, ◌≢◌, ℕ, zero, suc, ◌+◌, ◌<◌, List, [], ◌∷◌, get_or, Option, None, Some, length, false, is_none, inl, inr, refl, ap, sym, subst, ◌∙◌}
 use Rattle.std.specs.Prelude.{◌==◌}
-use Rattle.std.proofs.lemmas.Bool.{cases_eq, cond_both}
+use Rattle.std.proofs.lemmas.Bool.{cases_eq, cond_both, false≢true}
 use Rattle.std.proofs.lemmas.List.{length-replicate, length-set}
 use Rattle.std.proofs.lemmas.Option.{none-some}
 use Rattle.apex_types.specs.declared.Holding.{Holding}
@@ -18,7 +18,8 @@ use Rattle.apex_types.specs.Stamps as stamps
 use Rattle.apex_types.proofs.Dues.{deadline_later, from_now}
 use Rattle.apex_types.proofs.Places.{length-map_places}
 use Rattle.apex_types.proofs.Rosters.{changes_record, changes_newest, changes_oldest, at_record, at_newest}
-use Rattle.apex_timeouts.specs.Timeline.{Times, instant_on, IsReset}
+use Rattle.apex_timeouts.specs.Timeline.{empty_line as bare_line, Times, IsReset}
+use Rattle.apex_timeouts.proofs.Instants.{same_reset}
 use Rattle.apex_process.specs.Timed.{due_of, deadline_of, AreTimers, IsLineOf}
 
 -- no due and no deadline of the record is past
@@ -220,7 +221,7 @@ opening_deadline [] q p = refl
 opening_deadline (e ∷ entries) q zero = refl
 opening_deadline (e ∷ entries) q (suc p) = opening_deadline entries (q + 1) p
 
-empty_line : (now many : ℕ) (instants : ℕ → Option ℕ) → ((p : ℕ) → instants p ≡ None) → IsLineOf now many instants (record { order = []; instants = replicate many 0 })
+empty_line : (now many : ℕ) (instants : ℕ → Option ℕ) → ((p : ℕ) → instants p ≡ None) → IsLineOf now many instants (bare_line many)
 empty_line now many instants none = record {
   each = λ p. sym (none p);
   count = length-replicate many 0;
@@ -228,7 +229,7 @@ empty_line now many instants none = record {
 }
 
 pub opens_timers : (table : Table) (many : ℕ) → many ≡ length table.processes
-    → AreTimers (opening_roster table) (record { order = []; instants = replicate many 0 }) (record { order = []; instants = replicate many 0 })
+    → AreTimers (opening_roster table) (bare_line many) (bare_line many)
 opens_timers table many is =
     let count : length (opening_roster table).records ≡ many = length-map_places opening_record 0 table.processes ∙ sym is in
     record {
@@ -236,26 +237,107 @@ opens_timers table many is =
       deadlines = rw count (empty_line 0 many (deadline_of (opening_roster table)) (opening_deadline table.processes 0));
     }
 
--- a process keeps its due, and has no deadline, or the other way round
-same_reset : (times : Times) (p : ℕ) (instant : Option ℕ) → instant_on times p ≡ instant → IsReset times times p instant
-same_reset times p instant e = record { here = e; others = λ q apart. refl; count = refl }
+-- the due of process p is set to that of its record, and its deadline stays
+pub due_by : (old new target : Roster) (dues deadlines news newers : Times) (p : ℕ) → AreTimers old dues deadlines → new ≡ target → Retimes old target p
+    → deadline_of target p ≡ deadline_of old p → IsReset dues news p (due_of new p) → newers ≡ deadlines → AreTimers new news newers
+due_by old new target dues deadlines news newers p timers is retimes same due stays =
+    let kept : IsReset deadlines newers p (deadline_of new p) = rw (stays, is) (same_reset deadlines p (deadline_of target p) (timers.deadlines.each p ∙ sym same)) in
+    retimed_by old new target dues deadlines news newers p timers is retimes due kept
 
-pub missed_by : (old new : Roster) (dues deadlines newers : Times) (p : ℕ) → p < length old.records → AreTimers old dues deadlines
-    → new ≡ stamps.set_deadline old p None → IsReset deadlines newers p None → AreTimers new dues newers
-missed_by old new dues deadlines newers p known timers is reset =
+-- the deadline of process p is set to that of its record, and its due stays
+pub deadline_by : (old new target : Roster) (dues deadlines news newers : Times) (p : ℕ) → AreTimers old dues deadlines → new ≡ target → Retimes old target p
+    → due_of target p ≡ due_of old p → news ≡ dues → IsReset deadlines newers p (deadline_of new p) → AreTimers new news newers
+deadline_by old new target dues deadlines news newers p timers is retimes same stays deadline =
+    let kept : IsReset dues news p (due_of new p) = rw (stays, is) (same_reset dues p (due_of target p) (timers.dues.each p ∙ sym same)) in
+    retimed_by old new target dues deadlines news newers p timers is retimes kept deadline
+
+-- the deadline that a record keeps
+module _ (old : Roster) (p : ℕ) (known : p < length old.records) (r : Record) (same : r.deadline ≡ (record_at old p).deadline) where
+  pub deadline_newest : deadline_of (stamps.newest old p r) p ≡ deadline_of old p
+  deadline_newest = ap (λ (s : Record). s.deadline) (at_newest old p known r) ∙ same
+
+  deadline_record : deadline_of (with_record old p r) p ≡ deadline_of old p
+  deadline_record = ap (λ (s : Record). s.deadline) (at_record old p known r) ∙ same
+
+  pub deadline_readied : deadline_of (stamps.readied old p r) p ≡ deadline_of old p
+  deadline_readied = cond_both {A = Roster} (is_eligible old.mode r) _ _ (λ new. deadline_of new p ≡ deadline_of old p) (λ _. deadline_newest) (λ _. deadline_record)
+
+pub deadline_resume : (old : Roster) (p : ℕ) → p < length old.records → deadline_of (stamps.resume old p) p ≡ deadline_of old p
+deadline_resume old p known = cond_both {A = Roster} (stamps.is_by_itself (record_at old p).suspended) _ _ (λ new. deadline_of new p ≡ deadline_of old p)
+    (λ _. deadline_readied old p known (stamps.awake (record_at old p)) refl) (λ _. deadline_readied old p known (stamps.unsuspended (record_at old p)) refl)
+
+-- a process that waits on as its suspension ends
+pub timers_resume : (old : Roster) (p : ℕ) → p < length old.records → is_none (record_at (stamps.resume old p) p).wait ≡ false → KeepsTimers old (stamps.resume old p)
+timers_resume old p known = cond_both {A = Roster} (stamps.is_by_itself (record_at old p).suspended) _ _ (λ new. is_none (record_at new p).wait ≡ false → KeepsTimers old new)
+    (λ _ waits. absurd (false≢true (sym waits ∙ rw (waitless (stamps.awake (record_at old p)) refl) refl)))
+    (λ _ waits. cond_both {A = Roster} (is_eligible old.mode (stamps.unsuspended (record_at old p))) _ _ (λ new. KeepsTimers old new)
+    (λ _. timers_newest old p known (stamps.unsuspended (record_at old p)) refl refl) (λ _. timers_record old p known (stamps.unsuspended (record_at old p)) refl refl)) where
+      waitless : (r : Record) → r.wait ≡ None → (record_at (stamps.readied old p r) p).wait ≡ None
+      waitless r none = cond_both {A = Roster} (is_eligible old.mode r) _ _ (λ new. (record_at new p).wait ≡ None)
+          (λ _. ap (λ (s : Record). s.wait) (at_newest old p known r) ∙ none) (λ _. ap (λ (s : Record). s.wait) (at_record old p known r) ∙ none)
+
+-- the first whose deadline is now no longer has it, and so for dues
+pub missed_by : (old new : Roster) (dues deadlines news newers : Times) (p : ℕ) → p < length old.records → AreTimers old dues deadlines
+    → new ≡ stamps.set_deadline old p None → news ≡ dues → IsReset deadlines newers p None → AreTimers new news newers
+missed_by old new dues deadlines news newers p known timers is stays reset =
     let here = at_record old p known (record (record_at old p) { deadline = None }) in
-    let target = stamps.set_deadline old p None in
-    let same : due_of target p ≡ due_of old p = ap (λ (r : Record). r.due) here in
-    let none : deadline_of target p ≡ None = ap (λ (r : Record). r.deadline) here in
-    rw is (retimed_by old target target dues deadlines dues newers p timers refl (retimes_deadline old p known None (no_due old.now))
-    (same_reset dues p (due_of target p) (timers.dues.each p ∙ sym same)) (subst (λ (i : Option ℕ). IsReset deadlines newers p i) (sym none) reset))
+    let none : deadline_of new p ≡ None = rw is (ap (λ (r : Record). r.deadline) here) in
+    deadline_by old new (stamps.set_deadline old p None) dues deadlines news newers p timers is (retimes_deadline old p known None (no_due old.now))
+    (ap (λ (r : Record). r.due) here) stays (subst (λ (i : Option ℕ). IsReset deadlines newers p i) (sym none) reset)
 
-pub due_taken_by : (old new : Roster) (dues deadlines news : Times) (p : ℕ) → p < length old.records → AreTimers old dues deadlines
-    → new ≡ stamps.without_due old p → IsReset dues news p None → AreTimers new news deadlines
-due_taken_by old new dues deadlines news p known timers is reset =
+pub due_taken_by : (old new : Roster) (dues deadlines news newers : Times) (p : ℕ) → p < length old.records → AreTimers old dues deadlines
+    → new ≡ stamps.without_due old p → IsReset dues news p None → newers ≡ deadlines → AreTimers new news newers
+due_taken_by old new dues deadlines news newers p known timers is reset stays =
     let here = at_record old p known (record (record_at old p) { due = None }) in
-    let target = stamps.without_due old p in
-    let none : due_of target p ≡ None = ap (λ (r : Record). r.due) here in
-    let same : deadline_of target p ≡ deadline_of old p = ap (λ (r : Record). r.deadline) here in
-    rw is (retimed_by old target target dues deadlines news deadlines p timers refl (retimes_without_due old p known)
-    (subst (λ (i : Option ℕ). IsReset dues news p i) (sym none) reset) (same_reset deadlines p (deadline_of target p) (timers.deadlines.each p ∙ sym same)))
+    let none : due_of new p ≡ None = rw is (ap (λ (r : Record). r.due) here) in
+    due_by old new (stamps.without_due old p) dues deadlines news newers p timers is (retimes_without_due old p known)
+    (ap (λ (r : Record). r.deadline) here) (subst (λ (i : Option ℕ). IsReset dues news p i) (sym none) reset) stays
+
+-- the same, where the record of process p was read
+module _ (old new target : Roster) (dues deadlines news newers : Times) (p : ℕ) (row : Record) (timers : AreTimers old dues deadlines) (is : new ≡ target)
+    (retimes : Retimes old target p) (read : row ≡ record_at new p) where
+  pub retimed_row : (mids mides : Times) → IsReset dues mids p row.due → mides ≡ deadlines → news ≡ mids → IsReset mides newers p row.deadline → AreTimers new news newers
+  retimed_row mids mides due same stays deadline =
+      let due' : IsReset dues news p (due_of new p) = subst (λ (i : Option ℕ). IsReset dues news p i) (ap (λ (r : Record). r.due) read) (rw stays due) in
+      let deadline' : IsReset deadlines newers p (deadline_of new p) = subst (λ (i : Option ℕ). IsReset deadlines newers p i) (ap (λ (r : Record). r.deadline) read) (rw (← same) deadline) in
+      retimed_by old new target dues deadlines news newers p timers is retimes due' deadline'
+
+  pub due_row : deadline_of target p ≡ deadline_of old p → IsReset dues news p row.due → newers ≡ deadlines → AreTimers new news newers
+  due_row same due stays =
+      let due' : IsReset dues news p (due_of new p) = subst (λ (i : Option ℕ). IsReset dues news p i) (ap (λ (r : Record). r.due) read) due in
+      due_by old new target dues deadlines news newers p timers is retimes same due' stays
+
+-- the same, where the due of the new record is known
+pub due_known : (old new target : Roster) (dues deadlines news newers : Times) (p : ℕ) (due : Option ℕ) → AreTimers old dues deadlines → new ≡ target → Retimes old target p
+    → due_of target p ≡ due → deadline_of target p ≡ deadline_of old p → IsReset dues news p due → newers ≡ deadlines → AreTimers new news newers
+due_known old new target dues deadlines news newers p due timers is retimes here same reset stays =
+    let due' : IsReset dues news p (due_of new p) = rw (is, here) reset in
+    due_by old new target dues deadlines news newers p timers is retimes same due' stays
+
+pub both_known : (old new target : Roster) (dues deadlines news newers mids mides : Times) (p : ℕ) (due deadline : Option ℕ) → AreTimers old dues deadlines → new ≡ target → Retimes old target p
+    → due_of target p ≡ due → deadline_of target p ≡ deadline → IsReset dues mids p due → mides ≡ deadlines → news ≡ mids → IsReset mides newers p deadline → AreTimers new news newers
+both_known old new target dues deadlines news newers mids mides p due deadline timers is retimes here here' reset same stays reset' =
+    let due' : IsReset dues news p (due_of new p) = rw (stays, is, here) reset in
+    let deadline' : IsReset deadlines newers p (deadline_of new p) = rw (← same, is, here') reset' in
+    retimed_by old new target dues deadlines news newers p timers is retimes due' deadline'
+
+pub deadline_known : (old new target : Roster) (dues deadlines news newers : Times) (p : ℕ) (deadline : Option ℕ) → AreTimers old dues deadlines → new ≡ target → Retimes old target p
+    → due_of target p ≡ due_of old p → deadline_of target p ≡ deadline → news ≡ dues → IsReset deadlines newers p deadline → AreTimers new news newers
+deadline_known old new target dues deadlines news newers p deadline timers is retimes same here stays reset =
+    let deadline' : IsReset deadlines newers p (deadline_of new p) = rw (is, here) reset in
+    deadline_by old new target dues deadlines news newers p timers is retimes same stays deadline'
+
+pub due_self_suspended : (old : Roster) (p : ℕ) → p < length old.records → (due : Option ℕ) → (due_of (stamps.suspend_self old p due) p ≡ due) × (deadline_of (stamps.suspend_self old p due) p ≡ deadline_of old p)
+due_self_suspended old p known due =
+    let here = at_newest old p known (stamps.self_suspended (record_at old p) due) in
+    (ap (λ (r : Record). r.due) here, ap (λ (r : Record). r.deadline) here)
+
+pub timers_stopped : (old : Roster) (p : ℕ) → p < length old.records → (due_of (stamps.stop old p) p ≡ None) × (deadline_of (stamps.stop old p) p ≡ None)
+timers_stopped old p known =
+    let here = at_record old p known (stamps.stopped (record_at old p)) in
+    (ap (λ (r : Record). r.due) here, ap (λ (r : Record). r.deadline) here)
+
+pub deadline_set : (old : Roster) (p : ℕ) → p < length old.records → (deadline : Option ℕ) → (due_of (stamps.set_deadline old p deadline) p ≡ due_of old p) × (deadline_of (stamps.set_deadline old p deadline) p ≡ deadline)
+deadline_set old p known deadline =
+    let here = at_record old p known (record (record_at old p) { deadline = deadline }) in
+    (ap (λ (r : Record). r.due) here, ap (λ (r : Record). r.deadline) here)

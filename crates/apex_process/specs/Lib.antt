@@ -1,3 +1,5 @@
-pub mod Queued
-pub mod ReadyLists
+pub mod Lists
+pub mod Owners
 pub mod Timed
+pub mod Queued
+pub mod State

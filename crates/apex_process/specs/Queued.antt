@@ -1,21 +1,77 @@
--- What a contract sees of a store over linked lists: the processes, and the lists in which they stand.
-use Rattle.std.specs.Prelude.{◌≡◌, ◌≤◌, length}
+-- What a contract sees of a store over linked lists: the processes, and all that it keeps of them beside.
+use Rattle.std.specs.Prelude.{◌≡◌, ℕ, ◌<◌, ◌≤◌, Bool, true, false, List, [], length}
 use Rattle.apex_types.specs.Limits.{most_processes}
-use Rattle.apex_types.specs.Roster.{Roster}
 use Rattle.apex_types.specs.Distinct.{IsStamped}
-use Rattle.apex_links.specs.Links.{Links}
-use Rattle.apex_ready.specs.ReadyOrders.{ready_lists}
-use Rattle.apex_process.specs.ReadyLists.{AreReadyLists, HavePlaces}
+use Rattle.apex_types.specs.Roster.{Roster, record_at}
+use Rattle.apex_types.specs.Running.{current_priority}
+use Rattle.apex_types.specs.Waiters.{goes_by_priority, queue_in}
+use Rattle.apex_links.specs.Neighbours.{stands_in}
+use Rattle.apex_links.specs.Links.{Links, list_at}
+use Rattle.apex_ready.specs.ReadyOrders.{ready_lists, AreMarked}
+use Rattle.apex_timeouts.specs.Timeline.{Times}
+use Rattle.apex_waitq.specs.WaitQueues.{priority_of, AreCounted}
+use Rattle.apex_process.specs.Lists.{goes_before, list_of, AreLists, HavePlaces}
 
+-- how many lists there are: the ready lists, and one for each queue
+abbrev pub all_lists : ℕ
+all_lists = 3584
+
+-- who stands in which list: the lists themselves, the marks of the ready lists in which anybody stands, how
+-- many stand in that of each queue, and the priority with which each process waits
+pub record Standings : Type 0 where
+  pub links : Links
+  pub marks : List ℕ
+  pub counts : List ℕ
+  pub priorities : List ℕ
+
+-- marks and counts are those of the lists
+pub record AreKept (standings : Standings) : Type 0 where
+  pub marked : AreMarked standings.marks standings.links
+  pub counted : AreCounted standings.counts standings.links
+  pub room : length standings.links.lists ≡ all_lists
+  pub noted : length standings.priorities ≡ standings.links.processes
+  pub few : standings.links.processes ≤ most_processes
+
+-- the processes, the lists in which they stand, the line of dues and that of deadlines, and who owns each mutex
 pub record Queued : Type 0 where
   pub roster : Roster
-  pub links : Links
+  pub standings : Standings
+  pub dues : Times
+  pub deadlines : Times
+  pub owners : List ℕ
 
--- the lists are the ready lists of the processes, whose stamps are distinct
-pub record IsQueued (roster : Roster) (links : Links) : Type 0 where
-  pub lists : AreReadyLists roster links
+-- who waits in a queue in which the more urgent comes first waits there with its current priority
+abbrev pub AreNoted : Roster → List ℕ → Type 0
+AreNoted roster priorities = (p : ℕ) → goes_by_priority roster (queue_in (record_at roster p)) ≡ true
+    → priority_of priorities p ≡ current_priority (record_at roster p)
+
+-- each process, whose stamp is no other one's, stands at its place in its list
+pub record IsQueued (roster : Roster) (standings : Standings) : Type 0 where
+  pub lists : AreLists (list_of roster) (goes_before roster) standings.links
   pub places : HavePlaces roster
+  pub noted : AreNoted roster standings.priorities
   pub stamped : IsStamped roster
-  pub known : links.processes ≡ length roster.records
+  pub known : standings.links.processes ≡ length roster.records
+  pub room : length standings.links.lists ≡ all_lists
+  pub rows : length standings.priorities ≡ length roster.records
   pub few : length roster.records ≤ most_processes
-  pub room : ready_lists ≤ length links.lists
+
+-- process p stands in no ready list from now on; nobody comes to stand in one, and the lists of the queues stay
+pub record IsUnreadied (old new : Links) (p : ℕ) : Type 0 where
+  pub gone : (l : ℕ) → l < ready_lists → stands_in p (list_at new l) ≡ false
+  pub stood : (q l : ℕ) → stands_in q (list_at new l) ≡ true → stands_in q (list_at old l) ≡ true
+  pub queues : (l : ℕ) → ready_lists ≤ l → list_at new l ≡ list_at old l
+  pub processes : new.processes ≡ old.processes
+  pub many : length new.lists ≡ length old.lists
+
+-- nobody stands in a ready list from now on, and the lists of the queues stay
+pub record AreEmptied (old new : Links) : Type 0 where
+  pub ready : (l : ℕ) → l < ready_lists → list_at new l ≡ []
+  pub queues : (l : ℕ) → ready_lists ≤ l → list_at new l ≡ list_at old l
+  pub processes : new.processes ≡ old.processes
+  pub many : length new.lists ≡ length old.lists
+
+-- whether process p stands in a ready list: if so it stands in no other list, and else in no ready list
+pub record StandsReady (links : Links) (p : ℕ) (is : Bool) : Type 0 where
+  pub ready : is ≡ true → (l : ℕ) → ready_lists ≤ l → stands_in p (list_at links l) ≡ false
+  pub other : is ≡ false → (l : ℕ) → l < ready_lists → stands_in p (list_at links l) ≡ false

@@ -1,7 +1,9 @@
-//! A store of processes that keeps who is ready, and what is due, in linked lists.
+//! A store of processes that keeps who is ready, who waits, what is due and who owns what, and finds each
+//! without a scan.
 #![tactic(auto)]
 
+mod lists;
+mod owners;
 mod queue_store;
-mod ready;
 
 pub use queue_store::QueueStore;

@@ -1,96 +1,102 @@
-//! A store that keeps who is ready, and what is due, in linked lists.
-ghost use Rattle.std.specs.Prelude.{◌≡◌, ◌<◌, ◌&&◌, is_some, length, IfOk};
+//! A store that keeps who is ready, who waits and what is due in linked lists.
+ghost use Rattle.std.specs.Prelude.{◌≡◌, ◌<◌, ◌&&◌, ◌||◌, not, is_some, length, IfOk};
 ghost use Rattle.apex_types.specs.Roster.{opening_roster, record_at};
-ghost use Rattle.apex_types.specs.Running.{IsEligible};
+ghost use Rattle.apex_types.specs.Running.{is_eligible};
 ghost use Rattle.apex_types.specs.Stamps.{is_level};
-ghost use Rattle.apex_timeouts.specs.Timeline.{IsReset};
-ghost use Rattle.apex_process.specs.ReadyLists.{placed_newest, placed_oldest, AreReadyLists, HasPlace};
-ghost use Rattle.apex_process.specs.Timed.{deadline_of, due_of};
+ghost use Rattle.apex_types.specs.Waiters.{goes_by_priority, queue_in};
+ghost use Rattle.apex_process.specs.State.{AreListsOfState};
 
-use crate::ready::Ready;
+use crate::lists::Lists;
+use crate::owners::Owners;
+use apex_links::Visits;
 use apex_store::{PlainStore, Store};
 use apex_table::Table;
 use apex_timeouts::Timers;
-use apex_types::{CoreId, Holding, Message, Mode, MutexId, ProcessId, Queue, Record, State, Wait};
+use apex_types::{
+    CoreId, Discipline, Holding, Message, Mode, MutexId, ProcessId, Queue, Record, State, Wait,
+};
 use std::alloc::{AllocError, Global};
 use std::marker::Model;
 
-/// A store that keeps the eligible processes of each core and priority in a linked list, and so finds
-/// the chosen process of a core, and the place of a process that becomes ready, in a few steps.
+/// A store that keeps the eligible processes of each core and priority, and those that wait in each queue,
+/// in a linked list, the dues and the deadlines in the order of their instants, and the owner of each
+/// mutex, and so answers each question in a few steps, however many processes there are.
 ///
-/// A running process stays in its list, at the front of the highest that is not empty. Neither compares
-/// two stamps. The dues and the deadlines lie in two lines, in the order of their instants. Who waits in a
-/// queue, whose due is now, and who owns a mutex is found by scans of the records.
+/// A running process stays in its ready list, at the front of the highest that is not empty. No call
+/// compares two stamps. A process that begins to wait in a queue of discipline PRIORITY walks that queue,
+/// and one with a due or a deadline walks their line; only a mode other than NORMAL walks all processes.
 #[derive(Drop)]
 pub struct QueueStore {
     records: PlainStore,
-    ready: Ready,
+    lists: Lists,
     timers: Timers,
+    owners: Owners,
+    reads: Visits,
 }
 
 impl Model for QueueStore {
+    ghost use Rattle.apex_process.specs.Owners.{AreOwners};
     ghost use Rattle.apex_process.specs.Queued.{Queued, IsQueued};
     ghost use Rattle.apex_process.specs.Timed.{AreTimers};
 
     ghost Value = { Queued };
 
-    ghost view = { λ s. record { roster = s.records; links = s.ready } };
+    ghost view = { λ s. record { roster = s.records; standings = s.lists; dues = s.timers.dues; deadlines = s.timers.deadlines; owners = s.owners } };
 
-    ghost invariant = { λ s. IsQueued s.records s.ready × AreTimers s.records s.timers.dues s.timers.deadlines };
+    ghost invariant = { λ s. IsQueued s.records s.lists × AreTimers s.records s.timers.dues s.timers.deadlines × AreOwners s.records s.owners };
 }
 
-/// The process goes behind all others of its priority where it is eligible, else it is ready no longer.
-fn put_newest(ready: &mut Ready, records: &PlainStore, process: ProcessId)
-    requires known { process < ready.old.processes }
-    requires there { process < length records.now.records }
-    ensures lists { ready.new ≡ placed_newest records.now.mode ready.old process (record_at records.now process) }
-    ensures place { IsEligible records.now process → HasPlace (record_at records.now process) }
+/// The record of the process, at which the store looks.
+fn read(records: &PlainStore, reads: &Visits, process: ProcessId) -> Record
+    requires { process < length records.now.records }
+    ensures { result ≡ record_at records.now process }
 {
-    let row = records.record(process);
-    ready.place_newest(records.mode(), process, row);
-}
-
-/// The process goes before all others of its priority where it is eligible, else it is ready no longer.
-fn put_oldest(ready: &mut Ready, records: &PlainStore, process: ProcessId)
-    requires known { process < ready.old.processes }
-    requires there { process < length records.now.records }
-    ensures lists { ready.new ≡ placed_oldest records.now.mode ready.old process (record_at records.now process) }
-    ensures place { IsEligible records.now process → HasPlace (record_at records.now process) }
-{
-    let row = records.record(process);
-    ready.place_oldest(records.mode(), process, row);
-}
-
-/// The timers of the process become those of its record.
-fn retime(timers: &mut Timers, records: &PlainStore, process: ProcessId)
-    requires there { process < length records.now.records }
-    requires due_count { length timers.old.dues.instants ≡ length records.now.records }
-    requires deadline_count { length timers.old.deadlines.instants ≡ length records.now.records }
-    ensures dues { IsReset timers.old.dues timers.new.dues process (due_of records.now process) }
-    ensures deadlines { IsReset timers.old.deadlines timers.new.deadlines process (deadline_of records.now process) }
-{
-    let row = records.record(process);
-    timers.dues.set(process, row.due);
-    timers.deadlines.set(process, row.deadline);
+    reads.note();
+    records.record(process)
 }
 
 /// The process of this record owns a mutex, and its current priority stays with this base priority.
-fn stays_at(row: Record, base: u8) -> bool
-    ensures { result ≡ (is_some row.owned && is_level (record row { base = base }) row) }
+fn stays_at(row: &Record, base: u8) -> bool
+    ensures { result ≡ (is_some row.now.owned && is_level (record row.now { base = base }) row.now) }
 {
-    row.owned.is_some() && Record { base, ..row }.current_priority() == row.current_priority()
+    row.owned.is_some() && Record { base, ..*row }.current_priority() == row.current_priority()
 }
 
 /// The current priority of this record stays with this mutex.
-fn is_level_with(row: Record, owned: &Option<Holding>) -> bool
-    ensures { result ≡ is_level (record row { owned = owned.now }) row }
+fn is_level_with(row: &Record, owned: &Option<Holding>) -> bool
+    ensures { result ≡ is_level (record row.now { owned = owned.now }) row.now }
 {
     Record {
         owned: *owned,
-        ..row
+        ..*row
     }
     .current_priority()
         == row.current_priority()
+}
+
+/// The process of this record is ready.
+fn is_ready(records: &PlainStore, given: &Record) -> bool
+    ensures { result ≡ is_eligible records.now.mode given.now }
+{
+    given.is_eligible(records.mode())
+}
+
+/// The process of this record waits in a queue in which the more urgent comes first.
+fn goes_by_priority(records: &PlainStore, row: &Record) -> bool
+    ensures { result ≡ goes_by_priority records.now (queue_in row.now) }
+{
+    match row.queue() {
+        Some(queue) => records.discipline(&queue) == Discipline::Priority,
+        None => false,
+    }
+}
+
+/// The process of this record goes to another place as it gets this base priority.
+fn moves_at(records: &PlainStore, row: &Record, base: u8) -> bool
+    ensures { result ≡ ((is_eligible records.now.mode row.now && not (is_some row.now.owned && is_level (record row.now { base = base }) row.now))
+        || goes_by_priority records.now (queue_in row.now)) }
+{
+    row.is_eligible(records.mode()) && !stays_at(row, base) || goes_by_priority(records, row)
 }
 
 impl QueueStore {
@@ -100,20 +106,33 @@ impl QueueStore {
     {
         let count = table.process_count() as u16;
         let records = PlainStore::new(alloc, table)?;
-        let ready = Ready::new(alloc, count)?;
+        let lists = Lists::new(alloc, count)?;
         let timers = Timers::new(alloc, count)?;
+        let owners = Owners::new(alloc)?;
         Ok(QueueStore {
             records,
-            ready,
+            lists,
             timers,
+            owners,
+            reads: Visits::new(),
         })
     }
 
-    /// The lists are the ready lists of the state.
+    /// The lists that the store keeps are the lists of its state.
     pub fn holds(&self)
-        ensures { AreReadyLists self.now.roster self.now.links }
+        ensures { AreListsOfState self.now }
     {
-        let _ = &self.ready;
+        self.lists.holds();
+        self.timers.holds();
+    }
+
+    /// How many records, and nodes of lists, the calls have looked at since the store was made, reading
+    /// ones too. The number stays at the greatest `u64`.
+    pub fn visits(&self) -> u64 {
+        self.reads
+            .count()
+            .saturating_add(self.lists.visits())
+            .saturating_add(self.timers.visits())
     }
 }
 
@@ -137,15 +156,15 @@ impl Store for QueueStore {
     }
 
     fn record(&self, process: ProcessId) -> Record {
-        self.records.record(process)
+        read(&self.records, &self.reads, process)
     }
 
     fn chosen(&self, core: CoreId) -> Option<ProcessId> {
-        self.ready.top(core)
+        self.lists.top(core)
     }
 
     fn state(&self, process: ProcessId) -> State {
-        let row = self.records.record(process);
+        let row = read(&self.records, &self.reads, process);
         if !row.started {
             return State::Dormant;
         }
@@ -159,15 +178,15 @@ impl Store for QueueStore {
     }
 
     fn first(&self, queue: Queue) -> Option<ProcessId> {
-        self.records.first(queue)
+        self.lists.first(queue)
     }
 
-    fn next_after(&self, queue: Queue, process: ProcessId) -> Option<ProcessId> {
-        self.records.next_after(queue, process)
+    fn next_after(&self, _queue: Queue, process: ProcessId) -> Option<ProcessId> {
+        self.lists.next(process)
     }
 
     fn waiting(&self, queue: Queue) -> u32 {
-        self.records.waiting(queue)
+        self.lists.count(queue)
     }
 
     fn ceiling(&self, mutex: MutexId) -> u8 {
@@ -175,87 +194,113 @@ impl Store for QueueStore {
     }
 
     fn owner(&self, mutex: MutexId) -> Option<ProcessId> {
-        self.records.owner(mutex)
+        self.owners.first(mutex)
     }
 
     fn next_instant(&self) -> Option<u64> {
-        self.timers.dues.holds();
-        self.timers.deadlines.holds();
+        self.timers.holds();
         self.timers.next_instant()
     }
 
     fn start(&mut self, process: ProcessId, delay: u32) {
         self.records.start(process, delay);
-        put_newest(&mut self.ready, &self.records, process);
-        retime(&mut self.timers, &self.records, process);
+        let row = read(&self.records, &self.reads, process);
+        self.lists.put_newest(&self.records, process, &row);
+        self.timers.set_due(process, row.due);
+        self.timers.set_deadline(process, row.deadline);
     }
 
     fn stop(&mut self, process: ProcessId) {
+        let held = read(&self.records, &self.reads, process).owned;
         self.records.stop(process);
-        put_newest(&mut self.ready, &self.records, process);
-        retime(&mut self.timers, &self.records, process);
+        self.lists.leave(process);
+        self.timers.set_due(process, None);
+        self.timers.set_deadline(process, None);
+        self.owners.leave(process, &held);
     }
 
     fn block(&mut self, process: ProcessId, wait: Wait, due: Option<u64>) {
         self.records.block(process, wait, due);
-        put_newest(&mut self.ready, &self.records, process);
-        retime(&mut self.timers, &self.records, process);
+        let row = read(&self.records, &self.reads, process);
+        self.lists.put_newest(&self.records, process, &row);
+        self.timers.set_due(process, row.due);
     }
 
     fn unblock(&mut self, process: ProcessId) {
         self.records.unblock(process);
-        put_newest(&mut self.ready, &self.records, process);
-        retime(&mut self.timers, &self.records, process);
+        let woken = read(&self.records, &self.reads, process);
+        self.lists.put_newest(&self.records, process, &woken);
+        self.timers.set_due(process, woken.due);
     }
 
     fn release(&mut self, process: ProcessId) {
         self.records.release(process);
-        put_newest(&mut self.ready, &self.records, process);
-        retime(&mut self.timers, &self.records, process);
+        let row = read(&self.records, &self.reads, process);
+        self.lists.put_newest(&self.records, process, &row);
+        self.timers.set_due(process, row.due);
+        self.timers.set_deadline(process, row.deadline);
     }
 
     fn suspend(&mut self, process: ProcessId) {
+        let row = read(&self.records, &self.reads, process);
+        let is_ready = is_ready(&self.records, &row);
         self.records.suspend(process);
-        put_newest(&mut self.ready, &self.records, process);
+        if is_ready {
+            self.lists.leave(process);
+        }
     }
 
     fn suspend_self(&mut self, process: ProcessId, due: Option<u64>) {
+        self.reads.note();
         self.records.suspend_self(process, due);
-        put_newest(&mut self.ready, &self.records, process);
-        retime(&mut self.timers, &self.records, process);
+        self.lists.leave(process);
+        self.timers.set_due(process, due);
     }
 
     fn resume(&mut self, process: ProcessId) {
         self.records.resume(process);
-        put_newest(&mut self.ready, &self.records, process);
-        retime(&mut self.timers, &self.records, process);
+        let row = read(&self.records, &self.reads, process);
+        if row.wait.is_none() {
+            self.lists.put_newest(&self.records, process, &row);
+            self.timers.set_due(process, row.due);
+        }
     }
 
     fn set_priority(&mut self, process: ProcessId, base: u8) {
-        let stays = stays_at(self.records.record(process), base);
+        let row = read(&self.records, &self.reads, process);
+        let moves = moves_at(&self.records, &row, base);
         self.records.set_priority(process, base);
-        if !stays {
-            put_newest(&mut self.ready, &self.records, process);
+        if moves {
+            let row = read(&self.records, &self.reads, process);
+            self.lists.put_newest(&self.records, process, &row);
         }
     }
 
     fn own(&mut self, process: ProcessId, owned: Option<Holding>) {
-        let is_level = is_level_with(self.records.record(process), &owned);
+        let row = read(&self.records, &self.reads, process);
         self.records.own(process, owned);
-        if !is_level {
-            put_oldest(&mut self.ready, &self.records, process);
+        self.owners.change(process, &row.owned, &owned);
+        if !is_level_with(&row, &owned) {
+            let row = read(&self.records, &self.reads, process);
+            self.lists.put_oldest(process, &row);
         }
     }
 
     fn inherit(&mut self, process: ProcessId, holding: Holding) {
+        let owned = read(&self.records, &self.reads, process).owned;
+        let mutex = holding.mutex;
         self.records.inherit(process, holding);
-        put_newest(&mut self.ready, &self.records, process);
-        retime(&mut self.timers, &self.records, process);
+        self.owners.leave(process, &owned);
+        self.owners.add(mutex, process);
+        let row = read(&self.records, &self.reads, process);
+        self.lists.put_newest(&self.records, process, &row);
+        self.timers.set_due(process, row.due);
     }
 
     fn place_newest(&mut self, process: ProcessId) {
         self.records.place_newest(process);
-        put_newest(&mut self.ready, &self.records, process);
+        let row = read(&self.records, &self.reads, process);
+        self.lists.put_newest(&self.records, process, &row);
     }
 
     fn advance_to(&mut self, instant: u64) {
@@ -263,40 +308,46 @@ impl Store for QueueStore {
     }
 
     fn set_deadline(&mut self, process: ProcessId, deadline: Option<u64>) {
+        self.reads.note();
         self.records.set_deadline(process, deadline);
-        retime(&mut self.timers, &self.records, process);
+        self.timers.set_deadline(process, deadline);
     }
 
     fn take_missed(&mut self) -> Option<ProcessId> {
-        self.timers.deadlines.holds();
-        let process = self.timers.deadlines.pop_at(self.records.now())?;
+        self.timers.holds();
+        let process = self.timers.pop_deadline_at(self.records.now())?;
+        self.reads.note();
         self.records.set_deadline(process, None);
         Some(process)
     }
 
     fn take_due(&mut self) -> Option<ProcessId> {
-        let process = self.records.take_due()?;
-        self.timers.dues.set(process, None);
+        self.timers.holds();
+        let process = self.timers.pop_due_at(self.records.now())?;
+        self.reads.note();
+        self.records.clear_due(process);
         Some(process)
     }
 
     fn set_mode(&mut self, mode: Mode) {
         self.records.set_mode(mode);
         if !mode.is_normal() {
-            self.ready.clear(self.records.process_count() as u8);
+            self.lists.clear(self.records.process_count() as u8);
         }
     }
 
     fn set_core(&mut self, process: ProcessId, core: CoreId) {
+        self.reads.note();
         self.records.set_core(process, core);
-        put_newest(&mut self.ready, &self.records, process);
     }
 
     fn receive(&mut self, process: ProcessId, message: Message) {
+        self.reads.note();
         self.records.receive(process, message);
     }
 
     fn set_step(&mut self, process: ProcessId, step: u8) {
+        self.reads.note();
         self.records.set_step(process, step);
     }
 }

@@ -1,10 +1,12 @@
 -- The front of a line: the soonest instant, and among equals the lowest number.
-use Rattle.std.proofs.Common.{◌≡◌, ◌⊎◌, ℕ, ◌≤◌, true, false, ◌==◌, List, [], ◌∷◌, Option, None, Some, inl, inr, refl, ap, sym, subst, ◌∙◌, arith}
+use Rattle.std.proofs.Common.{◌≡◌, ◌⊎◌, ℕ, ◌≤◌, true, ◌==◌, List, Option, None, Some, inl, inr, refl, ap, sym, subst, ◌∙◌, arith}
 use Rattle.std.specs.Prelude.{if◌then◌else◌}
 use Rattle.std.proofs.lemmas.Bool.{cases_eq, cases_Bool}
 use Rattle.std.proofs.lemmas.Option.{none-some, same_Some}
 use Rattle.apex_links.specs.Neighbours.{stands_in, first_of}
-use Rattle.apex_timeouts.specs.Timeline.{Times, due_at, instant_of, instant_on, is_later, next_of, IsOrdered}
+use Rattle.apex_links.proofs.Places.{first_none, first_stands}
+use Rattle.apex_links.proofs.Sorted.{first_before}
+use Rattle.apex_timeouts.specs.Timeline.{Times, due_at, instant_of, instant_on, is_after, next_of, IsOrdered}
 use Rattle.apex_timeouts.proofs.Orders.{pair_later}
 
 -- who has an instant is on the line
@@ -30,20 +32,11 @@ later_above p i q j later same = grind (arith, later, same)
 
 -- the first of a list comes before all others
 front_later : (instants : List ℕ) (p q : ℕ) (xs : List ℕ) → IsOrdered instants xs → first_of xs ≡ Some p → stands_in q xs ≡ true
-    → (q ≡ p) ⊎ (is_later instants p (instant_of instants p) q ≡ true)
-front_later instants p q [] o e here = absurd (grind (arith, e))
-front_later instants p q (x ∷ xs) o e here = elim (cases_eq q x) [
-  | inl same ↦ inl (same ∙ same_Some x p e)
-  | inr apart ↦ inr (subst (λ (y : ℕ). is_later instants y (instant_of instants y) q ≡ true) (same_Some x p e) (o.0 q (grind (arith, here, apart))))
+    → (q ≡ p) ⊎ (is_after instants p q ≡ true)
+front_later instants p q xs o e here = elim (cases_eq q p) [
+  | inl same ↦ inl same
+  | inr apart ↦ inr (first_before (is_after instants) p q xs o e here apart)
 ]
-
-first_stands : (p : ℕ) (xs : List ℕ) → first_of xs ≡ Some p → stands_in p xs ≡ true
-first_stands p [] e = absurd (grind (arith, e))
-first_stands p (x ∷ xs) e = grind (arith, same_Some x p e)
-
-first_none : (q : ℕ) (xs : List ℕ) → first_of xs ≡ None → stands_in q xs ≡ false
-first_none q [] e = refl
-first_none q (x ∷ xs) e = absurd (none-some x (sym e))
 
 shown : (a t x : ℕ) → a ≡ t → (if a == t then Some x else None) ≡ Some x
 shown a t x same = grind (arith, same)

@@ -1,12 +1,15 @@
 -- What a line tells of each process: its instant, who is first, and what a new instant changes.
-use Rattle.std.proofs.Common.{◌≡◌, ◌≢◌, ℕ, ◌<◌, true, length, None, Some, refl, ap, ◌∙◌, arith}
+use Rattle.std.proofs.Common.{◌≡◌, ◌≢◌, ℕ, ◌<◌, true, length, Option, None, Some, refl, ap, ◌∙◌, arith}
 use Rattle.std.proofs.lemmas.Grind.{get_or-set_at}
 use Rattle.std.proofs.lemmas.List.{get_or-set_other, length-set}
 use Rattle.apex_links.specs.Neighbours.{stands_in, IsDistinct}
 use Rattle.apex_links.specs.Links.{without}
-use Rattle.apex_links.proofs.Places.{stays_without, without_gone}
-use Rattle.apex_links.proofs.Walking.{stands_placed}
+use Rattle.apex_links.proofs.Places.{stands_placed, stays_without, without_gone}
 use Rattle.apex_timeouts.specs.Timeline.{Times, armed, disarmed, instant_on, is_later, IsReset}
+
+-- process p has the instant already
+pub same_reset : (times : Times) (p : ℕ) (instant : Option ℕ) → instant_on times p ≡ instant → IsReset times times p instant
+same_reset times p instant e = record { here = e; others = λ q apart. refl; count = refl }
 
 -- process p has another instant, or none
 module _ (times : Times) (p : ℕ) (known : p < length times.instants) (distinct : IsDistinct times.order) where

@@ -1,1 +1,2 @@
 pub mod Timeline
+pub mod Timers

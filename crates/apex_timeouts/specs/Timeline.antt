@@ -1,13 +1,18 @@
 -- Processes in the order of their instants.
-use Rattle.std.specs.Prelude.{◌≡◌, ◌≢◌, ℕ, nat_lt, Bool, true, ◌==◌, ◌&&◌, ◌||◌, if◌then◌else◌, List, [], ◌∷◌, length, slice_index_or, slice_set, Option, None, Some, ⊤, ◌<◌}
+use Rattle.std.specs.Prelude.{◌≡◌, ◌≢◌, ℕ, nat_lt, Bool, true, ◌==◌, ◌&&◌, ◌||◌, if◌then◌else◌, List, [], length, replicate, slice_index_or, slice_set, Option, None, Some, option_map, ◌<◌}
 use Rattle.apex_links.specs.Neighbours.{stands_in, first_of, IsDistinct}
 use Rattle.apex_links.specs.Links.{Links, list_at, without}
 use Rattle.apex_links.specs.Placing.{placed}
+use Rattle.apex_links.specs.Sorted.{IsSorted}
 
 -- what a contract sees of a line: who is on it, the soonest first, and the instant of each process
 pub record Times : Type 0 where
   pub order : List ℕ
   pub instants : List ℕ
+
+-- a line of so many processes, on which nobody is
+abbrev pub empty_line : ℕ → Times
+empty_line processes = record { order = []; instants = replicate processes 0 }
 
 -- the instant of process p
 abbrev pub instant_of : List ℕ → ℕ → ℕ
@@ -16,16 +21,21 @@ instant_of instants p = slice_index_or instants p 0
 -- process q comes later than process p at this instant: its own is later, or the same, and it has the higher
 -- number
 abbrev pub is_later : List ℕ → ℕ → ℕ → ℕ → Bool
-is_later instants p instant q = nat_lt instant (instant_of instants q) || instant == instant_of instants q && nat_lt p q
+is_later instants p instant q =
+    nat_lt instant (instant_of instants q) || instant == instant_of instants q && nat_lt p q
+
+-- process q comes later than process p
+abbrev pub is_after : List ℕ → ℕ → ℕ → Bool
+is_after instants p q = is_later instants p (instant_of instants p) q
 
 -- each of these comes before those behind it
 abbrev pub IsOrdered : List ℕ → List ℕ → Type 0
-IsOrdered instants [] = ⊤
-IsOrdered instants (x ∷ xs) = ((q : ℕ) → stands_in q xs ≡ true → is_later instants x (instant_of instants x) q ≡ true) × IsOrdered instants xs
+IsOrdered instants ps = IsSorted (is_after instants) ps
 
 -- process p, which is not on the line, has this instant from now on
 abbrev pub armed : Times → ℕ → ℕ → Times
-armed times p instant = record { order = placed (is_later times.instants p instant) p times.order; instants = slice_set times.instants p instant }
+armed times p instant =
+    record { order = placed (is_later times.instants p instant) p times.order; instants = slice_set times.instants p instant }
 
 -- process p is not on the line from now on
 abbrev pub disarmed : Times → ℕ → Times
@@ -41,14 +51,9 @@ pub record IsReset (old new : Times) (p : ℕ) (instant : Option ℕ) : Type 0 w
   pub others : (q : ℕ) → q ≢ p → instant_on new q ≡ instant_on old q
   pub count : length new.instants ≡ length old.instants
 
--- the instant of this process, where there is one
-abbrev pub instant_at : List ℕ → Option ℕ → Option ℕ
-instant_at instants None = None
-instant_at instants (Some p) = Some (instant_of instants p)
-
 -- the soonest instant
 abbrev pub next_of : Times → Option ℕ
-next_of times = instant_at times.instants (first_of times.order)
+next_of times = option_map (instant_of times.instants) (first_of times.order)
 
 -- this process, where there is one, if this is its instant
 abbrev pub only_at : List ℕ → ℕ → Option ℕ → Option ℕ

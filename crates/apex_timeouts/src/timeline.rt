@@ -1,7 +1,7 @@
 //! Processes in the order of their instants.
-ghost use Rattle.std.specs.Prelude.{◌≡◌, ◌<◌, [], false, length, replicate, IfOk, IfSome};
+ghost use Rattle.std.specs.Prelude.{◌≡◌, ◌<◌, false, length, IfOk, IfSome};
 ghost use Rattle.apex_links.specs.Neighbours.{first_of, stands_in};
-ghost use Rattle.apex_timeouts.specs.Timeline.{armed, disarmed, due_at, instant_of, instant_on, is_later, next_of, without_due_at, IsReset, IsTimed};
+ghost use Rattle.apex_timeouts.specs.Timeline.{armed, disarmed, due_at, empty_line, instant_of, instant_on, is_later, next_of, without_due_at, IsReset, IsTimed};
 
 use apex_links::{LinkSet, ListId, Test};
 use apex_types::ProcessId;
@@ -56,7 +56,7 @@ impl Model for Timeline {
 impl Timeline {
     /// So many processes, none of which is on the line. Fails only for want of memory.
     pub fn new(alloc: Global, processes: u16) -> Result<Timeline, AllocError>
-        ensures { IfOk result (λ line. line ≡ record { order = []; instants = replicate processes 0 }) }
+        ensures { IfOk result (λ line. line ≡ empty_line processes) }
     {
         Ok(Timeline {
             links: LinkSet::new(alloc, processes, 1)?,
@@ -69,6 +69,11 @@ impl Timeline {
         ensures { IsTimed self.now }
     {
         self.links.holds();
+    }
+
+    /// How many nodes the calls, reading ones too, have read or written since the line was made.
+    pub fn visits(&self) -> u64 {
+        self.links.visits()
     }
 
     /// The process, which is not on the line, has this instant from now on.

@@ -8,21 +8,12 @@ use Rattle.apex_types.specs.declared.records.Discipline.TheVariants.{Fifo, Prior
 use Rattle.apex_links.specs.Neighbours.{stands_in}
 use Rattle.apex_links.specs.Links.{Links, list_at, with_list, without, removed, IsFree, IsOnlyIn}
 use Rattle.apex_waitq.specs.WaitQueues.{first_list, is_lower, most_queues, queued, AreCounted}
-use Rattle.apex_links.proofs.Places.{at_map, without_out}
-use Rattle.apex_links.proofs.Walking.{length_placed}
+use Rattle.apex_links.proofs.Places.{at_removed, length_placed, length_without, only_there, without_out}
 
 -- a list is longer by one with one process more
 pub length_queued : (d : Discipline) (ps : List ℕ) (p priority : ℕ) (xs : List ℕ) → length (queued d ps p priority xs) ≡ suc (length xs)
 length_queued Fifo ps p priority xs = omega (arith, length-append xs (p ∷ []))
 length_queued Priority ps p priority xs = length_placed (is_lower ps priority) p xs
-
--- the list without a process that stands in it
-pub length_without : (p : ℕ) (xs : List ℕ) → stands_in p xs ≡ true → suc (length (without p xs)) ≡ length xs
-length_without p [] here = absurd (grind (arith, here))
-length_without p (x ∷ xs) here = elim (cases_eq p x) [
-  | inl e ↦ grind (arith, e)
-  | inr apart ↦ grind (arith, apart, here, length_without p xs)
-]
 
 -- what is read of the counts is the length of the list
 pub count_is : (counts : List ℕ) (links : Links) (l value : ℕ) → AreCounted counts links → length counts ≡ most_queues
@@ -63,11 +54,8 @@ entered_counted counts links l value ys counted long room from to read longer =
 
 -- a process leaves its list
 module _ (counts : List ℕ) (links : Links) (p : ℕ) (counted : AreCounted counts links) where
-  at_removed : (m : ℕ) → list_at (removed links p) m ≡ without p (list_at links m)
-  at_removed m = at_map (without p) refl links.lists m
-
   kept : (m : ℕ) → stands_in p (list_at links m) ≡ false → list_at (removed links p) m ≡ list_at links m
-  kept m out = at_removed m ∙ without_out p (list_at links m) out
+  kept m out = at_removed links p m ∙ without_out p (list_at links m) out
 
   -- it stood in none, or in one that is no queue's
   pub other_counted : ((m : ℕ) → m < most_queues → stands_in p (list_at links (first_list + m)) ≡ false) → AreCounted counts (removed links p)
@@ -79,10 +67,7 @@ module _ (counts : List ℕ) (links : Links) (p : ℕ) (counted : AreCounted cou
   -- it stood in that of a queue
   module _ (l : ℕ) (only : IsOnlyIn links p l) where
     elsewhere : (m : ℕ) → m ≢ l → stands_in p (list_at links m) ≡ false
-    elsewhere m apart = elim (cases_Bool (stands_in p (list_at links m))) [
-      | inl e ↦ absurd (apart (only.alone m e))
-      | inr e ↦ e
-    ]
+    elsewhere m apart = only_there links p l m only apart
 
     pub left_counted : (value : ℕ) → length counts ≡ most_queues → first_list ≤ l → l < first_list + most_queues → value ≡ get_or counts (l - first_list) value
         → AreCounted (set counts (l - first_list) (value - 1)) (removed links p)
@@ -96,7 +81,7 @@ module _ (counts : List ℕ) (links : Links) (p : ℕ) (counted : AreCounted cou
               let shorter = length_without p (list_at links l) only.here in
               let there : first_list + m ≡ l = omega (arith, same, place) in
               subst (λ (k : ℕ). get_or (set counts n (value - 1)) m 0 ≡ length (list_at (removed links p) k)) (sym there)
-              (rw (here, at_removed l) (omega (arith, before, shorter)))
+              (rw (here, at_removed links p l) (omega (arith, before, shorter)))
           | inr apart ↦
               let here = get_or-set_other counts n m (value - 1) 0 apart in
               rw (here, kept (first_list + m) (elsewhere (first_list + m) (λ f. apart (omega (arith, f, place))))) (counted m inside)

@@ -1,10 +1,10 @@
 -- The wait queues: a list for each queue, and how many stand in it.
-use Rattle.std.specs.Prelude.{◌≡◌, ℕ, ◌+◌, ◌<◌, nat_lt, Bool, List, [], ◌∷◌, ◌++◌, length, slice_index_or}
+use Rattle.std.specs.Prelude.{◌≡◌, ℕ, ◌+◌, ◌<◌, nat_lt, Bool, List, [], ◌∷◌, ◌++◌, length, slice_index_or, ⊤}
 use Rattle.apex_types.specs.declared.records.Discipline.{Discipline}
 use Rattle.apex_types.specs.declared.records.Queue.{Queue}
 use Rattle.apex_types.specs.declared.records.Discipline.TheVariants.{Fifo, Priority}
 use Rattle.apex_types.specs.declared.records.Queue.TheVariants as queues
-use Rattle.apex_links.specs.Links.{Links, list_at, with_list}
+use Rattle.apex_links.specs.Links.{Links, list_at, removed, with_list}
 use Rattle.apex_links.specs.Placing.{placed}
 
 -- how many lists of a set come before those of the queues
@@ -23,6 +23,15 @@ queue_place (queues.Buffer b) = 512 + b
 queue_place (queues.Blackboard b) = 768 + b
 queue_place (queues.Event e) = 1024 + e
 queue_place (queues.Mutex m) = 1280 + m
+
+-- the number of the queue's object is below 256
+abbrev pub IsNumbered : Queue → Type 0
+IsNumbered queues.Normal = ⊤
+IsNumbered (queues.Semaphore s) = s < 256
+IsNumbered (queues.Buffer b) = b < 256
+IsNumbered (queues.Blackboard b) = b < 256
+IsNumbered (queues.Event e) = e < 256
+IsNumbered (queues.Mutex m) = m < 256
 
 -- the list of a queue
 abbrev pub wait_list : Queue → ℕ
@@ -47,11 +56,22 @@ abbrev pub queued : Discipline → List ℕ → ℕ → ℕ → List ℕ → Lis
 queued Fifo priorities p priority xs = xs ++ p ∷ []
 queued Priority priorities p priority xs = placed (is_lower priorities priority) p xs
 
+-- process p, of this priority, stands in list l from now on
+abbrev pub queued_in : List ℕ → Links → ℕ → Discipline → ℕ → ℕ → Links
+queued_in priorities links l discipline p priority =
+    with_list links l (queued discipline priorities p priority (list_at links l))
+
 -- process p, of this priority, waits in the queue from now on
 abbrev pub joined : List ℕ → Links → Queue → Discipline → ℕ → ℕ → Links
 joined priorities links queue discipline p priority =
-    with_list links (wait_list queue) (queued discipline priorities p priority (list_at links (wait_list queue)))
+    queued_in priorities links (wait_list queue) discipline p priority
+
+-- process p leaves its list, and waits in the queue with this priority from now on
+abbrev pub requeued : List ℕ → Links → Queue → Discipline → ℕ → ℕ → Links
+requeued priorities links queue discipline p priority =
+    joined priorities (removed links p) queue discipline p priority
 
 -- the counts are those of the lists
 abbrev pub AreCounted : List ℕ → Links → Type 0
-AreCounted counts links = (n : ℕ) → n < most_queues → slice_index_or counts n 0 ≡ length (list_at links (first_list + n))
+AreCounted counts links =
+    (n : ℕ) → n < most_queues → slice_index_or counts n 0 ≡ length (list_at links (first_list + n))

@@ -1,6 +1,6 @@
 //! Which list is which wait queue.
 ghost use Rattle.std.specs.Prelude.{◌≡◌, ◌+◌, ◌<◌};
-ghost use Rattle.apex_waitq.specs.WaitQueues.{first_list, most_queues, queue_place, wait_list};
+ghost use Rattle.apex_waitq.specs.WaitQueues.{first_list, most_queues, queue_place, wait_list, IsNumbered};
 
 use apex_links::ListId;
 use apex_types::Queue;
@@ -9,6 +9,7 @@ use apex_types::Queue;
 pub(crate) fn queue_place(queue: Queue) -> u16
     ensures value { result ≡ queue_place queue }
     ensures known { result < most_queues }
+    ensures numbered { IsNumbered queue }
 {
     match queue {
         Queue::Normal => 0,
@@ -24,6 +25,7 @@ pub(crate) fn queue_place(queue: Queue) -> u16
 pub fn wait_list(queue: Queue) -> ListId
     ensures value { result ≡ wait_list queue }
     ensures known { result < first_list + most_queues }
+    ensures numbered { IsNumbered queue }
 {
     ListId::at(2048 + queue_place(queue))
 }

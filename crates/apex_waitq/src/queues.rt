@@ -1,8 +1,8 @@
 //! Who waits in which queue.
 ghost use Rattle.std.specs.Prelude.{◌≡◌, ◌+◌, ◌<◌, ◌≤◌, ◌^◌, length, replicate, slice_set, IfOk};
 ghost use Rattle.apex_links.specs.Neighbours.{first_of};
-ghost use Rattle.apex_links.specs.Links.{list_at, removed, with_list, IsFree};
-ghost use Rattle.apex_waitq.specs.WaitQueues.{first_list, is_lower, joined, most_queues, queued, wait_list, AreCounted};
+ghost use Rattle.apex_links.specs.Links.{list_at, removed, IsFree};
+ghost use Rattle.apex_waitq.specs.WaitQueues.{first_list, is_lower, joined, most_queues, queued_in, requeued, wait_list, AreCounted, IsNumbered};
 
 use crate::lists::{queue_place, wait_list};
 use apex_links::{LinkSet, ListId, Test};
@@ -77,7 +77,7 @@ impl WaitQueues {
         requires process { process < links.old.processes }
         requires processes { links.old.processes ≤ length self.now.priorities }
         requires free { IsFree links.old process }
-        ensures { links.new ≡ with_list links.old list (queued discipline self.now.priorities process priority (list_at links.old list)) }
+        ensures { links.new ≡ queued_in self.now.priorities links.old list discipline process priority }
     {
         match discipline {
             Discipline::Fifo => links.push_back(list, process),
@@ -110,6 +110,7 @@ impl WaitQueues {
         ensures links { links.new ≡ joined self.old.priorities links.old queue discipline process priority }
         ensures priorities { self.new.priorities ≡ slice_set self.old.priorities process priority }
         ensures counted { AreCounted self.new.counts links.new }
+        ensures numbered { IsNumbered queue }
     {
         links.holds();
         let list = wait_list(queue);
@@ -138,10 +139,34 @@ impl WaitQueues {
         links.remove(process);
     }
 
+    /// The process waits in the queue with this priority from now on, as the newest there: it leaves its
+    /// place, and goes behind all others, or with the discipline PRIORITY before those of a lower priority.
+    pub fn requeue(
+        &mut self,
+        links: &mut LinkSet,
+        queue: Queue,
+        discipline: Discipline,
+        process: ProcessId,
+        priority: u8,
+    )
+        requires lists { first_list + most_queues ≤ length links.old.lists }
+        requires process { process < links.old.processes }
+        requires processes { links.old.processes ≤ length self.old.priorities }
+        requires few { links.old.processes < 2 ^ 16 }
+        requires counted { AreCounted self.old.counts links.old }
+        ensures links { links.new ≡ requeued self.old.priorities links.old queue discipline process priority }
+        ensures priorities { self.new.priorities ≡ slice_set self.old.priorities process priority }
+        ensures counted { AreCounted self.new.counts links.new }
+    {
+        self.leave(links, process);
+        self.join(links, queue, discipline, process, priority);
+    }
+
     /// Who is first in the queue.
     pub fn first(&self, links: &LinkSet, queue: Queue) -> Option<ProcessId>
         requires lists { first_list + most_queues ≤ length links.now.lists }
-        ensures { result ≡ first_of (list_at links.now (wait_list queue)) }
+        ensures value { result ≡ first_of (list_at links.now (wait_list queue)) }
+        ensures numbered { IsNumbered queue }
     {
         let _ = self;
         links.front(wait_list(queue))
@@ -150,7 +175,8 @@ impl WaitQueues {
     /// How many wait in the queue.
     pub fn count(&self, links: &LinkSet, queue: Queue) -> u32
         requires counted { AreCounted self.now.counts links.now }
-        ensures { result ≡ length (list_at links.now (wait_list queue)) }
+        ensures value { result ≡ length (list_at links.now (wait_list queue)) }
+        ensures numbered { IsNumbered queue }
     {
         let _ = links;
         self.counts[usize::from(queue_place(queue))]

@@ -1,14 +1,21 @@
+use Rattle.std.proofs.Common.{Some, refl, arith}
+use Rattle.apex_types.specs.Roster.{record_at}
+use Rattle.apex_types.specs.Stamps as stamps
 use Rattle.apex_process.proofs.Renewals.{renews_inherit}
-use Rattle.apex_process.proofs.Kept.{renewed_by}
-use Rattle.apex_process.proofs.Timers.{retimes_inherit, retimed_by}
+use Rattle.apex_process.proofs.Kept.{renewed_row}
+use Rattle.apex_process.proofs.Timers.{deadline_readied, due_row, retimes_inherit}
+use Rattle.apex_process.proofs.Owning.{disowns_readied, owners_inherited}
 use Rattle.apex_process.proofs.queue_store.QueueStoreStore.inherit.Goals as goal
 
 pub invariant_of-self : goal.invariant_of-self
-invariant_of-self c = (
-  renewed_by c.self.inside.records _ _ c.self.inside.ready _ c.args.process c.self.invariant.0 c.inherit.ensures
-      (renews_inherit c.self.inside.records c.args.process (rw (← c.self.view_is) at c.requires.known) c.self.invariant.0.stamped c.args.holding)
-      c.put_newest.ensures.lists c.put_newest.ensures.place,
-  retimed_by c.self.inside.records _ _ c.self.inside.timers.dues c.self.inside.timers.deadlines _ _ c.args.process c.self.invariant.1 c.inherit.ensures
-      (retimes_inherit c.self.inside.records c.args.process (rw (← c.self.view_is) at c.requires.known) c.args.holding)
-      c.retime.ensures.dues c.retime.ensures.deadlines,
-)
+invariant_of-self c =
+    let was = c.self.inside.records in
+    let known = rw (← c.self.view_is) at c.requires.known in (
+      renewed_row was _ _ c.self.inside.lists _ c.args.process c.read-row-2.result known c.self.invariant.0 c.inherit.ensures
+          (renews_inherit was c.args.process known c.self.invariant.0.stamped c.args.holding) c.read-row-2.ensures c.put_newest.ensures.links c.put_newest.ensures.priorities c.put_newest.ensures.place,
+      due_row was _ _ c.self.inside.timers.dues c.self.inside.timers.deadlines _ _ c.args.process c.read-row-2.result c.self.invariant.1 c.inherit.ensures (retimes_inherit was c.args.process known c.args.holding) c.read-row-2.ensures
+          (deadline_readied was c.args.process known (stamps.awake (record (record_at was c.args.process) { owned = Some c.args.holding })) refl) c.set_due.ensures.dues c.set_due.ensures.deadlines,
+      owners_inherited was _ _ _ _ _ c.args.process c.args.holding c.self.invariant.2 c.inherit.ensures
+          (disowns_readied was c.args.process known (stamps.awake (record (record_at was c.args.process) { owned = Some c.args.holding })))
+          c.leave.ensures.here c.leave.ensures.others c.add.ensures.same c.add.ensures.others (omega (arith, known, c.self.invariant.0.few)),
+    )

@@ -1,24 +1,34 @@
 use Rattle.std.proofs.Common.{sym, ◌∙◌}
+use Rattle.apex_types.specs.Roster.{record_at}
 use Rattle.apex_process.proofs.Renewals.{ages_own, keeps_own}
-use Rattle.apex_process.proofs.Kept.{aged_by, kept_by}
+use Rattle.apex_process.proofs.Kept.{aged_row, kept_by}
 use Rattle.apex_process.proofs.Timers.{timers_own, timers_kept}
+use Rattle.apex_process.proofs.Owning.{disowns_levelled, owners_changed}
 use Rattle.apex_process.proofs.queue_store.QueueStoreStore.own.Goals as goal
 
 pub invariant_of-self : goal.invariant_of-self
 invariant_of-self c =
-    let level = rw c.record.ensures at (sym c.is_level_with-is_level.ensures ∙ c.if-not-is_level.true) in (
-      aged_by c.self.inside.records _ _ c.self.inside.ready _ c.args.process c.self.invariant.0 c.own.ensures
-          (ages_own c.self.inside.records c.args.process c.args.owned (rw (← c.self.view_is) at c.requires.known) c.self.invariant.0.stamped level)
-          c.put_oldest.ensures.lists c.put_oldest.ensures.place,
-      timers_kept c.self.inside.records _ _ c.self.inside.timers.dues c.self.inside.timers.deadlines c.self.invariant.1 c.own.ensures
-          (timers_own c.self.inside.records c.args.process (rw (← c.self.view_is) at c.requires.known) c.args.owned),
+    let was = c.self.inside.records in
+    let known = rw (← c.self.view_is) at c.requires.known in
+    let eligible = rw (← c.self.view_is) at c.requires.eligible in
+    let differs = rw c.read-row.ensures at (sym c.is_level_with.ensures ∙ c.if-not-is_level_with.true) in (
+      aged_row was _ _ c.self.inside.lists _ c.args.process c.read-row-then-not-is_level_with.result c.self.invariant.0 c.own.ensures
+          (ages_own was c.args.process c.args.owned known c.self.invariant.0.stamped eligible differs) c.read-row-then-not-is_level_with.ensures
+          c.put_oldest.ensures.links c.put_oldest.ensures.priorities c.put_oldest.ensures.core c.put_oldest.ensures.priority,
+      timers_kept was _ _ c.self.inside.timers.dues c.self.inside.timers.deadlines c.self.invariant.1 c.own.ensures (timers_own was c.args.process known c.args.owned),
+      owners_changed was _ _ _ _ c.args.process c.args.owned c.self.invariant.2 c.own.ensures
+          (disowns_levelled was c.args.process known (record (record_at was c.args.process) { owned = c.args.owned }))
+          c.change.ensures.here (λ m q _. c.change.ensures.others m q),
     )
 
-pub invariant_of-self-else-not-is_level : goal.invariant_of-self-else-not-is_level
-invariant_of-self-else-not-is_level c =
-    let level = rw c.record.ensures at (sym c.is_level_with-is_level.ensures ∙ c.if-not-is_level.false) in (
-      kept_by c.self.inside.records _ _ c.self.inside.ready c.self.invariant.0 c.own.ensures
-          (keeps_own c.self.inside.records c.args.process c.args.owned (rw (← c.self.view_is) at c.requires.known) c.self.invariant.0.stamped level),
-      timers_kept c.self.inside.records _ _ c.self.inside.timers.dues c.self.inside.timers.deadlines c.self.invariant.1 c.own.ensures
-          (timers_own c.self.inside.records c.args.process (rw (← c.self.view_is) at c.requires.known) c.args.owned),
+pub invariant_of-self-else-not-is_level_with : goal.invariant_of-self-else-not-is_level_with
+invariant_of-self-else-not-is_level_with c =
+    let was = c.self.inside.records in
+    let known = rw (← c.self.view_is) at c.requires.known in
+    let level = rw c.read-row.ensures at (sym c.is_level_with.ensures ∙ c.if-not-is_level_with.false) in (
+      kept_by was _ _ c.self.inside.lists c.self.invariant.0 c.own.ensures (keeps_own was c.args.process c.args.owned known c.self.invariant.0.stamped level),
+      timers_kept was _ _ c.self.inside.timers.dues c.self.inside.timers.deadlines c.self.invariant.1 c.own.ensures (timers_own was c.args.process known c.args.owned),
+      owners_changed was _ _ _ _ c.args.process c.args.owned c.self.invariant.2 c.own.ensures
+          (disowns_levelled was c.args.process known (record (record_at was c.args.process) { owned = c.args.owned }))
+          c.change.ensures.here (λ m q _. c.change.ensures.others m q),
     )

@@ -1,14 +1,16 @@
+use Rattle.apex_process.proofs.Kept.{kept_by}
 use Rattle.std.proofs.Common.{refl}
-use Rattle.apex_process.proofs.Renewals.{renews_set_core}
-use Rattle.apex_process.proofs.Kept.{renewed_by}
+use Rattle.apex_types.specs.Roster.{record_at}
 use Rattle.apex_process.proofs.Timers.{timers_record, timers_kept}
+use Rattle.apex_process.proofs.Owning.{own_record, owners_kept}
+use Rattle.apex_process.proofs.Renewals.{keeps_core}
 use Rattle.apex_process.proofs.queue_store.QueueStoreStore.set_core.Goals as goal
 
 pub invariant_of-self : goal.invariant_of-self
-invariant_of-self c = (
-  renewed_by c.self.inside.records _ _ c.self.inside.ready _ c.args.process c.self.invariant.0 c.set_core.ensures
-      (renews_set_core c.self.inside.records c.args.process (rw (← c.self.view_is) at c.requires.known) c.self.invariant.0.stamped c.args.core (rw (← c.self.view_is) at c.requires.out))
-      c.put_newest.ensures.lists c.put_newest.ensures.place,
-  timers_kept c.self.inside.records _ _ c.self.inside.timers.dues c.self.inside.timers.deadlines c.self.invariant.1 c.set_core.ensures
-      (timers_record c.self.inside.records c.args.process (rw (← c.self.view_is) at c.requires.known) _ refl refl),
-)
+invariant_of-self c =
+    let was = c.self.inside.records in
+    let known = rw (← c.self.view_is) at c.requires.known in (
+      kept_by was _ _ c.self.inside.lists c.self.invariant.0 c.set_core.ensures (keeps_core was c.args.process known c.self.invariant.0.stamped c.args.core (rw (← c.self.view_is) at c.requires.out)),
+      timers_kept was _ _ c.self.inside.timers.dues c.self.inside.timers.deadlines c.self.invariant.1 c.set_core.ensures (timers_record was c.args.process known (record (record_at was c.args.process) { core = c.args.core }) refl refl),
+      owners_kept was _ _ _ c.self.invariant.2 c.set_core.ensures (own_record was c.args.process known (record (record_at was c.args.process) { core = c.args.core }) refl),
+    )

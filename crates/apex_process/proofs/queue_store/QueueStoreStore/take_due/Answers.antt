@@ -1,17 +1,59 @@
-use Rattle.std.proofs.Common.{◌≡◌, ◌<◌, length, Some, ap, sym, ◌∙◌}
+use Rattle.std.proofs.Common.{◌≡◌, ◌<◌, length, None, Some, refl, sym, ◌∙◌}
 use Rattle.apex_types.specs.Dues.{first_due}
-use Rattle.apex_types.specs.Stamps.{without_due_of}
+use Rattle.apex_types.specs.Roster.{record_at}
 use Rattle.apex_types.proofs.Dues.{first_due_within}
-use Rattle.apex_process.proofs.Renewals.{keeps_take_due}
+use Rattle.apex_process.proofs.Renewals.{keeps_due}
 use Rattle.apex_process.proofs.Kept.{kept_by}
 use Rattle.apex_process.proofs.Timers.{due_taken_by}
+use Rattle.apex_process.proofs.Firsts.{due_is, none_taken, taken_reset}
+use Rattle.apex_process.proofs.Owning.{own_record, owners_kept}
 use Rattle.apex_process.proofs.queue_store.QueueStoreStore.take_due.Goals as goal
+
+pub returns-in_err-process-clause-value : goal.returns-in_err-process-clause-value
+returns-in_err-process-clause-value c =
+    let found = due_is c.self.inside.records c.self.inside.timers.dues c.self.inside.timers.deadlines c.self.invariant.1 c.holds.ensures.dues in
+    rw (← c.self.view_is) (c.from_residual.ensures ∙ sym c.in_err-process.was ∙ rw c.now.ensures at c.pop_due_at.ensures.value ∙ found)
+
+pub returns-in_err-process-clause-taken : goal.returns-in_err-process-clause-taken
+returns-in_err-process-clause-taken c =
+    let found = due_is c.self.inside.records c.self.inside.timers.dues c.self.inside.timers.deadlines c.self.invariant.1 c.holds.ensures.dues in
+    let nobody : first_due c.self.inside.records ≡ None = sym found ∙ sym (rw c.now.ensures at c.pop_due_at.ensures.value) ∙ c.in_err-process.was in
+    rw (← c.self.view_is, nobody) refl
+
+pub invariant_of-self : goal.invariant_of-self
+invariant_of-self c =
+    let none = sym c.pop_due_at.ensures.value ∙ c.in_err-process.was in
+    let stays = none_taken c.self.inside.timers.dues _ c.now.result none c.pop_due_at.ensures.dues in
+    (c.self.invariant.0, rw (stays, c.pop_due_at.ensures.deadlines) c.self.invariant.1, c.self.invariant.2)
 
 pub invariant_of-self-2 : goal.invariant_of-self-2
 invariant_of-self-2 c =
-    let is : first_due c.self.inside.records ≡ Some c.in_ok-process.process = sym c.take_due.ensures.value ∙ c.in_ok-process.was in
-    let known : c.in_ok-process.process < length c.self.inside.records.records = first_due_within c.self.inside.records c.in_ok-process.process is in (
-      kept_by c.self.inside.records _ _ c.self.inside.ready c.self.invariant.0 c.take_due.ensures.taken (keeps_take_due c.self.inside.records c.self.invariant.0.stamped),
-      due_taken_by c.self.inside.records _ c.self.inside.timers.dues c.self.inside.timers.deadlines _ c.in_ok-process.process known c.self.invariant.1
-          (c.take_due.ensures.taken ∙ ap (without_due_of c.self.inside.records) is) c.set.ensures,
+    let was = c.self.inside.records in
+    let p = c.in_ok-process.process in
+    let found = due_is was c.self.inside.timers.dues c.self.inside.timers.deadlines c.self.invariant.1 c.holds.ensures.dues in
+    let popped = rw c.now.ensures at c.pop_due_at.ensures.value in
+    let is : first_due was ≡ Some p = sym found ∙ sym popped ∙ c.in_ok-process.was in
+    let known : p < length was.records = first_due_within was p is in
+    let reset = taken_reset c.self.inside.timers.dues _ p c.now.result c.holds.ensures.dues (rw c.in_ok-process.was at c.pop_due_at.ensures.known)
+    (sym c.pop_due_at.ensures.value ∙ c.in_ok-process.was) c.pop_due_at.ensures.dues in (
+      kept_by was _ _ c.self.inside.lists c.self.invariant.0 c.clear_due.ensures (keeps_due was p known c.self.invariant.0.stamped),
+      due_taken_by was _ c.self.inside.timers.dues c.self.inside.timers.deadlines _ _ p known c.self.invariant.1 c.clear_due.ensures reset c.pop_due_at.ensures.deadlines,
+      owners_kept was _ _ _ c.self.invariant.2 c.clear_due.ensures (own_record was p known (record (record_at was p) { due = None }) refl),
     )
+
+pub returns-clause-value : goal.returns-clause-value
+returns-clause-value c =
+    let found = due_is c.self.inside.records c.self.inside.timers.dues c.self.inside.timers.deadlines c.self.invariant.1 c.holds.ensures.dues in
+    rw (← c.self.view_is) (sym c.in_ok-process.was ∙ rw c.now.ensures at c.pop_due_at.ensures.value ∙ found)
+
+pub returns-clause-taken : goal.returns-clause-taken
+returns-clause-taken c =
+    let found = due_is c.self.inside.records c.self.inside.timers.dues c.self.inside.timers.deadlines c.self.invariant.1 c.holds.ensures.dues in
+    let is : first_due c.self.inside.records ≡ Some c.in_ok-process.process = sym found ∙ sym (rw c.now.ensures at c.pop_due_at.ensures.value) ∙ c.in_ok-process.was in
+    rw (← c.self.view_is, is) c.clear_due.ensures
+
+pub returns-clause-known : goal.returns-clause-known
+returns-clause-known c =
+    let found = due_is c.self.inside.records c.self.inside.timers.dues c.self.inside.timers.deadlines c.self.invariant.1 c.holds.ensures.dues in
+    let is : first_due c.self.inside.records ≡ Some c.in_ok-process.process = sym found ∙ sym (rw c.now.ensures at c.pop_due_at.ensures.value) ∙ c.in_ok-process.was in
+    rw (← c.self.view_is) (first_due_within c.self.inside.records c.in_ok-process.process is)

@@ -1,14 +1,19 @@
+use Rattle.std.proofs.Common.{refl}
+use Rattle.apex_types.specs.Roster.{record_at}
+use Rattle.apex_types.specs.Stamps as stamps
 use Rattle.apex_process.proofs.Renewals.{renews_unblock}
-use Rattle.apex_process.proofs.Kept.{renewed_by}
-use Rattle.apex_process.proofs.Timers.{retimes_unblock, retimed_by}
+use Rattle.apex_process.proofs.Kept.{renewed_row}
+use Rattle.apex_process.proofs.Timers.{deadline_readied, due_row, retimes_unblock}
+use Rattle.apex_process.proofs.Owning.{own_readied, owners_kept}
 use Rattle.apex_process.proofs.queue_store.QueueStoreStore.unblock.Goals as goal
 
 pub invariant_of-self : goal.invariant_of-self
-invariant_of-self c = (
-  renewed_by c.self.inside.records _ _ c.self.inside.ready _ c.args.process c.self.invariant.0 c.unblock.ensures
-      (renews_unblock c.self.inside.records c.args.process (rw (← c.self.view_is) at c.requires.known) c.self.invariant.0.stamped)
-      c.put_newest.ensures.lists c.put_newest.ensures.place,
-  retimed_by c.self.inside.records _ _ c.self.inside.timers.dues c.self.inside.timers.deadlines _ _ c.args.process c.self.invariant.1 c.unblock.ensures
-      (retimes_unblock c.self.inside.records c.args.process (rw (← c.self.view_is) at c.requires.known))
-      c.retime.ensures.dues c.retime.ensures.deadlines,
-)
+invariant_of-self c =
+    let was = c.self.inside.records in
+    let known = rw (← c.self.view_is) at c.requires.known in (
+      renewed_row was _ _ c.self.inside.lists _ c.args.process c.read-woken.result known c.self.invariant.0 c.unblock.ensures
+          (renews_unblock was c.args.process known c.self.invariant.0.stamped) c.read-woken.ensures c.put_newest.ensures.links c.put_newest.ensures.priorities c.put_newest.ensures.place,
+      due_row was _ _ c.self.inside.timers.dues c.self.inside.timers.deadlines _ _ c.args.process c.read-woken.result c.self.invariant.1 c.unblock.ensures (retimes_unblock was c.args.process known) c.read-woken.ensures
+          (deadline_readied was c.args.process known (stamps.awake (record_at was c.args.process)) refl) c.set_due.ensures.dues c.set_due.ensures.deadlines,
+      owners_kept was _ _ _ c.self.invariant.2 c.unblock.ensures (own_readied was c.args.process known (stamps.awake (record_at was c.args.process)) refl),
+    )

@@ -1,0 +1,216 @@
+-- The ready lists are empty where nobody is eligible: at the opening, and in a mode other than NORMAL.
+use Rattle.std.proofs.Common.{◌≡◌, ◌≢◌, ℕ, zero, suc, ◌+◌, ◌<◌, ◌≤◌, Bool, true, false, List, [], ◌∷◌, length, get_or, replicate, Option, None, Some, inl, inr, refl, ap, sym, ◌∙◌, arith}
+use Rattle.std.specs.Prelude.{nat_lt}
+use Rattle.std.proofs.lemmas.Bool.{cases_Bool, cases_eq, cases_lt, false≢true, ltb-true, ltb-false}
+use Rattle.std.proofs.lemmas.List.{length-replicate}
+use Rattle.std.proofs.lemmas.Option.{none-some}
+use Rattle.apex_types.specs.Limits.{most_processes}
+use Rattle.apex_types.specs.Places.{map_places}
+use Rattle.apex_types.specs.Table.{ProcessConfig, Table}
+use Rattle.apex_types.specs.declared.Mode.{Mode}
+use Rattle.apex_types.specs.declared.records.Queue.{Queue}
+use Rattle.apex_types.specs.declared.Record.{Record}
+use Rattle.apex_types.specs.Owners.{is_held}
+use Rattle.apex_types.specs.Roster.{Roster, nobody, opening_record, opening_roster, record_at, is_normal}
+use Rattle.apex_types.specs.Running.{current_priority, is_eligible}
+use Rattle.apex_types.specs.Stamps as stamps
+use Rattle.apex_types.specs.Waiters.{goes_by_priority, queue_in}
+use Rattle.apex_types.proofs.DistinctStamps.{stamped_opening, stamped_set_mode}
+use Rattle.apex_types.proofs.Places.{length-map_places}
+use Rattle.apex_links.specs.Neighbours.{stands_in}
+use Rattle.apex_links.specs.Links.{Links, list_at, removed, IsFree, IsOnlyIn, IsSound, with_list}
+use Rattle.apex_links.specs.Sorted.{IsSorted}
+use Rattle.apex_links.proofs.Places.{as_many_removed, at_removed, at_with_other, only_there, same_all, stood_before, without_out}
+use Rattle.apex_links.proofs.Sorted.{sorted_same}
+use Rattle.apex_ready.specs.ReadyOrders.{is_marked, ready_list, ready_lists, AreMarked}
+use Rattle.apex_waitq.specs.WaitQueues.{first_list, most_queues, AreCounted, IsNumbered}
+use Rattle.apex_process.specs.Lists.{goes_before, is_list, list_of, queue_list}
+use Rattle.apex_process.specs.Owners.{is_owner, AreOwners}
+use Rattle.apex_process.specs.Queued.{all_lists, AreEmptied, AreKept, IsQueued, IsUnreadied, Standings, StandsReady}
+use Rattle.apex_process.proofs.Kept.{goes_same, order_same, place_none}
+use Rattle.apex_process.proofs.Places.{in_no_ready, listed_ready, listed_waiting, no_queue}
+use Rattle.apex_process.proofs.Renewals.{listed_none}
+
+-- marks and counts stay those of the lists as another list changes
+module _ (marks counts : List ℕ) (links : Links) (p : ℕ) where
+  pub removed_marked : AreMarked marks links → ((l : ℕ) → l < ready_lists → stands_in p (list_at links l) ≡ false) → AreMarked marks (removed links p)
+  removed_marked marked out l low = rw (at_removed links p l, without_out p (list_at links l) (out l low)) (marked l low)
+
+  pub removed_counted : AreCounted counts links → ((n : ℕ) → n < most_queues → stands_in p (list_at links (first_list + n)) ≡ false) → AreCounted counts (removed links p)
+  removed_counted counted out n low = rw (at_removed links p (first_list + n), without_out p (list_at links (first_list + n)) (out n low)) (counted n low)
+
+  pub with_marked : (l : ℕ) (xs : List ℕ) → ready_lists ≤ l → AreMarked marks links → AreMarked marks (with_list links l xs)
+  with_marked l xs above marked m low = rw (at_with_other links l m xs (λ e. omega (arith, e, above, low))) (marked m low)
+
+  pub with_counted : (l : ℕ) (xs : List ℕ) → l < first_list → AreCounted counts links → AreCounted counts (with_list links l xs)
+  with_counted l xs below counted n low = rw (at_with_other links l (first_list + n) xs (λ e. omega (arith, e, below))) (counted n low)
+
+-- lists in which nobody stands, and marks and counts of none
+pub opened_kept : (links : Links) (marks counts priorities : List ℕ) (processes : ℕ) → links ≡ record { processes = processes; lists = replicate all_lists [] }
+    → ((l : ℕ) → is_marked marks l ≡ false) → counts ≡ replicate most_queues 0 → priorities ≡ replicate processes 0 → processes ≤ most_processes
+    → AreKept (record { links = links; marks = marks; counts = counts; priorities = priorities })
+opened_kept links marks counts priorities processes is unmarked none zeros few = record {
+  marked = λ l _. rw (is, unmarked l, same_all {A = List ℕ} [] all_lists l) refl;
+  counted = λ n _. rw (is, none, same_all {A = List ℕ} [] all_lists (first_list + n), same_all {A = ℕ} 0 most_queues n) refl;
+  room = rw is (length-replicate {A = List ℕ} all_lists []);
+  noted = rw (is, zeros) (length-replicate {A = ℕ} processes 0);
+  few = rw is few;
+}
+
+-- a list in which nobody stands is empty
+no_member : (ps : List ℕ) → ((p : ℕ) → stands_in p ps ≡ false) → ps ≡ []
+no_member [] out = refl
+no_member (x ∷ xs) out = absurd (grind (arith, out x))
+
+-- who stands in no list is out of the ready lists, and so is who stands in another one
+pub unreadied_not : (links : Links) (p : ℕ) → ((l : ℕ) → l < ready_lists → stands_in p (list_at links l) ≡ false) → IsUnreadied links links p
+unreadied_not links p out = record { gone = out; stood = λ q l stands. stands; queues = λ l _. refl; processes = refl; many = refl }
+
+-- the loop that takes all out of the ready lists
+pub record AreOut (old links : Links) (place : ℕ) : Type 0 where
+  pub gone : (p l : ℕ) → p < place → l < ready_lists → stands_in p (list_at links l) ≡ false
+  pub queues : (l : ℕ) → ready_lists ≤ l → list_at links l ≡ list_at old l
+  pub processes : links.processes ≡ old.processes
+  pub many : length links.lists ≡ length old.lists
+
+pub none_out : (links : Links) → AreOut links links 0
+none_out links = record { gone = λ p l below. absurd (omega (arith, below)); queues = λ l _. refl; processes = refl; many = refl }
+
+pub one_out : (old links new : Links) (place p : ℕ) → AreOut old links place → IsUnreadied links new p → p ≡ place → AreOut old new (place + 1)
+one_out old links new place p are one same = record {
+  gone = λ q l below low. elim (cases_eq q p) as (λ _. stands_in q (list_at new l) ≡ false) [
+    | inl e ↦ rw e (one.gone l low)
+    | inr apart ↦ elim (cases_Bool (stands_in q (list_at new l))) as (λ _. stands_in q (list_at new l) ≡ false) [
+      | inl stands ↦ absurd (false≢true (sym (are.gone q l (omega (arith, below, apart, same)) low) ∙ one.stood q l stands))
+      | inr out ↦ out
+    ]
+  ];
+  queues = λ l above. one.queues l above ∙ are.queues l above;
+  processes = one.processes ∙ are.processes;
+  many = one.many ∙ are.many;
+}
+
+pub all_out : (old links : Links) (place : ℕ) → AreOut old links place → links.processes ≤ place → IsSound links → AreEmptied old links
+all_out old links place are whole sound = record {
+  ready = λ l low. no_member (list_at links l) (λ p. elim (cases_Bool (stands_in p (list_at links l))) as (λ _. stands_in p (list_at links l) ≡ false) [
+    | inl stands ↦ are.gone p l (omega (arith, sound.known l p stands, whole)) low
+    | inr out ↦ out
+  ]);
+  queues = are.queues;
+  processes = are.processes;
+  many = are.many;
+}
+
+-- in a mode other than NORMAL nobody is ready, and who waits waits on
+pub cleared : (old : Roster) (s t : Standings) (mode : Mode) → IsQueued old s → is_normal mode ≡ false → AreEmptied s.links t.links → t.priorities ≡ s.priorities → IsQueued (stamps.set_mode old mode) t
+cleared old s t mode was other emptied priorities = record {
+  lists = record {
+    members = λ p l. elim (cases_lt l ready_lists) as (λ _. stands_in p (list_at t.links l) ≡ is_list l (list_of (stamps.set_mode old mode) p)) [
+      | inl low ↦ rw (emptied.ready l low, waits_alone p) (sym (in_no_ready (queue_in (record_at old p)) l low))
+      | inr above ↦ rw (emptied.queues l above, waits_alone p) (was.lists.members p l ∙ as_before p l above)
+    ];
+    sorted = λ l. elim (cases_lt l ready_lists) as (λ _. IsSorted (goes_before (stamps.set_mode old mode)) (list_at t.links l)) [
+      | inl low ↦ rw (emptied.ready l low) tt
+      | inr above ↦ rw (emptied.queues l above) (sorted_same (goes_before old) (goes_before (stamps.set_mode old mode)) (list_at s.links l)
+          (λ p q _ _. order_same old (stamps.set_mode old mode) p q refl refl refl) (was.lists.sorted l))
+    ];
+  };
+  places = λ p. record {
+    core = λ e. absurd (false≢true (sym (nobody_ready p) ∙ e));
+    priority = λ e. absurd (false≢true (sym (nobody_ready p) ∙ e));
+    queue = λ _ queue is. numbered p queue is;
+  };
+  noted = λ p goes. rw priorities (was.noted p (goes_as p (queue_in (record_at old p)) goes));
+  stamped = stamped_set_mode old was.stamped mode;
+  known = emptied.processes ∙ was.known;
+  room = emptied.many ∙ was.room;
+  rows = rw priorities was.rows;
+  few = was.few;
+} where
+  nobody_ready : (p : ℕ) → is_eligible mode (record_at old p) ≡ false
+  nobody_ready p = rw other refl
+
+  waits_alone : (p : ℕ) → list_of (stamps.set_mode old mode) p ≡ queue_list (queue_in (record_at old p))
+  waits_alone p = listed_waiting mode (record_at old p) (nobody_ready p)
+
+  as_before : (p l : ℕ) → ready_lists ≤ l → is_list l (list_of old p) ≡ is_list l (queue_list (queue_in (record_at old p)))
+  as_before p l above = elim (cases_Bool (is_eligible old.mode (record_at old p))) [
+    | inl e ↦ rw (listed_ready old.mode (record_at old p) e, no_queue old.mode (record_at old p) e)
+        (let place = was.places p in let apart : l ≢ ready_list (record_at old p).core (current_priority (record_at old p)) = λ f. omega (arith, f, above, place.core e, place.priority e) in grind (arith, apart))
+    | inr e ↦ rw (listed_waiting old.mode (record_at old p) e) refl
+  ]
+
+  numbered : (p : ℕ) (queue : Queue) → queue_in (record_at old p) ≡ Some queue → IsNumbered queue
+  numbered p queue is = elim (cases_Bool (is_eligible old.mode (record_at old p))) [
+    | inl e ↦ absurd (none-some queue (sym (no_queue old.mode (record_at old p) e) ∙ is))
+    | inr e ↦ (was.places p).queue e queue is
+  ]
+
+  goes_as : (p : ℕ) (o : Option Queue) → goes_by_priority (stamps.set_mode old mode) o ≡ true → goes_by_priority old o ≡ true
+  goes_as p o goes = sym (goes_same old (stamps.set_mode old mode) refl o) ∙ goes
+
+-- before any event nobody waits, is eligible, or owns anything
+opening_field : {A : Type 0} (f : Record → A) (a : A) → ((q : ℕ) (e : ProcessConfig) → f (opening_record q e) ≡ a) → f nobody ≡ a
+    → (entries : List ProcessConfig) (q p : ℕ) → f (get_or (map_places opening_record q entries) p nobody) ≡ a
+opening_field f a each none [] q p = none
+opening_field f a each none (e ∷ entries) q zero = each q e
+opening_field f a each none (e ∷ entries) q (suc p) = opening_field f a each none entries (q + 1) p
+
+module _ (table : Table) where
+  opening_none : (p : ℕ) → list_of (opening_roster table) p ≡ None
+  opening_none p = listed_none (opening_roster table).mode (record_at (opening_roster table) p) refl
+      (opening_field (λ (r : Record). r.wait) None (λ q e. refl) refl table.processes 0 p)
+
+  pub opens : (s : Standings) (processes : ℕ) → processes ≡ length table.processes → processes ≤ most_processes
+      → s.links ≡ record { processes = processes; lists = replicate all_lists [] } → length s.priorities ≡ processes → IsQueued (opening_roster table) s
+  opens s processes many few links rows = record {
+    lists = record {
+      members = λ p l. rw (links, same_all {A = List ℕ} [] all_lists l, opening_none p) refl;
+      sorted = λ l. rw (links, same_all {A = List ℕ} [] all_lists l) tt;
+    };
+    places = λ p. place_none (opening_roster table).mode (record_at (opening_roster table) p) (opening_none p);
+    noted = λ p goes. absurd (false≢true (rw (opening_field (λ (r : Record). r.wait) None (λ q e. refl) refl table.processes 0 p) at goes));
+    stamped = stamped_opening table;
+    known = rw links (many ∙ sym count);
+    room = rw links (length-replicate {A = List ℕ} all_lists []);
+    rows = rows ∙ many ∙ sym count;
+    few = rw (count, ← many) few;
+  } where
+    count : length (opening_roster table).records ≡ length table.processes
+    count = length-map_places opening_record 0 table.processes
+
+  pub opens_owners : (words : List ℕ) → ((m p : ℕ) → is_owner words m p ≡ false) → AreOwners (opening_roster table) words
+  opens_owners words none m p known low = none m p ∙ sym (ap (is_held m) (opening_field (λ (r : Record). r.owned) None (λ q e. refl) refl table.processes 0 p))
+
+pub cleared_by : (old new : Roster) (s t : Standings) (mode : Mode) → IsQueued old s → new ≡ stamps.set_mode old mode → is_normal mode ≡ false
+    → AreEmptied s.links t.links → t.priorities ≡ s.priorities → IsQueued new t
+cleared_by old new s t mode was is other emptied priorities = rw is (cleared old s t mode was other emptied priorities)
+
+pub opens_by : (table : Table) (roster : Roster) (s : Standings) (processes : ℕ) → roster ≡ opening_roster table → processes ≡ length table.processes → processes ≤ most_processes
+    → s.links ≡ record { processes = processes; lists = replicate all_lists [] } → length s.priorities ≡ processes → IsQueued roster s
+opens_by table roster s processes is many few links rows = rw is (opens table s processes many few links rows)
+
+pub opens_owners_by : (table : Table) (roster : Roster) (words : List ℕ) → roster ≡ opening_roster table → ((m p : ℕ) → is_owner words m p ≡ false) → AreOwners roster words
+opens_owners_by table roster words is none = rw is (opens_owners table words none)
+
+-- who stands in a ready list
+pub ready_in : (links : Links) (p l : ℕ) (is : Bool) → IsOnlyIn links p l → is ≡ nat_lt l ready_lists → StandsReady links p is
+ready_in links p l is only e = record {
+  ready = λ yes m above. only_there links p l m only (λ f. omega (arith, f, above, ltb-true l ready_lists (sym e ∙ yes)));
+  other = λ no m low. only_there links p l m only (λ f. omega (arith, f, low, ltb-false l ready_lists (sym e ∙ no)));
+}
+
+pub ready_nowhere : (links : Links) (p : ℕ) → IsFree links p → StandsReady links p false
+ready_nowhere links p free = record { ready = λ yes. absurd (false≢true yes); other = λ _ m _. free m }
+
+pub unreadied : (links new : Links) (p : ℕ) → StandsReady links p true → new ≡ removed links p → IsFree new p → IsUnreadied links new p
+unreadied links new p stands left free = record {
+  gone = λ m _. free m;
+  stood = λ q m here. stood_before p q (list_at links m) (rw (left, at_removed links p m) at here);
+  queues = λ m above. rw (left, at_removed links p m) (without_out p (list_at links m) (stands.ready refl m above));
+  processes = rw left refl;
+  many = rw left (as_many_removed links p);
+}
+
+pub unreadied_out : (links : Links) (p : ℕ) → StandsReady links p false → IsUnreadied links links p
+unreadied_out links p stands = unreadied_not links p (stands.other refl)

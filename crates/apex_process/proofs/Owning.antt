@@ -1,0 +1,208 @@
+-- Who owns each mutex: the bits of the words, and how they follow the records.
+use Rattle.std.proofs.Common.{◌≡◌, ◌≢◌, ℕ, zero, suc, ◌+◌, ◌-◌, ◌*◌, ◌/◌, ◌%◌, ◌^◌, ◌<◌, ◌≤◌, true, false, List, length, get_or, set, replicate, Option, None, Some, IfSome, inl, inr, refl, ap, sym, ◌∙◌, arith}
+use Rattle.std.specs.Prelude.{◌==◌, if◌then◌else◌, bit_and, bit_or}
+use Rattle.std.specs.Int.{bit_at, bit_not, w64}
+use Rattle.std.specs.Option.{MatchOption}
+use lib.Count.{count_leading_zeros}
+use Rattle.std.proofs.lemmas.Bool.{cases_eq, cases_lt, cond_both, false≢true, le-ltb, lt-ltb}
+use Rattle.std.proofs.lemmas.List.{get_or_default, get_or_past, get_or-set_other, get_or-set_same, length-set}
+use Rattle.std.proofs.lemmas.List.Sums.{position_or_len_is}
+use Rattle.std.proofs.lemmas.Nat.{leading_top}
+use Rattle.std.proofs.Math.Nat.{div-eq_of_lt-le, pow-suc}
+use Rattle.std.proofs.lemmas.Nat.Bits.{bit_at-zero, bit_at_above, bit_at_set_same, bit_at_set_other, bit_at_clear_same, bit_at_clear_other}
+use Rattle.apex_types.specs.Limits.{most_processes}
+use Rattle.apex_types.specs.declared.Holding.{Holding}
+use Rattle.apex_types.specs.declared.Record.{Record}
+use Rattle.apex_types.specs.declared.records.Wait.TheVariants.{Normal, Start}
+use Rattle.apex_types.specs.Owners.{is_held, owner, owns}
+use Rattle.apex_types.specs.Roster.{Roster, nobody, record_at, with_record, is_normal}
+use Rattle.apex_types.specs.Running.{is_eligible}
+use Rattle.apex_types.specs.Stamps as stamps
+use Rattle.apex_types.proofs.Rosters.{changes_record, changes_newest, changes_oldest, at_record, at_newest}
+use Rattle.apex_process.specs.Owners.{is_among, is_owner, most_mutexes, most_owners, AreOwners, IsFirstAmong, IsFirstOwner, IsUnowned}
+
+-- a bit of a word is set, or cleared
+among_set : (word p q : ℕ) → p < most_owners → q < most_owners → is_among (bit_or word (1 * 2 ^ (63 - p) % 2 ^ 64)) q ≡ (if q == p then true else is_among word q)
+among_set word p q low low' = elim (cases_eq q p) as (λ _. is_among (bit_or word (1 * 2 ^ (63 - p) % 2 ^ 64)) q ≡ (if q == p then true else is_among word q)) [
+  | inl e ↦
+      let here : (q == p) ≡ true = grind (arith, e) in
+      let set : bit_at (bit_or word (1 * 2 ^ (63 - p) % 2 ^ 64)) (63 - p) ≡ 1 = bit_at_set_same w64 word (63 - p) (omega arith) in
+      rw (here, e, set) refl
+  | inr apart ↦
+      let other : (q == p) ≡ false = grind (arith, apart) in
+      rw (other, bit_at_set_other w64 word (63 - p) (omega arith) (63 - q) (λ e. apart (omega (arith, e, low, low')))) refl
+]
+
+among_clear : (word p q : ℕ) → p < most_owners → q < most_owners → is_among (bit_and word (bit_not w64 (1 * 2 ^ (63 - p) % 2 ^ 64))) q ≡ (if q == p then false else is_among word q)
+among_clear word p q low low' = elim (cases_eq q p) as (λ _. is_among (bit_and word (bit_not w64 (1 * 2 ^ (63 - p) % 2 ^ 64))) q ≡ (if q == p then false else is_among word q)) [
+  | inl e ↦
+      let here : (q == p) ≡ true = grind (arith, e) in
+      let clear : bit_at (bit_and word (bit_not w64 (1 * 2 ^ (63 - p) % 2 ^ 64))) (63 - p) ≡ 0 = bit_at_clear_same w64 word (63 - p) (omega arith) in
+      rw (here, e, clear) refl
+  | inr apart ↦
+      let other : (q == p) ≡ false = grind (arith, apart) in
+      rw (other, bit_at_clear_other w64 word (63 - p) (omega arith) (63 - q) (omega arith) (λ e. apart (omega (arith, e, low, low')))) refl
+]
+
+module _ (words : List ℕ) (m p : ℕ) (known : m < length words) (low : p < most_owners) where
+  module _ (value : ℕ) (read : value ≡ get_or words m value) where
+    is_value : get_or words m 0 ≡ value
+    is_value = sym (read ∙ get_or_default words m value 0 known)
+
+    pub added : (q : ℕ) → q < most_owners → is_owner (set words m (bit_or value (1 * 2 ^ (63 - p) % 2 ^ 64))) m q ≡ (if q == p then true else is_owner words m q)
+    added q low' = rw (get_or-set_same words m (bit_or value (1 * 2 ^ (63 - p) % 2 ^ 64)) 0 known, is_value) (among_set value p q low low')
+
+    pub removed_from : (q : ℕ) → q < most_owners → is_owner (set words m (bit_and value (bit_not w64 (1 * 2 ^ (63 - p) % 2 ^ 64)))) m q ≡ (if q == p then false else is_owner words m q)
+    removed_from q low' = rw (get_or-set_same words m (bit_and value (bit_not w64 (1 * 2 ^ (63 - p) % 2 ^ 64))) 0 known, is_value) (among_clear value p q low low')
+
+pub other_mutex : (words : List ℕ) (m n word p : ℕ) → n ≢ m → is_owner (set words m word) n p ≡ is_owner words n p
+other_mutex words m n word p apart = rw (get_or-set_other words m n word 0 apart) refl
+
+pub none_owned : (many m p : ℕ) → is_owner (replicate {A = ℕ} many 0) m p ≡ false
+none_owned many m p = rw (zeros many m, bit_at-zero (63 - p)) refl where
+  zeros : (many i : ℕ) → get_or (replicate {A = ℕ} many 0) i 0 ≡ 0
+  zeros zero i = refl
+  zeros (suc many) zero = refl
+  zeros (suc many) (suc i) = zeros many i
+
+-- the first owner is where the zeros of the word end
+top_bit : (word j : ℕ) → 2 ^ j ≤ word → word < 2 ^ suc j → bit_at word j ≡ 1
+top_bit word j least most =
+    let e : word / 2 ^ j ≡ 1 = div-eq_of_lt-le (2 ^ j) (omega (arith, least)) (omega (arith, most, pow-suc 2 j)) in
+    rw e refl
+
+pub first_among : (word : ℕ) → 0 < word → word < 2 ^ 64 → IsFirstAmong word (count_leading_zeros 64 word)
+first_among word some fits =
+    let top = leading_top 64 word some fits in
+    let place : 63 - count_leading_zeros 64 word ≡ top.0 = omega (arith, top.1) in
+    record {
+      known = omega (arith, top.1);
+      set = rw (place, top_bit word top.0 top.2 top.3) refl;
+      first = λ q below. rw (bit_at_above word (suc top.0) (63 - q) top.3 (omega (arith, below, top.1))) refl;
+    }
+
+pub read_word : (words : List ℕ) (m value : ℕ) → m < length words → value ≡ get_or words m value → get_or words m 0 ≡ value
+read_word words m value known read = sym (read ∙ get_or_default words m value 0 known)
+
+pub none_among : (words : List ℕ) (m : ℕ) → get_or words m 0 ≡ 0 → IsUnowned words m
+none_among words m none p low = rw (none, bit_at-zero (63 - p)) refl
+
+-- the owner of a mutex
+module _ (roster : Roster) (words : List ℕ) (are : AreOwners roster words) (few : length roster.records ≤ most_processes) (m : ℕ) (known : m < most_mutexes) where
+  owning_known : (p : ℕ) → owns m (record_at roster p) ≡ true → p < length roster.records
+  owning_known p e = elim (cases_lt p (length roster.records)) [
+    | inl within ↦ within
+    | inr past ↦ absurd (false≢true (rw (get_or_past roster.records p nobody past) at e))
+  ]
+
+  pub owner_is : (found : Option ℕ) → MatchOption found (IsUnowned words m) (λ p. IsFirstOwner words m p) → found ≡ owner roster m
+  owner_is None none =
+      let fails : (q : ℕ) → q < length roster.records → owns m (get_or roster.records q nobody) ≡ false = λ q within. sym (are m q known (omega (arith, within, few))) ∙ none q (omega (arith, within, few)) in
+      let at = position_or_len_is (owns m) roster.records (length roster.records) nobody (omega arith) fails (λ beyond. absurd (omega (arith, beyond))) in
+      sym (rw (at, le-ltb (length roster.records) (length roster.records) (omega arith)) refl)
+  owner_is (Some p) first =
+      let here : owns m (record_at roster p) ≡ true = sym (are m p known first.known) ∙ first.set in
+      let within = owning_known p here in
+      let fails : (q : ℕ) → q < p → owns m (get_or roster.records q nobody) ≡ false = λ q below. sym (are m q known (omega (arith, below, first.known))) ∙ first.first q below in
+      let at = position_or_len_is (owns m) roster.records p nobody (omega (arith, within)) fails (λ _. here) in
+      sym (rw (at, lt-ltb p (length roster.records) within) refl)
+
+  pub owner_known : (found : Option ℕ) → MatchOption found (IsUnowned words m) (λ p. IsFirstOwner words m p) → IfSome found (λ p. p < length roster.records)
+  owner_known None none = tt
+  owner_known (Some p) first = owning_known p (sym (are m p known first.known) ∙ first.set)
+
+-- the two rosters agree on what each process owns
+abbrev pub OwnAlike : Roster → Roster → Type 0
+OwnAlike old new = (q : ℕ) → (record_at new q).owned ≡ (record_at old q).owned
+
+pub owners_kept : (old new target : Roster) (words : List ℕ) → AreOwners old words → new ≡ target → OwnAlike old target → AreOwners new words
+owners_kept old new target words are is alike m p known low = rw is (are m p known low ∙ sym (ap (is_held m) (alike p)))
+
+module _ (old : Roster) (p : ℕ) (known : p < length old.records) where
+  alike_to : (new : Roster) → ((q : ℕ) → q ≢ p → record_at new q ≡ record_at old q) → (record_at new p).owned ≡ (record_at old p).owned → OwnAlike old new
+  alike_to new others here q = elim (cases_eq q p) as (λ _. (record_at new q).owned ≡ (record_at old q).owned) [
+    | inl e ↦ rw e here
+    | inr apart ↦ ap (λ (r : Record). r.owned) (others q apart)
+  ]
+
+  module _ (r : Record) (same : r.owned ≡ (record_at old p).owned) where
+    pub own_record : OwnAlike old (with_record old p r)
+    own_record = alike_to (with_record old p r) (changes_record old p r).others (ap (λ (s : Record). s.owned) (at_record old p known r) ∙ same)
+
+    pub own_newest : OwnAlike old (stamps.newest old p r)
+    own_newest = alike_to (stamps.newest old p r) (changes_newest old p r).others (ap (λ (s : Record). s.owned) (at_newest old p known r) ∙ same)
+
+    pub own_readied : OwnAlike old (stamps.readied old p r)
+    own_readied = cond_both {A = Roster} (is_eligible old.mode r) _ _ (λ new. OwnAlike old new) (λ _. own_newest) (λ _. own_record)
+
+  pub own_resume : OwnAlike old (stamps.resume old p)
+  own_resume = cond_both {A = Roster} (stamps.is_by_itself (record_at old p).suspended) _ _ (λ new. OwnAlike old new)
+      (λ _. own_readied (stamps.awake (record_at old p)) refl) (λ _. own_readied (stamps.unsuspended (record_at old p)) refl)
+
+  pub own_priority : (base : ℕ) → OwnAlike old (stamps.set_priority old p base)
+  own_priority base = cond_both {A = Roster} _ _ _ (λ new. OwnAlike old new)
+      (λ _. own_newest (record (record_at old p) { base = base }) refl) (λ _. own_record (record (record_at old p) { base = base }) refl)
+
+  own_begin : (delay : ℕ) → OwnAlike old (stamps.begin old p delay)
+  own_begin delay = cond_both {A = Roster} (delay == 0) _ _ (λ new. OwnAlike old new)
+      (λ _. own_readied (stamps.released_at old.now (record_at old p)) refl) (λ _. own_newest (stamps.waiting (record_at old p) Start (Some (old.now + delay))) refl)
+
+pub own_start : (old : Roster) (p delay : ℕ) → p < length old.records → OwnAlike old (stamps.start old p delay)
+own_start old p delay known = cond_both {A = Roster} (is_normal old.mode) _ _ (λ new. OwnAlike old new)
+    (λ _ q. own_begin fresh p within delay q ∙ reset_first q)
+    (λ _ q. own_newest fresh p within (stamps.waiting (record_at fresh p) (Normal delay) None) refl q ∙ reset_first q) where
+      fresh : Roster
+      fresh = with_record old p (stamps.reset (record_at old p))
+
+      within : p < length fresh.records
+      within = rw (length-set old.records p (stamps.reset (record_at old p))) known
+
+      reset_first : OwnAlike old fresh
+      reset_first = own_record old p known (stamps.reset (record_at old p)) refl
+
+-- process p owns something else from now on, and the others what they did
+pub record Disowns (old new : Roster) (p : ℕ) (held : Option Holding) : Type 0 where
+  pub here : (record_at new p).owned ≡ held
+  pub others : (q : ℕ) → q ≢ p → record_at new q ≡ record_at old q
+
+pub owners_changed : (old new target : Roster) (words news : List ℕ) (p : ℕ) (held : Option Holding) → AreOwners old words → new ≡ target → Disowns old target p held
+    → ((m : ℕ) → m < most_mutexes → is_owner news m p ≡ is_held m held)
+    → ((m q : ℕ) → m < most_mutexes → q < most_owners → q ≢ p → is_owner news m q ≡ is_owner words m q) → AreOwners new news
+owners_changed old new target words news p held are is disowns here others m q known low = rw is (elim (cases_eq q p) as (λ _. is_owner news m q ≡ owns m (record_at target q)) [
+  | inl e ↦ rw e (here m known ∙ sym (ap (is_held m) disowns.here))
+  | inr apart ↦ others m q known low apart ∙ are m q known low ∙ sym (ap (λ (r : Record). owns m r) (disowns.others q apart))
+])
+
+module _ (old : Roster) (p : ℕ) (known : p < length old.records) where
+  pub disowns_record : (r : Record) → Disowns old (with_record old p r) p r.owned
+  disowns_record r = record { here = ap (λ (s : Record). s.owned) (at_record old p known r); others = (changes_record old p r).others }
+
+  disowns_newest : (r : Record) → Disowns old (stamps.newest old p r) p r.owned
+  disowns_newest r = record { here = ap (λ (s : Record). s.owned) (at_newest old p known r); others = (changes_newest old p r).others }
+
+  pub disowns_readied : (r : Record) → Disowns old (stamps.readied old p r) p r.owned
+  disowns_readied r = cond_both {A = Roster} (is_eligible old.mode r) _ _ (λ new. Disowns old new p r.owned) (λ _. disowns_newest r) (λ _. disowns_record r)
+
+  pub disowns_levelled : (r : Record) → Disowns old (stamps.levelled old p r) p r.owned
+  disowns_levelled r = cond_both {A = Roster} (stamps.is_level r (record_at old p)) _ _ (λ new. Disowns old new p r.owned) (λ _. disowns_record r)
+      (λ _. record { here = ap (λ (s : Record). s.owned) (at_record old p known (record r { since = old.old })); others = (changes_oldest old p r).others })
+
+-- process p, which owned this or nothing, owns the mutex that it holds
+pub owners_inherited : (old new target : Roster) (words mids news : List ℕ) (p : ℕ) (holding : Holding) → AreOwners old words → new ≡ target → Disowns old target p (Some holding)
+    → ((m : ℕ) → m < most_mutexes → is_owner mids m p ≡ false)
+    → ((m q : ℕ) → q < most_owners → q ≢ p → is_owner mids m q ≡ is_owner words m q)
+    → ((q : ℕ) → q < most_owners → is_owner news holding.mutex q ≡ (if q == p then true else is_owner mids holding.mutex q))
+    → ((m q : ℕ) → m ≢ holding.mutex → is_owner news m q ≡ is_owner mids m q) → p < most_owners → AreOwners new news
+owners_inherited old new target words mids news p holding are is disowns gone stay same others low =
+    owners_changed old new target words news p (Some holding) are is disowns here elsewhere where
+      here : (m : ℕ) → m < most_mutexes → is_owner news m p ≡ (holding.mutex == m)
+      here m known = elim (cases_eq m holding.mutex) as (λ _. is_owner news m p ≡ (holding.mutex == m)) [
+        | inl e ↦ rw (e, same p low) (grind arith)
+        | inr apart ↦ rw (others m p apart, gone m known) (grind (arith, apart))
+      ]
+
+      elsewhere : (m q : ℕ) → m < most_mutexes → q < most_owners → q ≢ p → is_owner news m q ≡ is_owner words m q
+      elsewhere m q known low' apart = elim (cases_eq m holding.mutex) as (λ _. is_owner news m q ≡ is_owner words m q) [
+        | inl e ↦ rw (e, same q low', stay holding.mutex q low' apart) (grind (arith, apart))
+        | inr other ↦ others m q other ∙ stay m q low' apart
+      ]

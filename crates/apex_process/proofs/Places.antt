@@ -1,0 +1,206 @@
+-- Each list is that of one core and priority, or of one queue.
+use Rattle.std.proofs.Common.{◌≡◌, ◌≢◌, ℕ, ◌+◌, ◌<◌, ◌≤◌, true, false, ◌&&◌, is_none, length, Option, None, Some, inl, inr, refl, ap, sym, ◌∙◌, arith}
+use Rattle.std.specs.Prelude.{◌==◌}
+use Rattle.std.specs.Option.{option_and_then}
+use Rattle.std.proofs.lemmas.Bool.{cases_eq, cases_Bool, cases_lt, and_parts, eqb-true, false≢true}
+use Rattle.std.proofs.lemmas.List.{get_or_past}
+use Rattle.std.proofs.lemmas.Option.{none-some, same_Some}
+use Rattle.apex_types.specs.Limits.{most_cores}
+use Rattle.apex_types.specs.declared.Mode.{Mode}
+use Rattle.apex_types.specs.declared.records.Queue.{Queue}
+use Rattle.apex_types.specs.declared.Record.{Record}
+use Rattle.apex_types.specs.declared.Wait.{Wait}
+use Rattle.apex_types.specs.declared.records.Queue.TheVariants as queues
+use Rattle.apex_types.specs.Queues.{queue_of, is_queue, is_same_queue}
+use Rattle.apex_types.specs.Roster.{Roster, nobody, is_normal}
+use Rattle.apex_types.specs.Running.{current_priority, is_eligible, IsEligible}
+use Rattle.apex_types.specs.Waiters.{queue_in, waits_in}
+use Rattle.apex_ready.specs.ReadyOrders.{ready_list, ready_lists}
+use Rattle.apex_waitq.specs.WaitQueues.{most_queues, queue_place, wait_list, IsNumbered}
+use Rattle.apex_process.specs.Lists.{discipline_in, is_list, list_for, list_of, queue_list, HasPlace}
+
+differ : (x y : ℕ) → x ≢ y → (x == y) ≡ false
+differ x y apart = grind (arith, apart)
+
+shifted : (k s t : ℕ) → (k + s == k + t) ≡ (s == t)
+shifted k s t = elim (cases_eq s t) as (λ _. (k + s == k + t) ≡ (s == t)) [
+  | inl e ↦ rw e (grind arith)
+  | inr apart ↦ differ (k + s) (k + t) (λ e. apart (omega (arith, e))) ∙ sym (differ s t apart)
+]
+
+-- two queues have one list exactly where they are the same
+pub same_wait_list : (a b : Queue) → IsNumbered a → IsNumbered b → (wait_list a == wait_list b) ≡ is_same_queue a b
+same_wait_list queues.Normal queues.Normal i j = refl
+same_wait_list queues.Normal (queues.Semaphore t) i j = differ _ _ (λ e. omega (arith, e, i, j))
+same_wait_list queues.Normal (queues.Buffer t) i j = differ _ _ (λ e. omega (arith, e, i, j))
+same_wait_list queues.Normal (queues.Blackboard t) i j = differ _ _ (λ e. omega (arith, e, i, j))
+same_wait_list queues.Normal (queues.Event t) i j = differ _ _ (λ e. omega (arith, e, i, j))
+same_wait_list queues.Normal (queues.Mutex t) i j = differ _ _ (λ e. omega (arith, e, i, j))
+same_wait_list (queues.Semaphore s) queues.Normal i j = differ _ _ (λ e. omega (arith, e, i, j))
+same_wait_list (queues.Semaphore s) (queues.Semaphore t) i j = shifted 2048 (256 + s) (256 + t) ∙ shifted 256 s t
+same_wait_list (queues.Semaphore s) (queues.Buffer t) i j = differ _ _ (λ e. omega (arith, e, i, j))
+same_wait_list (queues.Semaphore s) (queues.Blackboard t) i j = differ _ _ (λ e. omega (arith, e, i, j))
+same_wait_list (queues.Semaphore s) (queues.Event t) i j = differ _ _ (λ e. omega (arith, e, i, j))
+same_wait_list (queues.Semaphore s) (queues.Mutex t) i j = differ _ _ (λ e. omega (arith, e, i, j))
+same_wait_list (queues.Buffer s) queues.Normal i j = differ _ _ (λ e. omega (arith, e, i, j))
+same_wait_list (queues.Buffer s) (queues.Semaphore t) i j = differ _ _ (λ e. omega (arith, e, i, j))
+same_wait_list (queues.Buffer s) (queues.Buffer t) i j = shifted 2048 (512 + s) (512 + t) ∙ shifted 512 s t
+same_wait_list (queues.Buffer s) (queues.Blackboard t) i j = differ _ _ (λ e. omega (arith, e, i, j))
+same_wait_list (queues.Buffer s) (queues.Event t) i j = differ _ _ (λ e. omega (arith, e, i, j))
+same_wait_list (queues.Buffer s) (queues.Mutex t) i j = differ _ _ (λ e. omega (arith, e, i, j))
+same_wait_list (queues.Blackboard s) queues.Normal i j = differ _ _ (λ e. omega (arith, e, i, j))
+same_wait_list (queues.Blackboard s) (queues.Semaphore t) i j = differ _ _ (λ e. omega (arith, e, i, j))
+same_wait_list (queues.Blackboard s) (queues.Buffer t) i j = differ _ _ (λ e. omega (arith, e, i, j))
+same_wait_list (queues.Blackboard s) (queues.Blackboard t) i j = shifted 2048 (768 + s) (768 + t) ∙ shifted 768 s t
+same_wait_list (queues.Blackboard s) (queues.Event t) i j = differ _ _ (λ e. omega (arith, e, i, j))
+same_wait_list (queues.Blackboard s) (queues.Mutex t) i j = differ _ _ (λ e. omega (arith, e, i, j))
+same_wait_list (queues.Event s) queues.Normal i j = differ _ _ (λ e. omega (arith, e, i, j))
+same_wait_list (queues.Event s) (queues.Semaphore t) i j = differ _ _ (λ e. omega (arith, e, i, j))
+same_wait_list (queues.Event s) (queues.Buffer t) i j = differ _ _ (λ e. omega (arith, e, i, j))
+same_wait_list (queues.Event s) (queues.Blackboard t) i j = differ _ _ (λ e. omega (arith, e, i, j))
+same_wait_list (queues.Event s) (queues.Event t) i j = shifted 2048 (1024 + s) (1024 + t) ∙ shifted 1024 s t
+same_wait_list (queues.Event s) (queues.Mutex t) i j = differ _ _ (λ e. omega (arith, e, i, j))
+same_wait_list (queues.Mutex s) queues.Normal i j = differ _ _ (λ e. omega (arith, e, i, j))
+same_wait_list (queues.Mutex s) (queues.Semaphore t) i j = differ _ _ (λ e. omega (arith, e, i, j))
+same_wait_list (queues.Mutex s) (queues.Buffer t) i j = differ _ _ (λ e. omega (arith, e, i, j))
+same_wait_list (queues.Mutex s) (queues.Blackboard t) i j = differ _ _ (λ e. omega (arith, e, i, j))
+same_wait_list (queues.Mutex s) (queues.Event t) i j = differ _ _ (λ e. omega (arith, e, i, j))
+same_wait_list (queues.Mutex s) (queues.Mutex t) i j = shifted 2048 (1280 + s) (1280 + t) ∙ shifted 1280 s t
+
+pub place_below : (q : Queue) → IsNumbered q → queue_place q < most_queues
+place_below queues.Normal i = omega arith
+place_below (queues.Semaphore s) i = omega (arith, i)
+place_below (queues.Buffer s) i = omega (arith, i)
+place_below (queues.Blackboard s) i = omega (arith, i)
+place_below (queues.Event s) i = omega (arith, i)
+place_below (queues.Mutex s) i = omega (arith, i)
+
+-- who is eligible waits in no queue
+pub none_waits : (mode : Mode) (r : Record) → is_eligible mode r ≡ true → r.wait ≡ None
+none_waits mode r e = none_from r.wait (and_parts _ _ e).1 where
+  none_from : (o : Option Wait) → is_none o ≡ true → o ≡ None
+  none_from None is = refl
+  none_from (Some w) is = absurd (false≢true is)
+
+pub no_queue : (mode : Mode) (r : Record) → is_eligible mode r ≡ true → queue_in r ≡ None
+no_queue mode r e = ap (λ (w : Option Wait). option_and_then queue_of w) (none_waits mode r e)
+
+pub listed_ready : (mode : Mode) (r : Record) → is_eligible mode r ≡ true → list_for mode r ≡ Some (ready_list r.core (current_priority r))
+listed_ready mode r e = rw e refl
+
+pub listed_waiting : (mode : Mode) (r : Record) → is_eligible mode r ≡ false → list_for mode r ≡ queue_list (queue_in r)
+listed_waiting mode r e = rw e refl
+
+nobody_waits : (mode : Mode) → is_eligible mode nobody ≡ true → false ≡ true
+nobody_waits mode e = (and_parts (is_normal mode) false (and_parts (is_normal mode && false) true (and_parts ((is_normal mode && false) && true) true e).0).0).1
+
+-- who is eligible is a process of the roster, and so is who stands in a list
+pub eligible_known : (roster : Roster) (p : ℕ) → IsEligible roster p → p < length roster.records
+eligible_known roster p e = elim (cases_lt p (length roster.records)) [
+  | inl within ↦ within
+  | inr past ↦ absurd (false≢true (nobody_waits roster.mode (rw (get_or_past roster.records p nobody past) at e)))
+]
+
+nobody_listed : (mode : Mode) → list_for mode nobody ≡ None
+nobody_listed mode = elim (cases_Bool (is_eligible mode nobody)) [
+  | inl e ↦ absurd (false≢true (nobody_waits mode e))
+  | inr e ↦ listed_waiting mode nobody e
+]
+
+pub listed_known : (roster : Roster) (p l : ℕ) → list_of roster p ≡ Some l → p < length roster.records
+listed_known roster p l e = elim (cases_lt p (length roster.records)) [
+  | inl within ↦ within
+  | inr past ↦ absurd (none-some l (sym (nobody_listed roster.mode) ∙ rw (get_or_past roster.records p nobody past) at e))
+]
+
+-- a list of a queue is no ready list
+above_ready : (o : Option Queue) (l : ℕ) → queue_list o ≡ Some l → ready_lists ≤ l
+above_ready None l e = absurd (none-some l e)
+above_ready (Some q) l e = let is = same_Some (wait_list q) l e in omega (arith, is)
+
+pub waiting_above : (mode : Mode) (r : Record) (l : ℕ) → is_eligible mode r ≡ false → list_for mode r ≡ Some l → ready_lists ≤ l
+waiting_above mode r l out e = above_ready (queue_in r) l (sym (listed_waiting mode r out) ∙ e)
+
+pub ready_below : (mode : Mode) (r : Record) (l : ℕ) → HasPlace mode r → is_eligible mode r ≡ true → list_for mode r ≡ Some l → l < ready_lists
+ready_below mode r l place e is =
+    let same = same_Some _ _ (sym (listed_ready mode r e) ∙ is) in
+    omega (arith, same, place.core e, place.priority e)
+
+same_queue : (q r : Queue) → is_same_queue q r ≡ true → q ≡ r
+same_queue queues.Normal queues.Normal e = refl
+same_queue (queues.Semaphore s) (queues.Semaphore t) e = ap queues.Semaphore (eqb-true s t e)
+same_queue (queues.Buffer b) (queues.Buffer c) e = ap queues.Buffer (eqb-true b c e)
+same_queue (queues.Blackboard b) (queues.Blackboard c) e = ap queues.Blackboard (eqb-true b c e)
+same_queue (queues.Event s) (queues.Event t) e = ap queues.Event (eqb-true s t e)
+same_queue (queues.Mutex m) (queues.Mutex n) e = ap queues.Mutex (eqb-true m n e)
+same_queue _ _ e = cc
+
+same_queues : (a b : Option Queue) (l : ℕ) → ((q : Queue) → a ≡ Some q → IsNumbered q) → ((q : Queue) → b ≡ Some q → IsNumbered q)
+    → queue_list a ≡ Some l → queue_list b ≡ Some l → a ≡ b
+same_queues None b l i j e f = absurd (none-some l e)
+same_queues (Some q) None l i j e f = absurd (none-some l f)
+same_queues (Some q) (Some r) l i j e f =
+    let here = same_Some (wait_list q) l e in
+    let there = same_Some (wait_list r) l f in
+    let one : (wait_list q == wait_list r) ≡ true = grind (arith, here, there) in
+    ap Some (same_queue q r (sym (same_wait_list q r (i q refl) (j r refl)) ∙ one))
+
+-- two processes of one list wait in one queue, or in none
+pub one_queue : (mode : Mode) (r s : Record) (l : ℕ) → HasPlace mode r → HasPlace mode s → list_for mode r ≡ Some l → list_for mode s ≡ Some l → queue_in r ≡ queue_in s
+one_queue mode r s l place place' e f = elim (cases_Bool (is_eligible mode r)) [
+  | inl ready ↦ elim (cases_Bool (is_eligible mode s)) [
+    | inl ready' ↦ no_queue mode r ready ∙ sym (no_queue mode s ready')
+    | inr out ↦ absurd (omega (arith, ready_below mode r l place ready e, waiting_above mode s l out f))
+  ]
+  | inr out ↦ elim (cases_Bool (is_eligible mode s)) [
+    | inl ready' ↦ absurd (omega (arith, ready_below mode s l place' ready' f, waiting_above mode r l out e))
+    | inr out' ↦ same_queues (queue_in r) (queue_in s) l (place.queue out) (place'.queue out') (sym (listed_waiting mode r out) ∙ e) (sym (listed_waiting mode s out') ∙ f)
+  ]
+]
+
+-- who stands in the ready list of a core and a priority
+two_numbers : (core priority c k : ℕ) → priority < 256 → k < 256 → (ready_list core priority == ready_list c k) ≡ (c == core && k == priority)
+two_numbers core priority c k low low' = elim (cases_eq c core) as (λ _. (ready_list core priority == ready_list c k) ≡ (c == core && k == priority)) [
+  | inl e ↦ elim (cases_eq k priority) as (λ _. (ready_list core priority == ready_list c k) ≡ (c == core && k == priority)) [
+    | inl f ↦ rw (e, f) (grind arith)
+    | inr other ↦ differ _ _ (λ g. other (omega (arith, g, e))) ∙ sym (rw e (grind (arith, other)))
+  ]
+  | inr other ↦ differ _ _ (λ g. other (omega (arith, g, low, low'))) ∙ sym (rw (differ c core other) refl)
+]
+
+pub in_no_ready : (o : Option Queue) (l : ℕ) → l < ready_lists → is_list l (queue_list o) ≡ false
+in_no_ready None l low = refl
+in_no_ready (Some q) l low = differ l (wait_list q) (λ e. omega (arith, e, low))
+
+pub in_ready_list : (mode : Mode) (r : Record) (core priority : ℕ) → HasPlace mode r → core < most_cores → priority < 256
+    → is_list (ready_list core priority) (list_for mode r) ≡ (is_eligible mode r && (r.core == core && current_priority r == priority))
+in_ready_list mode r core priority place c k = elim (cases_Bool (is_eligible mode r)) as (λ _. is_list (ready_list core priority) (list_for mode r) ≡ (is_eligible mode r && (r.core == core && current_priority r == priority))) [
+  | inl e ↦ rw e (two_numbers core priority r.core (current_priority r) k (place.priority e))
+  | inr e ↦ rw e (in_no_ready (queue_in r) (ready_list core priority) (omega (arith, c, k)))
+]
+
+-- who stands in the list of a queue
+in_queue : (o : Option Queue) (queue : Queue) → ((q : Queue) → o ≡ Some q → IsNumbered q) → IsNumbered queue → is_list (wait_list queue) (queue_list o) ≡ is_queue queue o
+in_queue None queue i j = refl
+in_queue (Some q) queue i j = same_wait_list queue q j (i q refl)
+
+waits_is : (queue : Queue) (r : Record) → waits_in queue r ≡ is_queue queue (queue_in r)
+unfolding waits_in
+waits_is queue r = refl
+
+pub in_wait_list : (mode : Mode) (r : Record) (queue : Queue) → HasPlace mode r → IsNumbered queue → is_list (wait_list queue) (list_for mode r) ≡ waits_in queue r
+in_wait_list mode r queue place i = elim (cases_Bool (is_eligible mode r)) [
+  | inl e ↦ ap (is_list (wait_list queue)) (listed_ready mode r e) ∙ differ (wait_list queue) (ready_list r.core (current_priority r)) (λ g. omega (arith, g, place.core e, place.priority e))
+      ∙ sym (waits_is queue r ∙ ap (is_queue queue) (no_queue mode r e))
+  | inr e ↦ ap (is_list (wait_list queue)) (listed_waiting mode r e) ∙ in_queue (queue_in r) queue (place.queue e) i ∙ sym (waits_is queue r)
+]
+
+-- the discipline of a queue is the table's
+pub discipline_same : (old new : Roster) → new.disciplines ≡ old.disciplines → (o : Option Queue) → discipline_in new o ≡ discipline_in old o
+discipline_same old new e None = refl
+discipline_same old new e (Some queues.Normal) = refl
+discipline_same old new e (Some (queues.Semaphore s)) = rw e refl
+discipline_same old new e (Some (queues.Buffer b)) = rw e refl
+discipline_same old new e (Some (queues.Blackboard b)) = refl
+discipline_same old new e (Some (queues.Event v)) = refl
+discipline_same old new e (Some (queues.Mutex m)) = rw e refl

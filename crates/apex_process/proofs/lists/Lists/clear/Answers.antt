@@ -1,0 +1,8 @@
+use Rattle.std.proofs.Common.{arith}
+use Rattle.apex_process.proofs.Emptied.{all_out}
+use Rattle.apex_process.proofs.lists.Lists.clear.Goals as goal
+
+pub returns-clause-links : goal.returns-clause-links
+returns-clause-links c =
+    let out = rw (← c.self.view_is) at c.loop-place.invariant.out in
+    rw (← c.self.view_is) (all_out _ c.self.inside.links c.loop-place.place out (omega (arith, c.loop-place-test.false, c.requires, out.processes)) c.holds.ensures)

@@ -1,0 +1,56 @@
+-- The lists of a state: who stands in each list that a store keeps, in which order, and what it counts of them.
+use Rattle.std.specs.Prelude.{◌≡◌, ℕ, ◌<◌, Bool, true, ◌==◌, ◌&&◌, None}
+use Rattle.apex_types.specs.Limits.{most_cores}
+use Rattle.apex_types.specs.declared.records.Queue.{Queue}
+use Rattle.apex_types.specs.Roster.{Roster, record_at}
+use Rattle.apex_types.specs.Running.{current_priority, is_eligible, is_older, IsIneligible}
+use Rattle.apex_types.specs.Waiters.{discipline_of, queue_in, waits_before, waits_in}
+use Rattle.apex_links.specs.Neighbours.{stands_in}
+use Rattle.apex_links.specs.Links.{Links, list_at, IsFree}
+use Rattle.apex_ready.specs.ReadyOrders.{ready_list, AreMarked}
+use Rattle.apex_timeouts.specs.Timeline.{IsTimed}
+use Rattle.apex_waitq.specs.WaitQueues.{wait_list, AreCounted, IsNumbered}
+use Rattle.apex_process.specs.Lists.{HavePlaces}
+use Rattle.apex_process.specs.Owners.{AreOwners}
+use Rattle.apex_process.specs.Queued.{Queued}
+use Rattle.apex_links.specs.Sorted.{IsSorted}
+use Rattle.apex_process.specs.Timed.{AreTimers}
+
+-- process p is eligible, bound to the core, and of this current priority
+abbrev pub is_ready_at : Roster → ℕ → ℕ → ℕ → Bool
+is_ready_at roster core priority p =
+    is_eligible roster.mode (record_at roster p) && ((record_at roster p).core == core && current_priority (record_at roster p) == priority)
+
+-- the ready list of each core and priority: its eligible processes, the longest ready first
+pub record AreReadyLists (roster : Roster) (links : Links) : Type 0 where
+  pub members : (core priority p : ℕ) → core < most_cores → priority < 256
+      → stands_in p (list_at links (ready_list core priority)) ≡ is_ready_at roster core priority p
+  pub sorted : (core priority : ℕ) → core < most_cores → priority < 256
+      → IsSorted (λ p q. is_older (record_at roster p) (record_at roster q)) (list_at links (ready_list core priority))
+
+-- the list of each queue: who waits there, in the order of the queue's discipline
+pub record AreWaitLists (roster : Roster) (links : Links) : Type 0 where
+  pub members : (queue : Queue) (p : ℕ) → IsNumbered queue
+      → stands_in p (list_at links (wait_list queue)) ≡ waits_in queue (record_at roster p)
+  pub sorted : (queue : Queue) → IsNumbered queue
+      → IsSorted (λ p q. waits_before (discipline_of roster queue) (record_at roster p) (record_at roster q)) (list_at links (wait_list queue))
+
+-- the lists that a store keeps are those of its state
+pub record AreListsOfState (store : Queued) : Type 0 where
+  -- there is a list for whoever is eligible, and for whoever waits in a queue
+  pub places : HavePlaces store.roster
+  -- the ready lists, and those of the queues
+  pub ready : AreReadyLists store.roster store.standings.links
+  pub waiting : AreWaitLists store.roster store.standings.links
+  -- who is neither eligible nor waits in a queue stands in no list, and nobody stands in two
+  pub outside : (p : ℕ) → IsIneligible store.roster p → queue_in (record_at store.roster p) ≡ None → IsFree store.standings.links p
+  pub apart : (p l m : ℕ) → stands_in p (list_at store.standings.links l) ≡ true → stands_in p (list_at store.standings.links m) ≡ true → l ≡ m
+  -- a ready list is marked exactly where anybody stands in it, and each queue's count is the length of its list
+  pub marks : AreMarked store.standings.marks store.standings.links
+  pub counts : AreCounted store.standings.counts store.standings.links
+  -- the lines have the dues and the deadlines, each by instant and then process
+  pub timers : AreTimers store.roster store.dues store.deadlines
+  pub dues : IsTimed store.dues
+  pub deadlines : IsTimed store.deadlines
+  -- the words have the owner of each mutex
+  pub owners : AreOwners store.roster store.owners
