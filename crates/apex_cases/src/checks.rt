@@ -4,7 +4,8 @@ ghost use Rattle.std.specs.Prelude.{◌≡◌, ◌-◌, length, drop, IsTrue};
 use crate::faults::CaseFault;
 use crate::folds::unfolded;
 use crate::outlines::Outline;
-use crate::plays::played;
+use crate::plain::check_plain;
+use crate::plays::told_of;
 use crate::reports::Report;
 use crate::rows::{Case, Row, Told, is_silent};
 use std::alloc::{AllocError, Global};
@@ -49,13 +50,12 @@ fn complaint_of<T: Threads + Wait + Sync>(
         return Err(CaseFault::NoLines);
     }
     let table = outline.table(alloc)?;
-    let told = played(
-        rt,
-        alloc,
-        &["replay", "--schedule", outline.schedule],
-        table.as_str(),
-    )?;
-    let history = told.text.as_str();
+    let words = ["replay", "--schedule", outline.schedule];
+    let told = told_of(rt, alloc, &words, &[table.as_str()])?;
+    let history = told.output.as_str();
+    if !history.is_empty() {
+        check_plain(alloc, table.as_str(), history)?;
+    }
     let ends = told.status == 0 && ends_in(history.as_bytes(), lines.as_bytes());
     if ends != outline.differs {
         return Ok(None);

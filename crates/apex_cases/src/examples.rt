@@ -1,10 +1,10 @@
 //! The examples: each table of a folder, with its cases in a file beside it.
+use crate::attempts::complaint_of;
 use crate::faults::CaseFault;
 use crate::folds::unfolded;
-use crate::plays::played;
 use crate::reports::Report;
 use crate::rows::{Case, cut_cases, is_silent};
-use crate::tellings::{Asked, difference_of};
+use crate::tellings::Asked;
 use std::alloc::{AllocGlobal, Global};
 use std::fs;
 use std::fs::Files;
@@ -29,15 +29,11 @@ fn verdict_on<T: Threads + Wait + Sync>(
 ) -> Result<Verdict, CaseFault> {
     let text = unfolded(alloc, case.outline)?;
     let asked = Asked::read(alloc, table, text.as_str())?;
-    if asked.expected.text.as_str().is_empty() {
-        return Err(CaseFault::NoLines);
-    }
-    let told = played(rt, alloc, asked.words.as_slice(), asked.table.as_str())?;
-    match difference_of(alloc, &asked.expected, &told)? {
+    match complaint_of(rt, alloc, &asked)? {
         None if asked.differs => Ok(Verdict::Wrong(format!(in alloc; "it must differ")?)),
         None => Ok(Verdict::AsTold),
         Some(_) if asked.differs => Ok(Verdict::DiffersAsItMust),
-        Some(difference) => Ok(Verdict::Wrong(difference)),
+        Some(complaint) => Ok(Verdict::Wrong(complaint)),
     }
 }
 

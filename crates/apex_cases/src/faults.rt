@@ -26,15 +26,15 @@ pub enum CaseFault {
     Edit,
     #[error("ill-formed reading")]
     Reading,
-    #[error("the status is no number")]
-    Status,
+    #[error("no number")]
+    Number,
     #[error("no words, or words twice")]
     Words,
     #[error("ill-formed fold")]
     Fold,
-    /// A kernel over linked lists makes another history than the program.
-    #[error("another history over linked lists")]
-    Linked,
+    /// A kernel over a store without lists makes another history than the program, whose lists are linked.
+    #[error("another history without lists")]
+    Plain,
 }
 
 impl From<AllocError> for CaseFault {

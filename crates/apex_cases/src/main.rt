@@ -3,12 +3,15 @@
 //! be.
 #![tactic(auto)]
 
+mod attempts;
 mod checks;
+mod devices;
+mod differences;
 mod examples;
 mod faults;
 mod folds;
-mod linked;
 mod outlines;
+mod plain;
 mod plays;
 mod readings;
 mod reports;

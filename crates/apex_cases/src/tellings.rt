@@ -1,31 +1,78 @@
-//! A case of an example: the table's edits, what is given behind it, the words, and all that `apex`
-//! tells of it.
-ghost use Rattle.std.specs.Prelude.{◌≡◌, IfOk, IsNone, string_bytes};
-
+//! A case of an example: the table's edits, what is given behind it, the words, the devices, and all that
+//! `apex` tells of it.
+use crate::devices::Devices;
 use crate::faults::CaseFault;
-use crate::plays::Telling;
+use crate::plays::{bytes_of, words_of};
 use crate::rows::is_silent;
+use apex_cli::CliFault;
 use std::alloc::{AllocError, Global};
+
+/// What is to be told: what stands on standard output and on standard error, and the status.
+#[derive(Drop)]
+pub struct Expected<'a> {
+    pub output: String,
+    pub error: String,
+    pub status: u8,
+    /// What `check` says of the lines, where they differ from run to run; then `output` is empty.
+    pub verdict: Option<&'a str>,
+    /// Words with the number of lines that have it as their third one.
+    pub counts: Vec<&'a str>,
+    /// Texts that stand in the lines.
+    pub stands: Vec<&'a str>,
+}
+
+/// What else the case tries, each one again and again.
+#[derive(Drop)]
+pub struct Tries {
+    /// How many reads there are, each of which fails in turn.
+    pub reads: Option<u64>,
+    /// How many writes there are, each of which fails in turn.
+    pub writes: Option<u64>,
+    /// How many beginnings of the table are answered as the whole one is; each other one is refused.
+    pub cuts: Option<u64>,
+    /// In how many of the lines that are given behind the separator each byte is changed in turn.
+    pub changes: Option<u64>,
+}
 
 /// What a case of an example asks for, and what is to be told.
 #[derive(Drop)]
 pub struct Asked<'a> {
-    /// What the program reads: the example's table, with the case's edits, and what is given behind it.
+    /// The example's table, with the case's edits.
     pub table: String,
+    /// What is given behind the table.
+    pub behind: String,
     /// The words behind the program's name.
-    pub words: Vec<&'a str>,
-    pub expected: Telling,
+    words: Vec<&'a str>,
+    /// Whether the case says what the words are.
+    is_asked: bool,
+    /// Whether the program had no memory to fetch its words.
+    is_unfetched: bool,
+    pub devices: Devices,
+    pub expected: Expected<'a>,
+    pub tries: Tries,
     /// Whether something else must be told.
     pub differs: bool,
 }
 
-/// The table with `OLD -> NEW` done wherever the old text stands; `Edit` where it stands nowhere.
+/// The table with `OLD -> NEW` done wherever the old text stands, where `; ` is a line feed in both; `Edit`
+/// where it stands nowhere.
 fn edited(alloc: Global, table: &str, edit: &str) -> Result<String, CaseFault> {
     let (old, new) = edit.split_once(" -> ").ok_or(CaseFault::Edit)?;
-    if old.is_empty() || !table.contains(old) {
+    let old = old.replace(alloc, "; ", "\n")?;
+    let new = new.replace(alloc, "; ", "\n")?;
+    if old.as_str().is_empty() || !table.contains(old.as_str()) {
         return Err(CaseFault::Edit);
     }
-    Ok(table.replace(alloc, old, new)?)
+    Ok(table.replace(alloc, old.as_str(), new.as_str())?)
+}
+
+/// The number that a word of a case says.
+pub fn number_of(word: &str) -> Result<u64, CaseFault> {
+    word.parse::<u64>().map_err(|_| CaseFault::Number)
+}
+
+fn size_of(word: &str) -> Result<usize, CaseFault> {
+    word.parse::<usize>().map_err(|_| CaseFault::Number)
 }
 
 impl<'a> Asked<'a> {
@@ -33,45 +80,77 @@ impl<'a> Asked<'a> {
     pub fn read(alloc: Global, table: &str, lines: &'a str) -> Result<Asked<'a>, CaseFault> {
         let mut asked = Asked {
             table: String::from_str(alloc, table)?,
+            behind: String::new(alloc),
             words: Vec::new(alloc),
-            expected: Telling {
-                text: String::new(alloc),
-                status: 0,
-            },
+            is_asked: false,
+            is_unfetched: false,
+            devices: Devices::sound(),
+            expected: Expected::nothing(alloc),
+            tries: Tries::none(),
             differs: false,
         };
         for line in lines.lines().filter(|line| !is_silent(line)) {
             asked.put(alloc, line)?;
         }
-        if asked.words.is_empty() {
+        if !asked.is_asked {
             return Err(CaseFault::Words);
+        }
+        if !asked.expected.says_anything() {
+            return Err(CaseFault::NoLines);
         }
         Ok(asked)
     }
 
     fn put(&mut self, alloc: Global, line: &'a str) -> Result<(), CaseFault> {
-        match line.split_once(' ').unwrap_or((line, "")) {
-            ("edit", edit) => self.table = edited(alloc, self.table.as_str(), edit)?,
-            ("schedule", schedule) => self.ask(&["replay", "--schedule", schedule])?,
-            ("listing", schedule) => self.ask(&["status", "--schedule", schedule])?,
-            ("words", words) => self.ask_all(words)?,
-            ("given", line) => writeln!(self.table, "{line}")?,
-            ("cut", line) => self.table.push_str(line)?,
-            ("status", status) => {
-                self.expected.status = status.parse::<u8>().map_err(|_| CaseFault::Status)?;
-            }
-            ("differs", "") => self.differs = true,
-            _ => writeln!(self.expected.text, "{line}")?,
+        let (field, rest) = line.split_once(' ').unwrap_or((line, ""));
+        match field {
+            "edit" => self.table = edited(alloc, self.table.as_str(), rest)?,
+            "given" => writeln!(self.behind, "{rest}")?,
+            "return" => write!(self.behind, "{rest}\r\n")?,
+            "cut" => self.behind.push_str(rest)?,
+            "differs" if rest.is_empty() => self.differs = true,
+            _ if self.put_words(field, rest)? => {}
+            _ if self.put_devices(field, rest)? => {}
+            _ => self.expected.put(field, rest, line)?,
         }
         Ok(())
     }
 
+    /// Whether the line says what the program is asked.
+    fn put_words(&mut self, field: &'a str, rest: &'a str) -> Result<bool, CaseFault> {
+        match field {
+            "schedule" => self.ask(&["replay", "--schedule", rest])?,
+            "listing" => self.ask(&["status", "--schedule", rest])?,
+            "words" => self.ask_all(rest)?,
+            "word" => self.words.push(rest)?,
+            "unfetched" => self.is_unfetched = true,
+            _ => return Ok(false),
+        }
+        self.is_asked = true;
+        Ok(true)
+    }
+
+    /// Whether the line is about the devices.
+    fn put_devices(&mut self, field: &'a str, rest: &'a str) -> Result<bool, CaseFault> {
+        match field {
+            "gives" => self.devices.gives = size_of(rest)?,
+            "room" => self.devices.room = size_of(rest)?,
+            "mute" => self.devices.failing_error = 1,
+            "reads" => self.tries.reads = Some(number_of(rest)?),
+            "writes" => self.tries.writes = Some(number_of(rest)?),
+            "cuts" => self.tries.cuts = Some(number_of(rest)?),
+            "changes" => self.tries.changes = Some(number_of(rest)?),
+            _ => return Ok(false),
+        }
+        Ok(true)
+    }
+
     /// Asks for the words that spaces part, and `Words` where some were asked for before.
     fn ask_all(&mut self, words: &'a str) -> Result<(), CaseFault> {
-        if !self.words.is_empty() {
+        if self.is_asked {
             return Err(CaseFault::Words);
         }
-        for word in words.split(' ') {
+        for word in words.split(' ').filter(|word| !word.is_empty()) {
             self.words.push(word)?;
         }
         Ok(())
@@ -79,39 +158,69 @@ impl<'a> Asked<'a> {
 
     /// Asks for these words, and `Words` where some were asked for before.
     fn ask(&mut self, words: &[&'a str]) -> Result<(), CaseFault> {
-        if !self.words.is_empty() {
+        if self.is_asked {
             return Err(CaseFault::Words);
         }
         self.words.extend_from_slice(words)?;
         Ok(())
     }
+
+    /// Whether the program is asked for this.
+    pub fn is_for(&self, command: &str) -> bool {
+        self.words.first().is_some_and(|word| *word == command)
+    }
+
+    /// The words that the program is given.
+    pub fn given_words(&self, alloc: Global) -> Result<Result<Vec<String>, CliFault>, AllocError> {
+        if self.is_unfetched {
+            return Ok(Err(CliFault::Memory));
+        }
+        Ok(Ok(words_of(alloc, self.words.as_slice())?))
+    }
+
+    /// The bytes that the program reads.
+    pub fn given_bytes(&self, alloc: Global) -> Result<Vec<u8>, AllocError> {
+        bytes_of(alloc, &[self.table.as_str(), self.behind.as_str()])
+    }
 }
 
-/// The first line in which a text differs from what was expected.
-fn first_difference(alloc: Global, expected: &str, got: &str) -> Result<String, AllocError> {
-    let pairs = expected.lines().zip(got.lines());
-    let same = pairs.take_while(|(wanted, line)| wanted == line).count();
-    let number = same.saturating_add(1);
-    let wanted = expected.lines().nth(same).unwrap_or("no line");
-    let line = got.lines().nth(same).unwrap_or("no line");
-    format!(in alloc; "line {number}: expected {wanted}, but got {line}")
+impl Tries {
+    fn none() -> Tries {
+        Tries {
+            reads: None,
+            writes: None,
+            cuts: None,
+            changes: None,
+        }
+    }
 }
 
-/// How what was told differs from what was expected; nothing where it does not.
-pub fn difference_of(
-    alloc: Global,
-    expected: &Telling,
-    told: &Telling,
-) -> Result<Option<String>, AllocError>
-    ensures { IfOk result (λ difference. IsNone difference → (expected.now.status ≡ told.now.status) × (string_bytes expected.now.text ≡ string_bytes told.now.text)) }
-{
-    let (wanted, got) = (expected.status, told.status);
-    if wanted != got {
-        return Ok(Some(format!(in alloc; "expected status {wanted}, but got {got}")?));
+impl<'a> Expected<'a> {
+    fn nothing(alloc: Global) -> Expected<'a> {
+        Expected {
+            output: String::new(alloc),
+            error: String::new(alloc),
+            status: 0,
+            verdict: None,
+            counts: Vec::new(alloc),
+            stands: Vec::new(alloc),
+        }
     }
-    let (wanted, got) = (expected.text.as_str(), told.text.as_str());
-    if wanted == got {
-        return Ok(None);
+
+    fn says_anything(&self) -> bool {
+        let is_silent = self.output.as_str().is_empty() && self.error.as_str().is_empty();
+        self.verdict.is_some() || !is_silent
     }
-    Ok(Some(first_difference(alloc, wanted, got)?))
+
+    fn put(&mut self, field: &'a str, rest: &'a str, line: &'a str) -> Result<(), CaseFault> {
+        match field {
+            "status" => self.status = rest.parse::<u8>().map_err(|_| CaseFault::Number)?,
+            "verdict" => self.verdict = Some(rest),
+            "lines" => self.counts.push(rest)?,
+            "stands" => self.stands.push(rest)?,
+            "apex:" => writeln!(self.error, "{line}")?,
+            _ => writeln!(self.output, "{line}")?,
+        }
+        Ok(())
+    }
 }

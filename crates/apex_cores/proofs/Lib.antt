@@ -3,3 +3,4 @@ pub mod Running
 pub mod Rows
 pub mod Closing
 pub mod Crossing
+pub mod Asking

@@ -1,3 +1,4 @@
 pub mod Runs
 pub mod Threads
 pub mod Plans
+pub mod Starts

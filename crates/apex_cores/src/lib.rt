@@ -8,11 +8,13 @@ mod gates;
 mod plans;
 mod pool;
 mod runs;
+mod starts;
 mod ticking;
 
 pub use cores::{CoreReport, run_core};
 pub use faults::RunFault;
 pub use gates::Gate;
 pub use plans::RunPlan;
-pub use runs::run_partition;
+pub use runs::{run_partition, run_partition_with};
+pub use starts::{EveryThread, Starts};
 pub use ticking::{TickerReport, run_ticker};

@@ -1,14 +1,9 @@
-//! The tests of the crates below: what no stored case can show, such as devices that fail, and threads.
+//! The tests of the program that no stored case can show: the words as the system gives them, and each
+//! fault by itself.
 //! It has no code of its own.
 #![tactic(auto)]
 
 #[cfg(test)]
-mod cores;
+mod faults;
 #[cfg(test)]
-mod history;
-#[cfg(test)]
-mod partition;
-#[cfg(test)]
-mod program;
-#[cfg(test)]
-mod tables;
+mod given;

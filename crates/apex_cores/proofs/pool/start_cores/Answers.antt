@@ -1,7 +1,9 @@
-use Rattle.std.proofs.Common.{◌≡◌, ◌+◌, ap, arith, length, rules, sym, ◌∙◌}
+use Rattle.std.proofs.Common.{◌≡◌, ◌+◌, ap, arith, length, refl, rules, sym, ◌∙◌}
 use Rattle.std.specs.Prelude.{vec_len}
+use Rattle.std.proofs.lemmas.Result.{err_from_is_err_and}
 use Rattle.std.specs.Vec.Iter.{into_iter_items, into_iter_len}
 use Rattle.apex_receipts.specs.Receipts.{Spoken}
+use Rattle.apex_cores.proofs.Asking.{agreed_more, given_up}
 use Rattle.apex_cores.proofs.Rows.{core_same, each_first, each_more, fresh}
 use Rattle.apex_cores.proofs.pool.start_cores.Goals as goal
 
@@ -15,6 +17,7 @@ loop-seat-init g c =
       started = rw c.requires.none tt;
       left = rw (empty, items, c.requires.seats) (fresh 0 (vec_len c.args.seats));
       count = omega (arith, empty, all);
+      asked = rw empty refl;
       room = c.requires.room;
     }
 
@@ -34,5 +37,17 @@ loop-seat-preserved g c =
       started = rw pushed.items (each_more _ 0 (vec_len started) started.items handle (omega (arith, count)) old.started (core, c.in_ok-start_core.ensures.turns));
       left = rw more first.1;
       count = omega (arith, more, steps.1, old.count);
+      asked = rw more (agreed_more g.S.Starts.asks (vec_len started) (vec_len started) c.args.starts.now c.loop-seat.starts c.start_core.new.starts
+          old.asked (c.in_ok-start_core.ensures.asked (vec_len started) (ap (λ (s : Spoken). s.who) first.0)) refl);
       room = omega (arith, pushed.capacity, old.room);
     }
+
+pub returns-in_err-start_core-clause-asked : goal.returns-in_err-start_core-clause-asked
+returns-in_err-start_core-clause-asked g c =
+    let p = err_from_is_err_and c.from_residual.result c.from_residual.ensures.1 in
+    let old = c.loop-seat.invariant in
+    let steps = c.in-Some.ensures.steps in
+    let first = each_first _ _ _ _ _ steps.0 old.left in
+    let started = vec_len c.loop-seat.started in
+    rw (p.1, p.2) (given_up g.S.Starts.asks (vec_len c.args.seats) started started c.in_err-start_core.field-0.0 c.args.starts.now c.loop-seat.starts
+    c.start_core.new.starts old.asked (c.in_err-start_core.ensures.asked started (ap (λ (s : Spoken). s.who) first.0)) refl (omega (arith, steps.1, old.count)))

@@ -1,0 +1,83 @@
+//! The same history over a store without lists, by scans.
+ghost use Rattle.std.specs.Prelude.{All, IfOk, IsTrue};
+ghost use Rattle.apex_types.specs.Lines.{IsPrintable};
+ghost use Rattle.apex_dispatch.specs.Events.{IsWithin};
+
+use crate::faults::CaseFault;
+use apex_dispatch::Kernel;
+use apex_history::{Counted, Page, print_history, read_line};
+use apex_store::PlainStore;
+use apex_table::read_table;
+use apex_types::Event;
+use std::alloc::Global;
+use std::str;
+
+/// Whether a kernel of so many cores may be asked for the event.
+fn is_within(cores: u8, event: &Event) -> bool
+    ensures { IsTrue result → IsWithin cores event.now }
+{
+    match event {
+        Event::Turn(core) => core.number() < cores,
+        Event::Tick(ticks) => (1..=1_048_576).contains(ticks),
+    }
+}
+
+/// A kernel of this table before any event, over a store without lists.
+fn booted(alloc: Global, table: &str) -> Result<Kernel<PlainStore>, CaseFault> {
+    let Ok(table) = read_table(alloc, table.as_bytes()) else {
+        return Err(CaseFault::Plain);
+    };
+    let store = PlainStore::new(alloc, &table)?;
+    Ok(Kernel::boot(alloc, table, store)?)
+}
+
+/// The event that the line names, of a kernel of so many cores.
+fn event_of(cores: u8, line: &str) -> Result<Event, CaseFault>
+    ensures { IfOk result (IsWithin cores) }
+{
+    match read_line(line.as_bytes()) {
+        Ok(event) if is_within(cores, &event) => Ok(event),
+        _ => Err(CaseFault::Plain),
+    }
+}
+
+/// Makes the event that the line names.
+fn make(kernel: &mut Kernel<PlainStore>, line: &str) -> Result<(), CaseFault> {
+    kernel.holds();
+    let event = event_of(kernel.table().cores(), line)?;
+    match kernel.run(&[event]) {
+        Ok(()) => Ok(()),
+        Err(_) => Err(CaseFault::Plain),
+    }
+}
+
+/// Makes the events that the lines name, one after the other.
+fn make_all(kernel: &mut Kernel<PlainStore>, lines: &str) -> Result<(), CaseFault> {
+    for line in lines.lines() {
+        make(kernel, line)?;
+    }
+    Ok(())
+}
+
+/// The lines of the kernel's history.
+fn lines_of(alloc: Global, kernel: &Kernel<PlainStore>) -> Result<Vec<u8>, CaseFault> {
+    let mut written = Vec::new(alloc);
+    let mut page = Page::new(alloc)?;
+    kernel.holds();
+    let mut writer = Counted::new(&mut written);
+    print_history(kernel.table(), kernel.entries(), &mut page, &mut writer)?;
+    Ok(written)
+}
+
+/// `Plain` where a kernel over a store without lists makes another history of the events that these lines
+/// name.
+pub fn check_plain(alloc: Global, table: &str, lines: &str) -> Result<(), CaseFault> {
+    let mut kernel = booted(alloc, table)?;
+    make_all(&mut kernel, lines)?;
+    let plain = lines_of(alloc, &kernel)?;
+    if plain.as_slice() == lines.as_bytes() {
+        Ok(())
+    } else {
+        Err(CaseFault::Plain)
+    }
+}

@@ -1,0 +1,40 @@
+//! Who may refuse the threads of a run.
+ghost use Rattle.std.specs.Prelude.{◌≡◌, ℕ, Bool, true, false, IfErr, OnOk};
+ghost use Rattle.apex_cores.specs.Starts.{IsRefused};
+
+use crate::faults::RunFault;
+
+/// Says of each thread of a run whether it may start (this profile).
+pub trait Starts {
+    // What an answer may be: who is asked, the thread's number, the answer, and who was asked afterwards.
+    ghost asks: { Self → ℕ → Bool → Self → Type 0 };
+
+    /// Whether the thread of this number may start. The thread of a core has the core's number, and that of
+    /// the ticker the next one. A run asks for each thread right before it starts it.
+    fn may(&mut self, thread: u32) -> bool
+        ensures { asks self.old thread result self.new };
+}
+
+/// Lets every thread start.
+#[derive(Clone, Copy)]
+pub struct EveryThread;
+
+impl Starts for EveryThread {
+    ghost asks = { λ _ _ answer _. answer ≡ true };
+
+    fn may(&mut self, _thread: u32) -> bool {
+        true
+    }
+}
+
+/// Asks for the thread of this number; `NoThread` if it is refused.
+pub fn ask<S: Starts>(starts: &mut S, thread: u32) -> Result<(), RunFault>
+    ensures agreed { OnOk result (S.asks starts.old thread true starts.new) }
+    ensures refused { IfErr result (λ fault. IsRefused S.asks thread fault starts.old starts.new) }
+{
+    if starts.may(thread) {
+        Ok(())
+    } else {
+        Err(RunFault::NoThread)
+    }
+}

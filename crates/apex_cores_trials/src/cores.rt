@@ -1,0 +1,8 @@
+//! Runs whose cores and ticker are threads, and workers on their own.
+
+mod contention;
+mod meetings;
+mod outlines;
+mod refusals;
+mod values;
+mod workers;

@@ -1,0 +1,85 @@
+//! Each fault, its line and its status.
+
+use apex_check::CheckFault;
+use apex_cli::{CliFault, Exit};
+use apex_table::{Place, Section, TableFault};
+use std::test::Fail;
+
+const USAGE: &str =
+    "apex: usage: apex replay|status --schedule S, apex run --turns N --ticks K, apex check";
+
+const FAULTS: &[(CliFault, &str, u8)] = &[
+    (CliFault::Usage, USAGE, 2),
+    (
+        CliFault::Table(TableFault::NotToml),
+        "apex: table refused: NotToml",
+        3,
+    ),
+    (
+        CliFault::Table(TableFault::MissingKey(Place {
+            section: Section::Top,
+            number: 0,
+        })),
+        "apex: table refused: MissingKey in top 0",
+        3,
+    ),
+    (
+        CliFault::Table(TableFault::UnknownName(Place {
+            section: Section::Process,
+            number: 1,
+        })),
+        "apex: table refused: UnknownName in process 1",
+        3,
+    ),
+    (
+        CliFault::Table(TableFault::BadInitStep(Place {
+            section: Section::Init,
+            number: 512,
+        })),
+        "apex: table refused: BadInitStep in init 512",
+        3,
+    ),
+    (
+        CliFault::HistoryFull(65_536),
+        "apex: history full after 65536 entries",
+        4,
+    ),
+    (CliFault::Memory, "apex: out of memory", 5),
+    (CliFault::NoThread, "apex: no thread", 5),
+    (CliFault::Read, "apex: read failed", 6),
+    (CliFault::Write, "apex: write failed", 6),
+];
+
+#[test]
+fn each_fault_has_its_text_and_status(rt: HostRuntime) -> Result<(), Fail> {
+    for (fault, text, status) in FAULTS {
+        assert_eq!(rt; fault.to_string(rt.alloc())?.as_str(), *text);
+        let exit = Exit::of(Err(*fault));
+        assert_eq!(rt; exit.status, *status, "at {text}");
+        assert_eq!(rt; exit.fault, Some(*fault), "at {text}");
+    }
+    Ok(())
+}
+
+const CHECK_FAULTS: &[(CheckFault, &str)] = &[
+    (CheckFault::Memory, "out of memory"),
+    (
+        CheckFault::Table(TableFault::NotToml),
+        "table refused: NotToml",
+    ),
+    (CheckFault::NoSeparator, "no separator"),
+    (CheckFault::BadLine(3), "history refused: BadLine at line 3"),
+    (CheckFault::TooLong(4), "history refused: TooLong at line 4"),
+    (CheckFault::Read, "read failed"),
+    (CheckFault::Write, "write failed"),
+];
+
+#[test]
+fn each_fault_of_a_check_has_its_text_and_is_told_so(rt: HostRuntime) -> Result<(), Fail> {
+    for (fault, text) in CHECK_FAULTS {
+        assert_eq!(rt; fault.to_string(rt.alloc())?.as_str(), *text);
+        let told = CliFault::from(*fault).to_string(rt.alloc())?;
+        assert_eq!(rt; told.as_str().strip_prefix("apex: "), Some(*text));
+    }
+    Ok(())
+}

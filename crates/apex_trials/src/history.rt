@@ -1,4 +1,0 @@
-//! A writer that fails, and lines that no run prints.
-
-mod devices;
-mod lines;
