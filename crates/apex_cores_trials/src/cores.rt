@@ -1,8 +1,6 @@
 //! Runs whose cores and ticker are threads, and workers on their own.
 
-mod contention;
 mod meetings;
 mod outlines;
 mod refusals;
-mod values;
 mod workers;

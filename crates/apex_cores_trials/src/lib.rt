@@ -1,4 +1,4 @@
-//! The tests of partitions that threads share: seats, receipts, gates, refused threads, and contention.
+//! The tests of partitions that threads share: seats, receipts, gates, and refused threads.
 //! It has no code of its own.
 #![tactic(auto)]
 
