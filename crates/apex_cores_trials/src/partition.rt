@@ -1,4 +1,0 @@
-//! Partitions by hand, and by the seats that share them.
-
-mod alone;
-mod shared;
