@@ -1,4 +1,4 @@
-//! How what was told differs from what was expected.
+//! The differences between an output and the expected one.
 ghost use Rattle.std.specs.Prelude.{◌≡◌, IfOk, IsNone, string_bytes};
 
 use crate::faults::CaseFault;

@@ -1,4 +1,4 @@
-//! Texts that are written short: `<<3 * 5,>>` stands for `5,5,5,`.
+//! Short forms of texts: `<<3 * 5,>>` means `5,5,5,`.
 use crate::faults::CaseFault;
 use std::alloc::Global;
 

@@ -1,6 +1,5 @@
-//! The program that plays the cases of the services, which it reads on standard input, and those of
-//! the examples, which lie in the folder that its argument names, and tells what is not as it should
-//! be.
+//! The program that plays the cases of the services, which it reads on standard input, and those of the
+//! examples, which are in the folder that its argument names, and reports each difference.
 #![tactic(auto)]
 
 mod attempts;

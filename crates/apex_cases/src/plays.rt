@@ -1,4 +1,4 @@
-//! What the program `apex` does where it is given words and a text.
+//! The output of the program `apex` for words and a table.
 use crate::devices::{Devices, Narrow};
 use crate::faults::CaseFault;
 use apex_cli::{CliFault, serve};

@@ -1,4 +1,4 @@
-//! The readings of a table: changes of its text, each with the fault that is told of it.
+//! The readings of a table: changes of its text, each with its fault.
 use crate::examples::{names_in, text_of};
 use crate::faults::CaseFault;
 use crate::folds::unfolded;

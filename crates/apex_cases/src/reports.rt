@@ -1,4 +1,4 @@
-//! What is told of the rows and of the examples, line by line.
+//! The report on the rows and on the examples, line by line.
 ghost use Rattle.std.specs.Prelude.{◌≡◌, false};
 
 use std::alloc::{AllocError, Global};

@@ -1,5 +1,5 @@
-//! A case of an example: the table's edits, what is given behind it, the words, the devices, and all that
-//! `apex` tells of it.
+//! A case of an example: the table's edits, the text behind it, the words, the devices, and the whole
+//! output of `apex`.
 use crate::devices::Devices;
 use crate::faults::CaseFault;
 use crate::plays::{bytes_of, words_of};

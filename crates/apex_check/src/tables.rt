@@ -1,4 +1,4 @@
-//! The table of a text: what stands before the first line that is exactly `%%`.
+//! The table of a text: the part before the first line that is exactly `%%`.
 ghost use Rattle.std.specs.Prelude.{◌≡◌, ◌≢◌, ◌≤◌, ◌++◌, ℕ, List, length, take, drop, IfOk, IfErr, OnOk, Ok, true, false};
 ghost use Rattle.std.specs.Io.KnownBytes.{Consumes, prepend_known};
 ghost use Rattle.apex_table.specs.Reading.{table_of};

@@ -1,5 +1,5 @@
-//! The program `apex` but for its `main`: what the words ask for is done over a reader and a writer,
-//! and what is at fault is told on a third stream.
+//! The program `apex` except for its `main`: it does what the words ask for over a reader and a writer,
+//! and reports a fault on a third stream.
 #![tactic(auto)]
 
 mod events;

@@ -1,4 +1,4 @@
-//! What the words ask for, done over a reader and two writers.
+//! The program: it does what the words ask for over a reader and two writers.
 ghost use Rattle.std.specs.Prelude.{◌≡◌, MatchResult, Option, map, string_bytes};
 ghost use Rattle.apex_history.specs.Counted.{inner_of, failures_of};
 ghost use Rattle.apex_cli.specs.declared.faults.CliFault.{CliFault};

@@ -1,4 +1,4 @@
-//! What the program is asked to do.
+//! The tasks of the program, one for each of its commands.
 ghost use Rattle.std.specs.Prelude.{◌≡◌, IfOk, IfErr, IsErrOf, Some, None, map, string_bytes};
 ghost use Rattle.apex_cli.specs.Faults.{IsUsageOrMemory};
 ghost use Rattle.apex_cli.specs.Requests.{asked_by, asked_in, count_of, request_said, task_said};

@@ -1,4 +1,4 @@
-//! Where the work of processes is done, outside the lock.
+//! The gate, at which the work of processes is done outside the lock.
 ghost use Rattle.std.specs.Prelude.{◌≡◌};
 ghost use Rattle.apex_types.specs.Works.{work_begun};
 

@@ -1,4 +1,4 @@
-//! What a run is to make.
+//! The plan of a run.
 
 /// What a run is to make (this profile).
 #[derive(Clone, Copy, PartialEq, Eq)]

@@ -1,4 +1,4 @@
-//! Who may refuse the threads of a run.
+//! The starts of a run's threads, any of which may be refused.
 ghost use Rattle.std.specs.Prelude.{◌≡◌, ℕ, Bool, true, false, IfErr, OnOk};
 ghost use Rattle.apex_cores.specs.Starts.{IsRefused};
 

@@ -1,4 +1,4 @@
-//! What a turn does: an init step, the step of the chosen process, the end of its work, or nothing.
+//! The effect of a turn: an init step, the step of the chosen process, the end of its work, or nothing.
 ghost use Rattle.std.specs.Prelude.{◌≡◌, ◌<◌, ◌≤◌, length, Some};
 ghost use Rattle.apex_types.specs.Limits.{most_processes, most_steps};
 ghost use Rattle.std.specs.Option.{ForSome};

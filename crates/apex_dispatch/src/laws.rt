@@ -1,4 +1,4 @@
-//! What holds of every run and of every kernel. Each law is the contract of a function that changes
+//! Laws of every run and of every kernel. Each law is the contract of a function that changes
 //! nothing.
 
 ghost use Rattle.std.specs.Prelude.{All};

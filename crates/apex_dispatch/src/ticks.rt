@@ -1,4 +1,5 @@
-//! What a tick does: time goes on to the next instant, where deadlines are missed and waits end.
+//! The effect of a tick: time goes on to the next instant at the latest, and there deadlines are missed
+//! and waits end.
 ghost use Rattle.std.specs.Prelude.{◌≡◌, ◌+◌, ◌-◌, ◌<◌, ◌≤◌, ◌^◌, [], ◌∷◌, ◌++◌, length};
 ghost use Rattle.apex_types.specs.Limits.{latest, most_notices, most_processes};
 ghost use Rattle.apex_types.specs.declared.Notice.TheVariants.{Missed};

@@ -1,4 +1,4 @@
-//! Who waits in a queue, in the queue's order.
+//! The waiters of a queue, in the queue's order.
 ghost use Rattle.std.specs.Prelude.{◌≡◌, ◌<◌, ◌≤◌, [], ◌∷◌, ◌++◌, length};
 ghost use Rattle.apex_types.specs.Limits.{most_processes};
 ghost use Rattle.apex_types.specs.Listing.{waiters};

@@ -1,4 +1,4 @@
-//! What is asked for bytes, and what is handed them.
+//! Readers, which give bytes, and writers, which take them.
 ghost use Rattle.std.specs.Prelude.{ℕ, List, Option, Result};
 ghost use Rattle.std.specs.Io.{ReadsAtMost, WritesAtMost};
 ghost use Rattle.std.specs.Io.KnownBytes.{Keeps, ReadConsumes, WriteAppends};

@@ -1,4 +1,4 @@
-//! What the faults of reading and a full history say.
+//! The texts of the faults of reading, and of a full history.
 
 use apex_history::ReadFault;
 use apex_types::Full;

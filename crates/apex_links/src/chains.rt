@@ -1,4 +1,4 @@
-//! How linked lists lie in memory: a node for each process and the two ends of each list.
+//! Linked lists in memory: a node for each process, and the two ends of each list.
 ghost use Rattle.std.specs.Prelude.{◌≡◌, ◌<◌, length, replicate, slice_set, IfOk};
 ghost use Rattle.apex_links.specs.Chains.{ends_at, ends_with, ends_without, followed, free, no_ends, node_at, nodes_with, nodes_without, preceded, rebound, IsKnown};
 

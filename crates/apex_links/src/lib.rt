@@ -1,5 +1,5 @@
-//! Linked lists of processes, by index: a process stands in at most one list at a time, and each change
-//! touches its neighbours alone.
+//! Linked lists of processes, by index: a process is in at most one list at a time, and each change
+//! touches only its neighbours.
 #![tactic(auto)]
 
 mod chains;

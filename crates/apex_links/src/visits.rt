@@ -1,4 +1,4 @@
-//! How many nodes and records have been looked at.
+//! The number of nodes and records that have been looked at.
 use std::cell::Cell;
 
 /// A count that goes up by one at each visit, and stays at the greatest `u64`. No contract speaks of it.

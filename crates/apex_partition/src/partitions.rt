@@ -1,4 +1,4 @@
-//! The value that lies under the lock.
+//! The value under the lock.
 ghost use Rattle.std.specs.Prelude.{◌≡◌, ◌<◌, ◌≤◌, ◌↔◌, length, All, IfOk, IfErr, IfSome, OnOk, OnErr, IsOk, None, Some, slice_get};
 ghost use Rattle.std.specs.List.{last_or};
 ghost use Rattle.apex_types.specs.Limits.{most_entries, most_ticks};

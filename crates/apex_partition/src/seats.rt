@@ -1,4 +1,4 @@
-//! Who makes the entries: a seat for each core, and the ticker.
+//! The makers of the entries: a seat for each core, and the ticker.
 ghost use Rattle.std.specs.Prelude.{◌≡◌, ◌<◌, length};
 ghost use Rattle.apex_types.specs.declared.entries.Who.TheVariants.{Core, Ticker as ToTicker};
 ghost use Rattle.apex_receipts.specs.Receipts.{unspoken};

@@ -1,5 +1,5 @@
-//! A store of processes that keeps who is ready, who waits, what is due and who owns what, and finds each
-//! without a scan.
+//! A store of processes that keeps the ready processes, the waiters, the timers and the owners of
+//! mutexes in linked lists, and finds each without a scan.
 #![tactic(auto)]
 
 mod lists;

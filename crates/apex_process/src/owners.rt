@@ -1,4 +1,4 @@
-//! Who owns each mutex.
+//! The owner of each mutex.
 ghost use Rattle.std.specs.Prelude.{◌≡◌, ◌≢◌, ◌<◌, ℕ, true, false, ◌==◌, if◌then◌else◌, IfOk, MatchOption};
 ghost use Rattle.apex_types.specs.Owners.{is_held};
 ghost use Rattle.apex_process.specs.Owners.{is_owner, most_mutexes, most_owners, IsFirstAmong, IsFirstOwner, IsUnowned};

@@ -1,4 +1,4 @@
-//! A store that keeps who is ready, who waits and what is due in linked lists.
+//! A store that keeps the ready processes, the waiters and the timers in linked lists.
 ghost use Rattle.std.specs.Prelude.{◌≡◌, ◌<◌, ◌&&◌, ◌||◌, not, is_some, length, IfOk};
 ghost use Rattle.apex_types.specs.Roster.{opening_roster, record_at};
 ghost use Rattle.apex_types.specs.Running.{is_eligible};

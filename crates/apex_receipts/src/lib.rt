@@ -1,5 +1,5 @@
-//! Receipts of a history that lies under a lock: who made an entry holds a receipt, which agrees with
-//! the history whenever the lock is taken again.
+//! Receipts of a history under a lock: each entry gives its maker a receipt, which agrees with the
+//! history whenever the lock is taken again.
 #![tactic(auto)]
 
 mod law;

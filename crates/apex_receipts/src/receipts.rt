@@ -1,4 +1,4 @@
-//! What who made an entry holds of it.
+//! The receipt that an entry gives its maker.
 ghost use Rattle.std.specs.Prelude.{◌≡◌};
 
 use crate::law::Known;

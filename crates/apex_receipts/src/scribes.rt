@@ -1,4 +1,4 @@
-//! Who writes the history down, under the lock.
+//! The scribe, which writes the history down under the lock.
 ghost use Rattle.std.specs.Prelude.{◌≡◌, ◌+◌, ◌<◌, ◌≤◌, ◌^◌, true, [], ◌∷◌, ◌++◌, length};
 ghost use Rattle.apex_receipts.specs.Receipts.{Stands, own_entries};
 ghost use Rattle.apex_receipts.specs.Rules.{head_of};

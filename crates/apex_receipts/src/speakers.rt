@@ -1,4 +1,4 @@
-//! Who writes notes into the book, and knows which of them are its own.
+//! A speaker, which writes notes into the book and knows which of them are its own.
 ghost use Rattle.std.specs.Prelude.{◌≡◌, ℕ, ◌<◌, [], Some, None};
 ghost use mathlib.Core.List.{IsPrefix};
 ghost use Rattle.logbook.specs.Pages.{may_write};

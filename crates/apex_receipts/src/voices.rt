@@ -1,4 +1,4 @@
-//! What a core or the ticker holds of the book.
+//! A voice, which a core or the ticker holds of the book.
 ghost use Rattle.std.specs.Prelude.{◌≡◌, [], length};
 ghost use Rattle.apex_receipts.specs.Receipts.{unspoken};
 

@@ -1,4 +1,4 @@
-//! How a mutex that its owner has left goes on to the first who waits for it.
+//! The hand-over of a mutex that its owner has left to its first waiter.
 
 ghost use Rattle.std.specs.Prelude.{◌≡◌, ◌<◌, length};
 ghost use Rattle.apex_types.specs.Handovers.{halted, hand_over};

@@ -1,4 +1,4 @@
-//! What the choices of every store mean.
+//! The meaning of the choices of every store.
 ghost use Rattle.apex_types.specs.Distinct.{HasDistinctStamps, IsStamped};
 ghost use Rattle.apex_types.specs.Roster.{opening_roster, record_at};
 ghost use Rattle.apex_store.specs.Laws as laws;

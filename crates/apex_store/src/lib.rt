@@ -1,4 +1,4 @@
-//! What a partition keeps of its processes: the trait [`Store`], which says it in the machine's own
+//! The store of a partition's processes: the trait [`Store`], which is said in the machine's own
 //! words, and [`PlainStore`], which answers by scans.
 #![tactic(auto)]
 

@@ -1,4 +1,4 @@
-//! Who owns a mutex.
+//! The owner of a mutex.
 
 ghost use Rattle.std.specs.Prelude.{◌≡◌, ◌<◌, ◌≤◌, length, position, IfSome};
 ghost use Rattle.apex_types.specs.Callers.{IsReadyCaller};

@@ -1,4 +1,4 @@
-//! How a process that calls begins to wait.
+//! The beginning of a wait of the calling process.
 ghost use Rattle.std.specs.Prelude.{◌≡◌, [], length};
 ghost use Rattle.apex_types.specs.Callers.{IsReady};
 ghost use Rattle.apex_types.specs.Dues.{HasTime};

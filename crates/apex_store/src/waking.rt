@@ -1,4 +1,4 @@
-//! How processes that wait get what they waited for.
+//! The end of a wait whose condition holds.
 
 ghost use Rattle.std.specs.Prelude.{◌≡◌, ◌<◌, ◌≤◌, length};
 ghost use Rattle.apex_types.specs.Limits.{most_notices, most_processes};

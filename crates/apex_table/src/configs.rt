@@ -1,4 +1,4 @@
-//! What the table gives a process and an object of each kind.
+//! The attributes of a process, and of an object of each kind, in the table.
 ghost use Rattle.std.specs.Prelude.{◌≡◌, ◌≤◌, length};
 ghost use Rattle.apex_types.specs.Limits.{most_literal};
 ghost use Rattle.apex_types.specs.Table.{step_at, call_in};

@@ -1,4 +1,4 @@
-//! The faults of a table's text, and where they are.
+//! The faults of a table's text, and their places.
 ghost use Rattle.std.specs.Prelude.{◌≡◌, ◌+◌, ◌<◌, ◌≤◌, ◌++◌, length, Some};
 ghost use Rattle.apex_types.specs.Limits.{most_init_steps};
 ghost use Rattle.apex_table.specs.Fault.{section_word, place_text, place_after, fault_text};

@@ -1,4 +1,4 @@
-//! The partition table: what is read of a table's text, or the first fault that it has.
+//! The partition table: the reading of a table's text, which gives a table or its first fault.
 #![tactic(auto)]
 
 mod blackboards;

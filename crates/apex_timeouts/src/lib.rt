@@ -1,4 +1,4 @@
-//! The timers of a partition: whose wait ends by itself, whose deadline passes, and which of it comes next.
+//! The timers of a partition: the dues and the deadlines, and the next instant among them.
 #![tactic(auto)]
 
 mod timeline;

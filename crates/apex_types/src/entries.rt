@@ -1,4 +1,4 @@
-//! The entries of a history: who did what, and what came of it.
+//! The entries of a history: the event, its caller and call, the reply, and the notices.
 ghost use Rattle.std.specs.Prelude.{◌≡◌, ◌<◌, ◌≤◌, [], ◌∷◌, ◌++◌, length};
 ghost use Rattle.apex_types.specs.Limits.{most_notices};
 

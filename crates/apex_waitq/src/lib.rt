@@ -1,5 +1,5 @@
-//! The wait queues of a partition: who waits for each object, in the order of its discipline, and how
-//! many.
+//! The wait queues of a partition: the waiters of each object, in the order of its discipline, and their
+//! number.
 #![tactic(auto)]
 
 mod lists;

@@ -1,4 +1,4 @@
-//! Who waits in which queue.
+//! The waiters of each queue.
 ghost use Rattle.std.specs.Prelude.{◌≡◌, ◌+◌, ◌<◌, ◌≤◌, ◌^◌, length, replicate, slice_set, IfOk};
 ghost use Rattle.apex_links.specs.Neighbours.{first_of};
 ghost use Rattle.apex_links.specs.Links.{list_at, removed, IsFree};

@@ -1,4 +1,4 @@
-//! How a line tells of a blackboard.
+//! The words of a line about a blackboard.
 ghost use Rattle.std.specs.Prelude.{◌≡◌, ◌+◌, ◌<◌, ◌≤◌, ◌++◌, length, codes};
 ghost use Rattle.arrayvec.specs.ArrayVec.{array_vec_len};
 ghost use Rattle.apex_types.specs.Lines.{blackboard_name, blackboard_service_text};

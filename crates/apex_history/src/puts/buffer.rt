@@ -1,4 +1,4 @@
-//! How a line tells of a buffer.
+//! The words of a line about a buffer.
 ghost use Rattle.std.specs.Prelude.{◌≡◌, ◌+◌, ◌<◌, ◌≤◌, ◌++◌, length, codes};
 ghost use Rattle.arrayvec.specs.ArrayVec.{array_vec_len};
 ghost use Rattle.apex_types.specs.Lines.{buffer_name, buffer_service_text};

@@ -1,4 +1,4 @@
-//! How a line tells of what a process asks for itself.
+//! The words of a line about a call that a process makes for itself.
 ghost use Rattle.std.specs.Prelude.{◌≡◌, ◌+◌, ◌≤◌, ◌++◌};
 ghost use Rattle.arrayvec.specs.ArrayVec.{array_vec_len};
 ghost use Rattle.apex_types.specs.Lines.{caller_call_text};

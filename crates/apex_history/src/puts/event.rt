@@ -1,4 +1,4 @@
-//! How a line tells of an event.
+//! The words of a line about an event.
 ghost use Rattle.std.specs.Prelude.{◌≡◌, ◌+◌, ◌<◌, ◌≤◌, ◌++◌, length, codes};
 ghost use Rattle.arrayvec.specs.ArrayVec.{array_vec_len};
 ghost use Rattle.apex_types.specs.Lines.{event_name, event_service_text};

@@ -1,4 +1,4 @@
-//! How a line tells of a mutex.
+//! The words of a line about a mutex.
 ghost use Rattle.std.specs.Prelude.{◌≡◌, ◌+◌, ◌<◌, ◌≤◌, ◌++◌, length, codes};
 ghost use Rattle.arrayvec.specs.ArrayVec.{array_vec_len};
 ghost use Rattle.apex_types.specs.Lines.{mutex_name, mutex_service_text};

@@ -1,4 +1,4 @@
-//! How a line tells of an object of any kind.
+//! The words of a line about an object of any kind.
 ghost use Rattle.std.specs.Prelude.{◌≡◌, ◌+◌, ◌<◌, ◌≤◌, ◌++◌, ℕ, List, length, codes};
 ghost use Rattle.arrayvec.specs.ArrayVec.{array_vec_len};
 ghost use Rattle.apex_types.specs.Table.{IsKnownName, IsKnownObject, literal_text};

@@ -1,4 +1,4 @@
-//! How a line tells of partition management.
+//! The words of a line about partition management.
 ghost use Rattle.std.specs.Prelude.{◌≡◌, ◌+◌, ◌≤◌, ◌++◌, length};
 ghost use Rattle.arrayvec.specs.ArrayVec.{array_vec_len};
 ghost use Rattle.apex_types.specs.Lines.{mode_text, partition_call_text};

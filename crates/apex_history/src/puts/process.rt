@@ -1,4 +1,4 @@
-//! How a line tells of a process that is named.
+//! The words of a line about a process that a call names.
 ghost use Rattle.std.specs.Prelude.{◌≡◌, ◌+◌, ◌<◌, ◌≤◌, ◌++◌, length, codes};
 ghost use Rattle.arrayvec.specs.ArrayVec.{array_vec_len};
 ghost use Rattle.apex_types.specs.Lines.{process_name, process_service_text};

@@ -1,4 +1,4 @@
-//! How a line tells of a semaphore.
+//! The words of a line about a semaphore.
 ghost use Rattle.std.specs.Prelude.{◌≡◌, ◌+◌, ◌<◌, ◌≤◌, ◌++◌, length, codes};
 ghost use Rattle.arrayvec.specs.ArrayVec.{array_vec_len};
 ghost use Rattle.apex_types.specs.Lines.{semaphore_name, semaphore_service_text};

@@ -1,4 +1,4 @@
-//! How a line tells of time management.
+//! The words of a line about time management.
 ghost use Rattle.std.specs.Prelude.{◌≡◌, ◌+◌, ◌≤◌, ◌++◌};
 ghost use Rattle.arrayvec.specs.ArrayVec.{array_vec_len};
 ghost use Rattle.apex_types.specs.Lines.{time_call_text};
