@@ -1,0 +1,9 @@
+//! Runs whose cores and ticker are threads, and workers on their own.
+
+mod contention;
+mod crews;
+mod meetings;
+mod outlines;
+mod refusals;
+mod values;
+mod workers;

@@ -1,0 +1,79 @@
+//! Two cores, each of which works only where the other one does, too.
+
+use apex_cores::{Gate, RunPlan, run_partition};
+use apex_table::read_table;
+use apex_types::{CoreId, ProcessId};
+use crossbeam_utils::Backoff;
+use std::sync::atomic::{AtomicBool, Ordering};
+use std::test::Fail;
+
+const TABLE: &str = r#"
+cores = 2
+history = 65536
+
+[[process]]
+name = "A"
+priority = 10
+core = 0
+start = true
+script = ["work 1"]
+
+[[process]]
+name = "B"
+priority = 10
+core = 1
+start = true
+script = ["work 1"]
+"#;
+
+/// How often a core asks whether the other one's work has begun.
+const POLLS: u32 = 1_000_000;
+
+/// A gate that holds each core's work until the other one's has begun.
+#[derive(Drop)]
+struct Meeting {
+    first: AtomicBool,
+    second: AtomicBool,
+    missed: AtomicBool,
+}
+
+impl Gate for Meeting {
+    fn work(&self, core: CoreId, _process: ProcessId, _ticks: u32) {
+        let (mine, other) = if core.number() == 0 {
+            (&self.first, &self.second)
+        } else {
+            (&self.second, &self.first)
+        };
+        mine.store(true, Ordering::SeqCst);
+        let backoff = Backoff::new();
+        for _ in 0..POLLS {
+            if other.load(Ordering::SeqCst) {
+                return;
+            }
+            backoff.snooze();
+        }
+        self.missed.store(true, Ordering::SeqCst);
+    }
+}
+
+// Where one thread served both cores, or held the lock while it worked, or never came to the gate, they
+// would not meet.
+#[test]
+fn two_cores_work_at_once(rt: HostRuntime) -> Result<(), Fail> {
+    let table = read_table(rt.alloc(), TABLE.as_bytes())?;
+    let gate = Meeting {
+        first: AtomicBool::new(false),
+        second: AtomicBool::new(false),
+        missed: AtomicBool::new(false),
+    };
+    let plan = RunPlan {
+        turns: 30_000,
+        ticks: 0,
+    };
+    let closed = run_partition(&rt, rt.alloc(), table, plan, &gate)?;
+    assert!(rt; gate.first.load(Ordering::SeqCst));
+    assert!(rt; gate.second.load(Ordering::SeqCst));
+    assert!(rt; !gate.missed.load(Ordering::SeqCst));
+    assert_eq!(rt; closed.entries().len(), 60_000);
+    Ok(())
+}

@@ -1,0 +1,158 @@
+//! Runs of which a thread is refused, and the ticker's thread beside the cores.
+
+use apex_cores::{Gate, RunFault, RunPlan, Starts, run_partition_with};
+use apex_table::read_table;
+use apex_types::{CoreId, ProcessId};
+use std::alloc::Global;
+use std::sync::Wait;
+use std::sync::atomic::{AtomicU32, Ordering};
+use std::test::Fail;
+use std::thread::Threads;
+
+/// Core 0 makes the four turns of the init list and then works in every second turn; the others are idle.
+const THREE_CORES: &str = r#"
+cores = 3
+history = 8000
+
+[[process]]
+name = "P"
+priority = 10
+loop = true
+start = true
+script = ["work 1"]
+"#;
+
+/// Four turns for the init list, and 1,000 pairs of turns for work.
+const PLAN: RunPlan = RunPlan {
+    turns: 2004,
+    ticks: 5,
+};
+
+/// How often core 0's turns begin work.
+const WORKS: u32 = 1000;
+
+/// A gate that counts its calls.
+#[derive(Drop)]
+struct Counter {
+    calls: AtomicU32,
+}
+
+impl Counter {
+    fn new() -> Counter {
+        Counter {
+            calls: AtomicU32::new(0),
+        }
+    }
+
+    fn calls(&self) -> u32 {
+        self.calls.load(Ordering::SeqCst)
+    }
+}
+
+impl Gate for Counter {
+    fn work(&self, _core: CoreId, _process: ProcessId, _ticks: u32) {
+        self.calls.fetch_add(1, Ordering::SeqCst);
+    }
+}
+
+/// Refuses the thread of this number, and counts what it is asked.
+#[derive(Clone, Copy)]
+struct AllBut {
+    refused: u32,
+    asked: u32,
+    is_in_turn: bool,
+}
+
+impl Starts for AllBut {
+    ghost use Rattle.std.specs.Prelude.{⊤};
+
+    ghost asks = { λ _ _ _ _. ⊤ };
+
+    fn may(&mut self, thread: u32) -> bool {
+        self.is_in_turn = self.is_in_turn && thread == self.asked;
+        self.asked = self.asked.saturating_add(1);
+        thread != self.refused
+    }
+}
+
+/// What came of a run: its entries or its fault, the threads that were asked for, and the gate's calls.
+#[derive(Drop)]
+struct Outcome {
+    entries: Result<usize, RunFault>,
+    starts: AllBut,
+    works: u32,
+}
+
+/// Runs the partition of this table, of which the thread of this number is refused.
+fn run_without<R: Threads + Wait + Sync>(
+    rt: &R,
+    alloc: Global,
+    text: &str,
+    plan: RunPlan,
+    refused: u32,
+) -> Result<Outcome, Fail> {
+    let table = read_table(alloc, text.as_bytes())?;
+    let gate = Counter::new();
+    let mut starts = AllBut {
+        refused,
+        asked: 0,
+        is_in_turn: true,
+    };
+    let entries = match run_partition_with(rt, alloc, table, plan, &mut starts, &gate) {
+        Ok(closed) => Ok(closed.entries().len()),
+        Err(fault) => Err(fault),
+    };
+    Ok(Outcome {
+        entries,
+        starts,
+        works: gate.calls(),
+    })
+}
+
+// The threads that had begun have come to their end where the run has, so that all work of core 0 was done.
+#[test]
+fn a_refused_thread_is_told_once_the_others_have_ended(rt: HostRuntime) -> Result<(), Fail> {
+    for refused in 0..4u32 {
+        let run = run_without(&rt, rt.alloc(), THREE_CORES, PLAN, refused)?;
+        assert!(rt; run.entries == Err(RunFault::NoThread), "thread {refused}");
+        assert!(rt; run.starts.asked == refused + 1, "thread {refused}");
+        assert!(rt; run.starts.is_in_turn, "thread {refused}");
+        let works = if refused == 0 { 0 } else { WORKS };
+        assert!(rt; run.works == works, "thread {refused}");
+    }
+    Ok(())
+}
+
+#[test]
+fn no_thread_is_refused_where_all_may_start(rt: HostRuntime) -> Result<(), Fail> {
+    let run = run_without(&rt, rt.alloc(), THREE_CORES, PLAN, 4)?;
+    assert!(rt; run.entries == Ok(6017));
+    assert!(rt; run.starts.asked == 4 && run.starts.is_in_turn);
+    assert!(rt; run.works == WORKS);
+    Ok(())
+}
+
+/// The process works once a tick has come after its wait began.
+const WAITER_FOR_TIME: &str = r#"
+cores = 1
+history = 65536
+
+[[process]]
+name = "P"
+priority = 10
+start = true
+script = ["TIMED_WAIT 1", "work 1"]
+"#;
+
+// If the ticker's thread began only once the core's had ended, no work would ever begin.
+#[test]
+fn the_ticker_ticks_while_the_core_takes_turns(rt: HostRuntime) -> Result<(), Fail> {
+    let plan = RunPlan {
+        turns: 30_000,
+        ticks: 30_000,
+    };
+    let run = run_without(&rt, rt.alloc(), WAITER_FOR_TIME, plan, 2)?;
+    assert!(rt; run.entries == Ok(60_000));
+    assert!(rt; run.works == 1);
+    Ok(())
+}

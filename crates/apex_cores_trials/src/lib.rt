@@ -1,0 +1,12 @@
+//! The tests of partitions that threads share: seats, receipts, gates, refused threads, and contention.
+//! It has no code of its own.
+#![tactic(auto)]
+
+#[cfg(test)]
+mod cores;
+#[cfg(test)]
+mod lines;
+#[cfg(test)]
+mod partition;
+#[cfg(test)]
+mod tables;

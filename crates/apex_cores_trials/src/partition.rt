@@ -1,0 +1,4 @@
+//! Partitions by hand, and by the seats that share them.
+
+mod alone;
+mod shared;

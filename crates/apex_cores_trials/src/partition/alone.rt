@@ -1,0 +1,48 @@
+//! A partition without a lock.
+ghost use Rattle.std.specs.Prelude.{◌<◌};
+
+use apex_partition::Partition;
+use apex_table::read_table;
+use apex_types::{CoreId, Full};
+use std::process::Abort;
+use std::test::Fail;
+
+/// Three entries fill the history of a partition with two cores.
+pub const ALONE: &str = "
+cores = 2
+history = 3
+
+[[process]]
+name = \"P\"
+priority = 10
+start = true
+script = [\"TIMED_WAIT 5\"]
+";
+
+fn turn_of(rt: &impl Abort, partition: &mut Partition, core: CoreId) -> Result<(), Full> {
+    assert!(rt; core.number() < partition.table().cores());
+    partition.turn(core)
+}
+
+/// Two turns of core 0 with a tick between them.
+fn fill(rt: &impl Abort, partition: &mut Partition) {
+    assert!(rt; turn_of(rt, partition, CoreId::new(0)).is_ok());
+    assert!(rt; partition.tick(3).is_ok());
+    assert!(rt; turn_of(rt, partition, CoreId::new(0)).is_ok());
+}
+
+/// Whether a turn and a tick are refused, since the history has its three entries.
+fn is_full(rt: &impl Abort, partition: &mut Partition) -> bool {
+    let full = Err(Full { entries: 3 });
+    turn_of(rt, partition, CoreId::new(0)) == full && partition.tick(3) == full
+}
+
+#[test]
+fn a_full_history_refuses_both_events(rt: HostRuntime) -> Result<(), Fail> {
+    let table = read_table(rt.alloc(), ALONE.as_bytes())?;
+    let mut partition = Partition::boot(rt.alloc(), table)?;
+    fill(&rt, &mut partition);
+    assert!(rt; is_full(&rt, &mut partition));
+    assert!(rt; partition.entries().len() == 3);
+    Ok(())
+}
