@@ -1,0 +1,152 @@
+-- The picture of a run, one column more each time.
+use Rattle.std.proofs.Common.{◌≡◌, ◌∙◌, ◌+◌, ◌<◌, List, [], ◌∷◌, ◌++◌, Option, None, Some, refl, sym, ap, arith, get_or, length, subst, append-nil, append_assoc, length-append, inl, inr}
+use Rattle.std.specs.List.{All, last_or}
+use Rattle.std.proofs.Math.Seq.{get_or-append_seam}
+use Rattle.std.proofs.lemmas.Bool.{cases_lt}
+use Rattle.apex_types.specs.declared.Event.TheVariants.{Turn, Tick}
+use Rattle.apex_types.specs.Machine.{Machine, accept, events_of, happen, opening, replay, run, tick, turn}
+use Rattle.apex_types.specs.Roster.{Roster, opening_roster}
+use Rattle.apex_types.specs.Table.{Table}
+use Rattle.apex_dispatch.proofs.Runs.{accept-full, accept-room}
+use Rattle.apex_pictures.specs.Moments.{Column, Shown, columns_from, moment_of, picture}
+use Rattle.apex_pictures.specs.Drawing.{IsPictured, last_shown}
+use Rattle.apex_pictures.specs.Terms.{Entry, Event}
+
+last_push : (before : Shown) (rosters : List Roster) (roster : Roster)
+    → last_shown before (rosters ++ roster ∷ []) ≡ moment_of roster
+last_push before [] roster = refl
+last_push before (r ∷ rosters) roster = last_push (moment_of r) rosters roster
+
+columns_push : (before : Shown) (entries : List Entry) (rosters : List Roster) (entry : Entry) (roster : Roster)
+    → length rosters ≡ length entries
+    → columns_from before (entries ++ entry ∷ []) (rosters ++ roster ∷ [])
+    ≡ columns_from before entries rosters
+    ++ record { before = last_shown before rosters; entry = entry; after = moment_of roster } ∷ []
+columns_push before [] [] entry roster same = refl
+columns_push before [] (r ∷ rosters) entry roster same = absurd (omega (arith, same))
+columns_push before (e ∷ entries) [] entry roster same = absurd (omega (arith, same))
+columns_push before (e ∷ entries) (r ∷ rosters) entry roster same =
+    ap (λ (columns : List Column). record { before = before; entry = e; after = moment_of r } ∷ columns)
+    (columns_push (moment_of r) entries rosters entry roster (omega (arith, same)))
+
+last_put : {A : Type 0} (o : Option A) (xs : List A) (x : A) → last_or o (xs ++ x ∷ []) ≡ Some x
+last_put o [] x = refl
+last_put o (y ∷ xs) x = last_put (Some y) xs x
+
+-- the machine with one entry more and the roster after it
+abbrev longer : Machine → Entry → Roster → Machine
+longer machine entry roster = record {
+  roster = roster;
+  past = machine.past ++ roster ∷ [];
+  history = machine.history ++ entry ∷ [];
+}
+
+event_adds : (table : Table) (machine : Machine) (event : Event)
+    → (entry : Entry) × (roster : Roster) × (happen table machine event ≡ longer machine entry roster)
+unfolding turn tick
+event_adds table machine (Turn core) = (_, _, refl)
+event_adds table machine (Tick n) = (_, _, refl)
+
+-- the columns of a machine with one entry more
+module _ (table : Table) (machine : Machine) (pictured : IsPictured table machine) where
+  pictured_longer : (entry : Entry) (roster : Roster) → IsPictured table (longer machine entry roster)
+  pictured_longer entry roster = record {
+    many = rw (length-append, length-append) (omega (arith, pictured.many));
+    last = last_push _ machine.past roster;
+  }
+
+  pub pictured_accept : (event : Event) → IsPictured table (accept table machine event)
+  pictured_accept event = elim (cases_lt (length machine.history) table.limit) [
+    | inl room ↦
+        let (entry, roster, is) = event_adds table machine event in
+        subst (IsPictured table) (sym (accept-room table machine event room ∙ is)) (pictured_longer entry roster)
+    | inr full ↦ subst (IsPictured table) (sym (accept-full table machine event full)) pictured
+  ]
+
+  column_of : Entry → Roster → Column
+  column_of entry roster = record { before = moment_of machine.roster; entry = entry; after = moment_of roster }
+
+  column_longer : (entry : Entry) (roster : Roster)
+      → picture table (longer machine entry roster) ≡ picture table machine ++ column_of entry roster ∷ []
+  unfolding column_of
+  column_longer entry roster =
+      columns_push (moment_of (opening_roster table)) machine.history machine.past entry roster pictured.many
+      ∙ ap (λ (shown : Shown). picture table machine ++ record { before = shown; entry = entry; after = moment_of roster } ∷ []) pictured.last
+
+  -- the column that an event adds, for which there was room
+  pub column_more : (event : Event) (new : Machine) (found : Entry) → length machine.history < table.limit
+      → new ≡ accept table machine event → last_or None new.history ≡ Some found
+      → picture table new
+      ≡ picture table machine ++ record { before = moment_of machine.roster; entry = found; after = moment_of new.roster } ∷ []
+  unfolding column_of
+  column_more event new found room is latest =
+      let (entry, roster, adds) = event_adds table machine event in
+      let whole : new ≡ longer machine entry roster = is ∙ accept-room table machine event room ∙ adds in
+      let some : Some entry ≡ Some found =
+      sym (last_put None machine.history entry) ∙ ap (λ (m : Machine). last_or None m.history) (sym whole) ∙ latest in
+      let same : entry ≡ found = cc in
+      let here : new.roster ≡ roster = ap (λ (m : Machine). m.roster) whole in
+      ap (picture table) whole ∙ column_longer entry roster
+      ∙ ap (λ (e : Entry). picture table machine ++ column_of e roster ∷ []) same
+      ∙ ap (λ (r : Roster). picture table machine ++ column_of found r ∷ []) (sym here)
+
+  -- an event for which there was room has a latest entry
+  pub latest_some : (event : Event) (new : Machine) → length machine.history < table.limit
+      → new ≡ accept table machine event → last_or None new.history ≡ None → ⊥
+  latest_some event new room is none =
+      let (entry, roster, adds) = event_adds table machine event in
+      let whole : new ≡ longer machine entry roster = is ∙ accept-room table machine event room ∙ adds in
+      let some : Some entry ≡ None =
+      sym (last_put None machine.history entry) ∙ ap (λ (m : Machine). last_or None m.history) (sym whole) ∙ none in
+      cc
+
+  -- an event adds columns
+  accept_more : (event : Event) → (columns : List Column) × (picture table (accept table machine event) ≡ picture table machine ++ columns)
+  accept_more event = elim (cases_lt (length machine.history) table.limit) [
+    | inl room ↦
+        let (entry, roster, adds) = event_adds table machine event in
+        (column_of entry roster ∷ [], ap (picture table) (accept-room table machine event room ∙ adds) ∙ column_longer entry roster)
+    | inr full ↦ ([], ap (picture table) (accept-full table machine event full) ∙ sym (append-nil (picture table machine)))
+  ]
+
+-- a run adds columns
+pub run_more : (table : Table) (events : List Event) (machine : Machine) → IsPictured table machine
+    → (columns : List Column) × (picture table (run table machine events) ≡ picture table machine ++ columns)
+run_more table [] machine pictured = ([], sym (append-nil (picture table machine)))
+run_more table (event ∷ events) machine pictured =
+    let (first, one) = accept_more table machine pictured event in
+    let (others, rest) = run_more table events (accept table machine event) (pictured_accept table machine pictured event) in
+    (first ++ others, rest ∙ ap (λ (columns : List Column). columns ++ others) one ∙ append_assoc (picture table machine) first others)
+
+-- every run is pictured
+pub pictured_run : (table : Table) (events : List Event) (machine : Machine) → IsPictured table machine
+    → IsPictured table (run table machine events)
+pictured_run table [] machine pictured = pictured
+pictured_run table (event ∷ events) machine pictured =
+    pictured_run table events (accept table machine event) (pictured_accept table machine pictured event)
+
+pub pictured_opening : (table : Table) → IsPictured table (opening table)
+pictured_opening table = record { many = refl; last = refl }
+
+-- the machine of a history is pictured
+pub pictured_machine : (table : Table) (machine : Machine) → replay table machine.history ≡ machine → IsPictured table machine
+pictured_machine table machine again =
+    subst (IsPictured table) again (pictured_run table (events_of machine.history) (opening table) (pictured_opening table))
+
+-- what holds of all entries holds of the one that an event adds
+pub latest_holds : (table : Table) (machine new : Machine) (event : Event) (P : Entry → Type 0) (found : Entry)
+    → length machine.history < table.limit → new ≡ accept table machine event
+    → last_or None new.history ≡ Some found → All P new.history → P found
+latest_holds table machine new event P found room is latest all =
+    let (entry, roster, adds) = event_adds table machine event in
+    let whole : new ≡ longer machine entry roster = is ∙ accept-room table machine event room ∙ adds in
+    let some : Some entry ≡ Some found =
+    sym (last_put None machine.history entry) ∙ ap (λ (m : Machine). last_or None m.history) (sym whole) ∙ latest in
+    let same : entry ≡ found = cc in
+    let history : new.history ≡ machine.history ++ found ∷ [] =
+    ap (λ (m : Machine). m.history) whole ∙ ap (λ (e : Entry). machine.history ++ e ∷ []) same in
+    let within : length machine.history < length new.history =
+    omega (arith, ap length history, length-append machine.history (found ∷ [])) in
+    let at : get_or new.history (length machine.history) found ≡ found =
+    ap (λ (l : List Entry). get_or l (length machine.history) found) history ∙ get_or-append_seam machine.history found [] found in
+    subst P at (all (length machine.history) found within)

@@ -1,0 +1,41 @@
+-- The values of places.
+use Rattle.std.proofs.Common.{◌≡◌, ℕ, zero, suc, ◌<◌, List, [], ◌∷◌, ◌++◌, length, get_or, arith, refl, sym, ◌∙◌, ap, length-append, append-nil, append_assoc, add-one, ◌+◌, inl, inr, subst}
+use Rattle.std.proofs.Math.Seq.{get_or-append_seam}
+use Rattle.std.proofs.lemmas.Bool.{cases_lt}
+use Rattle.std.proofs.lemmas.List.{get_or_append_left}
+use Rattle.apex_types.specs.Listing.{texts_of}
+use Rattle.apex_pictures.specs.Moments.{of_places}
+
+-- there are as many
+pub length_of : {A : Type 0} → (f : ℕ → A) (n : ℕ) → length (of_places f n) ≡ n
+length_of f zero = refl
+length_of f (suc n) = rw (length-append, length_of f n) (omega arith)
+
+-- the value of a place
+pub place_of : {A : Type 0} → (f : ℕ → A) (n i : ℕ) (d : A) → i < n → get_or (of_places f n) i d ≡ f i
+place_of f zero i d within = absurd (omega (arith, within))
+place_of f (suc n) i d within = elim (cases_lt i n) [
+  | inl old ↦ get_or_append_left (of_places f n) (f n ∷ []) d i (rw (length_of f n) old) ∙ place_of f n i d old
+  | inr new ↦
+      let last : i ≡ n = omega (arith, within, new) in
+      let here : get_or (of_places f n ++ f n ∷ []) (length (of_places f n)) d ≡ f n = get_or-append_seam (of_places f n) (f n) [] d in
+      subst (λ (k : ℕ). get_or (of_places f (suc n)) k d ≡ f k) (sym last) (subst (λ (k : ℕ). get_or (of_places f (suc n)) k d ≡ f n) (length_of f n) here)
+]
+
+-- nothing follows a text
+pub text_alone : {A : Type 0} → (text : List A) → text ++ [] ≡ text
+text_alone text = append-nil text
+
+-- the text of the next thing follows those before it
+pub text_next : (f : ℕ → List ℕ) (n : ℕ) (before text after : List ℕ) → text ≡ before ++ texts_of f n
+    → after ≡ text ++ f n → after ≡ before ++ texts_of f (n + 1)
+text_next f n before text after so_far more =
+    let next : texts_of f (n + 1) ≡ texts_of f n ++ f n = rw (add-one n) refl in
+    more ∙ ap (λ (l : List ℕ). l ++ f n) so_far ∙ append_assoc before (texts_of f n) (f n)
+    ∙ ap (λ (l : List ℕ). before ++ l) (sym next)
+
+-- the value of the next place is put behind those before it
+pub place_next : {A : Type 0} → (f : ℕ → A) (n : ℕ) (before after : List A) (next : A) → before ≡ of_places f n
+    → after ≡ before ++ next ∷ [] → next ≡ f n → after ≡ of_places f (n + 1)
+place_next f n before after next so_far put is =
+    put ∙ ap (λ l. l ++ next ∷ []) so_far ∙ ap (λ x. of_places f n ++ x ∷ []) is ∙ rw (add-one n) refl

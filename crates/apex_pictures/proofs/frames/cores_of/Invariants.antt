@@ -1,0 +1,10 @@
+-- A core for each process so far.
+use Rattle.std.proofs.Common.{◌≡◌, ◌≤◌}
+use Rattle.arrayvec.specs.ArrayVec.{array_vec_len}
+use Rattle.apex_pictures.proofs.frames.cores_of.Given as goal
+
+abbrev pub invariant-loop-place : goal.invariant-loop-place
+invariant-loop-place l = record {
+  end : l.place-end ≤ 32;
+  many : array_vec_len l.cores ≡ l.place;
+}

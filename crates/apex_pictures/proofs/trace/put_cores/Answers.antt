@@ -1,0 +1,11 @@
+-- The next text follows those before it.
+use Rattle.apex_pictures.specs.Trace as trace
+use Rattle.apex_pictures.proofs.Places.{text_next}
+use Rattle.apex_pictures.proofs.trace.put_cores.Goals as goal
+
+pub loop-place-preserved : goal.loop-place-preserved
+loop-place-preserved c = record {
+  many = c.loop-place.invariant.many;
+  text = text_next (trace.core_at c.args.table.now c.args.time c.args.now c.args.before.now c.args.after.now) c.loop-place.place _ _ _ c.loop-place.invariant.text
+      (rw (c.running.ensures, c.running-in-loop-place.ensures, c.core_spot.ensures, c.new-core.ensures) at c.in_ok-put_core.ensures);
+}

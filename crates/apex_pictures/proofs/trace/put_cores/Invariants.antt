@@ -1,0 +1,11 @@
+-- The changes so far follow the text.
+use Rattle.std.proofs.Common.{◌≡◌, ◌++◌}
+use Rattle.apex_types.specs.Listing.{texts_of}
+use Rattle.apex_pictures.specs.Trace as trace
+use Rattle.apex_pictures.proofs.trace.put_cores.Given as goal
+
+abbrev pub invariant-loop-place : goal.invariant-loop-place
+invariant-loop-place l = record {
+  many : l.place-end ≡ l.table.cores;
+  text : l.text.items ≡ l.fn.text.items ++ texts_of (trace.core_at l.table l.time l.now l.before l.after) l.place;
+}

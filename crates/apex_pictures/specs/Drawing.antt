@@ -1,0 +1,36 @@
+-- How the text of a picture grows, and how its drawing ends.
+use Rattle.std.specs.Prelude.{◌≡◌, ℕ, List, [], ◌∷◌, ◌++◌, length, Result, MatchResult, flat_map}
+use Rattle.apex_types.specs.Machine.{Machine}
+use Rattle.apex_types.specs.Roster.{Roster, opening_roster}
+use Rattle.apex_types.specs.Table.{Table}
+use Rattle.apex_history.specs.Counted.{one_more}
+use Rattle.apex_pictures.specs.Moments.{Column, Shown, moment_of, picture}
+use Rattle.apex_pictures.specs.Pictures.{column_text}
+use Rattle.apex_pictures.specs.declared.drawing.DrawFault.{DrawFault}
+use Rattle.apex_pictures.specs.declared.drawing.DrawFault.TheVariants.{Memory, Write}
+use Rattle.apex_pictures.specs.declared.styles.Style.{Style}
+
+-- the picture has further columns, and their text follows the text
+abbrev pub Grows : Style → Table → Machine → Machine → List ℕ → List ℕ → Type 0
+Grows style table old new before after =
+    (columns : List Column) × (picture table new ≡ picture table old ++ columns)
+    × (after ≡ before ++ flat_map (column_text style table) columns)
+
+-- what is shown after the last roster, or before all
+abbrev pub last_shown : Shown → List Roster → Shown
+last_shown before [] = before
+last_shown before (roster ∷ rosters) = last_shown (moment_of roster) rosters
+
+-- the machine's past has a roster for each entry, and the last of them is the machine's
+pub record IsPictured (table : Table) (machine : Machine) : Type 0 where
+  pub many : length machine.past ≡ length machine.history
+  pub last : last_shown (moment_of (opening_roster table)) machine.past ≡ moment_of machine.roster
+
+-- a fault of drawing counts if a write failed, and not if memory was refused
+abbrev pub CountsDrawFault : DrawFault → ℕ → ℕ → Type 0
+CountsDrawFault Memory old new = new ≡ old
+CountsDrawFault Write old new = new ≡ one_more old
+
+-- the same of a drawing's answer
+abbrev pub CountsDrawing : {T : Type 0} → Result T DrawFault → ℕ → ℕ → Type 0
+CountsDrawing result old new = MatchResult result (λ _. new ≡ old) (λ fault. CountsDrawFault fault old new)

@@ -1,0 +1,8 @@
+pub mod Terms
+pub mod Texts
+pub mod Moments
+pub mod Svg
+pub mod Trace
+pub mod Pictures
+pub mod Drawing
+pub mod Laws

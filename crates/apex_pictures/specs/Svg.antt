@@ -1,0 +1,230 @@
+-- A picture as SVG. Where rows and columns lie is the frame's; what is drawn is the columns'.
+use Rattle.std.specs.Prelude.{ℕ, ◌+◌, ◌-◌, ◌*◌, Bool, false, List, [], ◌∷◌, ◌++◌, ◌==◌, ◌&&◌, ◌||◌, nat_le, nat_lt, length, Option, None, Some, codes, decimal, flat_map, slice_index_or, if◌then◌else◌}
+use Rattle.apex_types.specs.Lines.{asked_text, id_text, line_of, process_name, reply_text}
+use Rattle.apex_types.specs.Listing.{texts_of}
+use Rattle.apex_types.specs.Status.{state_text, wait_text}
+use Rattle.apex_types.specs.Table.{Table}
+use Rattle.apex_types.specs.declared.Caller.TheVariants.{Process, Init, Nobody}
+use Rattle.apex_types.specs.declared.Who.TheVariants.{Ticker}
+use Rattle.apex_types.specs.declared.Holding.{Holding}
+use Rattle.apex_types.specs.declared.Notice.TheVariants.{Woken, Released, Missed}
+use Rattle.apex_types.specs.declared.Reply.TheVariants.{Advanced}
+use Rattle.apex_pictures.specs.Moments.{Shown, no_cell}
+use Rattle.apex_pictures.specs.Terms.{Caller, Cell, Entry, Notice, Reply, Wait}
+use Rattle.apex_pictures.specs.Texts.{xml_text}
+use Rattle.apex_pictures.specs.declared.frames.Frame.{Frame}
+
+-- texts one behind the other
+abbrev pub texts : List (List ℕ) → List ℕ
+texts parts = flat_map (λ part. part) parts
+
+-- where the row of a process lies
+abbrev pub row_of : Frame → ℕ → ℕ
+row_of frame p = slice_index_or frame.rows.items p 0
+
+-- where the heading of a core lies
+abbrev pub heading_of : Frame → ℕ → ℕ
+heading_of frame core = slice_index_or frame.headings.items core 0
+
+-- the entry of this number is drawn
+abbrev pub shows : Frame → ℕ → Bool
+shows frame number = nat_le frame.first number && nat_le number frame.last
+
+-- the heading of a core
+unfoldable pub heading_text : Frame → ℕ → List ℕ
+heading_text frame core = texts (
+    codes "<text class='core' x='8' y='" ∷ decimal (heading_of frame core + 13)
+    ∷ codes "'>core " ∷ decimal core ∷ codes "</text>\n" ∷ [])
+
+-- the label of a process's row: its id and its name
+unfoldable pub label_text : Table → Frame → ℕ → List ℕ
+label_text table frame p = texts (
+    codes "<text x='20' y='" ∷ decimal (row_of frame p + 13) ∷ codes "'>"
+    ∷ id_text p ∷ codes " " ∷ xml_text (process_name table p) ∷ codes "</text>\n" ∷ [])
+
+-- the beginning of the file
+unfoldable pub opening_text : Frame → List ℕ
+opening_text frame = texts (
+    codes "<svg xmlns='http://www.w3.org/2000/svg' width='" ∷ decimal frame.width
+    ∷ codes "' height='" ∷ decimal (frame.foot + 24)
+    ∷ codes "' font-family='DejaVu Sans, sans-serif' font-size='11'>\n" ∷ frame.style.now ∷ [])
+
+-- what comes before the columns
+abbrev pub head_text : Table → Frame → List ℕ
+head_text table frame =
+    opening_text frame ++ texts_of (heading_text frame) table.cores
+    ++ texts_of (label_text table frame) (length table.processes)
+
+-- time goes on with a reply
+abbrev pub goes_on : Reply → Bool
+goes_on (Advanced asked went) = nat_lt 0 went
+goes_on reply = false
+
+-- a column has its instant below it: time goes on with its entry, or it is the first that is drawn
+abbrev pub is_timed : Frame → Entry → Bool
+is_timed frame entry = goes_on entry.reply || entry.number == frame.first
+
+-- the line and the text of an instant
+unfoldable pub instant_text : Frame → ℕ → List ℕ
+instant_text frame now = texts (
+    codes "<line class='time' y1='" ∷ decimal frame.top ∷ codes "' y2='" ∷ decimal (frame.bottom + 14)
+    ∷ codes "'/><text class='now' transform='translate(4," ∷ decimal (frame.bottom + 18)
+    ∷ codes ") rotate(60)'>t=" ∷ decimal now ∷ codes "</text>\n" ∷ [])
+
+-- the instant of an entry, if it is shown
+abbrev pub time_text : Frame → Entry → List ℕ
+time_text frame entry = if is_timed frame entry then instant_text frame entry.now else []
+
+-- an entry of nobody with this call and this reply
+abbrev pub bare : Entry → Entry
+bare e = record {
+  number = 0;
+  now = 0;
+  who = Ticker;
+  process = Nobody;
+  call = e.call;
+  reply = e.reply;
+  notices = [];
+}
+
+-- the call and the reply of an entry, as in the line of the history
+abbrev pub said_line : Table → Entry → List ℕ
+said_line table entry =
+    asked_text table entry.call entry.reply ++ codes " -> " ++ reply_text table entry.reply ++ codes "\n"
+
+-- the same as XML shows it
+abbrev pub said_text : Table → Entry → List ℕ
+said_text table entry = xml_text (said_line table entry)
+
+-- the beginning of the text above a column, with its tooltip
+unfoldable pub title_text : Frame → List ℕ → List ℕ
+title_text frame line = texts (
+    codes "<text class='call' transform='translate(15," ∷ decimal frame.top
+    ∷ codes ") rotate(-60)'><title>" ∷ xml_text line ∷ codes "</title>" ∷ [])
+
+-- the end of a call, of a cell and of a column
+unfoldable pub call_end : List ℕ
+call_end = codes "</text>\n"
+
+unfoldable pub cell_end : List ℕ
+cell_end = codes "</title></rect>\n"
+
+unfoldable pub column_end : List ℕ
+column_end = codes "</g>\n"
+
+-- the call and the reply above a column; its tooltip is the line of the history
+abbrev pub call_text : Table → Frame → Entry → List ℕ
+call_text table frame entry =
+    title_text frame (line_of table entry) ++ said_text table entry ++ call_end
+
+-- what a process waits for
+abbrev pub waits_part : Option Wait → List ℕ
+waits_part None = []
+waits_part (Some wait) = codes " wait " ++ wait_text wait
+
+-- the bar below the cell of an owner of a mutex
+unfoldable pub bar_text : Frame → ℕ → ℕ → List ℕ
+bar_text frame p mutex = texts (
+    codes "<rect class='owns' y='" ∷ decimal (row_of frame p + 15)
+    ∷ codes "' width='24' height='3'><title>owns mutex:" ∷ id_text mutex
+    ∷ codes "</title></rect>\n" ∷ [])
+
+-- the bar of a process, if it owns a mutex
+abbrev pub owns_part : Frame → ℕ → Option Holding → List ℕ
+owns_part frame p None = []
+owns_part frame p (Some holding) = bar_text frame p holding.mutex
+
+-- a cell, up to what its process waits for: its class is the state, and its tooltip has id, name and
+-- state
+unfoldable pub cell_part : Table → Frame → ℕ → Cell → List ℕ
+cell_part table frame p cell = texts (
+    codes "<rect class='" ∷ state_text cell.state ∷ codes "' data-process='" ∷ id_text p
+    ∷ codes "' y='" ∷ decimal (row_of frame p) ∷ codes "' width='24' height='16'><title>"
+    ∷ id_text p ∷ codes " " ∷ xml_text (process_name table p) ∷ codes " " ∷ state_text cell.state ∷ [])
+
+-- a cell in the row of its process
+abbrev pub cell_text : Table → Frame → ℕ → Cell → List ℕ
+cell_text table frame p cell =
+    cell_part table frame p cell ++ waits_part cell.wait ++ cell_end ++ owns_part frame p cell.owned
+
+-- the cell of process p of a moment
+abbrev pub cell_at : Table → Frame → Shown → ℕ → List ℕ
+cell_at table frame shown p = cell_text table frame p (slice_index_or shown.cells p no_cell)
+
+-- a ring in the row of a process
+unfoldable pub circle_text : Frame → List ℕ → ℕ → List ℕ
+circle_text frame line p = texts (
+    codes "<circle class='ring' data-process='" ∷ id_text p ∷ codes "' cx='12' cy='"
+    ∷ decimal (row_of frame p + 8) ∷ codes "' r='4'><title>" ∷ xml_text line
+    ∷ codes "</title></circle>\n" ∷ [])
+
+-- the ring in the row of the caller, if a process calls
+abbrev pub ring_in : Frame → List ℕ → Caller → List ℕ
+ring_in frame line (Process p) = circle_text frame line p
+ring_in frame line Init = []
+ring_in frame line Nobody = []
+
+-- the ring of an entry: its caller's
+abbrev pub ring_text : Table → Frame → Entry → List ℕ
+ring_text table frame entry = ring_in frame (line_of table entry) entry.process
+
+-- the process of a notice
+abbrev pub notice_process : Notice → ℕ
+notice_process (Woken p code) = p
+notice_process (Released p) = p
+notice_process (Missed p kind) = p
+
+-- the word of a notice
+abbrev pub notice_word : Notice → List ℕ
+notice_word (Woken p code) = codes "woken"
+notice_word (Released p) = codes "released"
+notice_word (Missed p kind) = codes "missed"
+
+-- the line from a caller's ring to the wedge of a notice
+unfoldable pub dash_text : Frame → ℕ → Notice → List ℕ
+dash_text frame caller notice = texts (
+    codes "<line class='" ∷ notice_word notice ∷ codes "' x1='12' x2='12' y1='"
+    ∷ decimal (row_of frame caller + 8) ∷ codes "' y2='"
+    ∷ decimal (row_of frame (notice_process notice) + 4) ∷ codes "'/>\n" ∷ [])
+
+-- the line from the ring of the caller, if a process calls, to the wedge of a notice
+abbrev pub dash_to : Frame → Caller → Notice → List ℕ
+dash_to frame (Process p) notice = dash_text frame p notice
+dash_to frame Init notice = []
+dash_to frame Nobody notice = []
+
+-- the wedge of a notice, in the row of its process
+unfoldable pub wedge_text : Frame → Notice → List ℕ
+wedge_text frame notice = texts (
+    codes "<path class='" ∷ notice_word notice ∷ codes "' data-process='" ∷ id_text (notice_process notice)
+    ∷ codes "' d='M7," ∷ decimal (row_of frame (notice_process notice) + 2) ∷ codes " h10 l-5,9 z'><title>"
+    ∷ notice_word notice ∷ codes " " ∷ id_text (notice_process notice) ∷ codes "</title></path>\n" ∷ [])
+
+-- the marks of a column: the instant, the call, a cell for each process, the lines from the caller's ring
+-- to the wedges, the ring, and the wedges of the notices
+abbrev pub marks_text : Table → Frame → Entry → Shown → List ℕ
+marks_text table frame entry shown =
+    time_text frame entry ++ call_text table frame entry
+    ++ texts_of (cell_at table frame shown) (length table.processes)
+    ++ flat_map (dash_to frame entry.process) entry.notices
+    ++ ring_text table frame entry ++ flat_map (wedge_text frame) entry.notices
+
+-- the beginning of the column of the entry of this number
+unfoldable pub start_text : Frame → ℕ → List ℕ
+start_text frame number = texts (
+    codes "<g class='column' data-entry='" ∷ decimal number ∷ codes "' transform='translate("
+    ∷ decimal (frame.left + 24 * (number - frame.first))
+    ∷ codes ",0)'>\n<text class='number' x='12' y='" ∷ decimal (frame.bottom + 8) ∷ codes "'>"
+    ∷ decimal number ∷ codes "</text>\n" ∷ [])
+
+-- the column of an entry, if the frame shows it
+abbrev pub column_text : Table → Frame → Entry → Shown → List ℕ
+column_text table frame entry shown =
+    if shows frame entry.number then
+    start_text frame entry.number ++ marks_text table frame entry shown ++ column_end
+    else []
+
+-- what comes after the columns: the key
+unfoldable pub key_text : Frame → List ℕ
+key_text frame = texts (
+    codes "<g transform='translate(0," ∷ decimal frame.foot ∷ codes ")'>" ∷ frame.key.now ∷ [])

@@ -1,0 +1,161 @@
+-- A picture as a trace in the Trace Event Format, which is JSON. The groups of tracks are the cores (1) and
+-- the processes (2); an entry's number is its time, and the partition's time is an argument.
+use Rattle.std.specs.Prelude.{ℕ, ◌+◌, Bool, true, false, List, [], ◌∷◌, ◌++◌, Option, None, Some, is_some, codes, decimal, flat_map, length, slice_index_or, if◌then◌else◌, ◌==◌}
+use Rattle.apex_types.specs.Lines.{deadline_text, id_text, process_name}
+use Rattle.apex_types.specs.Listing.{texts_of}
+use Rattle.apex_types.specs.Status.{state_text}
+use Rattle.apex_types.specs.Table.{Table}
+use Rattle.apex_types.specs.declared.Notice.TheVariants.{Woken, Released, Missed}
+use Rattle.apex_types.specs.declared.State.TheVariants.{Dormant, Ready, Running, Waiting}
+use Rattle.apex_pictures.specs.Moments.{Shown, no_cell, none_shown}
+use Rattle.apex_pictures.specs.Svg.{texts}
+use Rattle.apex_types.specs.declared.DeadlineType.{DeadlineType}
+use Rattle.apex_pictures.specs.Terms.{Entry, Notice, State}
+use Rattle.apex_pictures.specs.Texts.{json_text}
+use Rattle.apex_pictures.specs.declared.trace.Spot.{Spot}
+
+-- the name of a core's track
+unfoldable pub core_name_text : ℕ → List ℕ
+core_name_text core = texts (
+    codes ",\n{\"ph\":\"M\",\"pid\":1,\"tid\":" ∷ decimal core
+    ∷ codes ",\"name\":\"thread_name\",\"args\":{\"name\":\"core " ∷ decimal core ∷ codes "\"}}" ∷ [])
+
+-- the name of a process's track
+unfoldable pub process_name_text : Table → ℕ → List ℕ
+process_name_text table p = texts (
+    codes ",\n{\"ph\":\"M\",\"pid\":2,\"tid\":" ∷ id_text p
+    ∷ codes ",\"name\":\"thread_name\",\"args\":{\"name\":\"" ∷ json_text (process_name table p) ∷ codes "\"}}" ∷ [])
+
+-- the beginning of the file: the names of the two groups
+unfoldable pub opening_text : List ℕ
+opening_text =
+    codes "{\"traceEvents\":[\n{\"ph\":\"M\",\"pid\":1,\"name\":\"process_name\",\"args\":{\"name\":\"cores\"}},\n{\"ph\":\"M\",\"pid\":2,\"name\":\"process_name\",\"args\":{\"name\":\"processes\"}}"
+
+-- what comes before the columns: the names of the tracks
+abbrev pub head_text : Table → List ℕ
+head_text table =
+    opening_text ++ texts_of core_name_text table.cores
+    ++ texts_of (process_name_text table) (length table.processes)
+
+-- the end of a slice
+unfoldable pub end_text : Spot → List ℕ
+end_text spot = texts (
+    codes ",\n{\"ph\":\"E\",\"pid\":" ∷ decimal spot.group ∷ codes ",\"tid\":" ∷ decimal spot.track
+    ∷ codes ",\"ts\":" ∷ decimal spot.time ∷ codes "}" ∷ [])
+
+-- the beginning of a slice, up to its name
+unfoldable pub begin_text : Spot → ℕ → List ℕ
+begin_text spot now = texts (
+    codes ",\n{\"ph\":\"B\",\"pid\":" ∷ decimal spot.group ∷ codes ",\"tid\":" ∷ decimal spot.track
+    ∷ codes ",\"ts\":" ∷ decimal spot.time ∷ codes ",\"args\":{\"now\":" ∷ decimal now
+    ∷ codes "},\"name\":\"" ∷ [])
+
+-- the name of the slice of a process that a core runs
+unfoldable pub run_name_text : Table → ℕ → List ℕ
+run_name_text table p = texts (id_text p ∷ codes " " ∷ json_text (process_name table p) ∷ codes "\"}" ∷ [])
+
+-- the slice of a process that a core begins to run
+abbrev pub run_text : Table → Spot → ℕ → ℕ → List ℕ
+run_text table spot now p = begin_text spot now ++ run_name_text table p
+
+-- the slice of this name
+abbrev pub slice_text : Spot → ℕ → List ℕ → List ℕ
+slice_text spot now word = begin_text spot now ++ word ++ codes "\"}"
+
+-- the slice of a state to which a process comes; a dormant one has none
+abbrev pub being_text : Spot → ℕ → State → List ℕ
+being_text spot now Dormant = []
+being_text spot now Ready = slice_text spot now (state_text Ready)
+being_text spot now Running = slice_text spot now (state_text Running)
+being_text spot now Waiting = slice_text spot now (state_text Waiting)
+
+-- the slice of the process that a core runs, if it runs one
+abbrev pub run_of : Table → Spot → ℕ → Option ℕ → List ℕ
+run_of table spot now None = []
+run_of table spot now (Some p) = run_text table spot now p
+
+-- the end of a slice, if there is one
+abbrev pub ended : Bool → Spot → List ℕ
+ended begun spot = if begun then end_text spot else []
+
+-- two cores' processes are the same
+abbrev pub same_process : Option ℕ → Option ℕ → Bool
+same_process None None = true
+same_process None (Some q) = false
+same_process (Some p) None = false
+same_process (Some p) (Some q) = p == q
+
+-- two states are the same
+abbrev pub same_state : State → State → Bool
+same_state Dormant Dormant = true
+same_state Ready Ready = true
+same_state Running Running = true
+same_state Waiting Waiting = true
+same_state state other = false
+
+-- a process is not dormant
+abbrev pub is_begun : State → Bool
+is_begun Dormant = false
+is_begun state = true
+
+-- what changes on the track of a core
+abbrev pub core_text : Table → Spot → ℕ → Option ℕ → Option ℕ → List ℕ
+core_text table spot now before after =
+    if same_process before after then [] else ended (is_some before) spot ++ run_of table spot now after
+
+-- what changes on the track of a process
+abbrev pub process_text : Spot → ℕ → State → State → List ℕ
+process_text spot now before after =
+    if same_state before after then [] else ended (is_begun before) spot ++ being_text spot now after
+
+-- the track of a core
+abbrev pub core_spot : ℕ → ℕ → Spot
+core_spot core time = record { group = 1; track = core; time = time }
+
+-- the track of process p
+abbrev pub process_spot : ℕ → ℕ → Spot
+process_spot p time = record { group = 2; track = p + 1; time = time }
+
+-- what changes on the track of this core
+abbrev pub core_at : Table → ℕ → ℕ → Shown → Shown → ℕ → List ℕ
+core_at table time now before after core =
+    core_text table (core_spot core time) now
+    (slice_index_or before.running core None) (slice_index_or after.running core None)
+
+-- the state of process p of a moment
+abbrev pub state_at : Shown → ℕ → State
+state_at shown p = (slice_index_or shown.cells p no_cell).state
+
+-- what changes on the track of process p
+abbrev pub process_at : ℕ → ℕ → Shown → Shown → ℕ → List ℕ
+process_at time now before after p =
+    process_text (process_spot p time) now (state_at before p) (state_at after p)
+
+-- the mark of a missed deadline
+unfoldable pub miss_text : ℕ → ℕ → ℕ → DeadlineType → List ℕ
+miss_text time now p kind = texts (
+    codes ",\n{\"ph\":\"i\",\"s\":\"t\",\"pid\":2,\"tid\":" ∷ id_text p ∷ codes ",\"ts\":" ∷ decimal time
+    ∷ codes ",\"args\":{\"now\":" ∷ decimal now ∷ codes "},\"name\":\"missed " ∷ deadline_text kind
+    ∷ codes "\"}" ∷ [])
+
+-- the mark of a notice of a missed deadline; other notices have none
+abbrev pub missed_text : ℕ → ℕ → Notice → List ℕ
+missed_text time now (Missed p kind) = miss_text time now p kind
+missed_text time now (Woken p code) = []
+missed_text time now (Released p) = []
+
+-- what changes on all tracks
+abbrev pub changes_text : Table → ℕ → ℕ → Shown → Shown → List ℕ
+changes_text table time now before after =
+    texts_of (core_at table time now before after) table.cores
+    ++ texts_of (process_at time now before after) (length table.processes)
+
+-- what an entry changes on the tracks, and the marks of the deadlines that it missed
+abbrev pub column_text : Table → Shown → Entry → Shown → List ℕ
+column_text table before entry after =
+    changes_text table entry.number entry.now before after
+    ++ flat_map (missed_text entry.number entry.now) entry.notices
+
+-- what comes after the columns: the ends of all slices
+abbrev pub foot_text : Table → ℕ → ℕ → Shown → List ℕ
+foot_text table time now last = changes_text table time now last none_shown ++ codes "\n]}\n"

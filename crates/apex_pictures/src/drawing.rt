@@ -1,0 +1,211 @@
+//! The drawing of a picture, column by column, while the partition runs.
+ghost use Rattle.std.specs.Prelude.{◌≡◌, ◌++◌, ◌↔◌, ◌+◌, ◌<◌, [], All, IsOk, length, OnErr, OnOk};
+ghost use Rattle.std.specs.Io.KnownBytes.{Appends};
+ghost use Rattle.apex_types.specs.Lines.{IsPrintable};
+ghost use Rattle.apex_types.specs.Machine.{accept, opening, run};
+ghost use Rattle.apex_dispatch.specs.Events.{IsWithin};
+ghost use Rattle.apex_dispatch.specs.Kernel.{kernel_in};
+ghost use Rattle.apex_history.specs.Counted.{inner_of, failures_of, AppendsBeginning};
+ghost use Rattle.apex_history.specs.Page.{Passes};
+ghost use Rattle.apex_pictures.specs.Moments.{moment_of};
+ghost use Rattle.apex_pictures.specs.declared.drawing.DrawFault.TheVariants.{Memory};
+ghost use Rattle.apex_pictures.specs.Drawing.{CountsDrawing, Grows};
+ghost use Rattle.apex_pictures.specs.Pictures.{column_text, foot_text, head_text, picture_text};
+
+use crate::moments::{Moment, moment_of};
+use crate::styles::Style;
+use crate::{svg, trace};
+use apex_dispatch::Kernel;
+use apex_history::{Counted, Sink};
+use apex_store::Store;
+use apex_table::Table;
+use apex_types::{Event, Full, LentEntry};
+use std::alloc::{AllocError, Global};
+use std::io::Write;
+use thiserror::Error;
+
+/// How many bytes are gathered at the least before they are written.
+const GATHERED: usize = 32_768;
+
+/// Why a picture was not drawn to its end.
+#[derive(Clone, Copy, Debug, PartialEq, Eq, Error)]
+pub enum DrawFault {
+    #[error("out of memory")]
+    Memory,
+    #[error("write failed")]
+    Write,
+}
+
+impl From<AllocError> for DrawFault {
+    ghost from_gives = { λ _ fault. fault ≡ Memory };
+
+    fn from(_error: AllocError) -> DrawFault {
+        DrawFault::Memory
+    }
+}
+
+fn put_head(text: &mut Vec<u8>, style: &Style, table: &Table) -> Result<(), AllocError>
+    ensures { OnOk result (text.new.items ≡ text.old.items ++ head_text style.now table.now) }
+{
+    match style {
+        Style::Svg(frame) => svg::put_head(text, table, frame),
+        Style::Trace => trace::put_head(text, table),
+    }
+}
+
+fn put_column(
+    text: &mut Vec<u8>,
+    style: &Style,
+    table: &Table,
+    before: &Moment,
+    entry: &LentEntry<'_>,
+    after: &Moment,
+) -> Result<(), AllocError>
+    requires { IsPrintable table.now entry.now }
+    ensures { OnOk result (text.new.items ≡ text.old.items ++ column_text style.now table.now
+        (record { before = before.now; entry = entry.entry.now; after = after.now })) }
+{
+    match style {
+        Style::Svg(frame) => svg::put_column(text, table, frame, entry, after),
+        Style::Trace => trace::put_column(text, table, before, entry, after),
+    }
+}
+
+/// Puts what comes after the columns of the history so far, of which this is the last moment.
+fn put_foot<S: Store>(
+    text: &mut Vec<u8>,
+    style: &Style,
+    kernel: &Kernel<S>,
+    last: &Moment,
+) -> Result<(), AllocError>
+    requires { last.now ≡ moment_of kernel.now.machine.roster }
+    ensures { OnOk result (text.new.items ≡ text.old.items
+        ++ foot_text style.now kernel.now.table kernel.now.machine) }
+{
+    match style {
+        Style::Svg(frame) => svg::put_key(text, frame),
+        Style::Trace => {
+            kernel.holds();
+            let time = kernel.entries().len() as u64 + 1;
+            trace::put_foot(text, kernel.table(), time, kernel.now(), last)
+        }
+    }
+}
+
+/// Makes the event, if the history has room for it.
+fn make<S: Store>(kernel: &mut Kernel<S>, event: Event) -> Result<(), Full>
+    requires { IsWithin kernel.old.table.cores event }
+    ensures done { kernel.new ≡ kernel_in kernel.old.table
+        (accept kernel.old.table kernel.old.machine event) }
+    ensures accepted { IsOk result ↔ (length kernel.old.machine.history < kernel.old.table.limit) }
+{
+    kernel.holds();
+    kernel.run(&[event])
+}
+
+/// What is shown of the processes of a kernel.
+fn moment_in<S: Store>(kernel: &Kernel<S>) -> Moment
+    ensures { result ≡ moment_of kernel.now.machine.roster }
+{
+    kernel.holds();
+    moment_of(kernel.store())
+}
+
+/// Makes the event, and puts its column; `shown` is what was shown before it, and then after it.
+fn draw_event<S: Store>(
+    text: &mut Vec<u8>,
+    style: &Style,
+    kernel: &mut Kernel<S>,
+    event: Event,
+    shown: &mut Moment,
+) -> Result<(), AllocError>
+    requires within { IsWithin kernel.old.table.cores event }
+    requires shown { shown.old ≡ moment_of kernel.old.machine.roster }
+    ensures done { kernel.new ≡ kernel_in kernel.old.table
+        (accept kernel.old.table kernel.old.machine event) }
+    ensures shown { OnOk result (shown.new ≡ moment_of kernel.new.machine.roster) }
+    ensures drawn { OnOk result (Grows style.now kernel.old.table kernel.old.machine
+        kernel.new.machine text.old.items text.new.items) }
+{
+    kernel.holds();
+    let Ok(()) = make(kernel, event) else {
+        return Ok(());
+    };
+    kernel.holds();
+    let Some(entry) = kernel.entries().latest() else {
+        return Ok(());
+    };
+    let after = moment_in(kernel);
+    put_column(text, style, kernel.table(), shown, &entry, &after)?;
+    *shown = after;
+    Ok(())
+}
+
+/// Writes the text out, and forgets it.
+fn hand_on<W: Sink>(text: &mut Vec<u8>, writer: &mut Counted<W>) -> Result<(), DrawFault>
+    ensures ok { OnOk result (Appends (W.contents (inner_of writer.old))
+        (W.contents (inner_of writer.new)) text.old.items) }
+    ensures empty { text.new.items ≡ [] }
+    ensures err { OnErr result (AppendsBeginning (W.contents (inner_of writer.old))
+        (W.contents (inner_of writer.new)) text.old.items) }
+    ensures counted { CountsDrawing result (failures_of writer.old) (failures_of writer.new) }
+{
+    let written = writer.write_all(text.as_slice());
+    text.clear();
+    match written {
+        Ok(()) => Ok(()),
+        Err(_) => Err(DrawFault::Write),
+    }
+}
+
+/// Writes the text out once it is long.
+fn make_room<W: Sink>(text: &mut Vec<u8>, writer: &mut Counted<W>) -> Result<(), DrawFault>
+    ensures ok { OnOk result (Passes (W.contents (inner_of writer.old))
+        (W.contents (inner_of writer.new)) text.old.items text.new.items) }
+    ensures err { OnErr result (AppendsBeginning (W.contents (inner_of writer.old))
+        (W.contents (inner_of writer.new)) text.old.items) }
+    ensures counted { CountsDrawing result (failures_of writer.old) (failures_of writer.new) }
+{
+    if text.len() < GATHERED {
+        return Ok(());
+    }
+    hand_on(text, writer)
+}
+
+/// Draws the picture of the run of the events, on a kernel before any event, and writes it column by
+/// column. It leaves out events for which the history has no room.
+///
+/// It takes memory for the text of a column and not for the history. If memory is refused or a write
+/// fails, a prefix of the picture was written.
+pub fn draw<S: Store, W: Sink>(
+    alloc: Global,
+    style: &Style,
+    kernel: &mut Kernel<S>,
+    events: &[Event],
+    writer: &mut Counted<W>,
+) -> Result<(), DrawFault>
+    requires opened { kernel.old.machine ≡ opening kernel.old.table }
+    requires within { All (IsWithin kernel.old.table.cores) events.now }
+    ensures ok { OnOk result (Appends (W.contents (inner_of writer.old)) (W.contents (inner_of writer.new))
+        (picture_text style.now kernel.old.table (run kernel.old.table (opening kernel.old.table) events.now))) }
+    ensures err { OnErr result (AppendsBeginning (W.contents (inner_of writer.old)) (W.contents (inner_of writer.new))
+        (picture_text style.now kernel.old.table (run kernel.old.table (opening kernel.old.table) events.now))) }
+    ensures counted { CountsDrawing result (failures_of writer.old) (failures_of writer.new) }
+{
+    let mut text = Vec::new(alloc);
+    let Ok(()) = put_head(&mut text, style, kernel.table()) else {
+        return Err(DrawFault::Memory);
+    };
+    kernel.holds();
+    let mut shown = moment_in(kernel);
+    for event in events {
+        let Ok(()) = draw_event(&mut text, style, kernel, *event, &mut shown) else {
+            return Err(DrawFault::Memory);
+        };
+        make_room(&mut text, writer)?;
+    }
+    let Ok(()) = put_foot(&mut text, style, kernel, &shown) else {
+        return Err(DrawFault::Memory);
+    };
+    hand_on(&mut text, writer)
+}

@@ -1,0 +1,239 @@
+//! Where the columns and the rows of a picture lie.
+ghost use Rattle.std.specs.Prelude.{◌≡◌, ◌+◌, ◌<◌, ◌≤◌, ◌^◌, length, min};
+ghost use Rattle.apex_types.specs.Limits.{most_cores, most_entries};
+ghost use Rattle.arrayvec.specs.ArrayVec.{array_vec_len};
+ghost use Rattle.apex_pictures.specs.Svg.{heading_of, row_of, shows};
+
+use crate::svg::bare_line;
+use crate::words::name_of;
+use apex_dispatch::Kernel;
+use apex_store::Store;
+use apex_table::Table;
+use apex_types::{Call, CoreId, ObjectCall, ProcessId, ProcessService};
+use arrayvec::ArrayVec;
+use itoa::Buffer;
+
+/// How far one column lies from the next, and one row from the next.
+const STEP: u32 = 24;
+
+/// How wide a letter is.
+const LETTER: u32 = 7;
+
+/// How far a letter of a slanted call goes up and to the right.
+const RISE: u32 = 6;
+
+const ADVANCE: u32 = 4;
+
+/// How the marks look, and the white behind them.
+const STYLE: &str =
+    "<style>text{fill:#222}.core{font-weight:bold;fill:#555}.now{fill:#333}.number{fill:#888;font-size:8px;text-anchor:middle}.time{stroke:#999}.RUNNING{fill:#2f7d32}.READY{fill:#8fce92}.WAITING{fill:#dfe3e6}.DORMANT{fill:#fff;stroke:#eee}.owns{fill:#c62828}.ring{fill:#fff;stroke:#111;stroke-width:1.5}path{stroke:#fff}line{stroke-width:1.5;stroke-dasharray:3,2}line.time{stroke-width:1;stroke-dasharray:none}.woken{fill:#1e88e5}line.woken{stroke:#1e88e5}.released{fill:#8e24aa}line.released{stroke:#8e24aa}.missed{fill:#e53935}line.missed{stroke:#e53935}</style>\n<rect width='100%' height='100%' fill='#fff'/>\n";
+
+/// What each mark means.
+const KEY: &str =
+    "<rect class='RUNNING' x='20' y='0' width='16' height='10'/><text x='40' y='9'>running</text><rect class='READY' x='110' y='0' width='16' height='10'/><text x='130' y='9'>ready</text><rect class='WAITING' x='185' y='0' width='16' height='10'/><text x='205' y='9'>waiting</text><rect class='owns' x='270' y='4' width='16' height='3'/><text x='290' y='9'>owns a mutex</text><circle class='ring' cx='395' cy='5' r='4'/><text x='405' y='9'>caller</text><path class='woken' d='M460,0 h10 l-5,9 z'/><text x='474' y='9'>woken</text><path class='released' d='M530,0 h10 l-5,9 z'/><text x='544' y='9'>released</text><path class='missed' d='M610,0 h10 l-5,9 z'/><text x='624' y='9'>missed</text></g>\n</svg>\n";
+
+/// Which entries of a history are drawn as SVG, and where their columns and the rows lie.
+#[derive(Drop)]
+pub struct Frame {
+    /// The number of the first entry that is drawn.
+    pub first: u32,
+    /// The number of the last one.
+    pub last: u32,
+    pub(crate) width: u32,
+    /// Where the calls end and the rows begin.
+    pub(crate) top: u32,
+    /// Where the rows end.
+    pub(crate) bottom: u32,
+    /// Where the key begins, below the instants.
+    pub(crate) foot: u32,
+    /// Where the first column begins.
+    pub(crate) left: u32,
+    /// Where each process's row lies.
+    rows: ArrayVec<u32, 32>,
+    /// Where each core's heading lies.
+    headings: ArrayVec<u32, 8>,
+    /// How the marks look.
+    pub(crate) style: &'static str,
+    /// What each mark means.
+    pub(crate) key: &'static str,
+}
+
+/// The core to which a call binds this process.
+fn core_bound(call: &Call, process: ProcessId) -> Option<u8> {
+    match call {
+        Call::Process(ObjectCall::Own(bound, ProcessService::InitializeCoreAffinity(core)))
+            if *bound == process => { Some(*core) }
+        _ => None,
+    }
+}
+
+/// The core to which the init list binds the process: the last one named for it, or core 0.
+fn core_of(table: &Table, process: ProcessId) -> u8 {
+    let mut core = 0;
+    for place in 0..512 {
+        if let Some(call) = table.init_call(place) {
+            core = core_bound(&call, process)
+                .filter(|bound| *bound < table.cores())
+                .unwrap_or(core);
+        }
+    }
+    core
+}
+
+/// The cores to which the init list binds the processes.
+fn cores_of(table: &Table) -> ArrayVec<u8, 32>
+    ensures { array_vec_len result ≤ 32 }
+{
+    let mut cores = ArrayVec::new();
+    for place in 0..table.process_count() {
+        cores.push(core_of(table, ProcessId::at(place as u8)));
+    }
+    cores
+}
+
+/// How many of these are below a core.
+fn count_below(cores: &[u8], core: u8) -> u32
+    requires { length cores.now ≤ 32 }
+    ensures { result ≤ 32 }
+{
+    cores.iter().filter(|other| **other < core).count() as u32
+}
+
+/// How many of these are this core.
+fn count_of(cores: &[u8], core: u8) -> u32
+    requires { length cores.now ≤ 32 }
+    ensures { result ≤ 32 }
+{
+    cores.iter().filter(|other| **other == core).count() as u32
+}
+
+/// Where the rows of processes that are bound to these cores lie: below the headings of their cores,
+/// in the order of their numbers.
+fn rows_of(cores: &[u8], top: u32) -> ArrayVec<u32, 32>
+    requires few { length cores.now ≤ 32 }
+    requires range { top ≤ 30000 }
+{
+    let mut rows = ArrayVec::new();
+    for place in 0..cores.len() {
+        let core = cores[place];
+        let above = count_below(cores, core) + count_of(&cores[..place], core);
+        rows.push(top + STEP * (above + u32::from(core) + 1));
+    }
+    rows
+}
+
+/// Where the headings of `count` cores lie.
+fn headings_of(cores: &[u8], count: u8, top: u32) -> ArrayVec<u32, 8>
+    requires few { length cores.now ≤ 32 }
+    requires cores { count ≤ most_cores }
+    requires range { top ≤ 30000 }
+{
+    let mut headings = ArrayVec::new();
+    for core in 0..count {
+        headings.push(top + STEP * (count_below(cores, core) + u32::from(core)));
+    }
+    headings
+}
+
+/// How many letters the longest name of a process has.
+fn longest_name(table: &Table) -> u32
+    ensures { result ≤ 32 }
+{
+    let mut longest = 0;
+    for place in 0..table.process_count() {
+        let name = name_of(table, ProcessId::at(place as u8));
+        longest = longest.max(name.len());
+    }
+    longest.min(32) as u32
+}
+
+/// How many letters the call and the reply at this place of the history have.
+fn call_letters<S: Store>(kernel: &Kernel<S>, place: usize) -> usize
+    requires { place < length kernel.now.machine.history }
+{
+    kernel.holds();
+    let entry = kernel.entry(place);
+    bare_line(kernel.table(), &entry).len().saturating_sub(14)
+}
+
+/// How many letters the longest call and reply at these places of the history have.
+fn longest_call<S: Store>(kernel: &Kernel<S>, first: usize, end: usize) -> u32
+    requires { end ≤ length kernel.now.machine.history }
+    ensures { result ≤ 4096 }
+{
+    let mut longest = 0;
+    for place in first..end {
+        longest = longest.max(call_letters(kernel, place));
+    }
+    longest.min(4096) as u32
+}
+
+/// How many letters an instant has.
+fn instant_letters(now: u64) -> u32
+    ensures { result ≤ 32 }
+{
+    let mut buffer = Buffer::new();
+    buffer.format(now).len().min(32) as u32
+}
+
+impl Frame {
+    /// The frame for the entries of a kernel's history with these numbers, 2,000 at the most.
+    pub fn new<S: Store>(kernel: &Kernel<S>, first: u32, last: u32) -> Frame
+        requires { (1 ≤ first) × (first ≤ most_entries) }
+        ensures first { result.first ≡ first }
+        ensures last { result.last ≡ min last (first + 1999) }
+    {
+        let table = kernel.table();
+        let last = last.min(first + 1999);
+        let end = kernel.entries().len().min(last as usize);
+        let columns = (end as u32).saturating_sub(first) + 1;
+        let longest = longest_call(kernel, first as usize - 1, end);
+        let top = 20 + RISE * longest;
+        let left = 50 + LETTER * longest_name(table);
+        let cores = cores_of(table);
+        let rows = table.process_count() as u32 + u32::from(table.cores());
+        let bottom = top + STEP * rows + 6;
+        Frame {
+            first,
+            last,
+            width: (left + STEP * columns + ADVANCE * longest + 30).max(700),
+            top,
+            bottom,
+            foot: bottom + 40 + RISE * instant_letters(kernel.now()),
+            left,
+            rows: rows_of(cores.as_slice(), top),
+            headings: headings_of(cores.as_slice(), table.cores(), top),
+            style: STYLE,
+            key: KEY,
+        }
+    }
+
+    /// Whether the entry of this number is drawn.
+    pub(crate) fn shows(&self, number: u32) -> bool
+        ensures { result ≡ shows self.now number }
+    {
+        self.first <= number && number <= self.last
+    }
+
+    /// Where the row of a process lies.
+    pub(crate) fn row(&self, process: ProcessId) -> u64
+        ensures value { result ≡ row_of self.now process }
+        ensures range { result < 2 ^ 32 }
+    {
+        match self.rows.as_slice().get(process.place()) {
+            Some(row) => u64::from(*row),
+            None => 0,
+        }
+    }
+
+    /// Where the heading of a core lies.
+    pub(crate) fn heading(&self, core: CoreId) -> u64
+        ensures value { result ≡ heading_of self.now core }
+        ensures range { result < 2 ^ 32 }
+    {
+        match self.headings.as_slice().get(usize::from(core.number())) {
+            Some(heading) => u64::from(*heading),
+            None => 0,
+        }
+    }
+}

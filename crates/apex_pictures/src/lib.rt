@@ -1,0 +1,19 @@
+//! Pictures of a partition's history: what each process did after each entry, drawn as SVG, or written
+//! as a trace in the Trace Event Format.
+#![tactic(auto)]
+
+mod drawing;
+mod frames;
+mod laws;
+mod moments;
+mod styles;
+mod svg;
+mod texts;
+mod trace;
+mod words;
+
+pub use drawing::{DrawFault, draw};
+pub use frames::Frame;
+pub use laws::{columns_say_entries, texts_are_read_back};
+pub use moments::{Cell, Moment};
+pub use styles::Style;

@@ -1,0 +1,164 @@
+//! What a picture shows of the processes after an entry.
+ghost use Rattle.std.specs.Prelude.{◌≡◌, ◌<◌, ◌≤◌, length, not, if◌then◌else◌, slice_index_or, None};
+ghost use Rattle.apex_types.specs.Limits.{most_cores, most_processes};
+ghost use Rattle.apex_types.specs.Running.{chosen, is_eligible, is_process};
+ghost use Rattle.apex_types.specs.declared.State.TheVariants.{Dormant, Ready, Running, Waiting};
+ghost use Rattle.apex_pictures.specs.Moments.{cell_of, moment_of, no_cell, none_shown, running_in};
+
+use apex_store::Store;
+use apex_types::{CoreId, Holding, Mode, ProcessId, Record, State, Wait};
+use arrayvec::ArrayVec;
+use std::marker::Model;
+
+/// How many cores a partition has at the most.
+const CORES: u8 = 8;
+
+/// What a picture shows of a process after an entry.
+#[derive(Clone, Copy)]
+pub struct Cell {
+    pub state: State,
+    /// What it waits for, if it waits.
+    pub wait: Option<Wait>,
+    /// The mutex that it owns, if it owns one.
+    pub owned: Option<Holding>,
+}
+
+impl Default for Cell {
+    fn default() -> Cell
+        ensures { result ≡ no_cell }
+    {
+        Cell {
+            state: State::Dormant,
+            wait: None,
+            owned: None,
+        }
+    }
+}
+
+/// What a picture shows of all processes after an entry: a cell for each of them, and the process that
+/// each core runs.
+#[derive(Drop)]
+pub struct Moment {
+    cells: ArrayVec<Cell, 32>,
+    running: ArrayVec<Option<ProcessId>, 8>,
+}
+
+impl Model for Moment {
+    ghost use Rattle.apex_pictures.specs.Moments.{Shown};
+
+    ghost Value = { Shown };
+
+    ghost view = { λ m. record { cells = m.cells.items; running = m.running.items } };
+}
+
+fn is_process(process: ProcessId, chosen: Option<ProcessId>) -> bool
+    ensures { result ≡ is_process process chosen }
+{
+    match chosen {
+        Some(other) => process == other,
+        None => false,
+    }
+}
+
+/// The state of a process, by its record and the process that its core runs.
+fn state_of(process: ProcessId, row: &Record, mode: Mode, chosen: Option<ProcessId>) -> State
+    ensures { result ≡ (if not row.now.started then Dormant
+        else if not (is_eligible mode row.now) then Waiting
+        else if is_process process chosen then Running else Ready) }
+{
+    if !row.started {
+        State::Dormant
+    } else if !row.is_eligible(mode) {
+        State::Waiting
+    } else if is_process(process, chosen) {
+        State::Running
+    } else {
+        State::Ready
+    }
+}
+
+/// The process that each core runs.
+fn running_of<S: Store>(store: &S) -> ArrayVec<Option<ProcessId>, 8>
+    ensures { result.items ≡ running_in (S.roster store.now) }
+{
+    let mut running = ArrayVec::new();
+    for core in 0..CORES {
+        running.push(store.chosen(CoreId::new(core)));
+    }
+    running
+}
+
+/// The process that a core runs, out of those of all cores.
+fn running_at(running: &[Option<ProcessId>], core: CoreId) -> Option<ProcessId>
+    ensures value { result ≡ slice_index_or running.now core None }
+    ensures range { core < most_cores }
+{
+    match running.get(usize::from(core.number())) {
+        Some(running) => *running,
+        None => None,
+    }
+}
+
+/// The cell of a process, given the process that each core runs.
+fn cell_of<S: Store>(store: &S, process: ProcessId, running: &[Option<ProcessId>]) -> Cell
+    requires known { process < length (S.roster store.now).records }
+    requires running { running.now ≡ running_in (S.roster store.now) }
+    ensures { result ≡ cell_of (S.roster store.now) process }
+{
+    let row = store.record(process);
+    let chosen = running_at(running, row.core);
+    Cell {
+        state: state_of(process, &row, store.mode(), chosen),
+        wait: row.wait,
+        owned: row.owned,
+    }
+}
+
+/// What is shown of the processes of a store.
+pub(crate) fn moment_of<S: Store>(store: &S) -> Moment
+    requires { length (S.roster store.now).records ≤ most_processes }
+    ensures { result ≡ moment_of (S.roster store.now) }
+{
+    let running = running_of(store);
+    let mut cells = ArrayVec::new();
+    for place in 0..store.process_count() {
+        cells.push(cell_of(store, ProcessId::at(place as u8), running.as_slice()));
+    }
+    Moment { cells, running }
+}
+
+impl Moment {
+    /// The moment that shows nobody.
+    pub(crate) fn none() -> Moment
+        ensures { result ≡ none_shown }
+    {
+        Moment {
+            cells: ArrayVec::new(),
+            running: ArrayVec::new(),
+        }
+    }
+
+    /// How many processes are shown.
+    pub fn count(&self) -> usize
+        ensures { result ≡ length self.now.cells }
+    {
+        self.cells.len()
+    }
+
+    /// The cell of a process; an empty one if there is no such process.
+    pub fn cell(&self, process: ProcessId) -> Cell
+        ensures { result ≡ slice_index_or self.now.cells process no_cell }
+    {
+        match self.cells.as_slice().get(process.place()) {
+            Some(cell) => *cell,
+            None => Cell::default(),
+        }
+    }
+
+    /// The process that a core runs.
+    pub fn running(&self, core: CoreId) -> Option<ProcessId>
+        ensures { result ≡ slice_index_or self.now.running core None }
+    {
+        running_at(self.running.as_slice(), core)
+    }
+}

@@ -1,0 +1,12 @@
+//! How a history is drawn.
+
+use crate::frames::Frame;
+
+/// How a history is drawn.
+#[derive(Drop)]
+pub enum Style {
+    /// As SVG, the columns of a frame.
+    Svg(Frame),
+    /// As a trace in the Trace Event Format, which is JSON: all columns.
+    Trace,
+}

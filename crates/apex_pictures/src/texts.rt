@@ -1,0 +1,101 @@
+//! The parts of a picture's text, and how bytes are escaped in it.
+ghost use Rattle.std.specs.Prelude.{◌≡◌, [], ◌∷◌, ◌++◌, flat_map, decimal, OnOk};
+ghost use Rattle.apex_pictures.specs.Texts.{json_byte, json_text, part_text, xml_byte, xml_text};
+
+use itoa::Buffer;
+use std::alloc::AllocError;
+
+/// A part of a text.
+#[derive(Clone, Copy)]
+pub(crate) enum Part<'a> {
+    /// This text as it is.
+    Plain(&'a str),
+    /// A number in decimal digits.
+    Number(u64),
+    /// Bytes that XML reads back as they are.
+    Xml(&'a [u8]),
+    /// Bytes that JSON reads back as they are, between the quotes of a string.
+    Json(&'a [u8]),
+}
+
+/// Puts the text behind the others.
+pub(crate) fn put(text: &mut Vec<u8>, more: &str) -> Result<(), AllocError>
+    ensures { OnOk result (text.new.items ≡ text.old.items ++ more.now) }
+{
+    text.extend_from_slice(more.as_bytes())
+}
+
+pub(crate) fn put_number(text: &mut Vec<u8>, number: u64) -> Result<(), AllocError>
+    ensures { OnOk result (text.new.items ≡ text.old.items ++ decimal number) }
+{
+    let mut buffer = Buffer::new();
+    put(text, buffer.format(number))
+}
+
+fn put_byte(text: &mut Vec<u8>, byte: u8) -> Result<(), AllocError>
+    ensures { OnOk result (text.new.items ≡ text.old.items ++ byte ∷ []) }
+{
+    text.push(byte)?;
+    Ok(())
+}
+
+fn put_xml_byte(text: &mut Vec<u8>, byte: u8) -> Result<(), AllocError>
+    ensures { OnOk result (text.new.items ≡ text.old.items ++ xml_byte byte) }
+{
+    match byte {
+        b'&' => put(text, "&amp;"),
+        b'<' => put(text, "&lt;"),
+        b'>' => put(text, "&gt;"),
+        b'"' => put(text, "&quot;"),
+        _ => put_byte(text, byte),
+    }
+}
+
+/// Puts the bytes so that XML reads them back as they are.
+pub(crate) fn put_xml(text: &mut Vec<u8>, bytes: &[u8]) -> Result<(), AllocError>
+    ensures { OnOk result (text.new.items ≡ text.old.items ++ xml_text bytes.now) }
+{
+    for byte in bytes {
+        put_xml_byte(text, *byte)?;
+    }
+    Ok(())
+}
+
+fn put_json_byte(text: &mut Vec<u8>, byte: u8) -> Result<(), AllocError>
+    ensures { OnOk result (text.new.items ≡ text.old.items ++ json_byte byte) }
+{
+    if byte == b'"' || byte == b'\\' {
+        return text.extend_from_slice(&[b'\\', byte]);
+    }
+    put_byte(text, byte)
+}
+
+fn put_json(text: &mut Vec<u8>, bytes: &[u8]) -> Result<(), AllocError>
+    ensures { OnOk result (text.new.items ≡ text.old.items ++ json_text bytes.now) }
+{
+    for byte in bytes {
+        put_json_byte(text, *byte)?;
+    }
+    Ok(())
+}
+
+fn put_part(text: &mut Vec<u8>, part: &Part<'_>) -> Result<(), AllocError>
+    ensures { OnOk result (text.new.items ≡ text.old.items ++ part_text part.now) }
+{
+    match part {
+        Part::Plain(more) => put(text, more),
+        Part::Number(number) => put_number(text, *number),
+        Part::Xml(bytes) => put_xml(text, bytes),
+        Part::Json(bytes) => put_json(text, bytes),
+    }
+}
+
+/// Puts the parts behind the text, in order.
+pub(crate) fn put_all(text: &mut Vec<u8>, parts: &[Part<'_>]) -> Result<(), AllocError>
+    ensures { OnOk result (text.new.items ≡ text.old.items ++ flat_map part_text parts.now) }
+{
+    for part in parts {
+        put_part(text, part)?;
+    }
+    Ok(())
+}

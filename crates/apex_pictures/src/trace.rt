@@ -1,0 +1,424 @@
+//! A picture as a trace in the Trace Event Format, which is JSON: tracks of the cores and of the
+//! processes. An entry's number is its time in microseconds; the partition's time is an argument.
+ghost use Rattle.std.specs.Prelude.{◌≡◌, ◌++◌, flat_map, length, OnOk};
+ghost use Rattle.apex_types.specs.Listing.{texts_of};
+ghost use Rattle.apex_pictures.specs.Trace as trace;
+
+use crate::moments::Moment;
+use crate::texts::{Part, put, put_all};
+use crate::words::{deadline_word, id_part, name_of};
+use apex_table::Table;
+use apex_types::{CoreId, DeadlineType, LentEntry, Notice, ProcessId, State};
+use std::alloc::AllocError;
+
+/// The place of a slice or a mark in a trace: its group, its track and its time.
+#[derive(Clone, Copy)]
+pub(crate) struct Spot {
+    /// 1 of the cores, 2 of the processes.
+    group: u8,
+    track: u32,
+    time: u64,
+}
+
+/// Puts the name of a core's track.
+fn put_core_name(text: &mut Vec<u8>, core: CoreId) -> Result<(), AllocError>
+    ensures { OnOk result (text.new.items ≡ text.old.items ++ trace.core_name_text core) }
+{
+    put_all(
+        text,
+        &[
+            Part::Plain(",\n{\"ph\":\"M\",\"pid\":1,\"tid\":"),
+            Part::Number(u64::from(core.number())),
+            Part::Plain(",\"name\":\"thread_name\",\"args\":{\"name\":\"core "),
+            Part::Number(u64::from(core.number())),
+            Part::Plain("\"}}"),
+        ],
+    )
+}
+
+/// Puts the name of a process's track.
+fn put_process_name(text: &mut Vec<u8>, table: &Table, process: ProcessId) -> Result<(), AllocError>
+    ensures { OnOk result (text.new.items ≡ text.old.items ++ trace.process_name_text table.now process) }
+{
+    put_all(
+        text,
+        &[
+            Part::Plain(",\n{\"ph\":\"M\",\"pid\":2,\"tid\":"),
+            id_part(process),
+            Part::Plain(",\"name\":\"thread_name\",\"args\":{\"name\":\""),
+            Part::Json(name_of(table, process)),
+            Part::Plain("\"}}"),
+        ],
+    )
+}
+
+fn put_core_names(text: &mut Vec<u8>, table: &Table) -> Result<(), AllocError>
+    ensures { OnOk result (text.new.items ≡ text.old.items ++ texts_of trace.core_name_text table.now.cores) }
+{
+    for core in 0..table.cores() {
+        put_core_name(text, CoreId::new(core))?;
+    }
+    Ok(())
+}
+
+fn put_process_names(text: &mut Vec<u8>, table: &Table) -> Result<(), AllocError>
+    ensures { OnOk result (text.new.items ≡ text.old.items
+        ++ texts_of (trace.process_name_text table.now) (length table.now.processes)) }
+{
+    for place in 0..table.process_count() {
+        put_process_name(text, table, ProcessId::at(place as u8))?;
+    }
+    Ok(())
+}
+
+/// Puts the beginning of the file.
+#[tactic(auto, unfolding(crate::specs::Trace::opening_text))]
+fn put_opening(text: &mut Vec<u8>) -> Result<(), AllocError>
+    ensures { OnOk result (text.new.items ≡ text.old.items ++ trace.opening_text) }
+{
+    put(
+        text,
+        "{\"traceEvents\":[\n{\"ph\":\"M\",\"pid\":1,\"name\":\"process_name\",\"args\":{\"name\":\"cores\"}},\n{\"ph\":\"M\",\"pid\":2,\"name\":\"process_name\",\"args\":{\"name\":\"processes\"}}",
+    )
+}
+
+/// Puts what comes before the columns: the names of the tracks.
+#[tactic(auto, using(std::proofs::Common::append_assoc))]
+pub(crate) fn put_head(text: &mut Vec<u8>, table: &Table) -> Result<(), AllocError>
+    ensures { OnOk result (text.new.items ≡ text.old.items ++ trace.head_text table.now) }
+{
+    put_opening(text)?;
+    put_core_names(text, table)?;
+    put_process_names(text, table)
+}
+
+/// Puts the end of a slice.
+fn put_end(text: &mut Vec<u8>, spot: Spot) -> Result<(), AllocError>
+    ensures { OnOk result (text.new.items ≡ text.old.items ++ trace.end_text spot) }
+{
+    put_all(
+        text,
+        &[
+            Part::Plain(",\n{\"ph\":\"E\",\"pid\":"),
+            Part::Number(u64::from(spot.group)),
+            Part::Plain(",\"tid\":"),
+            Part::Number(u64::from(spot.track)),
+            Part::Plain(",\"ts\":"),
+            Part::Number(spot.time),
+            Part::Plain("}"),
+        ],
+    )
+}
+
+/// Puts the beginning of a slice, up to its name.
+fn put_begin(text: &mut Vec<u8>, spot: Spot, now: u64) -> Result<(), AllocError>
+    ensures { OnOk result (text.new.items ≡ text.old.items ++ trace.begin_text spot now) }
+{
+    put_all(
+        text,
+        &[
+            Part::Plain(",\n{\"ph\":\"B\",\"pid\":"),
+            Part::Number(u64::from(spot.group)),
+            Part::Plain(",\"tid\":"),
+            Part::Number(u64::from(spot.track)),
+            Part::Plain(",\"ts\":"),
+            Part::Number(spot.time),
+            Part::Plain(",\"args\":{\"now\":"),
+            Part::Number(now),
+            Part::Plain("},\"name\":\""),
+        ],
+    )
+}
+
+/// Puts the name of the slice of a process that a core runs.
+fn put_run_name(text: &mut Vec<u8>, table: &Table, process: ProcessId) -> Result<(), AllocError>
+    ensures { OnOk result (text.new.items ≡ text.old.items ++ trace.run_name_text table.now process) }
+{
+    put_all(
+        text,
+        &[
+            id_part(process),
+            Part::Plain(" "),
+            Part::Json(name_of(table, process)),
+            Part::Plain("\"}"),
+        ],
+    )
+}
+
+/// Puts the slice of a process that a core begins to run.
+#[tactic(auto, using(std::proofs::Common::append_assoc))]
+fn put_run(
+    text: &mut Vec<u8>,
+    table: &Table,
+    spot: Spot,
+    now: u64,
+    process: ProcessId,
+) -> Result<(), AllocError>
+    ensures { OnOk result (text.new.items ≡ text.old.items ++ trace.run_text table.now spot now process) }
+{
+    put_begin(text, spot, now)?;
+    put_run_name(text, table, process)
+}
+
+/// Puts the slice of what a core runs, if it runs a process.
+fn put_running(
+    text: &mut Vec<u8>,
+    table: &Table,
+    spot: Spot,
+    now: u64,
+    running: &Option<ProcessId>,
+) -> Result<(), AllocError>
+    ensures { OnOk result (text.new.items ≡ text.old.items ++ trace.run_of table.now spot now running.now) }
+{
+    match running {
+        Some(process) => put_run(text, table, spot, now, *process),
+        None => Ok(()),
+    }
+}
+
+/// Puts the slice of a state.
+#[tactic(auto, using(std::proofs::Common::append_assoc))]
+fn put_slice(text: &mut Vec<u8>, spot: Spot, now: u64, word: &str) -> Result<(), AllocError>
+    ensures { OnOk result (text.new.items ≡ text.old.items ++ trace.slice_text spot now word.now) }
+{
+    put_begin(text, spot, now)?;
+    put(text, word)?;
+    put(text, "\"}")
+}
+
+/// Puts the slice of the state that a process enters; DORMANT has no slice.
+fn put_being(text: &mut Vec<u8>, spot: Spot, now: u64, state: State) -> Result<(), AllocError>
+    ensures { OnOk result (text.new.items ≡ text.old.items ++ trace.being_text spot now state) }
+{
+    match state {
+        State::Dormant => Ok(()),
+        State::Ready => put_slice(text, spot, now, "READY"),
+        State::Running => put_slice(text, spot, now, "RUNNING"),
+        State::Waiting => put_slice(text, spot, now, "WAITING"),
+    }
+}
+
+/// Puts the end of a slice, if there is one.
+fn put_ended(text: &mut Vec<u8>, spot: Spot, begun: bool) -> Result<(), AllocError>
+    ensures { OnOk result (text.new.items ≡ text.old.items ++ trace.ended begun spot) }
+{
+    if begun { put_end(text, spot) } else { Ok(()) }
+}
+
+fn is_same_process(before: &Option<ProcessId>, after: &Option<ProcessId>) -> bool
+    ensures { result ≡ trace.same_process before.now after.now }
+{
+    match before {
+        Some(before) => match after {
+            Some(after) => before == after,
+            None => false,
+        },
+        None => after.is_none(),
+    }
+}
+
+/// Puts what changes on the track of a core.
+#[tactic(auto, using(std::proofs::Common::append_assoc))]
+fn put_core(
+    text: &mut Vec<u8>,
+    table: &Table,
+    spot: Spot,
+    now: u64,
+    before: &Option<ProcessId>,
+    after: &Option<ProcessId>,
+) -> Result<(), AllocError>
+    ensures { OnOk result (text.new.items ≡ text.old.items ++ trace.core_text table.now spot now before.now after.now) }
+{
+    if is_same_process(before, after) {
+        return Ok(());
+    }
+    put_ended(text, spot, before.is_some())?;
+    put_running(text, table, spot, now, after)
+}
+
+fn is_same_state(before: State, after: State) -> bool
+    ensures { result ≡ trace.same_state before after }
+{
+    match before {
+        State::Dormant => after == State::Dormant,
+        State::Ready => after == State::Ready,
+        State::Running => after == State::Running,
+        State::Waiting => after == State::Waiting,
+    }
+}
+
+fn is_begun(state: State) -> bool
+    ensures { result ≡ trace.is_begun state }
+{
+    match state {
+        State::Dormant => false,
+        State::Ready | State::Running | State::Waiting => true,
+    }
+}
+
+/// Puts what changes on the track of a process.
+#[tactic(auto, using(std::proofs::Common::append_assoc))]
+fn put_process(
+    text: &mut Vec<u8>,
+    spot: Spot,
+    now: u64,
+    before: State,
+    after: State,
+) -> Result<(), AllocError>
+    ensures { OnOk result (text.new.items ≡ text.old.items ++ trace.process_text spot now before after) }
+{
+    if is_same_state(before, after) {
+        return Ok(());
+    }
+    put_ended(text, spot, is_begun(before))?;
+    put_being(text, spot, now, after)
+}
+
+/// The track of a core.
+fn core_spot(core: CoreId, time: u64) -> Spot
+    ensures { result ≡ trace.core_spot core time }
+{
+    Spot {
+        group: 1,
+        track: u32::from(core.number()),
+        time,
+    }
+}
+
+/// The track of a process.
+fn process_spot(process: ProcessId, time: u64) -> Spot
+    ensures { result ≡ trace.process_spot process time }
+{
+    Spot {
+        group: 2,
+        track: process.number(),
+        time,
+    }
+}
+
+/// Puts what changes on the tracks of the cores.
+fn put_cores(
+    text: &mut Vec<u8>,
+    table: &Table,
+    time: u64,
+    now: u64,
+    before: &Moment,
+    after: &Moment,
+) -> Result<(), AllocError>
+    ensures { OnOk result (text.new.items ≡ text.old.items
+        ++ texts_of (trace.core_at table.now time now before.now after.now) table.now.cores) }
+{
+    for place in 0..table.cores() {
+        let core = CoreId::new(place);
+        put_core(
+            text,
+            table,
+            core_spot(core, time),
+            now,
+            &before.running(core),
+            &after.running(core),
+        )?;
+    }
+    Ok(())
+}
+
+/// Puts what changes on the tracks of the processes.
+fn put_processes(
+    text: &mut Vec<u8>,
+    table: &Table,
+    time: u64,
+    now: u64,
+    before: &Moment,
+    after: &Moment,
+) -> Result<(), AllocError>
+    ensures { OnOk result (text.new.items ≡ text.old.items
+        ++ texts_of (trace.process_at time now before.now after.now) (length table.now.processes)) }
+{
+    for place in 0..table.process_count() {
+        let process = ProcessId::at(place as u8);
+        let was = before.cell(process);
+        let is = after.cell(process);
+        put_process(text, process_spot(process, time), now, was.state, is.state)?;
+    }
+    Ok(())
+}
+
+/// Puts the mark of a missed deadline.
+fn put_miss(
+    text: &mut Vec<u8>,
+    time: u64,
+    now: u64,
+    process: ProcessId,
+    deadline: DeadlineType,
+) -> Result<(), AllocError>
+    ensures { OnOk result (text.new.items ≡ text.old.items ++ trace.miss_text time now process deadline) }
+{
+    put_all(
+        text,
+        &[
+            Part::Plain(",\n{\"ph\":\"i\",\"s\":\"t\",\"pid\":2,\"tid\":"),
+            id_part(process),
+            Part::Plain(",\"ts\":"),
+            Part::Number(time),
+            Part::Plain(",\"args\":{\"now\":"),
+            Part::Number(now),
+            Part::Plain("},\"name\":\"missed "),
+            Part::Plain(deadline_word(deadline)),
+            Part::Plain("\"}"),
+        ],
+    )
+}
+
+/// Puts the mark of a notice of a missed deadline; other notices have none.
+fn put_missed(text: &mut Vec<u8>, time: u64, now: u64, notice: &Notice) -> Result<(), AllocError>
+    ensures { OnOk result (text.new.items ≡ text.old.items ++ trace.missed_text time now notice.now) }
+{
+    match notice {
+        Notice::Missed(process, deadline) => put_miss(text, time, now, *process, *deadline),
+        Notice::Woken(_, _) | Notice::Released(_) => Ok(()),
+    }
+}
+
+fn put_misses(text: &mut Vec<u8>, time: u64, now: u64, notices: &[Notice]) -> Result<(), AllocError>
+    ensures { OnOk result (text.new.items ≡ text.old.items ++ flat_map (trace.missed_text time now) notices.now) }
+{
+    for notice in notices {
+        put_missed(text, time, now, notice)?;
+    }
+    Ok(())
+}
+
+/// Puts what an entry changes on the tracks, and the marks of the deadlines that it missed.
+#[tactic(auto, using(std::proofs::Common::append_assoc))]
+pub(crate) fn put_column(
+    text: &mut Vec<u8>,
+    table: &Table,
+    before: &Moment,
+    entry: &LentEntry<'_>,
+    after: &Moment,
+) -> Result<(), AllocError>
+    ensures { OnOk result (text.new.items ≡ text.old.items
+        ++ trace.column_text table.now before.now entry.entry.now after.now) }
+{
+    let time = u64::from(entry.number);
+    put_cores(text, table, time, entry.now, before, after)?;
+    put_processes(text, table, time, entry.now, before, after)?;
+    put_misses(text, time, entry.now, entry.notices)
+}
+
+/// Puts what comes after the columns: the ends of all slices.
+#[tactic(auto, using(std::proofs::Common::append_assoc))]
+pub(crate) fn put_foot(
+    text: &mut Vec<u8>,
+    table: &Table,
+    time: u64,
+    now: u64,
+    last: &Moment,
+) -> Result<(), AllocError>
+    ensures { OnOk result (text.new.items ≡ text.old.items ++ trace.foot_text table.now time now last.now) }
+{
+    let none = Moment::none();
+    put_cores(text, table, time, now, last, &none)?;
+    put_processes(text, table, time, now, last, &none)?;
+    put(text, "\n]}\n")
+}

@@ -1,0 +1,95 @@
+//! The words for states, waits and notices.
+ghost use Rattle.std.specs.Prelude.{◌≡◌, ◌++◌, OnOk};
+ghost use Rattle.apex_types.specs.Lines.{id_text, process_name};
+ghost use Rattle.apex_pictures.specs.Texts.{part_text};
+ghost use Rattle.apex_types.specs.Lines.{deadline_text};
+ghost use Rattle.apex_types.specs.Status.{state_text, wait_text};
+ghost use Rattle.apex_pictures.specs.Svg.{notice_word};
+
+use crate::texts::{Part, put, put_number};
+use apex_table::Table;
+use apex_types::{DeadlineType, Id, Notice, ProcessId, State, Wait};
+use std::alloc::AllocError;
+
+pub(crate) fn state_word(state: State) -> &'static str
+    ensures { result.now ≡ state_text state }
+{
+    match state {
+        State::Dormant => "DORMANT",
+        State::Ready => "READY",
+        State::Running => "RUNNING",
+        State::Waiting => "WAITING",
+    }
+}
+
+pub(crate) fn deadline_word(deadline: DeadlineType) -> &'static str
+    ensures { result.now ≡ deadline_text deadline }
+{
+    match deadline {
+        DeadlineType::Soft => "soft",
+        DeadlineType::Hard => "hard",
+    }
+}
+
+/// The word for what a notice says.
+pub(crate) fn notice_word(notice: &Notice) -> &'static str
+    ensures { result.now ≡ notice_word notice.now }
+{
+    match notice {
+        Notice::Woken(_, _) => "woken",
+        Notice::Released(_) => "released",
+        Notice::Missed(_, _) => "missed",
+    }
+}
+
+/// The name of a process; no byte if there is no such process.
+pub(crate) fn name_of(table: &Table, process: ProcessId) -> &[u8]
+    ensures { result.now ≡ process_name table.now process }
+{
+    if process.place() < table.process_count() {
+        table.process(process).name().as_bytes()
+    } else {
+        &[]
+    }
+}
+
+/// The part that is the number of an id.
+pub(crate) fn id_part<'a, K: Copy>(id: Id<K>) -> Part<'a>
+    ensures { part_text result ≡ id_text id }
+{
+    Part::Number(u64::from(id.number()))
+}
+
+/// Puts the number of an id.
+fn put_id<K: Copy>(text: &mut Vec<u8>, id: Id<K>) -> Result<(), AllocError>
+    ensures { OnOk result (text.new.items ≡ text.old.items ++ id_text id) }
+{
+    put_number(text, u64::from(id.number()))
+}
+
+/// Puts a kind of objects and the number of one of them.
+#[tactic(auto, using(std::proofs::Common::append_assoc))]
+fn put_object<K: Copy>(text: &mut Vec<u8>, kind: &str, id: Id<K>) -> Result<(), AllocError>
+    ensures { OnOk result (text.new.items ≡ text.old.items ++ (kind.now ++ id_text id)) }
+{
+    put(text, kind)?;
+    put_id(text, id)
+}
+
+/// Puts what a process waits for.
+pub(crate) fn put_wait(text: &mut Vec<u8>, wait: &Wait) -> Result<(), AllocError>
+    ensures { OnOk result (text.new.items ≡ text.old.items ++ wait_text wait.now) }
+{
+    match wait {
+        Wait::Normal(_) => put(text, "normal"),
+        Wait::Start => put(text, "start"),
+        Wait::Time => put(text, "time"),
+        Wait::Period => put(text, "period"),
+        Wait::Semaphore(semaphore) => put_object(text, "semaphore:", *semaphore),
+        Wait::Receive(buffer) => put_object(text, "buffer:", *buffer),
+        Wait::Send(buffer, _) => put_object(text, "buffer:", *buffer),
+        Wait::Blackboard(blackboard) => put_object(text, "blackboard:", *blackboard),
+        Wait::Event(event) => put_object(text, "event:", *event),
+        Wait::Mutex(mutex) => put_object(text, "mutex:", *mutex),
+    }
+}
