@@ -19,7 +19,8 @@ LONGEST_NAME = 30
 LONGEST_MESSAGE = 64
 MOST_STEPS = {"script": 64, "init": 512}
 KINDS = ["process", "semaphore", "buffer", "blackboard", "event", "mutex"]
-MOST_ENTRIES = {kind: 32 if kind == "process" else 16 for kind in KINDS}
+MOST_OBJECTS = 16
+MOST_PROCESSES = {1: 32, 2: 64}
 TYPES = {bool: "a truth value", int: "a whole number", float: "a fraction", str: "a text", list: "an array", dict: "a table"}
 
 
@@ -214,8 +215,9 @@ def check_section(kind: str, table: Entry, cores: int) -> None:
     entries = table.get(kind, [])
     if not isinstance(entries, list):
         raise whole_of.refuse("WrongType", f"it is {type_of(entries)}, and an array of tables is wanted, as [[{kind}]]")
-    if len(entries) > MOST_ENTRIES[kind]:
-        raise whole_of.refuse("TooMany", f"it has {len(entries)} entries, and may have {MOST_ENTRIES[kind]}")
+    most = MOST_PROCESSES[table.get("profile", 1)] if kind == "process" else MOST_OBJECTS
+    if len(entries) > most:
+        raise whole_of.refuse("TooMany", f"it has {len(entries)} entries, and may have {most}")
     if kind == "process" and not entries:
         raise whole_of.refuse("MissingKey", "there is no process")
     for number, entry in enumerate(entries, 1):
@@ -224,10 +226,12 @@ def check_section(kind: str, table: Entry, cores: int) -> None:
 
 
 def check_top(table: Entry) -> None:
-    top, known = Place("top"), ["cores", "history", *KINDS, "init"]
+    top, known = Place("top"), ["profile", "cores", "history", *KINDS, "init"]
     unknown = [it for it in table if it not in known]
     if unknown:
         raise top.at(f"key {shown(unknown[0])}").refuse("UnknownKey", f"the top has the keys {', '.join(known)}")
+    if "profile" in table:
+        whole(1, 2)(table["profile"], top.at("key profile"))
     if "cores" not in table:
         raise top.at("key cores").refuse("MissingKey", "it is not there")
     whole(1, 8)(table["cores"], top.at("key cores"))

@@ -1,5 +1,5 @@
-//! The program `apex`: runs the partition of a table and reports its history or its state, and checks
-//! histories.
+//! The program `apex`: runs the partition of a table and reports its history or its state, and
+//! checks histories.
 #![tactic(auto)]
 
 use apex_cli::{given_words, serve};

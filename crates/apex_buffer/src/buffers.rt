@@ -12,8 +12,8 @@ ghost use Rattle.apex_types.specs.declared.records.Queue.TheVariants as queues;
 
 use apex_store::{Object, Store, grant, is_unfit, is_waiting_owner, wait_for};
 use apex_types::{
-    BufferId, BufferKind, BufferService, Caller, Message, Notices, ProcessId, Queue, Reply,
-    ReturnCode, Timeout, Wait,
+    BufferId, BufferKind, BufferService, Caller, MOST_MESSAGES, Message, Notices, ProcessId, Queue,
+    Reply, ReturnCode, Timeout, Wait,
 };
 use arrayvec::ArrayVec;
 use std::marker::Model;
@@ -24,7 +24,7 @@ pub struct Buffer {
     longest: u8,
     capacity: u8,
     created: bool,
-    messages: ArrayVec<Message, 16>,
+    messages: ArrayVec<Message, MOST_MESSAGES>,
 }
 
 impl Model for Buffer {
@@ -82,8 +82,8 @@ impl Buffer {
         self.messages.as_slice()
     }
 
-    /// The message goes last where there is room, else the process, which calls, waits with it for
-    /// the time in ticks that it may.
+    /// The message goes last if there is room, else the process, which calls, waits with it until
+    /// the timeout, in ticks, is over.
     fn send_last<S: Store>(
         &mut self,
         store: &mut S,
@@ -105,10 +105,11 @@ impl Buffer {
         wait_for(store, self, process, Wait::Send(id, message), timeout)
     }
 
-    /// SEND_BUFFER: a waiting receiver gets the message, else it goes last, else the caller waits
-    /// with it for the time in ticks that it may. INVALID_PARAM where the buffer isn't created or
-    /// the message is empty or too long, INVALID_MODE where the caller owns a mutex and would wait, or
-    /// no process calls, NOT_AVAILABLE where the caller may not wait.
+    /// SEND_BUFFER: a waiting receiver gets the message, else it goes last if there is room, else
+    /// the caller waits with it until the timeout, in ticks, is over. INVALID_PARAM if the buffer
+    /// isn't created or the message is empty or too long; INVALID_MODE if the caller owns a mutex
+    /// and the timeout isn't 0, or no process calls; NOT_AVAILABLE in place of a wait if the
+    /// timeout is 0.
     pub fn send<S: Store>(
         &mut self,
         store: &mut S,
@@ -158,8 +159,8 @@ impl Buffer {
         }
     }
 
-    /// Answers this message. The first waiter, where it is a sender, has its own taken in last, and
-    /// is woken.
+    /// Answers this message. If the first waiter is a sender, its message goes last, and it is
+    /// woken.
     fn take_in<S: Store>(
         &mut self,
         store: &mut S,
@@ -183,10 +184,10 @@ impl Buffer {
         Reply::Message(*message)
     }
 
-    /// RECEIVE_BUFFER: the caller gets the first message, and then the first waiting sender's goes
-    /// last; where there is none the caller waits for the time in ticks that it may. INVALID_PARAM
-    /// where the buffer isn't created, INVALID_MODE where the caller owns a mutex and would wait, or no
-    /// process calls, NOT_AVAILABLE where the caller may not wait.
+    /// RECEIVE_BUFFER: the caller gets the first message, and then that of the first waiting sender
+    /// goes last; if there is no message the caller waits until the timeout, in ticks, is over.
+    /// INVALID_PARAM if the buffer isn't created; INVALID_MODE if the caller owns a mutex and the
+    /// timeout isn't 0, or no process calls; NOT_AVAILABLE in place of a wait if the timeout is 0.
     pub fn receive<S: Store>(
         &mut self,
         store: &mut S,

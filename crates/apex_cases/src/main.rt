@@ -1,28 +1,13 @@
-//! The program that plays the cases of the services, which it reads on standard input, and those of the
-//! examples, which are in the folder that its argument names, and reports each difference.
+//! The program that plays the cases of the services, which it reads on standard input, and those of
+//! the examples, which are in the folder that its argument names, and reports each difference.
 #![tactic(auto)]
 
-mod attempts;
-mod checks;
-mod devices;
-mod differences;
-mod examples;
-mod faults;
-mod folds;
-mod outlines;
 mod plain;
 mod plays;
-mod readings;
-mod reports;
-mod rows;
-mod tellings;
 
+use apex_case_player::{CaseFault, Report, check_examples, check_readings, check_rows};
 use apex_history::{Counted, Sink, Source, read_all};
-use checks::check_rows;
-use examples::check_examples;
-use faults::CaseFault;
-use readings::check_readings;
-use reports::Report;
+use plays::Apex;
 use std::alloc::{AllocGlobal, Global};
 use std::env::Env;
 use std::fs::Files;
@@ -38,8 +23,8 @@ fn folder_given<E: Env>(alloc: Global, env: &E) -> Result<String, CaseFault> {
     args.nth(1).ok_or(CaseFault::NoFolder)
 }
 
-/// Plays the cases of a reader's text and of the examples, writes the report, and says whether all
-/// is as it should be.
+/// Plays the cases of a reader's text and of the examples, writes the report, and answers whether
+/// all is as it should be.
 fn checked<R, S: Source, W: Sink>(
     rt: &R,
     folder: Result<String, CaseFault>,
@@ -50,11 +35,12 @@ where
     R: Files + AllocGlobal + Threads + Wait + Sync + Clone + Drop,
 {
     let (alloc, folder) = (rt.alloc(), folder?);
-    let bytes = read_all(alloc, reader)?;
+    let bytes = read_all(alloc, reader).map_err(|_fault| CaseFault::Stream)?;
     let mut report = Report::new(alloc);
-    check_rows(rt, alloc, &mut report, str::from_utf8(bytes.as_slice())?)?;
-    check_examples(rt, &mut report, folder.as_str())?;
-    check_readings(rt, &mut report, folder.as_str())?;
+    let rows = str::from_utf8(bytes.as_slice())?;
+    check_rows(rt, &Apex, alloc, &mut report, rows)?;
+    check_examples(rt, &Apex, &mut report, folder.as_str())?;
+    check_readings(rt, &Apex, &mut report, folder.as_str())?;
     writer.write_all(report.text().as_bytes())?;
     Ok(report.is_clean())
 }
@@ -67,7 +53,7 @@ fn main(rt: HostRuntime) -> ExitCode {
         Ok(true) => ExitCode::from(0),
         Ok(false) => ExitCode::from(1),
         Err(fault) => {
-            // The status tells of the fault also where its line cannot be written.
+            // The status shows the fault even if its line cannot be written.
             let _ = eprintln!(rt; "apex_cases: {fault}");
             ExitCode::from(2)
         }

@@ -1,24 +1,24 @@
 //! The same history over a store without lists, by scans.
 ghost use Rattle.std.specs.Prelude.{All, IfOk, IsTrue};
-ghost use Rattle.apex_types.specs.Lines.{IsPrintable};
+ghost use Rattle.apex_calls.specs.Lines.{IsPrintable};
 ghost use Rattle.apex_dispatch.specs.Events.{IsWithin};
 
-use crate::faults::CaseFault;
+use apex_case_player::CaseFault;
 use apex_dispatch::Kernel;
 use apex_history::{Counted, Page, print_history, read_line};
 use apex_store::PlainStore;
 use apex_table::read_table;
-use apex_types::Event;
+use apex_types::{Event, MOST_TICKS};
 use std::alloc::Global;
 use std::str;
 
-/// Whether a kernel of so many cores may be asked for the event.
+/// Whether a kernel with `cores` cores may be asked for the event.
 fn is_within(cores: u8, event: &Event) -> bool
     ensures { IsTrue result → IsWithin cores event.now }
 {
     match event {
         Event::Turn(core) => core.number() < cores,
-        Event::Tick(ticks) => (1..=1_048_576).contains(ticks),
+        Event::Tick(ticks) => 1 <= *ticks && *ticks <= MOST_TICKS,
     }
 }
 
@@ -31,7 +31,7 @@ fn booted(alloc: Global, table: &str) -> Result<Kernel<PlainStore>, CaseFault> {
     Ok(Kernel::boot(alloc, table, store)?)
 }
 
-/// The event that the line names, of a kernel of so many cores.
+/// The event that the line names, for a kernel with `cores` cores.
 fn event_of(cores: u8, line: &str) -> Result<Event, CaseFault>
     ensures { IfOk result (IsWithin cores) }
 {
@@ -69,8 +69,8 @@ fn lines_of(alloc: Global, kernel: &Kernel<PlainStore>) -> Result<Vec<u8>, CaseF
     Ok(written)
 }
 
-/// `Plain` where a kernel over a store without lists makes another history of the events that these lines
-/// name.
+/// `Plain` if a kernel over a store without lists makes another history of the events that these
+/// lines name.
 pub fn check_plain(alloc: Global, table: &str, lines: &str) -> Result<(), CaseFault> {
     let mut kernel = booted(alloc, table)?;
     make_all(&mut kernel, lines)?;

@@ -1,4 +1,4 @@
--- A text stands in lines in one way.
+-- A text has one division into lines.
 use Rattle.std.proofs.Common.{◌≡◌, ◌∙◌, ℕ, ◌+◌, ◌<◌, ◌≤◌, List, [], ◌∷◌, ◌++◌, Err, refl, sym, ap, subst, arith, length, append_assoc, length-append}
 use Rattle.std.specs.List.{AllByRecursion, flat_map}
 use Rattle.std.proofs.lemmas.Grind.{flat_map-append}
@@ -8,7 +8,7 @@ use Rattle.apex_table.specs.declared.TableFault.{TableFault}
 use Rattle.apex_check.specs.Texts.{BeginsWithTable, HasNoSeparator, IsOfTable, IsOneLine, IsParted, ended, line_feeds, separator, text_of}
 use Rattle.apex_check.proofs.FirstLines.{feeds_append, feeds_cons, feeds_ended, same_first, some_feed}
 
--- the first of lines, and what stands behind it
+-- the first of lines, and the lines behind it
 pub first_of_lines : (line : List ℕ) (lines : List (List ℕ)) → text_of (line ∷ lines) ≡ line ++ (10 ∷ text_of lines)
 first_of_lines line lines = append_assoc line (10 ∷ []) (text_of lines)
 
@@ -31,7 +31,7 @@ same_lines (o ∷ os) (l ∷ ls) rest p q e =
 
 -- ---- line feeds
 
--- so many lines, so many line feeds
+-- n lines have n line feeds
 pub feeds_text : (lines : List (List ℕ)) → AllByRecursion IsOneLine lines → line_feeds (text_of lines) ≡ length lines
 feeds_text [] p = refl
 feeds_text (l ∷ ls) p = omega (arith, feeds_append (ended l) (text_of ls), feeds_ended l, p.0, feeds_text ls p.1)
@@ -39,7 +39,7 @@ feeds_text (l ∷ ls) p = omega (arith, feeds_append (ended l) (text_of ls), fee
 pub some_feeds : (xs line zs : List ℕ) → 0 < line_feeds (xs ++ (ended line ++ zs))
 some_feeds xs line zs = omega (arith, feeds_append xs (ended line ++ zs), feeds_append (ended line) zs, feeds_ended line)
 
--- what has no line feed is no longer than the first line
+-- a part without a line feed is no longer than the first line
 pub no_longer : (part behind line rest : List ℕ) → IsOneLine part → line ++ (10 ∷ rest) ≡ part ++ behind → length part ≤ length line
 no_longer [] behind line rest one e = omega arith
 no_longer (y ∷ ys) behind [] rest one e =
@@ -49,7 +49,7 @@ no_longer (y ∷ ys) behind (x ∷ xs) rest one e =
     let tail : xs ++ (10 ∷ rest) ≡ ys ++ behind = cc in
     omega (arith, no_longer ys behind xs rest (omega (arith, one, feeds_cons y ys)) tail)
 
--- Pieces that end with a line feed each: where they have no more line feeds than there are pieces, no
+-- Pieces that end with a line feed each: if they have no more line feeds than there are pieces, no
 -- piece has another one.
 module _ {X : Type 0} (f : X → List ℕ) (shows : (x : X) → (shown : List ℕ) × (f x ≡ ended shown)) where
   feeds_each : (xs : List X) → length xs ≤ line_feeds (flat_map f xs)
@@ -72,7 +72,7 @@ module _ {X : Type 0} (f : X → List ℕ) (shows : (x : X) → (shown : List �
         feeds_ended (shows x).0,
       )
 
--- ---- where a text is parted
+-- ---- the place at which a text is parted
 
 same_parts : (lines others : List (List ℕ)) (behind rest : List ℕ) → AllByRecursion IsOfTable lines → AllByRecursion IsOfTable others
     → text_of lines ++ (ended separator ++ behind) ≡ text_of others ++ (ended separator ++ rest)

@@ -1,4 +1,4 @@
--- What is still to come of a text.
+-- The part of a text that is still to come.
 use Rattle.std.proofs.Common.{◌≡◌, ◌∙◌, ℕ, ◌+◌, ◌-◌, List, [], ◌++◌, Option, None, Some, sym, refl, ap, subst, length, take, drop, length-drop, append_assoc, take-append-drop}
 use Rattle.std.proofs.KnownBytes.{Consumes-kept, Consumes-trans}
 use Rattle.std.specs.Io.KnownBytes.{Consumes, IsAtEnd, Keeps, prepend_known}
@@ -8,7 +8,7 @@ use Rattle.apex_check.specs.Texts.{ended}
 pub length_dropped : (n : ℕ) (xs : List ℕ) → length (drop n xs) ≡ length xs - n
 length_dropped n xs = length-drop n xs
 
--- the bytes that are left, or none where they are not known
+-- the bytes that are left, or none if they are not known
 abbrev pub or_nothing : Option (List ℕ) → List ℕ
 or_nothing None = []
 or_nothing (Some xs) = xs
@@ -18,7 +18,7 @@ pub ahead_of : (pending : List ℕ) (left : Option (List ℕ)) → IsAhead (pend
 ahead_of pending None = tt
 ahead_of pending (Some xs) = refl
 
--- what was taken, and what is still to come
+-- the bytes that were taken, and those that are still to come
 pub ahead_more : (old new : Option (List ℕ)) (bytes text : List ℕ) → Consumes old new bytes → IsAhead text new → IsAhead (bytes ++ text) old
 ahead_more None new bytes text taken ahead = tt
 ahead_more (Some xs) None bytes text taken ahead = absurd taken
@@ -36,7 +36,7 @@ ahead_taken n pending None = tt
 ahead_taken n pending (Some xs) =
     ap (λ l. l ++ xs) (sym (take-append-drop n pending)) ∙ append_assoc (take n pending) (drop n pending) xs
 
--- what was taken so far, after something came and a part of it was taken
+-- the bytes that were taken so far, after some came and a part of them was taken
 pub taken_more : (old before left : Option (List ℕ)) (bytes pending : List ℕ) (n : ℕ) → Consumes old before bytes
     → Keeps before (prepend_known pending left)
     → Consumes old (prepend_known (drop n pending) left) (bytes ++ take n pending)
@@ -55,7 +55,7 @@ text_ahead P old before left bytes pending taken kept holds = (
   holds,
 )
 
--- the first line of what comes, and what stands behind it
+-- the first line of the bytes that come, and the bytes behind it
 pub first_line_of : (end : ℕ) (pending more : List ℕ) → IsFirstLine end pending
     → pending ++ more ≡ ended (take end pending) ++ (drop (end + 1) pending ++ more)
 first_line_of end pending more first =
@@ -63,7 +63,7 @@ first_line_of end pending more first =
     ∙ append_assoc (take (end + 1) pending) (drop (end + 1) pending) more
     ∙ ap (λ l. l ++ (drop (end + 1) pending ++ more)) first.1
 
--- what holds of a line whatever follows
+-- a property of a line, whatever follows
 pub line_ahead : (P : List ℕ → Type 0) (old before left : Option (List ℕ)) (bytes pending : List ℕ) (end : ℕ) → Consumes old before bytes
     → Keeps before (prepend_known pending left) → IsFirstLine end pending
     → ((behind : List ℕ) → P (bytes ++ (ended (take end pending) ++ behind)))

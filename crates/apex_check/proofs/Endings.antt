@@ -1,4 +1,4 @@
--- The ways in which a check ends, by what was at fault and by the verdict.
+-- The ways in which a check ends, by the fault and by the verdict.
 use Rattle.std.proofs.Common.{◌≡◌, ℕ, List, [], ◌∷◌, ◌++◌, length, Option, None, Some, Ok, Err, refl}
 use Rattle.std.specs.Io.KnownBytes.{Appends, Consumes, Keeps, prepend_known}
 use Rattle.apex_types.specs.Table.{Table}

@@ -8,7 +8,7 @@ use Rattle.std.specs.List.{position, position_or_len}
 use Rattle.apex_check.specs.Ahead.{IsFirstLine}
 use Rattle.apex_check.specs.Texts.{IsOneLine, ended, is_line_feed, line_feeds}
 
--- so many bytes before the first line feed have none
+-- the first n bytes before the first line feed have none
 before_first_feed : (n : ℕ) (xs : List ℕ) → n ≤ position_or_len is_line_feed xs → IsOneLine (take n xs)
 before_first_feed zero xs few = refl
 before_first_feed (suc n) xs few =
@@ -30,7 +30,7 @@ place_found xs i found = go (nat_lt (position_or_len is_line_feed xs) (length xs
         let nowhere : None ≡ Some i = rw t at found in
         cc
 
--- the first line is what stands before the first line feed
+-- the first line is the part before the first line feed
 pub first_feed : (xs : List ℕ) (i : ℕ) → position is_line_feed xs ≡ Some i
     → IsOneLine (take i xs) × (take (i + 1) xs ≡ ended (take i xs)) × (i < length xs)
 first_feed xs i found =
@@ -77,7 +77,7 @@ one_line_append xs ys p q = omega (arith, feeds_append xs ys, p, q)
 pub some_feed : (y : ℕ) (ys : List ℕ) → y ≡ 10 → line_feeds (y ∷ ys) ≡ 1 + line_feeds ys
 some_feed y ys e = rw e (feeds_cons 10 ys)
 
--- where a first line ends is the same for all who look
+-- two texts that are the same have the same first line
 pub same_first : (xs ys us vs : List ℕ) → IsOneLine xs → IsOneLine ys → xs ++ (10 ∷ us) ≡ ys ++ (10 ∷ vs)
     → (xs ≡ ys) × (us ≡ vs)
 same_first [] [] us vs p q e = (refl, cc)

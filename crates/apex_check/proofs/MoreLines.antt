@@ -6,11 +6,12 @@ use Rattle.std.proofs.lemmas.Bool.{ltb-true}
 use Rattle.std.proofs.lemmas.Grind.{flat_map-append}
 use Rattle.std.proofs.lemmas.List.{length-map, map-append}
 use Rattle.std.proofs.Math.Seq.{take-append_seam, get_or-append_seam}
+use Rattle.apex_types.specs.Limits.{most_line}
 use Rattle.apex_check.specs.Terms.{Entry, Event}
 use Rattle.apex_table.proofs.Results.{all_append}
 use Rattle.apex_types.specs.declared.Event.TheVariants.{Turn, Tick}
 use Rattle.apex_types.specs.Table.{Table}
-use Rattle.apex_types.specs.Lines.{line_of, lines_of}
+use Rattle.apex_calls.specs.Lines.{line_of, lines_of}
 use Rattle.apex_types.specs.Machine.{Machine, accept, happen, event_of, events_of, opening, replay, run, tick, turn}
 use Rattle.apex_dispatch.proofs.Runs.{accept-room, run-append}
 use Rattle.apex_history.specs.declared.LineFault.{LineFault}
@@ -28,7 +29,7 @@ use Rattle.apex_check.specs.Texts.{IsOneLine, ended}
 use Rattle.apex_check.specs.Verdicts.{JudgesLines, LineIsAtFault, bad, beyond, departs, legal, too_long, unended}
 use Rattle.apex_check.proofs.Separated.{text_more}
 
--- ---- what an event adds
+-- ---- the entry that an event adds
 
 pub event_adds : (table : Table) (machine : Machine) (event : Event)
     → (entry : Entry) × ((happen table machine event).history ≡ machine.history ++ entry ∷ []) × (event_of entry ≡ event)
@@ -127,7 +128,7 @@ module _ (table : Table) (machine new : Machine) (bytes found : List ℕ) (event
       ∙ history_is table new replays ∙ grown
       ∙ ap (λ (l : List Entry). l ++ entry ∷ []) (sym (history_is table machine again))
 
--- ---- what a line names
+-- ---- the event that a line names
 
 -- a turn of a core is no fault but of a core that is lacking
 named_by : (cores : ℕ) (result : Result Event LineFault) → of_cores cores result ≡ Err line_fault.TooLong → result ≡ Err line_fault.TooLong
@@ -146,17 +147,17 @@ bad_or_ok : (named : Option Event) → or_bad_line named ≡ Err line_fault.TooL
 bad_or_ok None e = cc
 bad_or_ok (Some event) e = cc
 
-long_line : (cores : ℕ) (line : List ℕ) → event_named cores line ≡ Err line_fault.TooLong → 4096 < length line
-long_line cores line e = go (nat_lt 4096 (length line)) refl
+long_line : (cores : ℕ) (line : List ℕ) → event_named cores line ≡ Err line_fault.TooLong → most_line < length line
+long_line cores line e = go (nat_lt most_line (length line)) refl
   where
     found : line_result line ≡ Err line_fault.TooLong
     found = named_by cores (line_result line) e
 
-    go : (b : Bool) → nat_lt 4096 (length line) ≡ b → 4096 < length line
+    go : (b : Bool) → nat_lt most_line (length line) ≡ b → most_line < length line
     go true t = ltb-true _ _ t
     go false t = absurd (bad_or_ok (words.event_named (parts 32 line)) (rw t at found))
 
--- ---- what a line is told as
+-- ---- the judgement on a line
 
 -- a line is read apart from the text that follows it
 follows : (table : Table) (bytes behind : List ℕ) (events : List Event) → AreLines table bytes events
@@ -190,14 +191,14 @@ module _ (table : Table) (entries : List Entry) (bytes : List ℕ) (are : AreLin
       subst (λ n. JudgesLines table (bytes ++ (pending ++ left)) (Legal n)) (counted entries)
       (legal (bytes, whole, are))
 
-  pub rests : (pending left : List ℕ) → IsOneLine pending → 0 < length pending → length pending ≤ 4096 → left ≡ []
+  pub rests : (pending left : List ℕ) → IsOneLine pending → 0 < length pending → length pending ≤ most_line → left ≡ []
       → LineIsAtFault table (bytes ++ (pending ++ left)) (BadLine (length entries + 1))
   rests pending left one some few end =
       let whole : bytes ++ (pending ++ left) ≡ bytes ++ pending = ap (λ l. bytes ++ l) (ap (λ l. pending ++ l) end ∙ append-nil pending) in
       subst (λ n. LineIsAtFault table (bytes ++ (pending ++ left)) (BadLine (n + 1))) (counted entries)
       (unended pending (bytes, whole, are) one some few)
 
-  pub runs_on : (pending left : List ℕ) → IsOneLine pending → 4096 < length pending
+  pub runs_on : (pending left : List ℕ) → IsOneLine pending → most_line < length pending
       → LineIsAtFault table (bytes ++ (pending ++ left)) (TooLong (length entries + 1))
   runs_on pending left one long =
       subst (λ n. LineIsAtFault table (bytes ++ (pending ++ left)) (TooLong (n + 1))) (counted entries)

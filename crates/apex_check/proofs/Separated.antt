@@ -37,7 +37,8 @@ table_more front line text one other = record {
 pub from_place : (start : ℕ) (items : List ℕ) → take (length items - start) (drop start items) ≡ drop start items
 from_place start items = take_all (length items - start) (drop start items) (omega (arith, length-drop start items))
 
--- what was gathered of the text, where the line that comes next begins at this place, and one piece more
+-- the part of the text that was gathered, in which the next line begins at this place, and one
+-- piece more
 module _ (items piece : List ℕ) (start : ℕ) (within : start ≤ length items) where
   pub front_kept : take start (items ++ piece) ≡ take start items
   front_kept = take-append-le start items piece within
@@ -52,7 +53,7 @@ part_more items pending start within part one =
     rw (take_all (length pending) pending (omega arith), part_grown items pending start within)
     (one_line_append (drop start items) pending part one)
 
--- the line that ends in the first line of what is pending
+-- the line that ends in the first line of the pending bytes
 line_ended : (items pending : List ℕ) (start end : ℕ) → start ≤ length items → IsFirstLine end pending
     → drop start (items ++ take (end + 1) pending) ≡ ended (drop start items ++ take end pending)
 line_ended items pending start end within first =

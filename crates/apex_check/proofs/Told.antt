@@ -59,7 +59,7 @@ module _ (text : List ℕ) (n : ℕ) (is : IsLegal text n) where
       let here : LineIsAtFault is.table is.behind fault = subst (λ b. LineIsAtFault is.table b fault) ends found in
       no_line_fault is.table is.behind is.events is.follows fault here
 
--- what is told to be legal is
+-- a text whose verdict is legal is legal
 legal_lines : (table : Table) (text : List ℕ) (n : ℕ) (verdict : Verdict) → JudgesLines table text verdict → verdict ≡ Legal n
     → (events : List Event) × Follows table text events [] × (length events ≡ n)
 legal_lines table text n verdict (legal {events} follows) e = (events, follows, cc)

@@ -1,26 +1,29 @@
--- What is still to come of a text: the bytes that were read ahead, and those that a reader has left.
+-- The part of a text that is still to come: the bytes that were read ahead, and those that a reader
+-- has left.
 use Rattle.std.specs.Prelude.{◌≡◌, ℕ, ◌+◌, ◌*◌, ◌<◌, ◌≤◌, List, [], length, take, Option, IfSome}
 use Rattle.std.specs.Io.KnownBytes.{IsAtEnd}
+use Rattle.apex_types.specs.Limits.{most_line}
 use Rattle.apex_check.specs.declared.pending.Next.{Next}
 use Rattle.apex_check.specs.declared.pending.Next.TheVariants.{Line, Part, Rest, End}
 use Rattle.apex_check.specs.Texts.{IsOneLine, ended}
 
--- the text is what is still to come, where that is known
+-- the text is the part that is still to come, if that is known
 abbrev pub IsAhead : List ℕ → Option (List ℕ) → Type 0
 IsAhead text known = IfSome known (λ xs. text ≡ xs)
 
--- the bytes begin with a line of so many bytes, and its line feed
+-- the bytes begin with a line of `end` bytes, and its line feed
 abbrev pub IsFirstLine : ℕ → List ℕ → Type 0
 IsFirstLine end bytes =
     IsOneLine (take end bytes) × (take (end + 1) bytes ≡ ended (take end bytes)) × (end < length bytes)
 
--- what comes next, by the bytes that were read ahead and those that are left
+-- the next part of a text, by the bytes that were read ahead and those that are left
 abbrev pub Comes : Next → List ℕ → Option (List ℕ) → Type 0
 Comes (Line end) pending left = IsFirstLine end pending
-Comes Part pending left = IsOneLine pending × (4096 < length pending)
-Comes Rest pending left = IsOneLine pending × (0 < length pending) × (length pending ≤ 4096) × IsAtEnd left
+Comes Part pending left = IsOneLine pending × (most_line < length pending)
+Comes Rest pending left = IsOneLine pending × (0 < length pending) × (length pending ≤ most_line) × IsAtEnd left
 Comes End pending left = (pending ≡ []) × IsAtEnd left
 
--- how much can still be read, with what was read ahead; it falls as bytes are taken
+-- a bound of the bytes that can still be taken: those that were read ahead, and 4,096 for each read
+-- that is left
 abbrev pub fuel : List ℕ → ℕ → ℕ
-fuel pending reads = length pending + 4096 * reads
+fuel pending reads = length pending + most_line * reads

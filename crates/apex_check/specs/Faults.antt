@@ -1,4 +1,4 @@
--- Which faults a text has, and which a reader.
+-- The faults of a text, and those of a reader.
 use Rattle.std.specs.Prelude.{◌≡◌, ℕ, List, Option, Result, MatchResult}
 use Rattle.apex_history.specs.Counted.{one_more}
 use Rattle.apex_check.specs.declared.verdicts.CheckFault.{CheckFault}
@@ -15,7 +15,7 @@ CountsRead fault old new = new ≡ old
 abbrev pub CountsCheck : {T : Type 0} → Result T CheckFault → ℕ → ℕ → Type 0
 CountsCheck result old new = MatchResult result (λ _. new ≡ old) (λ fault. CountsRead fault old new)
 
--- what is still to come has this fault, or memory was refused, or a read failed
+-- the part that is still to come has this fault, or memory was refused, or a read failed
 abbrev pub IsFaultOf : Option (List ℕ) → CheckFault → Type 0
 IsFaultOf known Memory = Unit {0}
 IsFaultOf known Read = Unit {0}

@@ -1,17 +1,17 @@
--- The lines of a history: which events they name, and that they are those of the machine's run.
+-- The lines of a history: the events that they name, and the lines of the machine's run for these.
 use Rattle.std.specs.Prelude.{◌≡◌, ℕ, ◌≤◌, Bool, true, nat_lt, if◌then◌else◌, List, [], ◌∷◌, ◌++◌, length, map, Result, Ok, Err}
 use Rattle.std.specs.List.{AllByRecursion}
 use Rattle.apex_check.specs.Terms.{Entry, Event}
 use Rattle.apex_types.specs.declared.Event.TheVariants.{Turn, Tick}
 use Rattle.apex_types.specs.Table.{Table}
 use Rattle.apex_types.specs.Machine.{run, opening}
-use Rattle.apex_types.specs.Lines.{lines_of}
+use Rattle.apex_calls.specs.Lines.{lines_of}
 use Rattle.apex_history.specs.ReadLines.{line_result}
 use Rattle.apex_history.specs.declared.LineFault.{LineFault}
 use Rattle.apex_history.specs.declared.LineFault.TheVariants.{BadLine}
 use Rattle.apex_check.specs.Texts.{IsOneLine, text_of}
 
--- a turn is of one of so many cores
+-- the event is a tick, or a turn of a core below this number
 abbrev pub is_of_cores : ℕ → Event → Bool
 is_of_cores cores (Turn core) = nat_lt core cores
 is_of_cores cores (Tick n) = true
@@ -21,7 +21,7 @@ abbrev pub of_cores : ℕ → Result Event LineFault → Result Event LineFault
 of_cores cores (Ok event) = if is_of_cores cores event then Ok event else Err BadLine
 of_cores cores (Err fault) = Err fault
 
--- the event that a line names, of a partition with so many cores
+-- the event that a line names, for a partition with this number of cores
 abbrev pub event_named : ℕ → List ℕ → Result Event LineFault
 event_named cores line = of_cores cores (line_result line)
 
@@ -29,8 +29,8 @@ event_named cores line = of_cores cores (line_result line)
 abbrev pub history_of : Table → List Event → List Entry
 history_of table events = (run table (opening table) events).history
 
--- The bytes are lines that name these events, as many as the history may have, and they are the lines
--- of *run* for these events.
+-- The bytes are lines that name these events, as many as the history may have, and they are the
+-- lines of *run* for these events.
 pub record AreLines (table : Table) (bytes : List ℕ) (events : List Event) : Type 0 where
   pub lines : List (List ℕ)
   pub whole : bytes ≡ text_of lines

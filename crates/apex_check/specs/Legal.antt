@@ -1,4 +1,4 @@
--- When a text is told to be legal.
+-- Legal texts.
 use Rattle.std.specs.Prelude.{◌≡◌, ◌↔◌, ℕ, List, [], length, Option, Some, Result, Ok, Err}
 use Rattle.apex_check.specs.Terms.{Event}
 use Rattle.apex_types.specs.Table.{Table}
@@ -9,7 +9,7 @@ use Rattle.apex_check.specs.declared.verdicts.CheckFault.TheVariants.{Memory, Re
 use Rattle.apex_check.specs.Texts.{BeginsWithTable}
 use Rattle.apex_check.specs.Histories.{Follows}
 
--- The text is a table, `%%`, and so many lines that are *lines* of *run* of that table for the events
+-- The text is a table, `%%`, and n lines that are *lines* of *run* of that table for the events
 -- that the lines name.
 pub record IsLegal (text : List ℕ) (n : ℕ) : Type 0 where
   pub table : Table
@@ -26,7 +26,8 @@ IsOfText (Err Read) = ⊥
 IsOfText (Err Write) = ⊥
 IsOfText answer = Unit {0}
 
--- a text is told to be legal exactly where it is
+-- the verdict on a known text is legal exactly if the text is, unless memory was refused, or a read
+-- or a write failed
 abbrev pub TellsLegal : Option (List ℕ) → Result Verdict CheckFault → Type 0
 TellsLegal known answer =
     (text : List ℕ) (n : ℕ) → known ≡ Some text → IsOfText answer → (answer ≡ Ok (Legal n)) ↔ IsLegal text n

@@ -1,4 +1,5 @@
--- The text that is checked: a table's text, the separator `%%` as a line of its own, and the lines of a history.
+-- The text that is checked: a table's text, the separator `%%` as a line of its own, and the lines
+-- of a history.
 use Rattle.std.specs.Prelude.{◌≡◌, ◌≢◌, ◌==◌, ℕ, Bool, List, ◌++◌, codes, count_by, flat_map}
 use Rattle.std.specs.List.{AllByRecursion}
 use Rattle.apex_types.specs.Table.{Table}
@@ -8,7 +9,7 @@ use Rattle.std.specs.declared.result.Result.TheVariants.{Ok}
 abbrev pub is_line_feed : ℕ → Bool
 is_line_feed byte = byte == 10
 
--- how many line feeds the bytes have
+-- the number of line feeds that the bytes have
 abbrev pub line_feeds : List ℕ → ℕ
 line_feeds bytes = count_by is_line_feed bytes
 
@@ -38,7 +39,7 @@ pub record IsTableText (front : List ℕ) : Type 0 where
   pub whole : front ≡ text_of lines
   pub others : AllByRecursion IsOfTable lines
 
--- no line of the text is the separator; what has no line feed at its end is no line
+-- no line of the text is the separator; a part without a line feed at its end is no line
 pub record HasNoSeparator (text : List ℕ) : Type 0 where
   pub front : List ℕ
   pub rest : List ℕ

@@ -1,8 +1,9 @@
--- What is told of a text: a verdict on its history, or the first fault.
+-- The verdict on the history of a text, or the first fault.
 use Rattle.std.specs.Prelude.{◌≡◌, ◌≢◌, ℕ, ◌+◌, ◌<◌, ◌≤◌, List, [], ◌++◌, length, codes, decimal, Option, None, Some, Ok, Err}
+use Rattle.apex_types.specs.Limits.{most_line}
 use Rattle.apex_check.specs.Terms.{Entry, Event}
 use Rattle.apex_types.specs.Table.{Table}
-use Rattle.apex_types.specs.Lines.{line_of}
+use Rattle.apex_calls.specs.Lines.{line_of}
 use Rattle.apex_table.specs.Reading.{table_of}
 use Rattle.apex_table.specs.declared.TableFault.{TableFault}
 use Rattle.apex_table.specs.declared.TableFault.TheVariants as table_fault
@@ -14,18 +15,19 @@ use Rattle.apex_check.specs.declared.verdicts.CheckFault.TheVariants.{Table as B
 use Rattle.apex_check.specs.Texts.{IsOneLine, ended, IsParted, HasNoSeparator, BeginsWithTable}
 use Rattle.apex_check.specs.Histories.{Follows, IsNext, event_named}
 
--- what the machine's line is told as, with its line feed
+-- the text of the machine's line in a verdict, with its line feed
 abbrev pub expected_text : Table → Option Entry → List ℕ
 expected_text table (Some entry) = line_of table entry
 expected_text table None = codes "nothing\n"
 
--- what is written of a verdict
+-- the text of a verdict
 abbrev pub verdict_text : Table → Verdict → List ℕ
 verdict_text table (Legal n) = codes "legal " ++ decimal n ++ codes "\n"
 verdict_text table (DepartsAt n expected) =
     codes "departs at " ++ decimal n ++ codes "\nexpected: " ++ expected_text table expected
 
--- The verdict on the lines of a history: of so many events before, the lines are those of *run*.
+-- The verdict on the lines of a history. The lines before the one that decides are those of *run*
+-- for the events that they name.
 pub data JudgesLines (table : Table) (text : List ℕ) : Verdict → Type 0 where
   -- all lines are
   legal : {events : List Event} → Follows table text events [] → JudgesLines table text (Legal (length events))
@@ -45,20 +47,20 @@ abbrev pub Judges : List ℕ → Table → Verdict → Type 0
 Judges text table verdict =
     (behind : List ℕ) × BeginsWithTable text table behind × JudgesLines table behind verdict
 
--- The first line at fault: of so many events before, the lines are those of *run*.
+-- The first line at fault. The lines before it are those of *run* for the events that they name.
 pub data LineIsAtFault (table : Table) (text : List ℕ) : CheckFault → Type 0 where
   -- the next line names no event, or one of a core that the table lacks
   bad : {events : List Event} (behind line : List ℕ)
       → Follows table text events (ended line ++ behind) → IsOneLine line
       → event_named table.cores line ≡ Err line_fault.BadLine
       → LineIsAtFault table text (BadLine (length events + 1))
-  -- what comes next has no line feed
+  -- the rest, of 1 to 4,096 bytes, has no line feed
   unended : {events : List Event} (rest : List ℕ)
-      → Follows table text events rest → IsOneLine rest → 0 < length rest → length rest ≤ 4096
+      → Follows table text events rest → IsOneLine rest → 0 < length rest → length rest ≤ most_line
       → LineIsAtFault table text (BadLine (length events + 1))
   -- more than 4,096 bytes come next before any line feed
   too_long : {events : List Event} (behind line : List ℕ)
-      → Follows table text events (line ++ behind) → IsOneLine line → 4096 < length line
+      → Follows table text events (line ++ behind) → IsOneLine line → most_line < length line
       → LineIsAtFault table text (TooLong (length events + 1))
 
 -- The first fault of a text.

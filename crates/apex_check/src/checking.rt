@@ -29,13 +29,13 @@ fn tell<W: Sink>(table: &Table, verdict: &Verdict, writer: &mut Counted<W>) -> i
     writer.write_all(verdict_text(table, verdict).as_slice())
 }
 
-/// Checks a printed history: the text has a table, the line `%%`, and then lines, which are compared
-/// with those that the machine prints for the events that they name.
+/// Checks a printed history: the text has a table, the line `%%`, and then lines, which are
+/// compared with those that the machine prints for the events that they name.
 ///
 /// It stops at the first departure or fault, and writes the verdict: `legal` with the number of
-/// lines, or `departs at` with the number of the line, and then `expected: ` with the machine's line,
-/// or with `nothing` where the history is full. With a fault nothing is written, but with `Write` a
-/// beginning of the verdict's text.
+/// lines, or `departs at` with the number of the line, and then `expected: ` with the machine's
+/// line, or with `nothing` if the history is full. With a fault nothing is written, except for
+/// `Write`, which leaves a prefix of the verdict's text.
 ///
 /// Memory is taken for the table's text, for the table and for its history, and not for the lines.
 pub fn check<R: Source, W: Sink>(

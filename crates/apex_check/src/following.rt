@@ -20,7 +20,7 @@ use apex_history::{Counted, LineFault, Lines, Source, put_line, read_line};
 use apex_store::PlainStore;
 use apex_types::{Entry, Event, Full};
 
-/// How the machine's line for an event compares with a line.
+/// The comparison of the machine's line for an event with a line.
 #[derive(Drop)]
 pub(crate) enum Answer {
     Same,
@@ -30,7 +30,7 @@ pub(crate) enum Answer {
     Beyond,
 }
 
-/// Whether the event is of one of so many cores.
+/// Whether the event is a tick, or a turn of a core below `cores`.
 fn is_of_cores(cores: u8, event: &Event) -> bool
     ensures { result ≡ is_of_cores cores event.now }
 {
@@ -40,7 +40,7 @@ fn is_of_cores(cores: u8, event: &Event) -> bool
     }
 }
 
-/// The event that the line names, of a partition with so many cores.
+/// The event that the line names, for a partition with `cores` cores.
 fn named(cores: u8, line: &[u8]) -> Result<Event, LineFault>
     ensures { result ≡ event_named cores line.now }
 {
@@ -52,7 +52,7 @@ fn named(cores: u8, line: &[u8]) -> Result<Event, LineFault>
     }
 }
 
-/// The event that the line names, which a kernel with so many cores may be asked for.
+/// The event that the line names, which a kernel with `cores` cores may be asked for.
 fn event_named(cores: u8, line: &[u8]) -> Result<Event, LineFault>
     ensures value { result ≡ event_named cores line.now }
     ensures within { IfOk result (IsWithin cores) }
@@ -60,7 +60,7 @@ fn event_named(cores: u8, line: &[u8]) -> Result<Event, LineFault>
     named(cores, line)
 }
 
-/// Makes the event, where the history has room for it.
+/// Makes the event, if the history has room for it.
 fn make(kernel: &mut Kernel<PlainStore>, event: Event) -> Result<(), Full>
     requires { IsWithin kernel.old.table.cores event }
     ensures done { kernel.new ≡ kernel_in kernel.old.table (accept kernel.old.table kernel.old.machine event) }
@@ -70,8 +70,8 @@ fn make(kernel: &mut Kernel<PlainStore>, event: Event) -> Result<(), Full>
     kernel.run(&[event])
 }
 
-/// Makes the event, and compares the machine's line, which goes into `own`, with this one, which has its
-/// line feed.
+/// Makes the event, and compares the machine's line, which goes into `own`, with this one, which
+/// has its line feed.
 fn compare(kernel: &mut Kernel<PlainStore>, own: &mut Lines, event: Event, line: &[u8]) -> Answer
     requires { IsWithin kernel.old.table.cores event }
     ensures new { kernel.new ≡ kernel_in kernel.old.table (accept kernel.old.table kernel.old.machine event) }
@@ -93,7 +93,7 @@ fn compare(kernel: &mut Kernel<PlainStore>, own: &mut Lines, event: Event, line:
     }
 }
 
-/// How many entries the history has.
+/// The number of entries that the history has.
 fn count(kernel: &Kernel<PlainStore>) -> u32
     ensures value { result ≡ length kernel.now.machine.history }
     ensures range { result ≤ most_entries }
@@ -113,8 +113,8 @@ fn fault_at(line: u32, fault: LineFault) -> CheckFault
     }
 }
 
-/// Makes the event that the line names, and gives the verdict where the machine's line is not this one,
-/// which has its line feed. The machine's line goes into `own`.
+/// Makes the event that the line names, and gives the verdict if the machine's line is not this
+/// one, which has its line feed. The machine's line goes into `own`.
 fn judge_line(
     kernel: &mut Kernel<PlainStore>,
     own: &mut Lines,

@@ -1,23 +1,26 @@
 //! The bytes that were read ahead of the line that is looked at, in a buffer of fixed size.
 ghost use Rattle.std.specs.Prelude.{◌≡◌, ◌+◌, ◌*◌, ◌≤◌, ◌<◌, ◌++◌, length, drop, IfOk, IfSome, None, OnOk};
 ghost use Rattle.std.specs.Io.KnownBytes.{IsAtEnd, Keeps, prepend_known};
+ghost use Rattle.apex_types.specs.Limits.{most_line};
 ghost use Rattle.apex_history.specs.Counted.{inner_of, failures_of, reads_left_of, CountsFailure};
+ghost use Rattle.apex_check.specs.declared.pending.TheConstants.{PENDING_ROOM};
 ghost use Rattle.apex_check.specs.Ahead.{Comes, IsFirstLine, fuel};
 ghost use Rattle.std.specs.List.{position};
 ghost use Rattle.apex_check.specs.Texts.{IsOneLine, is_line_feed};
 
 use apex_history::{Counted, Source};
+use apex_types::MOST_LINE;
 use arrayvec::ArrayVec;
 use std::io::{Read, Result};
 use std::marker::Model;
 
-/// How many bytes a line has at the most, without its line feed.
-const LINE_ROOM: usize = 4096;
+/// The most bytes that are read ahead: a line, and the bytes of one read.
+const PENDING_ROOM: usize = 2 * MOST_LINE;
 
-/// What comes next in a text.
+/// The next part of a text.
 #[derive(Clone, Copy, PartialEq, Eq)]
 pub(crate) enum Next {
-    /// A line of so many bytes, and its line feed.
+    /// A line of n bytes, and its line feed.
     Line(usize),
     /// All that was read ahead is a part of a line that is longer than any.
     Part,
@@ -30,8 +33,8 @@ pub(crate) enum Next {
 /// The bytes that were read ahead. It takes no memory.
 #[derive(Drop)]
 pub(crate) struct Pending {
-    bytes: ArrayVec<u8, 8192>,
-    /// How many of them were taken.
+    bytes: ArrayVec<u8, PENDING_ROOM>,
+    /// The number of them that were taken.
     start: usize,
 }
 
@@ -77,7 +80,7 @@ impl Pending {
         &self.bytes.as_slice()[self.start..]
     }
 
-    /// Takes so many bytes from the front.
+    /// Takes `count` bytes from the front.
     #[tactic(auto, using(crate::proofs::Coming::length_dropped))]
     pub(crate) fn take(&mut self, count: usize)
         requires { count ≤ length self.old }
@@ -89,7 +92,7 @@ impl Pending {
 
     /// Puts the bytes behind the others.
     fn put(&mut self, more: &[u8])
-        requires { length self.old + length more.now ≤ 8192 }
+        requires { length self.old + length more.now ≤ PENDING_ROOM }
         ensures { self.new ≡ self.old ++ more.now }
     {
         let mut bytes = ArrayVec::new();
@@ -101,24 +104,24 @@ impl Pending {
         self.start = 0;
     }
 
-    /// Reads once, up to 4,096 bytes, and says how many.
+    /// Reads once, up to [`MOST_LINE`] bytes, and says how many.
     fn fill<R: Source>(&mut self, reader: &mut Counted<R>) -> Result<usize>
-        requires { length self.old ≤ 4096 }
+        requires { length self.old ≤ most_line }
         ensures kept { OnOk result (Keeps (prepend_known self.old (R.remaining (inner_of reader.old)))
             (prepend_known self.new (R.remaining (inner_of reader.new)))) }
         ensures more { IfOk result (λ count. length self.new ≡ length self.old + count) }
         ensures end { IfOk result (λ count. count ≡ 0 → IsAtEnd (R.remaining (inner_of reader.new)) × (self.new ≡ self.old)) }
-        ensures bound { IfOk result (λ count. count ≤ 4096) }
+        ensures bound { IfOk result (λ count. count ≤ most_line) }
         ensures counted { CountsFailure result (failures_of reader.old) (failures_of reader.new) }
         ensures reads { OnOk result (reads_left_of reader.new + 1 ≡ reads_left_of reader.old) }
     {
-        let mut chunk = [0; 4096];
+        let mut chunk = [0; MOST_LINE];
         let count = reader.read(&mut chunk)?;
         self.put(&chunk[..count]);
         Ok(count)
     }
 
-    /// What comes next. It reads only where no line feed was read ahead.
+    /// The next part of the text. It reads only if no line feed was read ahead.
     pub(crate) fn next<R: Source>(&mut self, reader: &mut Counted<R>) -> Result<Next>
         ensures kept { OnOk result (Keeps (prepend_known self.old (R.remaining (inner_of reader.old)))
             (prepend_known self.new (R.remaining (inner_of reader.new)))) }
@@ -130,7 +133,7 @@ impl Pending {
             if let Some(end) = first_line(self.bytes()) {
                 return Ok(Next::Line(end));
             }
-            if self.bytes().len() > LINE_ROOM {
+            if self.bytes().len() > MOST_LINE {
                 return Ok(Next::Part);
             }
             if self.fill(reader)? == 0 {

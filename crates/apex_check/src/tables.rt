@@ -20,7 +20,7 @@ fn is_separator(line: &[u8]) -> bool
     line == b"%%\n".as_slice()
 }
 
-/// Takes so many bytes into the text.
+/// Takes `count` bytes into the text.
 fn gather(text: &mut Vec<u8>, pending: &mut Pending, count: usize) -> Result<(), AllocError>
     requires { count ≤ length pending.old }
     ensures text { OnOk result (text.new.items ≡ text.old.items ++ take count pending.old) }
@@ -44,7 +44,7 @@ fn table_text<R: Source>(
     ensures counted { CountsCheck result (failures_of reader.old) (failures_of reader.new) }
 {
     let mut text = Vec::new(alloc);
-    // Where the line begins that comes next.
+    // The place at which the next line begins.
     let mut start = 0;
     loop {
         let Ok(next) = pending.next(reader) else {

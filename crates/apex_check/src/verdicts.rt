@@ -1,6 +1,7 @@
 //! The verdict on a text, and why a text has none.
 ghost use Rattle.std.specs.Prelude.{◌≡◌, ◌+◌, ◌≤◌, ◌++◌, length, decimal};
 ghost use Rattle.arrayvec.specs.ArrayVec.{array_vec_len};
+ghost use Rattle.apex_history.specs.declared.puts.TheConstants.{LINES_ROOM};
 ghost use Rattle.apex_check.specs.Steps.{IsTellable};
 ghost use Rattle.apex_check.specs.TableFaults.{fault_of_table};
 ghost use Rattle.apex_check.specs.Verdicts.{verdict_text};
@@ -13,19 +14,19 @@ use itoa::Buffer;
 use std::alloc::AllocError;
 use thiserror::Error;
 
-/// What a text's history is.
+/// The verdict on a text's history.
 #[derive(Drop)]
 pub enum Verdict {
-    /// It has so many lines, and each is the machine's.
+    /// It has n lines, and each is the machine's.
     Legal(u32),
-    /// The line of this number, counted from 1, is the first that is not the machine's. The machine's
-    /// entry is this one, or there is none where the history is full.
+    /// The line of this number, counted from 1, is the first that is not the machine's. The
+    /// machine's entry is this one, or there is none because the history is full.
     DepartsAt(u32, Option<Entry>),
 }
 
-/// Why a text has no verdict, or why its verdict was not written whole.
+/// The reason why a text has no verdict, or why its verdict was not written whole.
 ///
-/// A line is told by its number, counted from 1 behind the separator.
+/// A line is given by its number, counted from 1 behind the separator.
 #[derive(Clone, Copy, Debug, PartialEq, Eq, Error)]
 pub enum CheckFault {
     /// A growth was refused.
@@ -69,7 +70,7 @@ impl From<TableFault> for CheckFault {
 }
 
 fn put(text: &mut Lines, bytes: &[u8])
-    requires { array_vec_len text.old + length bytes.now ≤ 8192 }
+    requires { array_vec_len text.old + length bytes.now ≤ LINES_ROOM }
     ensures text { text.new.items ≡ text.old.items ++ bytes.now }
     ensures len { array_vec_len text.new ≡ array_vec_len text.old + length bytes.now }
 {
@@ -79,7 +80,7 @@ fn put(text: &mut Lines, bytes: &[u8])
 }
 
 fn put_number(text: &mut Lines, number: u32)
-    requires { array_vec_len text.old + 10 ≤ 8192 }
+    requires { array_vec_len text.old + 10 ≤ LINES_ROOM }
     ensures text { text.new.items ≡ text.old.items ++ decimal number }
     ensures short { array_vec_len text.new ≤ array_vec_len text.old + 10 }
 {

@@ -1,4 +1,4 @@
--- What a parse of the command line met.
+-- The command that a parse of the command line met, and its rows.
 use Rattle.std.proofs.Common.{◌≡◌, refl, arith, codes, inl, inr, List, [], ◌∷◌, Option, Some, None}
 use Rattle.std.specs.Prelude.{Box, option_map}
 use Rattle.std.specs.Box.{box_value}
@@ -32,7 +32,7 @@ pub command_met : (m : ArgMatches) (name : Text) (rows : List Row)
     → subcommand_rows_of m ≡ Some (name, rows)
 command_met m name rows n r = met (out-ArgMatches m).subcommand name rows n r
 
--- what each command asks for
+-- the request of each command
 pub in_replay : (name : Text) (rows : List Row) → name ≡ codes "replay" → request_in (name, rows) ≡ report_in History rows
 in_replay name rows e = rw e refl
 
@@ -47,7 +47,7 @@ none_among : (kinds : Kinds) (kind : ErrorKind) (found : Option (Text × List Ro
 none_among [] kind found among = absurd among
 none_among (k ∷ ks) kind found among = grind (arith, nat_tests)
 
--- words at fault, where memory was not refused, ask for nothing
+-- words at fault ask for nothing, if memory was not refused
 pub asks_nothing : (kinds : Kinds) (e : Error) (found : Option (Text × List Row)) → HasKind kinds e
     → (kind_of e ≡ OutOfMemory → ⊥) → request_unless kinds found ≡ None
 asks_nothing kinds e found (inl memory) other = absurd (other memory)

@@ -1,5 +1,5 @@
--- The ways in which the program ends, by what was at fault.
-use Rattle.std.proofs.Common.{◌≡◌, ◌∙◌, ap, inl, inr, List, ℕ, Option, None, Some}
+-- The ways in which the program ends, by the fault.
+use Rattle.std.proofs.Common.{◌≡◌, ◌∙◌, ap, inl, inr, List, ℕ, Bool, Option, None, Some}
 use Rattle.std.specs.Io.KnownBytes.{Appends, Keeps}
 use Rattle.apex_history.specs.Counted.{AppendsBeginning, CountsFault}
 use Rattle.apex_history.specs.Ports.{AWriteFails, IsLeft, NoneFails, Ports}
@@ -57,7 +57,7 @@ pub ends_reported : {asked : Option Asked} {before after : Ports} {report : Repo
 ends_reported items shown fault is same ends = reported is (rw same at ends)
 
 -- threads that ran
-pub ends_ran : {asked : Option Asked} {before after : Ports} {turns ticks : ℕ} (fault : Option CliFault)
-    → asked ≡ Some (a_run turns ticks) → Runs turns ticks before fault after
+pub ends_ran : {asked : Option Asked} {before after : Ports} {turns ticks : ℕ} {with_front : Bool} (fault : Option CliFault)
+    → asked ≡ Some (a_run turns ticks with_front) → Runs turns ticks with_front before fault after
     → Ends asked before (status_of fault) fault after
 ends_ran fault is ends = ran is ends

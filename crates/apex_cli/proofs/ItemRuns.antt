@@ -23,7 +23,7 @@ one_more table machine event again =
     run-append table (opening table) (events_of machine.history) (event ∷ [])
     ∙ ap (λ (m : Machine). run table m (event ∷ [])) again
 
--- there is no room where there being some is absurd
+-- there is no room if room leads to a contradiction
 pub no_room : (n limit : ℕ) → (n < limit → false ≡ true) → limit ≤ n
 no_room n limit none = elim (cases_lt n limit) [
   | inl room ↦ absurd (both_ways false refl (none room))
@@ -81,7 +81,7 @@ below_at cores items i item within here all = elim (cases_Bool (is_core_below co
       absurd (both_ways _ (list_all_at (is_core_below cores) items i item within none) all)
 ]
 
--- what is answered, where the events were run
+-- the answer, if the events were run
 pub answer_is : (report : Report) (items : List Item) (bytes : List ℕ) (table : Table) (machine : Machine) (fault : Option CliFault) → table_of bytes ≡ Ok table
     → are_cores_below table.cores items ≡ true
     → machine ≡ run table (opening table) (events_of_items items)

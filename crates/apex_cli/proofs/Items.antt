@@ -4,7 +4,7 @@ use Rattle.std.specs.Prelude.{option_map}
 use Rattle.apex_cli.specs.declared.schedule.Item.{Item}
 use Rattle.apex_cli.specs.Schedule.{all_some, item_of}
 
--- the items of so many words
+-- the items of words, if each word is one
 abbrev pub items_in : List (List ℕ) → Option (List Item)
 items_in words = all_some (map item_of words)
 

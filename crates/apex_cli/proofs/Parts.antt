@@ -1,4 +1,4 @@
--- What stands after the `*` of an item.
+-- The part of an item after its `*`.
 use Rattle.std.proofs.Common.{◌≡◌, ◌∙◌, ℕ, ◌<◌, ◌&&◌, Bool, true, false, refl, sym, ap, arith, List, [], ◌∷◌, length, None, eqb-true}
 use Rattle.std.specs.Prelude.{◌==◌}
 use Rattle.std.specs.Char.{is_ascii_digit}
@@ -31,7 +31,7 @@ digits_of_star (x ∷ xs) some = go (x == 42) refl (digits_of_star xs)
 number_of_star : (w : List ℕ) → 0 < count_by (λ b. b == 42) w → number_of w ≡ None
 number_of_star w some = rw (digits_of_star w some) (grind arith)
 
--- the parts after the core's `*` say how often just where they are one number
+-- the parts after the core's `*` give a number of times exactly if they are one number
 pub times_after_star : (w : List ℕ) → times_after (parts 42 w) ≡ times_of w
 times_after_star w = go (parts 42 w) refl
   where

@@ -1,8 +1,9 @@
--- The ways in which a run by threads ends, by what was at fault.
-use Rattle.std.proofs.Common.{◌≡◌, inl, inr, List, ℕ, Some}
-use Rattle.std.specs.Io.KnownBytes.{Keeps}
+-- The ways in which a run by threads ends, by the fault.
+use Rattle.std.proofs.Common.{◌≡◌, ◌++◌, ◌∙◌, ap, sym, append_assoc, inl, inr, List, ℕ, Bool, Option, Some}
+use Rattle.std.specs.Io.KnownBytes.{Appends, Keeps}
+use Rattle.std.proofs.KnownBytes.{Appends-trans}
 use Rattle.apex_table.specs.Reading.{table_of}
-use Rattle.apex_history.specs.Counted.{CountsFault}
+use Rattle.apex_history.specs.Counted.{AppendsBeginning, CountsFault}
 use Rattle.apex_history.specs.Ports.{IsLeft, NoneFails, Ports}
 use Rattle.apex_history.specs.declared.ReadFault.{ReadFault}
 use Rattle.apex_history.specs.declared.ReadFault.TheVariants as read
@@ -11,16 +12,22 @@ use Rattle.apex_cli.specs.Faults.{fault_of_read}
 use Rattle.apex_cli.specs.Runs.{RefusesRun, Runs, no_room, no_thread, refused, unread}
 
 -- a run over bytes that were not read
-pub runs_unread : {turns ticks : ℕ} {before after : Ports} → (fault : ReadFault)
+pub runs_unread : {turns ticks : ℕ} {with_front : Bool} {before after : Ports} → (fault : ReadFault)
     → CountsFault fault before.failed_reads after.failed_reads → after.failed_writes ≡ before.failed_writes
-    → Keeps before.held after.held → Runs turns ticks before (Some (fault_of_read fault)) after
+    → Keeps before.held after.held → Runs turns ticks with_front before (Some (fault_of_read fault)) after
 runs_unread read.Memory counts same held = no_room held (counts, same)
 runs_unread read.Read counts same held = unread held (counts, same)
 
 -- a run that came to nothing
-pub runs_refused : {turns ticks : ℕ} {before after : Ports} → (bytes : List ℕ) (fault : CliFault)
+pub runs_refused : {turns ticks : ℕ} {with_front : Bool} {before after : Ports} → (bytes : List ℕ) (fault : CliFault)
     → IsLeft bytes before → RefusesRun fault (table_of bytes) → Keeps before.held after.held
-    → NoneFails before after → Runs turns ticks before (Some fault) after
+    → NoneFails before after → Runs turns ticks with_front before (Some fault) after
 runs_refused bytes fault left (inl e) held fails = rw e (no_room held fails)
 runs_refused bytes fault left (inr (inl e)) held fails = rw e (no_thread held fails)
 runs_refused bytes fault left (inr (inr e)) held fails = refused bytes left e held fails
+
+-- a prefix of the text behind one that was written whole is a prefix of both
+pub beginning_behind : (a b c : Option (List ℕ)) (text more : List ℕ) → Appends a b text → AppendsBeginning b c more → AppendsBeginning a c (text ++ more)
+beginning_behind a b c text more first h =
+    let (done, rest, split, second) = h in
+    (text ++ done, rest, ap (λ l. text ++ l) split ∙ sym (append_assoc text done rest), Appends-trans a b c text done first second)

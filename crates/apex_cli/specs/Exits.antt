@@ -1,5 +1,5 @@
--- How the program ends.
-use Rattle.std.specs.Prelude.{◌≡◌, ◌⊎◌, ℕ, List, Option, None, Some, Result}
+-- The ends of the program.
+use Rattle.std.specs.Prelude.{◌≡◌, ◌⊎◌, ℕ, Bool, List, Option, None, Some, Result}
 use Rattle.std.specs.Io.KnownBytes.{Appends, Keeps}
 use Rattle.apex_check.specs.Checks.{Checks}
 use Rattle.apex_check.specs.Legal.{TellsLegal}
@@ -33,13 +33,13 @@ pub data Reports (report : Report) (items : List Item) (before : Ports) : Option
   written : (bytes : List ℕ) → {text : List ℕ} {fault : Option CliFault} {after : Ports} → IsLeft bytes before
       → answer_of report items bytes ≡ writes text fault → Appends before.held after.held text
       → NoneFails before after → Reports report items before fault after
-  -- a write failed: a beginning of the text was written
+  -- a write failed: a prefix of the text was written
   unwritten : (bytes : List ℕ) → {text : List ℕ} {fault : Option CliFault} {after : Ports} → IsLeft bytes before
       → answer_of report items bytes ≡ writes text fault → AppendsBeginning before.held after.held text
       → AWriteFails before after → Reports report items before (Some Write) after
 
--- The ways in which the program ends: by what it is asked to do, the reader and the writer before,
--- the exit status, the fault, and the reader and the writer afterwards.
+-- The ways in which the program ends: by its task, the reader and the writer before, the exit
+-- status, the fault, and the reader and the writer afterwards.
 pub data Ends (asked : Option Asked) (before : Ports) : ℕ → Option CliFault → Ports → Type 0 where
   -- memory was refused: nothing was written
   no_memory : {after : Ports} → Keeps before.held after.held → NoneFails before after
@@ -56,17 +56,17 @@ pub data Ends (asked : Option Asked) (before : Ports) : ℕ → Option CliFault 
       → Checks before answer after → TellsLegal before.left answer
       → Ends asked before (status_of_check answer) (fault_of_check answer) after
   -- threads run
-  ran : {turns ticks : ℕ} {fault : Option CliFault} {after : Ports}
-      → asked ≡ Some (a_run turns ticks) → Runs turns ticks before fault after
+  ran : {turns ticks : ℕ} {with_front : Bool} {fault : Option CliFault} {after : Ports}
+      → asked ≡ Some (a_run turns ticks with_front) → Runs turns ticks with_front before fault after
       → Ends asked before (status_of fault) fault after
 
--- a line was written whole, or a beginning of it where a write failed
+-- a line was written whole, or a prefix of it if a write failed
 abbrev pub Told : List ℕ → Option (List ℕ) → Option (List ℕ) → ℕ → ℕ → Type 0
 Told line old new failures after =
     (Appends old new line × (after ≡ failures))
     ⊎ (AppendsBeginning old new line × (after ≡ one_more failures))
 
--- the words had a fault: it is told, nothing was read and nothing written
+-- the words had a fault, which is reported; nothing was read and nothing written
 abbrev pub EndsAtOnce : CliFault → Ports → ℕ → Option CliFault → Ports → Type 0
 EndsAtOnce found before status fault after =
     (status ≡ status_of_fault found) × (fault ≡ Some found) × (after ≡ before)

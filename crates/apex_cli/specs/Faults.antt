@@ -16,7 +16,7 @@ use Rattle.apex_check.specs.declared.CheckFault.TheVariants as checking
 use Rattle.apex_check.specs.declared.Verdict.{Verdict}
 use Rattle.apex_check.specs.declared.Verdict.TheVariants.{Legal, DepartsAt}
 
--- what can be wrong before anything is read
+-- a fault that may come before anything is read
 abbrev pub IsUsageOrMemory : CliFault → Type 0
 IsUsageOrMemory fault = (fault ≡ Usage) ⊎ (fault ≡ Memory)
 
@@ -40,8 +40,8 @@ fault_of_checking (checking.TooLong line) = TooLong line
 fault_of_checking checking.Read = Read
 fault_of_checking checking.Write = Write
 
--- 2 usage, 3 the table or the history's text is refused, 4 the history is full, 5 memory or a thread was
--- refused, 6 a read or a write failed
+-- the exit status of a fault: 2 usage, 3 the table or the history's text is refused, 4 the history
+-- is full, 5 memory or a thread was refused, 6 a read or a write failed
 abbrev pub status_of_fault : CliFault → ℕ
 status_of_fault Usage = 2
 status_of_fault (Table fault) = 3
@@ -54,12 +54,12 @@ status_of_fault NoThread = 5
 status_of_fault Read = 6
 status_of_fault Write = 6
 
--- 0 where all was done
+-- 0 if all was done, else the status of the fault
 abbrev pub status_of : Option CliFault → ℕ
 status_of None = 0
 status_of (Some fault) = status_of_fault fault
 
--- 0 where all was done or the history is legal, 1 where it departs
+-- 0 if all was done or the history is legal, 1 if it departs
 abbrev pub status_of_ending : Ending → ℕ
 status_of_ending Done = 0
 status_of_ending Departed = 1
@@ -74,7 +74,7 @@ abbrev pub status_in : Result Ending CliFault → ℕ
 status_in (Ok ending) = status_of_ending ending
 status_in (Err fault) = status_of_fault fault
 
--- 0 where the history is legal, 1 where it departs
+-- 0 if the history is legal, 1 if it departs
 abbrev pub status_of_verdict : Verdict → ℕ
 status_of_verdict (Legal count) = 0
 status_of_verdict (DepartsAt line expected) = 1
@@ -84,7 +84,7 @@ abbrev pub status_of_check : Result Verdict CheckFault → ℕ
 status_of_check (Ok verdict) = status_of_verdict verdict
 status_of_check (Err fault) = status_of_fault (fault_of_checking fault)
 
--- what is told of a check's answer: a verdict is no fault
+-- the fault of a check's answer; a verdict is no fault
 abbrev pub fault_of_check : Result Verdict CheckFault → Option CliFault
 fault_of_check (Ok verdict) = None
 fault_of_check (Err fault) = Some (fault_of_checking fault)
@@ -94,7 +94,7 @@ abbrev pub fault_in : {T : Type 0} → Result T CliFault → Option CliFault
 fault_in (Ok value) = None
 fault_in (Err fault) = Some fault
 
--- what is told of a fault
+-- the text of a fault
 abbrev pub fault_text : CliFault → List ℕ
 fault_text Usage = codes "apex: usage: apex replay|status --schedule S, apex run --turns N --ticks K, apex check"
 fault_text (Table fault) = codes "apex: table refused: " ++ tables.fault_text fault
@@ -107,7 +107,7 @@ fault_text NoThread = codes "apex: no thread"
 fault_text Read = codes "apex: read failed"
 fault_text Write = codes "apex: write failed"
 
--- the line that is told at the end, with its line feed; nothing where all was done
+-- the line that reports the fault at the end, with its line feed; nothing if all was done
 abbrev pub line_told : Option CliFault → List ℕ
 line_told None = []
 line_told (Some fault) = fault_text fault ++ (10 ∷ [])

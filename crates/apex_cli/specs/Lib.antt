@@ -1,6 +1,7 @@
 pub mod Terms
 pub mod Exits
 pub mod Faults
+pub mod FrontLines
 pub mod Reports
 pub mod Requests
 pub mod Runs

@@ -1,8 +1,8 @@
--- What the words of the command line ask for; the first word is the program's name.
-use Rattle.std.specs.Prelude.{true, List, Option, Some, None, codes, if◌then◌else◌}
+-- The request of the words of the command line; the first word is the program's name.
+use Rattle.std.specs.Prelude.{true, false, Bool, List, Option, Some, None, codes, if◌then◌else◌}
 use Rattle.std.specs.Prelude.{option_and_then, option_map}
 use Rattle.std.specs.Str.{bytes_eq}
-use Rattle.clap.specs.declared.builder.ArgAction.TheVariants.{Set}
+use Rattle.clap.specs.declared.builder.ArgAction.TheVariants.{Set, SetTrue}
 use Rattle.clap.specs.Walk.{is_empty}
 use Rattle.clap.specs.Words.{App, Kinds, Row, Rule, Text, first_of, fault_of, new_app, new_rule, subcommand_of}
 use Rattle.clap.specs.Words.{with_rule, with_subcommand}
@@ -13,6 +13,10 @@ use Rattle.apex_cli.specs.declared.words.Report.TheVariants.{History, Status}
 abbrev pub required_rule : Text → Rule
 required_rule name =
     record (new_rule name) { long = Some name; action = Some Set; required = true }
+
+-- an option without a value, which may be given
+abbrev pub flag_rule : Text → Rule
+flag_rule name = record (new_rule name) { long = Some name; action = Some SetTrue }
 
 -- `replay --schedule S`
 abbrev pub replay : App
@@ -26,9 +30,11 @@ status = with_rule (new_app (codes "status")) (required_rule (codes "schedule"))
 abbrev pub check : App
 check = new_app (codes "check")
 
--- `run --turns N --ticks K`
+-- `run --turns N --ticks K`, with or without `--front`
 abbrev pub run : App
-run = with_rule (with_rule (new_app (codes "run")) (required_rule (codes "turns"))) (required_rule (codes "ticks"))
+run =
+    with_rule (with_rule (with_rule (new_app (codes "run")) (required_rule (codes "turns"))) (required_rule (codes "ticks")))
+    (flag_rule (codes "front"))
 
 -- `apex`, which wants a command
 abbrev pub apex_alone : App
@@ -41,25 +47,33 @@ abbrev pub apex : App
 apex =
     with_subcommand (with_subcommand (with_subcommand (with_subcommand apex_alone replay.top) status.top) check.top) run.top
 
--- what the words of a command line ask for
+-- the request of the words of a command line
 pub data Request : Type 0 where
   -- a report of the run for the schedule of this text
   reports : Report → Text → Request
   -- the check of a history
   checks : Request
-  -- a run by threads, by the texts of how many turns of each core and how many ticks
-  runs : Text → Text → Request
+  -- a run by threads, by the texts of how many turns of each core and how many ticks, and whether the
+  -- front after it is asked for
+  runs : Text → Text → Bool → Request
 
 -- a report of the run for the schedule among the rows of a command
 abbrev pub report_in : Report → List Row → Option Request
 report_in report rows = option_map (reports report) (first_of (codes "schedule") rows)
 
--- a run by threads, for the turns and the ticks among the rows of a command
+-- the text of a flag says that it is given
+abbrev pub says_given : Option Text → Bool
+says_given None = false
+says_given (Some text) = bytes_eq text (codes "true")
+
+-- a run by threads, for the turns, the ticks and the flag of the front among the rows of a command
 abbrev pub run_in : List Row → Option Request
 run_in rows =
-    option_and_then (λ turns. option_map (runs turns) (first_of (codes "ticks") rows)) (first_of (codes "turns") rows)
+    let front = says_given (first_of (codes "front") rows) in
+    option_and_then (λ turns. option_map (λ ticks. runs turns ticks front) (first_of (codes "ticks") rows))
+    (first_of (codes "turns") rows)
 
--- what the command of this name asks for, with its rows
+-- the request of the command of this name, with its rows
 abbrev pub request_in : Text × List Row → Option Request
 request_in found =
     if bytes_eq found.0 (codes "replay") then report_in History found.1
@@ -67,11 +81,11 @@ request_in found =
     else if bytes_eq found.0 (codes "check") then Some checks
     else if bytes_eq found.0 (codes "run") then run_in found.1 else None
 
--- what the command that was found asks for, where no word is at fault
+-- the request of the command that was found, if no word is at fault
 abbrev pub request_unless : Kinds → Option (Text × List Row) → Option Request
 request_unless kinds found =
     if is_empty kinds then option_and_then request_in found else None
 
--- what the words ask for; none where they ask for nothing that the program does
+-- the request of the words; none if they ask for nothing that the program does
 abbrev pub request_of : List Text → Option Request
 request_of words = request_unless (fault_of apex words) (subcommand_of apex words)

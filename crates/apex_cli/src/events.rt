@@ -10,7 +10,7 @@ use apex_dispatch::Kernel;
 use apex_process::QueueStore;
 use apex_types::{Event, Full};
 
-/// The event of an item, and how often it comes.
+/// The event of an item, and the number of times that it comes.
 #[tactic(auto, unfolding(crate::specs::Schedule::is_core_below))]
 fn repeated(item: &Item) -> (Event, u32)
     ensures events { events_of_item item.now ≡ replicate result.1 result.0 }
@@ -22,7 +22,7 @@ fn repeated(item: &Item) -> (Event, u32)
     }
 }
 
-/// Runs one event, where the history has room for it.
+/// Runs one event, if the history has room for it.
 fn run_one(kernel: &mut Kernel<QueueStore>, event: &Event) -> Result<(), Full>
     requires { IsWithin kernel.old.table.cores event.now }
     ensures done { kernel.new ≡ kernel_in kernel.old.table (accept kernel.old.table kernel.old.machine event.now) }
@@ -33,7 +33,7 @@ fn run_one(kernel: &mut Kernel<QueueStore>, event: &Event) -> Result<(), Full>
     kernel.run(&[*event])
 }
 
-/// Runs the event so many times, up to the first for which the history has no room.
+/// Runs the event `times` times, up to the first for which the history has no room.
 fn run_repeated(kernel: &mut Kernel<QueueStore>, event: &Event, times: u32) -> Result<(), Full>
     requires { IsWithin kernel.old.table.cores event.now }
     ensures done { kernel.new ≡ kernel_in kernel.old.table
@@ -48,8 +48,8 @@ fn run_repeated(kernel: &mut Kernel<QueueStore>, event: &Event, times: u32) -> R
     Ok(())
 }
 
-/// Runs the events of the items, up to the first for which the history has no room. Takes no memory:
-/// there is no list of them.
+/// Runs the events of the items, up to the first for which the history has no room. Takes no
+/// memory: there is no list of them.
 pub fn run_items(kernel: &mut Kernel<QueueStore>, items: &[Item]) -> Result<(), Full>
     requires { are_cores_below kernel.old.table.cores items.now ≡ true }
     ensures done { kernel.new ≡ kernel_in kernel.old.table

@@ -21,7 +21,7 @@ const USAGE: &str =
 /// A fault's line.
 pub type Line = ArrayString<128>;
 
-/// Why the program did not do all that was asked.
+/// The reason why the program did not do all that was asked.
 ///
 /// Its text is the line that the program writes on standard error.
 #[derive(Clone, Copy, Debug, PartialEq, Eq)]
@@ -37,7 +37,7 @@ pub enum CliFault {
     BadLine(u32),
     /// The line of the history of this number has more than 4,096 bytes.
     TooLong(u32),
-    /// The history is full after so many entries, and the schedule has more events.
+    /// The history is full after n entries, and the schedule or the plan has more.
     HistoryFull(u32),
     Memory,
     /// A thread was refused.
@@ -97,7 +97,7 @@ impl CliFault {
     }
 }
 
-/// The line that tells of the fault, with its line feed; nothing where there is no fault.
+/// The line that reports the fault, with its line feed; nothing if there is no fault.
 pub fn line_told(fault: Option<CliFault>) -> Line
     ensures { result.bytes ≡ line_told fault }
 {

@@ -1,9 +1,10 @@
-//! The program `apex` except for its `main`: it does what the words ask for over a reader and a writer,
-//! and reports a fault on a third stream.
+//! The program `apex` except for its `main`: it does what the words ask for over a reader and a
+//! writer, and reports a fault on a third stream.
 #![tactic(auto)]
 
 mod events;
 mod faults;
+mod fronts;
 mod given;
 mod program;
 mod reports;
@@ -12,6 +13,8 @@ mod schedule;
 mod tasks;
 mod words;
 
+pub use events::run_items;
 pub use faults::{CliFault, line_told};
 pub use given::given_words;
 pub use program::{Ending, Exit, run_on, serve};
+pub use schedule::{Item, are_cores_below, read_schedule};

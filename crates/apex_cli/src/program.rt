@@ -20,26 +20,26 @@ use std::io::Write;
 use std::sync::Wait;
 use std::thread::Threads;
 
-/// How the program ends where it meets no fault.
+/// The end of the program if it meets no fault.
 #[derive(Clone, Copy, Debug, PartialEq, Eq)]
 pub enum Ending {
     /// All was done, or the history is legal.
     Done,
-    /// The history departs from what the partition does.
+    /// The history departs from the lines that the machine prints.
     Departed,
 }
 
-/// How the program ends.
+/// The end of the program.
 #[derive(Clone, Copy, Debug, PartialEq, Eq)]
 pub struct Exit {
     /// The exit status.
     pub status: u8,
-    /// What is told on standard error.
+    /// The fault that is reported on standard error.
     pub fault: Option<CliFault>,
 }
 
 impl Exit {
-    /// How the program ends with this outcome.
+    /// The end of the program with this outcome.
     pub fn of(outcome: Result<Ending, CliFault>) -> Exit
         ensures fault { result.fault ≡ fault_in outcome }
         ensures status { result.status ≡ status_in outcome }
@@ -107,8 +107,8 @@ fn carry_out<T: Threads + Wait + Sync, R: Source, W: Sink>(
             Ok(Verdict::DepartsAt(..)) => Ok(Ending::Departed),
             Err(fault) => Err(CliFault::from(fault)),
         },
-        Task::Run(plan) => {
-            run_threads(rt, alloc, plan, reader, writer)?;
+        Task::Run { plan, with_front } => {
+            run_threads(rt, alloc, plan, with_front, reader, writer)?;
             Ok(Ending::Done)
         }
     }
@@ -126,7 +126,8 @@ fn carry_out<T: Threads + Wait + Sync, R: Source, W: Sink>(
 /// verdict goes to the writer.
 ///
 /// For `run --turns N --ticks K` the table comes from the reader. A thread for each core and one for the
-/// ticker run it, and then the lines of their history go to the writer.
+/// ticker run it, and then the lines of their history go to the writer, with `--front` also the line of
+/// the front after its last event.
 pub fn run_on<T: Threads + Wait + Sync, R: Source, W: Sink>(
     rt: &T,
     alloc: Global,
@@ -142,19 +143,19 @@ pub fn run_on<T: Threads + Wait + Sync, R: Source, W: Sink>(
     Exit::of(carry_out(rt, alloc, words, reader, writer))
 }
 
-/// Tells of the fault, if there is one, on the error writer.
+/// Writes the line of the fault, if there is one, on the error writer.
 fn tell<E: Sink>(fault: Option<CliFault>, error_writer: &mut Counted<E>)
     ensures { Told (line_told fault)
         (E.contents (inner_of error_writer.old)) (E.contents (inner_of error_writer.new))
         (failures_of error_writer.old) (failures_of error_writer.new) }
 {
     let line = line_told(fault);
-    // The status tells of the fault also where its line cannot be written.
+    // The status shows the fault even if its line cannot be written.
     let _ = error_writer.write_all(line.as_str().as_bytes());
 }
 
-/// The whole program: does what the words ask for, tells of the fault on the error writer, and
-/// gives the exit status. Where the words have a fault themselves, that one is told.
+/// The whole program: does what the words ask for, writes the line of the fault on the error
+/// writer, and gives the exit status. If the words were not fetched, that fault is reported.
 pub fn serve<T: Threads + Wait + Sync, R: Source, W: Sink, E: Sink>(
     rt: &T,
     alloc: Global,

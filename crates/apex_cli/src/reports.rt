@@ -1,7 +1,7 @@
 //! A run of a table for the items of a schedule, and its report.
 ghost use Rattle.std.specs.Prelude.{◌≡◌, All, IfOk, IfErr, OnOk, OnErr};
 ghost use Rattle.std.specs.Io.KnownBytes.{Appends};
-ghost use Rattle.apex_types.specs.Lines.{IsPrintable};
+ghost use Rattle.apex_calls.specs.Lines.{IsPrintable};
 ghost use Rattle.apex_history.specs.Counted.{inner_of, failures_of, CountsFailure, AppendsBeginning};
 ghost use Rattle.apex_cli.specs.declared.words.Report.{Report as ReportOf};
 ghost use Rattle.apex_cli.specs.Reports.{answer_of, report_text, writes, Refuses};
@@ -23,14 +23,15 @@ pub struct Run {
     pub kernel: Kernel<QueueStore>,
     /// The buffer for the lines of the report.
     pub page: Page,
-    /// `HistoryFull` where there were more events.
+    /// `HistoryFull` if there were more events.
     pub fault: Option<CliFault>,
 }
 
 /// Runs the items on the table of this text.
 ///
-/// The errors in the order of the checks: the table's fault, `Usage` where an item is of a core that
-/// the table lacks; `Memory` at any point where memory is refused, which is before the first event.
+/// The errors in the order of the checks: the table's fault, `Usage` if an item is of a core that
+/// the table lacks; `Memory` at any point at which memory is refused, which is before the first
+/// event.
 pub fn run_of(alloc: Global, items: &[Item], text: &[u8]) -> Result<Run, CliFault>
     ensures ok { IfOk result (λ run. (report : ReportOf) → answer_of report items.now text.now
         ≡ writes (report_text report run.kernel.table run.kernel.machine) run.fault) }
@@ -59,7 +60,7 @@ pub fn run_of(alloc: Global, items: &[Item], text: &[u8]) -> Result<Run, CliFaul
 
 /// Writes the report of the run. Takes no memory.
 ///
-/// Where a write failed, a beginning of the report was written.
+/// If a write failed, a prefix of the report was written.
 pub fn write_report<W: Sink>(
     report: Report,
     run: &mut Run,

@@ -1,21 +1,24 @@
 //! A run by threads.
 ghost use Rattle.std.specs.Prelude.{◌≡◌, All, IfOk, IfErr, OnOk, OnErr, Ok};
 ghost use Rattle.std.specs.Io.KnownBytes.{Appends};
-ghost use Rattle.apex_types.specs.Lines.{IsPrintable, lines_of};
+ghost use Rattle.apex_calls.specs.Lines.{IsPrintable};
 ghost use Rattle.apex_table.specs.Reading.{table_of};
 ghost use Rattle.apex_history.specs.Counted.{inner_of, failures_of, CountsFailure, AppendsBeginning};
 ghost use Rattle.apex_history.specs.Ports.{ports};
 ghost use Rattle.apex_cli.specs.Faults.{fault_in};
-ghost use Rattle.apex_cli.specs.Runs.{IsRunByThreads, RefusesRun, Runs, fault_of_plan, plan_for};
+ghost use Rattle.apex_cli.specs.FrontLines.{front_text};
+ghost use Rattle.apex_cli.specs.Runs.{FrontAsked, IsRunByThreads, RefusesRun, Runs, fault_of_plan, plan_for, text_of};
 
 use crate::faults::CliFault;
-use apex_cores::{Gate, RunPlan, run_partition};
+use crate::fronts::front_text;
+use apex_cores::{Gate, RunFault, RunPlan, run_partition, run_partition_read};
 use apex_history::{Counted, Page, Sink, Source, print_history, read_all};
-use apex_partition::Partition;
+use apex_partition::{Front, Partition};
 use apex_table::{Table, read_table};
 use apex_types::{CoreId, ProcessId};
 use std::alloc::Global;
 use std::io;
+use std::io::Write;
 use std::sync::Wait;
 use std::thread::Threads;
 
@@ -30,13 +33,15 @@ impl Gate for AtOnce {
 #[derive(Drop)]
 struct ThreadRun {
     partition: Partition,
+    /// The front after its last event, if it is to be written.
+    front: Option<Front>,
     /// The buffer for the lines of the history.
     page: Page,
-    /// `HistoryFull` where more was planned.
+    /// `HistoryFull` if more was planned.
     fault: Option<CliFault>,
 }
 
-/// `HistoryFull` where more is planned than the history of the table may have.
+/// `HistoryFull` if more is planned than the history of the table may have.
 fn fault_of_plan(table: &Table, plan: RunPlan) -> Option<CliFault>
     ensures { result ≡ fault_of_plan table.now (plan_for table.now plan.turns plan.ticks) }
 {
@@ -48,18 +53,40 @@ fn fault_of_plan(table: &Table, plan: RunPlan) -> Option<CliFault>
     }
 }
 
+/// Runs the plan on this table, with the front after the last event, if it is asked for.
+fn run_plan<T: Threads + Wait + Sync>(
+    rt: &T,
+    alloc: Global,
+    table: Table,
+    plan: RunPlan,
+    with_front: bool,
+) -> Result<(Partition, Option<Front>), RunFault>
+    ensures table { IfOk result (λ ran. ran.0.table ≡ table) }
+    ensures ran { IfOk result (λ ran. IsRunByThreads table (plan_for table plan.turns plan.ticks) ran.0.machine.history) }
+    ensures front { IfOk result (λ ran. FrontAsked table ran.0.machine.history with_front ran.1) }
+{
+    if with_front {
+        let (partition, front) = run_partition_read(rt, alloc, table, plan, &AtOnce)?;
+        return Ok((partition, Some(front)));
+    }
+    let partition = run_partition(rt, alloc, table, plan, &AtOnce)?;
+    Ok((partition, None))
+}
+
 /// Runs the plan on the table of this text, by a thread for each core and one for the ticker.
 ///
-/// The errors in the order of the checks: the table's fault, `NoThread` where a thread is refused;
-/// `Memory` at any point where memory is refused.
+/// The errors in the order of the checks: the table's fault, `NoThread` if a thread is refused;
+/// `Memory` at any point at which memory is refused.
 fn thread_run_of<T: Threads + Wait + Sync>(
     rt: &T,
     alloc: Global,
     plan: RunPlan,
+    with_front: bool,
     text: &[u8],
 ) -> Result<ThreadRun, CliFault>
     ensures table { IfOk result (λ run. table_of text.now ≡ Ok run.partition.table) }
     ensures ran { IfOk result (λ run. IsRunByThreads run.partition.table (plan_for run.partition.table plan.turns plan.ticks) run.partition.machine.history) }
+    ensures front { IfOk result (λ run. FrontAsked run.partition.table run.partition.machine.history with_front run.front) }
     ensures fault { IfOk result (λ run. run.fault ≡ fault_of_plan run.partition.table (plan_for run.partition.table plan.turns plan.ticks)) }
     ensures printable { IfOk result (λ run. All (IsPrintable run.partition.table) run.partition.machine.history) }
     ensures err { IfErr result (λ fault. RefusesRun fault (table_of text.now)) }
@@ -67,22 +94,36 @@ fn thread_run_of<T: Threads + Wait + Sync>(
     let table = read_table(alloc, text)?;
     let fault = fault_of_plan(&table, plan);
     let page = Page::new(alloc)?;
-    let partition = run_partition(rt, alloc, table, plan, &AtOnce)?;
+    let (partition, front) = run_plan(rt, alloc, table, plan, with_front)?;
     partition.printable();
     Ok(ThreadRun {
         partition,
+        front,
         page,
         fault,
     })
 }
 
-/// Writes the lines of the run's history. Takes no memory.
+/// Writes the line of the front, if there is one. Takes no memory.
 ///
-/// Where a write failed, a beginning of them was written.
+/// If the write failed, a prefix of the line was written.
+fn write_front<W: Sink>(front: &Option<Front>, writer: &mut Counted<W>) -> io::Result<()>
+    ensures ok { OnOk result (Appends (W.contents (inner_of writer.old)) (W.contents (inner_of writer.new)) (front_text front.entry.now)) }
+    ensures err { OnErr result (AppendsBeginning (W.contents (inner_of writer.old)) (W.contents (inner_of writer.new)) (front_text front.entry.now)) }
+    ensures counted { CountsFailure result (failures_of writer.old) (failures_of writer.new) }
+{
+    let text = front_text(front);
+    writer.write_all(text.as_str().as_bytes())
+}
+
+/// Writes the lines of the run's history, and the line of the front behind them, if it is asked for. Takes
+/// no memory.
+///
+/// If a write failed, a prefix of this text was written.
 fn write_run<W: Sink>(run: &mut ThreadRun, writer: &mut Counted<W>) -> io::Result<()>
     requires { All (IsPrintable run.old.partition.table) run.old.partition.machine.history }
-    ensures ok { OnOk result (Appends (W.contents (inner_of writer.old)) (W.contents (inner_of writer.new)) (lines_of run.old.partition.table run.old.partition.machine.history)) }
-    ensures err { OnErr result (AppendsBeginning (W.contents (inner_of writer.old)) (W.contents (inner_of writer.new)) (lines_of run.old.partition.table run.old.partition.machine.history)) }
+    ensures ok { OnOk result (Appends (W.contents (inner_of writer.old)) (W.contents (inner_of writer.new)) (text_of run.old.partition.table run.old.partition.machine.history run.old.front)) }
+    ensures err { OnErr result (AppendsBeginning (W.contents (inner_of writer.old)) (W.contents (inner_of writer.new)) (text_of run.old.partition.table run.old.partition.machine.history run.old.front)) }
     ensures fault { run.new.fault ≡ run.old.fault }
     ensures counted { CountsFailure result (failures_of writer.old) (failures_of writer.new) }
 {
@@ -92,24 +133,27 @@ fn write_run<W: Sink>(run: &mut ThreadRun, writer: &mut Counted<W>) -> io::Resul
         partition.entries(),
         &mut run.page,
         writer,
-    )
+    )?;
+    write_front(&run.front, writer)
 }
 
-/// Runs the plan, by threads, on the table that the reader gives, and writes the lines of its history.
+/// Runs the plan, by threads, on the table that the reader gives, and writes the lines of its history and,
+/// if it is asked for, the line of the front after it.
 pub fn run_threads<T: Threads + Wait + Sync, R: Source, W: Sink>(
     rt: &T,
     alloc: Global,
     plan: RunPlan,
+    with_front: bool,
     reader: &mut Counted<R>,
     writer: &mut Counted<W>,
 ) -> Result<(), CliFault>
-    ensures { Runs plan.turns plan.ticks
+    ensures { Runs plan.turns plan.ticks with_front
         (ports (R.remaining (inner_of reader.old)) (W.contents (inner_of writer.old)) (failures_of reader.old) (failures_of writer.old))
         (fault_in result)
         (ports (R.remaining (inner_of reader.new)) (W.contents (inner_of writer.new)) (failures_of reader.new) (failures_of writer.new)) }
 {
     let text = read_all(alloc, reader)?;
-    let mut ran = thread_run_of(rt, alloc, plan, text.as_slice())?;
+    let mut ran = thread_run_of(rt, alloc, plan, with_front, text.as_slice())?;
     match write_run(&mut ran, writer) {
         Ok(()) => match ran.fault {
             None => Ok(()),

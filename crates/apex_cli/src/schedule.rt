@@ -6,29 +6,29 @@ ghost use Rattle.apex_cli.specs.Faults.{IsUsageOrMemory};
 
 use crate::faults::CliFault;
 use apex_history::{Ticks, cut, read_core, read_ticks};
-use apex_types::{CoreId, number_at_most};
+use apex_types::{CoreId, MOST_ENTRIES, number_at_most};
 use std::alloc::Global;
 
 /// An item of a schedule.
 #[derive(Clone, Copy, PartialEq, Eq)]
 pub enum Item {
-    /// So many turns of a core.
+    /// Turns of one core, one after the other.
     Turns {
         core: CoreId,
         /// From 1 to 65,536.
         times: u32,
     },
-    /// One tick of so many ticks of time.
+    /// One tick of n ticks of time.
     Tick(Ticks),
 }
 
-/// How often an item is repeated, by what stands after the core's `*`.
+/// The number of times that an item comes, by the part after the core's `*`.
 #[tactic(auto, using(crate::proofs::Parts::times_after_star))]
 fn read_times(after: Option<&[u8]>) -> Option<u32>
     ensures { result ≡ times_after (parts_after 42 (option_map (λ word. word.now) after.entry)) }
 {
     match after {
-        Some(word) => number_at_most(word, 65_536).filter(|times| *times >= 1),
+        Some(word) => number_at_most(word, MOST_ENTRIES).filter(|times| *times >= 1),
         None => Some(1),
     }
 }
@@ -54,8 +54,8 @@ fn read_item(word: &[u8]) -> Option<Item>
 /// The items of a schedule's text.
 ///
 /// An item is `c`, one turn of the core with this digit, `c*k`, k turns of it, k from 1 to 65,536,
-/// or `tN`, one tick of N ticks of time, N from 1 to 1,048,576; one space stands between two. Any
-/// other text is `Usage`.
+/// or `tN`, one tick of N ticks of time, N from 1 to 1,048,576; one space is between two. Any other
+/// text is `Usage`.
 #[tactic(auto, using(crate::proofs::Items::joined_nil, crate::proofs::Items::joined_cons, crate::proofs::Items::joined_none))]
 pub fn read_schedule(alloc: Global, text: &[u8]) -> Result<Vec<Item>, CliFault>
     ensures ok { IfOk result (λ items. items_of text.now ≡ Some items.items) }

@@ -7,10 +7,10 @@ use crate::faults::CliFault;
 use crate::schedule::{Item, read_schedule};
 use crate::words::{Report, Request, request_in};
 use apex_cores::RunPlan;
-use apex_types::number_at_most;
+use apex_types::{MOST_ENTRIES, number_at_most};
 use std::alloc::Global;
 
-/// What the program is asked to do.
+/// The task of the program.
 #[derive(Drop)]
 pub enum Task {
     /// A report of the run for these items.
@@ -18,22 +18,26 @@ pub enum Task {
     /// The check of a history.
     Check,
     /// A run by threads.
-    Run(RunPlan),
+    Run {
+        plan: RunPlan,
+        /// Whether the front after the run is asked for.
+        with_front: bool,
+    },
 }
 
-/// How many turns or ticks a text asks for, 0 to 65,536. Any other text is `Usage`.
+/// The number of turns or ticks that a text asks for, 0 to [`MOST_ENTRIES`]. Any other text is `Usage`.
 fn read_count(text: &str) -> Result<u32, CliFault>
     ensures ok { IfOk result (λ count. count_of text.now ≡ Some count) }
     ensures usage { IsErrOf result CliFault.Usage → count_of text.now ≡ None }
     ensures faults { IfErr result IsUsageOrMemory }
 {
-    match number_at_most(text.as_bytes(), 65_536) {
+    match number_at_most(text.as_bytes(), MOST_ENTRIES) {
         Some(count) => Ok(count),
         None => Err(CliFault::Usage),
     }
 }
 
-/// What a request asks for. `Usage` where its schedule or a number is ill-formed.
+/// The task of a request. `Usage` if its schedule or a number is ill-formed.
 fn task_in(alloc: Global, request: Request<'_>) -> Result<Task, CliFault>
     ensures ok { IfOk result (λ task. asked_in (request_said request.entry) ≡ Some (task_said task)) }
     ensures usage { IsErrOf result CliFault.Usage → asked_in (request_said request.entry) ≡ None }
@@ -45,15 +49,20 @@ fn task_in(alloc: Global, request: Request<'_>) -> Result<Task, CliFault>
             Ok(Task::Report(report, items))
         }
         Request::Check => Ok(Task::Check),
-        Request::Run(turns, ticks) => {
+        Request::Run {
+            turns,
+            ticks,
+            with_front,
+        } => {
             let turns = read_count(turns)?;
             let ticks = read_count(ticks)?;
-            Ok(Task::Run(RunPlan { turns, ticks }))
+            let plan = RunPlan { turns, ticks };
+            Ok(Task::Run { plan, with_front })
         }
     }
 }
 
-/// What the words ask for. `Usage` where the words, the schedule or a number are ill-formed.
+/// The task of the words. `Usage` if the words, the schedule or a number are ill-formed.
 pub fn task_asked(alloc: Global, words: &[String]) -> Result<Task, CliFault>
     ensures ok { IfOk result (λ task. asked_by (map string_bytes words.now) ≡ Some (task_said task)) }
     ensures usage { IsErrOf result CliFault.Usage → asked_by (map string_bytes words.now) ≡ None }

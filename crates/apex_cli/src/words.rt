@@ -1,33 +1,39 @@
 //! The words of the command line.
 ghost use Rattle.std.specs.Prelude.{◌≡◌, false, IfOk, IfErr, IsErrOf, Some, None, map, string_bytes, option_map, option_and_then};
-ghost use Rattle.clap.specs.Words.{app_of, found_of, rows_of, rule_of, subcommand_rows_of};
+ghost use Rattle.clap.specs.Words.{app_of, first_value, found_of, rows_of, rule_of, subcommand_rows_of};
 ghost use Rattle.apex_cli.specs.Faults.{IsUsageOrMemory};
 ghost use Rattle.apex_cli.specs.Requests.{request_said};
-ghost use Rattle.apex_cli.specs.Words.{apex, report_in, request_in, request_of, required_rule, run_in};
+ghost use Rattle.apex_cli.specs.Words.{apex, flag_rule, report_in, request_in, request_of, required_rule, run_in, says_given};
 
 use crate::faults::CliFault;
 use clap::error::ErrorKind;
 use clap::{Arg, ArgAction, ArgMatches, Command};
 use std::alloc::{AllocError, Global};
 
-/// What is told of a run.
+/// The report on a run.
 #[derive(Clone, Copy, PartialEq, Eq)]
 pub enum Report {
     /// The lines of its history.
     History,
-    /// The listing of its last state.
+    /// All words that the program is given, its name first. `Usage` if a word is no text, `Memory`
+    /// if memory was refused.
     Status,
 }
 
-/// What the words ask for.
+/// The request of the words.
 #[derive(Clone, Copy, PartialEq, Eq)]
 pub enum Request<'a> {
     /// A report of the run for the schedule of this text.
     Report(Report, &'a str),
     /// The check of a history.
     Check,
-    /// A run by threads, by the texts of how many turns of each core and how many ticks.
-    Run(&'a str, &'a str),
+    /// A run by threads, by the texts of the turns of each core and of the ticks.
+    Run {
+        turns: &'a str,
+        ticks: &'a str,
+        /// Whether the front after the run is asked for.
+        with_front: bool,
+    },
 }
 
 /// An option with a value, which must be given.
@@ -41,6 +47,14 @@ fn required<'a>(alloc: Global, name: &'static str) -> Arg<'a>
         .required(true)
 }
 
+/// An option without a value, which may be given.
+fn flag<'a>(alloc: Global, name: &'static str) -> Arg<'a>
+    ensures rule { rule_of result ≡ flag_rule name.now }
+    ensures local { result.global ≡ false }
+{
+    Arg::new(alloc, name).long(name).action(ArgAction::SetTrue)
+}
+
 fn command<'a>(alloc: Global) -> Result<Command<'a>, AllocError>
     ensures { IfOk result (λ c. app_of c ≡ apex) }
 {
@@ -48,7 +62,8 @@ fn command<'a>(alloc: Global) -> Result<Command<'a>, AllocError>
     let status = Command::new(alloc, "status").arg(required(alloc, "schedule"))?;
     let check = Command::new(alloc, "check");
     let run_for = Command::new(alloc, "run").arg(required(alloc, "turns"))?;
-    let threads = run_for.arg(required(alloc, "ticks"))?;
+    let run_to = run_for.arg(required(alloc, "ticks"))?;
+    let threads = run_to.arg(flag(alloc, "front"))?;
     let with_replay = Command::new(alloc, "apex")
         .subcommand_required(true)
         .subcommand(replay)?;
@@ -57,8 +72,8 @@ fn command<'a>(alloc: Global) -> Result<Command<'a>, AllocError>
     with_check.subcommand(threads)
 }
 
-/// What the words ask for: `replay --schedule S`, `status --schedule S`, `check` or
-/// `run --turns N --ticks K`.
+/// What the words ask for: `replay --schedule S`, `status --schedule S`, `check`, or
+/// `run --turns N --ticks K` with or without `--front`.
 ///
 /// The first word is the program's name. Words that `clap` refuses for another cause than memory
 /// are `Usage`, and so are those that ask for help.
@@ -88,13 +103,25 @@ fn report_given<'a>(report: Report, matches: &ArgMatches<'a>) -> Option<Request<
     Some(Request::Report(report, schedule))
 }
 
-/// A run by threads, for the turns and the ticks that a command's matches give.
+/// Whether a command's matches give this flag.
+fn has_flag(matches: &ArgMatches<'_>, name: &str) -> bool
+    ensures { result ≡ says_given (first_value (found_of matches.now) name.now) }
+{
+    // The text is read, since the contract of `get_flag` is silent on texts that are no truth value.
+    matches!(matches.get_str(name), Some("true"))
+}
+
+/// A run by threads, for what a command's matches give.
 fn run_given<'a>(matches: &ArgMatches<'a>) -> Option<Request<'a>>
     ensures { option_map request_said result ≡ run_in (rows_of (found_of matches.now)) }
 {
     let turns = matches.get_str("turns")?;
     let ticks = matches.get_str("ticks")?;
-    Some(Request::Run(turns, ticks))
+    Some(Request::Run {
+        turns,
+        ticks,
+        with_front: has_flag(matches, "front"),
+    })
 }
 
 fn request_given<'a>(matches: &ArgMatches<'a>) -> Option<Request<'a>>

@@ -1,7 +1,7 @@
--- How threads are asked for, one after the other.
+-- Threads that are asked for, one after the other.
 use Rattle.std.proofs.Common.{◌≡◌, ℕ, zero, suc, ◌+◌, ◌<◌, ◌≤◌, ◌⊎◌, Bool, true, refl, subst, sym, inl, inr, arith, ◌∙◌}
-use Rattle.std.specs.Prelude.{Err, MatchResult, Ok, Result}
-use Rattle.apex_cores.specs.Starts.{AreAsked, HasAsked, HasGivenUp, HaveAgreed, IsAskedFor, IsRefused}
+use Rattle.std.specs.Prelude.{Result}
+use Rattle.apex_cores.specs.Starts.{HasAsked, HasGivenUp, HaveAgreed, IsRefused}
 use Rattle.apex_cores.specs.declared.faults.RunFault.{RunFault}
 
 agreed_next : {S : Type 0} (asks : S → ℕ → Bool → S → Type 0) (number n k : ℕ) (before middle after : S) → k ≡ number + n
@@ -19,7 +19,7 @@ agreed_more asks n k before middle after begun next is =
     let first : n ≡ 0 + n = omega arith in
     subst (λ m. HaveAgreed asks 0 m before after) same (agreed_next asks 0 n k before middle after (is ∙ first) begun next)
 
--- nobody was asked
+-- no thread was asked for
 pub none_asked : {S : Type 0} (asks : S → ℕ → Bool → S → Type 0) (threads : ℕ) (fault : RunFault) (s : S) → HasGivenUp asks threads fault s s
 none_asked asks threads fault s = record { agreed = 0; last = s; begun = refl; few = omega arith; ended = inl refl }
 
@@ -42,7 +42,7 @@ given_up asks threads n k fault before middle after begun (inr refused) is below
   ended = inr (below, subst (λ j. IsRefused asks j fault middle after) is refused);
 }
 
--- who gives up among some threads does so among more
+-- a run that gives up among some threads does so among more
 pub given_up_more : {S : Type 0} (asks : S → ℕ → Bool → S → Type 0) (threads more : ℕ) (fault : RunFault) (before after : S) → threads ≤ more
     → HasGivenUp asks threads fault before after → HasGivenUp asks more fault before after
 given_up_more asks threads more fault before after fewer up = record {

@@ -1,5 +1,5 @@
--- The closed history of a run has of each worker what that worker has done.
-use Rattle.std.proofs.Common.{◌≡◌, ℕ, suc, ◌<◌, ◌≤◌, Bool, true, false, List, [], ◌∷◌, length, slice_index_or, refl, ap, sym, subst, ◌∙◌, inl, inr, arith}
+-- The closed history of a run has the entries that each worker has made.
+use Rattle.std.proofs.Common.{Option, None, Some, IsSome, MatchOption, ◌+◌, ◌≡◌, ℕ, suc, ◌<◌, ◌≤◌, Bool, true, false, List, [], ◌∷◌, length, slice_index_or, refl, ap, sym, subst, ◌∙◌, inl, inr, arith}
 use Rattle.std.specs.Prelude.{All}
 use Rattle.std.specs.List.{AllByRecursion}
 use Rattle.apex_types.specs.Table.{Table}
@@ -16,7 +16,7 @@ use Rattle.apex_cores.proofs.Counting.{IsWorked, is_done, is_full, stays_within}
 use Rattle.apex_cores.proofs.Counting as counting
 use Rattle.apex_cores.proofs.Rows.{each_at}
 
--- what is said by place, said one after the other
+-- a property of all by their places, one after the other
 pub one_by_one : (Q : Entry → Type 0) (es : List Entry) → All Q es → AllByRecursion Q es
 one_by_one Q [] all = tt
 one_by_one Q (e ∷ es) all = (all 0 e (omega arith), one_by_one Q es (λ k d below. all (suc k) d (omega (arith, below))))
@@ -33,14 +33,14 @@ worked_in table history who seat wanted made full settled ran = at full refl whe
   at true is = let cut = ran.stopped.cut is in record { few = omega (arith, same, cut.0); whole = inr (settled.told cut.1) }
   at false is = let whole = ran.stopped.whole is in record { few = omega (arith, same, whole.0); whole = inl (same ∙ whole.0) }
 
--- what the close of a run says of its history, and of the seats that the workers gave back
+-- the facts at the close of a run about its history, and about the seats that the workers gave back
 pub record HasClosed (table : Table) (history : List Entry) (seats : List Spoken) (last : Spoken) : Type 0 where
   pub room : length history ≤ table.limit
   pub others : HasNoOthers table.cores history
   pub settled : (core : ℕ) (d : Spoken) → core < length seats → IsSettled table history (Core core) (slice_index_or seats core d)
   pub ticker : IsSettled table history Ticker last
 
--- and all that a run promises of it
+-- and all that a run promises about it
 pub record IsPromised (table : Table) (plan : RunPlan) (history : List Entry) : Type 0 where
   pub ticks : HasTicksOfOne history
   pub others : HasNoOthers table.cores history
@@ -82,3 +82,8 @@ promised_of named table plan history result many seats last same_table same_hist
     subst (λ (es : List Entry). IsPromised table plan es) (sym same_history)
     (subst (λ (t : Table). IsPromised t plan history) same_table
     (promised named plan history seats last closed (subst (λ (n : ℕ). HaveWorked plan n seats last) same_many worked)))
+
+-- of readers that are there one was taken
+pub some_taken : {A : Type 0} (taken : Option A) (old new readers : ℕ) → MatchOption taken (old ≡ 0) (λ _. old ≡ new + 1) → old ≡ readers → 0 < readers → IsSome taken
+some_taken None old new readers given is some = absurd (omega (arith, given, is, some))
+some_taken (Some x) old new readers given is some = refl

@@ -1,4 +1,4 @@
--- A history is as long as the entries of its cores and of its ticker are many.
+-- The length of a history is the number of the entries of its cores and of its ticker.
 use Rattle.std.proofs.Common.{◌≡◌, ◌≢◌, ℕ, zero, suc, ◌+◌, ◌*◌, ◌<◌, ◌≤◌, ◌⊎◌, ◌==◌, Bool, true, false, List, [], ◌∷◌, length, refl, inl, inr, arith, rules, nat_lt, if◌then◌else◌}
 use Rattle.std.proofs.lemmas.Bool.Decides.{nat_tests}
 use Rattle.std.specs.List.{AllByRecursion}
@@ -9,17 +9,17 @@ use Rattle.apex_receipts.specs.Receipts.{count_who, is_who}
 use Rattle.apex_partition.specs.Seats.{IsOneOf}
 use Rattle.apex_cores.specs.Plans.{IsDone, IsWithinPlan, Plan, planned}
 
--- how many entries the cores below n have
+-- the number of entries of the cores below n
 abbrev pub owned : ℕ → List Entry → ℕ
 owned zero history = 0
 owned (suc n) history = owned n history + count_who (Core n) history
 
--- who is a core below n
+-- the maker is a core below n
 abbrev pub is_below : ℕ → Who → Bool
 is_below n (Core core) = nat_lt core n
 is_below n Ticker = false
 
--- one where the test passes
+-- 1 if the test passes, else 0
 abbrev pub one_if : Bool → ℕ
 one_if b = if b then 1 else 0
 
@@ -29,7 +29,7 @@ count_cons who e es = at (is_who who e.who) refl where
   at true is = rw is (search rules)
   at false is = rw is (search rules)
 
--- one core more has one entry more where the entry is its own
+-- one core more has one entry more if the entry is its own
 below_more : (n : ℕ) (who : Who) → one_if (is_below (suc n) who) ≡ one_if (is_below n who) + one_if (is_who (Core n) who)
 below_more n (Core core) = grind (arith, nat_tests)
 below_more n Ticker = refl
@@ -41,7 +41,7 @@ owned_cons zero e es = at e.who where
   at Ticker = refl
 owned_cons (suc n) e es = omega (arith, owned_cons n e es, count_cons (Core n) e es, below_more n e.who)
 
--- a history of so many cores and of the ticker is as long as their entries are many
+-- a history of n cores and of the ticker is as long as their entries are many
 pub counted : (n : ℕ) (es : List Entry) → AllByRecursion (λ e. IsOneOf n e.who) es → length es ≡ owned n es + count_who Ticker es
 counted n [] all = none n where
   none : (n : ℕ) → 0 ≡ owned n [] + 0
@@ -55,7 +55,7 @@ counted n (e ∷ es) all =
       of (Core core) below = grind (arith, nat_tests)
       of Ticker below = refl
 
--- no core has more than t entries: so many have at most t each
+-- if no core has more than t entries, n cores have n * t at the most
 pub owned_most : (n t : ℕ) (es : List Entry) → ((i : ℕ) → i < n → count_who (Core i) es ≤ t) → owned n es ≤ n * t
 owned_most zero t es few = omega arith
 owned_most (suc n) t es few =
@@ -64,7 +64,7 @@ owned_most (suc n) t es few =
     let product : suc n * t ≡ n * t + t = search rules in
     omega (arith, one, rest, product)
 
--- where they have as many in all, each has t
+-- if they have n * t in all, each has t
 pub owned_all : (n t : ℕ) (es : List Entry) → ((i : ℕ) → i < n → count_who (Core i) es ≤ t) → n * t ≤ owned n es
     → (i : ℕ) → i < n → count_who (Core i) es ≡ t
 owned_all zero t es few many i below = absurd (omega arith)
@@ -87,7 +87,7 @@ owned_all (suc n) t es few many i below = at (owned_all n t es (λ k low. few k 
       let low : i < n = grind (arith, nat_tests) in
       lower (omega (arith, one, product, most, many)) i low
 
--- where each has t, they have as many in all
+-- if each has t, they have n * t in all
 pub owned_exact : (n t : ℕ) (es : List Entry) → ((i : ℕ) → i < n → count_who (Core i) es ≡ t) → owned n es ≡ n * t
 owned_exact zero t es each = omega arith
 owned_exact (suc n) t es each =
@@ -96,19 +96,19 @@ owned_exact (suc n) t es each =
     let product : suc n * t ≡ n * t + t = search rules in
     omega (arith, one, rest, product)
 
--- a voice has as many entries as were planned for it, or fewer where the history stands at its limit
+-- a worker has as many entries as were planned for it, or fewer if the history is at its limit
 pub record IsWorked (most limit : ℕ) (history : List Entry) (count : ℕ) : Type 0 where
   pub few : count ≤ most
   pub whole : (count ≡ most) ⊎ (length history ≡ limit)
 
--- where all have worked, the plan is done or the history stands at its limit
+-- if all have worked, the plan is done or the history is at its limit
 pub record HaveWorked (plan : Plan) (limit : ℕ) (es : List Entry) : Type 0 where
   pub planned_only : AllByRecursion (λ e. IsOneOf plan.cores e.who) es
   pub room : length es ≤ limit
   pub cores : (i : ℕ) → i < plan.cores → IsWorked plan.turns limit es (count_who (Core i) es)
   pub ticker : IsWorked plan.ticks limit es (count_who Ticker es)
 
--- where the history has room, the voice has all
+-- if the history has room, the worker has made all
 made : (n m limit : ℕ) (es : List Entry) → length es ≢ limit → (n ≡ m) ⊎ (length es ≡ limit) → n ≡ m
 made n m limit es short (inl same) = same
 made n m limit es short (inr full) = absurd (short full)

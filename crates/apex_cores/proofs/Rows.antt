@@ -22,7 +22,7 @@ each_at R number (x ∷ xs) zero d all below = subst (λ k. R k x) (omega arith)
 each_at R number (x ∷ xs) (suc i) d all below =
     subst (λ k. R k (slice_index_or xs i d)) (omega arith) (each_at R (number + 1) xs i d all.1 (omega arith))
 
--- who has worked sits in order
+-- the seats of workers that have worked are in order
 pub seated : (turns core : ℕ) (seats : List Spoken) → EachFrom (HasWorked turns) core seats → AreSeatsFrom core seats
 seated turns core [] all = tt
 seated turns core (s ∷ seats) all = (all.0.ran.made.who, seated turns (core + 1) seats all.1)
@@ -38,11 +38,11 @@ pub fresh : (first n : ℕ) → EachFrom (λ (core : ℕ) (seat : Spoken). seat 
 fresh first zero = tt
 fresh first (suc n) = (refl, fresh (first + 1) n)
 
--- what is said of a core's number
+-- a core has one number
 pub core_same : (a b : ℕ) → Core a ≡ Core b → a ≡ b
 core_same a b same = cc same
 
--- a thread has done what it was started for
+-- a thread has done its task
 pub worked_by : (will_core will_turns core turns made : ℕ) (full : Bool) (seat : Spoken) → will_core ≡ core → will_turns ≡ turns
     → HasRun (unspoken (Core will_core)) will_turns seat made full → HasWorked turns core seat
 worked_by will_core will_turns core turns made full seat same_core same_turns ran = record {

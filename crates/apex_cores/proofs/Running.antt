@@ -1,4 +1,4 @@
--- How a worker goes on, from event to event.
+-- A worker goes on, from event to event.
 use Rattle.std.proofs.Common.{◌≡◌, ℕ, zero, suc, ◌+◌, ◌<◌, true, false, List, [], ◌∷◌, ◌++◌, length, refl, ap, sym, ◌∙◌, arith, length-append, append_assoc, append-nil}
 use Rattle.std.specs.Prelude.{MatchOption, Option, None, Some}
 use Rattle.std.specs.List.{All}
@@ -8,7 +8,7 @@ use Rattle.apex_receipts.specs.Receipts.{Confirmed, Spoken}
 use Rattle.apex_partition.specs.Seats.{told_full, with_entry}
 use Rattle.apex_cores.specs.Runs.{HasMade, HasRun, HasTicked, IsLast, IsTickOfOne}
 
--- so many entries were made so far, and no full history was met
+-- n entries were made so far, and no full history was met
 pub record IsUnderway (before : Spoken) (count : ℕ) (after : Spoken) : Type 0 where
   pub entries : List Entry
   pub made : HasMade before entries after
@@ -69,7 +69,7 @@ pub cut_ticks : (before after : Spoken) (count wanted : ℕ) → count < wanted 
 unfolding cut
 cut_ticks before after count wanted less t = record { ran = cut before after count wanted less t.underway; ones = t.ones }
 
--- a seat that was told that the history is full has the last receipt that it had
+-- a seat that learns that the history is full has the last receipt that it had
 pub last_stays : (s : Spoken) (count : ℕ) (last : Option Confirmed) → MatchOption last (count ≡ 0) (λ r. (0 < count) × IsLast s r)
     → MatchOption last (count ≡ 0) (λ r. (0 < count) × IsLast (told_full s) r)
 last_stays s count None none = none

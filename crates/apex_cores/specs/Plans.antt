@@ -1,4 +1,4 @@
--- What is planned for a run of all cores, and what its history has to be.
+-- The plan of a run of all cores, and the history that is due by it.
 use Rattle.std.specs.Prelude.{◌≡◌, ℕ, ◌+◌, ◌*◌, ◌<◌, ◌≤◌, List, All}
 use Rattle.apex_types.specs.declared.entries.Entry.{Entry}
 use Rattle.apex_types.specs.declared.entries.Who.TheVariants.{Core, Ticker}
@@ -7,17 +7,18 @@ use Rattle.apex_partition.specs.Seats.{IsOneOf}
 use Rattle.apex_cores.specs.Runs.{IsTickOfOne}
 use Rattle.apex_cores.specs.declared.plans.RunPlan.{RunPlan}
 
--- what is planned for each core and for the ticker
+-- the number of cores, the turns of each of them, and the ticks of the ticker
 pub record Plan : Type 0 where
   pub cores : ℕ
   pub turns : ℕ
   pub ticks : ℕ
 
--- how many entries the plan asks for
+-- the number of entries for which the plan asks
 abbrev pub planned : Plan → ℕ
 planned plan = plan.cores * plan.turns + plan.ticks
 
--- each core has as many entries in the history as turns were planned for it, and the ticker as many as ticks
+-- each core has as many entries in the history as turns were planned for it, and the ticker as many
+-- as ticks
 pub record IsDone (plan : Plan) (history : List Entry) : Type 0 where
   pub turns : (core : ℕ) → core < plan.cores → count_who (Core core) history ≡ plan.turns
   pub ticks : count_who Ticker history ≡ plan.ticks
@@ -27,11 +28,11 @@ pub record IsWithinPlan (plan : Plan) (history : List Entry) : Type 0 where
   pub turns : (core : ℕ) → core < plan.cores → count_who (Core core) history ≤ plan.turns
   pub ticks : count_who Ticker history ≤ plan.ticks
 
--- the plan of a run of so many cores
+-- the plan of a run of n cores
 abbrev pub plan_of : ℕ → RunPlan → Plan
 plan_of cores run = record { cores = cores; turns = run.turns; ticks = run.ticks }
 
--- each entry is one of so many cores, or the ticker's
+-- each entry is of a core below this number, or the ticker's
 abbrev pub HasNoOthers : ℕ → List Entry → Type 0
 HasNoOthers cores history = All (λ (e : Entry). IsOneOf cores e.who) history
 

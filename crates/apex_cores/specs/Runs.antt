@@ -1,20 +1,21 @@
--- What the worker of a core, and that of the ticker, have done.
+-- The entries that the worker of a core, and that of the ticker, have made.
 use Rattle.std.specs.Prelude.{◌≡◌, ℕ, ◌<◌, Bool, true, false, List, [], ◌∷◌, ◌++◌, length, All}
 use Rattle.apex_types.specs.declared.entries.Entry.{Entry}
 use Rattle.apex_receipts.specs.Receipts.{Confirmed, Spoken}
 use Rattle.apex_partition.specs.Seats.{asked_ticks}
 
--- these entries were made with the seat, and nothing else was
+-- these entries were made with the seat, and no others
 pub record HasMade (before : Spoken) (entries : List Entry) (after : Spoken) : Type 0 where
   pub who : after.who ≡ before.who
   pub own : after.own ≡ before.own ++ entries
 
--- of so many wanted, so many were made; fewer only where the history was full, and then the seat was told so
+-- all that were wanted were made; or fewer, if the history was full, and then the seat knows that
+-- it is
 pub record HasStopped (before : Spoken) (wanted : ℕ) (after : Spoken) (count : ℕ) (full : Bool) : Type 0 where
   pub whole : full ≡ false → (count ≡ wanted) × (after.told ≡ before.told)
   pub cut : full ≡ true → (count < wanted) × (after.told ≡ true)
 
--- a worker that was to make so many turns has made this many
+-- a worker that was to make `wanted` turns has made `count`
 pub record HasRun (before : Spoken) (wanted : ℕ) (after : Spoken) (count : ℕ) (full : Bool) : Type 0 where
   pub entries : List Entry
   pub made : HasMade before entries after
@@ -25,7 +26,7 @@ pub record HasRun (before : Spoken) (wanted : ℕ) (after : Spoken) (count : ℕ
 abbrev pub IsTickOfOne : Entry → Type 0
 IsTickOfOne e = asked_ticks e ≡ 1
 
--- a worker that was to make so many ticks has made this many, each one of 1
+-- a worker that was to make `wanted` ticks has made `count`, each one of 1
 pub record HasTicked (before : Spoken) (wanted : ℕ) (after : Spoken) (count : ℕ) (full : Bool) : Type 0 where
   pub ran : HasRun before wanted after count full
   pub ones : All IsTickOfOne ran.entries

@@ -1,4 +1,4 @@
--- What each of a row of threads was started for, and has done.
+-- A row of threads: the task of each, and its work.
 use Rattle.std.specs.Prelude.{◌≡◌, ℕ, ◌+◌, Bool, List, [], ◌∷◌, length, ⊤}
 use Rattle.apex_types.specs.declared.entries.Who.TheVariants.{Core, Ticker}
 use Rattle.apex_receipts.specs.Receipts.{Spoken, unspoken}
@@ -10,19 +10,20 @@ abbrev pub EachFrom : {A : Type 0} → (ℕ → A → Type 0) → ℕ → List A
 EachFrom R number [] = ⊤
 EachFrom R number (x ∷ xs) = R number x × EachFrom R (number + 1) xs
 
--- from a new seat on, the worker made so many turns, or fewer where it was told that the history is full
+-- from a new seat on, the worker made `turns` turns, or fewer if it knows that the history is full
 pub record HasWorked (turns : ℕ) (core : ℕ) (seat : Spoken) : Type 0 where
   pub made : ℕ
   pub full : Bool
   pub ran : HasRun (unspoken (Core core)) turns seat made full
 
--- and the worker of the ticker so many ticks, each of 1
+-- and the worker of the ticker made `ticks` ticks, each of 1, or fewer if it knows that the history
+-- is full
 pub record HasTickedSo (ticks : ℕ) (ticker : Spoken) : Type 0 where
   pub made : ℕ
   pub full : Bool
   pub ran : HasTicked (unspoken Ticker) ticks ticker made full
 
--- all workers have: a seat of each core, in the order of their numbers, and the ticker
+-- all workers have worked: a seat of each core, in the order of their numbers, and the ticker
 pub record HaveWorked (plan : RunPlan) (many : ℕ) (seats : List Spoken) (last : Spoken) : Type 0 where
   pub each : length seats ≡ many
   pub cores : EachFrom (HasWorked plan.turns) 0 seats

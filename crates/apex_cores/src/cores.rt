@@ -7,12 +7,12 @@ use apex_partition::{Naming, Receipt, Seat, Shared};
 use crossbeam_utils::Backoff;
 use std::sync::Wait;
 
-/// What the worker of a core has done.
+/// The report of the worker of a core.
 #[derive(Drop)]
 pub struct CoreReport<P: Naming> {
     /// The seat, with the entries of these turns.
     pub seat: Seat<P>,
-    /// How many turns it made.
+    /// The number of turns that it made.
     pub turns: u32,
     /// The receipt of the last of them, if there was one.
     pub last: Option<Receipt<P>>,
@@ -20,9 +20,9 @@ pub struct CoreReport<P: Naming> {
     pub full: bool,
 }
 
-/// Takes so many turns of the seat's core, one after the other, and stops earlier only where the
-/// history is full. The work that a turn has begun is done at the gate before the next turn, and after
-/// an idle turn the worker backs off. Takes no memory, if the gate takes none.
+/// Takes `turns` turns of the seat's core, one after the other, and stops earlier only if the
+/// history is full. The work that a turn has begun is done at the gate before the next turn, and
+/// after an idle turn the worker backs off. Takes no memory, if the gate takes none.
 pub fn run_core<P: Naming, G: Gate, R: Wait>(
     rt: &R,
     shared: &Shared<P>,

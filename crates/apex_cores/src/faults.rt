@@ -4,7 +4,7 @@ ghost use Rattle.std.specs.Prelude.{◌≡◌};
 use std::alloc::AllocError;
 use thiserror::Error;
 
-/// Why a run came to nothing (this profile). No partition is left of it, and no thread.
+/// The reason why a run came to nothing (this profile). No partition is left of it, and no thread.
 #[derive(Clone, Copy, Debug, PartialEq, Eq, Error)]
 pub enum RunFault {
     /// A growth was refused.

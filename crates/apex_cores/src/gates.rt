@@ -5,10 +5,10 @@ ghost use Rattle.apex_types.specs.Works.{work_begun};
 use apex_types::{Call, Caller, CoreId, Entry, ProcessId, Reply, Work};
 use crossbeam_utils::Backoff;
 
-/// Who does the work that a process begins (this profile).
+/// The gate, which does the work that a process begins (this profile).
 pub trait Gate {
-    /// Does `ticks` units of work of this process on this core. The worker of the core calls it with
-    /// no lock held, and takes the core's next turn when it returns.
+    /// Does `ticks` units of work of this process on this core. The worker of the core calls it
+    /// with no lock held, and takes the core's next turn when it returns.
     fn work(&self, core: CoreId, process: ProcessId, ticks: u32);
 }
 
@@ -28,8 +28,8 @@ fn begun(entry: &Entry) -> Option<Work>
     Some(Work { process, amount })
 }
 
-/// What a worker does between two turns, with no lock held: the work that its turn has begun, or after
-/// an idle turn a pause, longer each time.
+/// The worker's part between two turns, with no lock held: the work that its turn has begun, or
+/// after an idle turn a pause, longer each time.
 pub fn between_turns<G: Gate>(gate: &G, backoff: &Backoff, core: CoreId, entry: &Entry) {
     if entry.reply == Reply::Idle {
         backoff.snooze();

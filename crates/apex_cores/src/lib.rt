@@ -15,6 +15,6 @@ pub use cores::{CoreReport, run_core};
 pub use faults::RunFault;
 pub use gates::Gate;
 pub use plans::RunPlan;
-pub use runs::{run_partition, run_partition_with};
+pub use runs::{run_partition, run_partition_read, run_partition_with};
 pub use starts::{EveryThread, Starts};
 pub use ticking::{TickerReport, run_ticker};

@@ -1,6 +1,6 @@
 //! The plan of a run.
 
-/// What a run is to make (this profile).
+/// The plan of a run (this profile).
 #[derive(Clone, Copy, PartialEq, Eq)]
 pub struct RunPlan {
     /// The turns of each core.

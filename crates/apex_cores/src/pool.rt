@@ -19,7 +19,7 @@ use std::sync::Wait;
 use std::thread;
 use std::thread::{Promise, PromisedHandle, Scope, Threads};
 
-/// A worker with a new seat of this core will make so many turns, if the history has room.
+/// A worker with a new seat of this core will make `turns` turns, if the history has room.
 #[derive(Clone, Copy)]
 struct WillRun {
     core: CoreId,
@@ -34,7 +34,7 @@ impl<P: Naming> Promise<CoreReport<P>> for WillRun {
     ghost kept_by = { λ will report. HasRun (unspoken (Core will.core)) will.turns report.seat report.turns report.full };
 }
 
-/// A worker with a new ticker will make so many ticks, if the history has room.
+/// A worker with a new ticker will make `ticks` ticks, if the history has room.
 #[derive(Clone, Copy)]
 struct WillTick {
     ticks: u32,
@@ -96,7 +96,7 @@ fn start_ticker<'s, E, P: Naming + Send + Sync, S: Starts, R: Threads + Wait + S
     }
 }
 
-/// Starts the worker of each core, one after the other. Where a thread is refused, it starts no other.
+/// Starts the worker of each core, one after the other. If a thread is refused, it starts no other.
 fn start_cores<'s, E, P: Naming + Send + Sync, S: Starts, G: Gate + Sync, R: Threads + Wait + Sync>(
     rt: &'s R,
     scope: &'s Scope<'s, E>,
@@ -139,7 +139,7 @@ fn join_cores<P: Naming, R: Threads>(
     seats
 }
 
-/// What the workers of a run give back: the seats, in the order of their cores, and the ticker.
+/// The seats, in the order of their cores, and the ticker, which the workers of a run give back.
 #[derive(Drop)]
 pub struct Workers<P: Naming> {
     pub seats: Vec<Seat<P>>,
@@ -187,7 +187,7 @@ fn start_workers<
     Ok(Started { cores, ticker })
 }
 
-/// Starts all workers in this scope, and joins them. Where a thread is refused, the scope joins those
+/// Starts all workers in this scope, and joins them. If a thread is refused, the scope joins those
 /// that have begun.
 fn run_workers<'s, E, P: Naming + Send + Sync, S: Starts, G: Gate + Sync, R: Threads + Wait + Sync>(
     rt: &'s R,
@@ -215,7 +215,7 @@ fn run_workers<'s, E, P: Naming + Send + Sync, S: Starts, G: Gate + Sync, R: Thr
     Ok(Workers { seats, ticker })
 }
 
-/// What came of the workers, and who was asked for their threads.
+/// The result of the workers, and the value that was asked for their threads.
 #[derive(Drop)]
 struct Asked<'a, P: Naming, S> {
     starts: &'a mut S,
@@ -285,8 +285,9 @@ fn run_threads<
     )
 }
 
-/// Has all workers of a partition at work at the same time, each in a thread of its own, until the last
-/// one has come to an end.
+/// Starts all workers of a partition, each in a thread of its own, and waits until the last one has
+/// come to an end. `NoThread` if `starts` or the system refuses a thread, `Memory` if memory was
+/// refused; the threads that have begun are joined before.
 pub fn run_all<P: Naming + Send + Sync, S: Starts, G: Gate + Sync, R: Threads + Wait + Sync>(
     rt: &R,
     alloc: Global,

@@ -1,6 +1,7 @@
 //! A partition that is opened, run and closed.
-ghost use Rattle.std.specs.Prelude.{◌≡◌, ℕ, ◌+◌, ◌<◌, ◌≤◌, IfOk, length};
+ghost use Rattle.std.specs.Prelude.{◌≡◌, ℕ, ◌+◌, ◌<◌, ◌≤◌, IfOk, IfSome, IsSome, length};
 ghost use Rattle.apex_receipts.specs.Receipts.{voice_of};
+ghost use Rattle.apex_board.specs.Fronts.{IsFrontAfter};
 ghost use Rattle.apex_partition.specs.Seats.{IsRun};
 ghost use Rattle.apex_cores.specs.Plans.{HasNoOthers, HasTicksOfOne, IsDone, IsWithinPlan, plan_of, planned};
 ghost use Rattle.apex_cores.specs.Starts.{HasAsked};
@@ -10,55 +11,78 @@ use crate::gates::Gate;
 use crate::plans::RunPlan;
 use crate::pool::{Workers, run_all};
 use crate::starts::{EveryThread, Starts};
-use apex_partition::{Naming, Opened, Partition, open};
+use apex_partition::{Closed, Front, Naming, NewBoard, Opened, Partition, Reader, open_read};
 use apex_table::Table;
 use std::alloc::Global;
 use std::marker::Brand;
 use std::sync::Wait;
 use std::thread::Threads;
 
-/// Opens a partition that is named after this book and this table, has its cores and its ticker at
-/// work, and closes it.
+/// The closed partition and, if there is a reader, which is told of it, the front after its history.
+fn told<P: Naming, R: Wait>(
+    rt: &R,
+    mut closed: Closed<P>,
+    reader: Option<Reader<P>>,
+) -> (Partition, Option<Front>)
+    ensures table { result.0.table ≡ P.table }
+    ensures history { result.0.machine.history ≡ closed }
+    ensures front { IfSome result.1 (λ front. IsFrontAfter P.table closed front) }
+    ensures told { IsSome reader → IsSome result.1 }
+{
+    let Some(reader) = reader else {
+        return (closed.into_partition(), None);
+    };
+    let (front, _reader) = closed.tell(rt, reader);
+    (closed.into_partition(), Some(front))
+}
+
+/// Opens a partition that is named after this book, this table and this board, has its cores and its
+/// ticker at work, and closes it. If the board has a reader, it is told of the closed history.
 fn run_named<P: Naming + Send + Sync, S: Starts, G: Gate + Sync, R: Threads + Wait + Sync>(
     rt: &R,
     alloc: Global,
     table: Table,
     opened: Opened,
+    board: NewBoard,
     plan: RunPlan,
     starts: &mut S,
     gate: &G,
-) -> Result<Partition, RunFault>
+) -> Result<(Partition, Option<Front>), RunFault>
     requires table { P.table ≡ table }
     requires book { P.book ≡ opened.book }
     requires scribe { P.scribe ≡ opened.scribe }
     requires voice { P.voice ≡ voice_of opened.cores opened.ticker }
     requires cores { length opened.cores ≡ table.cores }
-    ensures table { IfOk result (λ closed. closed.table ≡ table) }
-    ensures run { IfOk result (λ closed. IsRun table closed.machine.history) }
-    ensures ticks { IfOk result (λ closed. HasTicksOfOne closed.machine.history) }
-    ensures others { IfOk result (λ closed. HasNoOthers table.cores closed.machine.history) }
-    ensures done { IfOk result (λ closed. planned (plan_of table.cores plan) ≤ table.limit
-        → IsDone (plan_of table.cores plan) closed.machine.history) }
-    ensures full { IfOk result (λ closed. table.limit < planned (plan_of table.cores plan)
-        → length closed.machine.history ≡ table.limit) }
-    ensures few { IfOk result (λ closed. IsWithinPlan (plan_of table.cores plan) closed.machine.history) }
+    requires cell { P.cell ≡ board.cell }
+    ensures table { IfOk result (λ ran. ran.0.table ≡ table) }
+    ensures run { IfOk result (λ ran. IsRun table ran.0.machine.history) }
+    ensures ticks { IfOk result (λ ran. HasTicksOfOne ran.0.machine.history) }
+    ensures others { IfOk result (λ ran. HasNoOthers table.cores ran.0.machine.history) }
+    ensures done { IfOk result (λ ran. planned (plan_of table.cores plan) ≤ table.limit
+        → IsDone (plan_of table.cores plan) ran.0.machine.history) }
+    ensures full { IfOk result (λ ran. table.limit < planned (plan_of table.cores plan)
+        → length ran.0.machine.history ≡ table.limit) }
+    ensures few { IfOk result (λ ran. IsWithinPlan (plan_of table.cores plan) ran.0.machine.history) }
+    ensures front { IfOk result (λ ran. IfSome ran.1 (λ front. IsFrontAfter table ran.0.machine.history front)) }
+    ensures told { IfOk result (λ ran. 0 < board.readers → IsSome ran.1) }
     ensures asked { HasAsked S.asks (table.cores + 1) result starts.old }
 {
-    let (shared, seats, ticker) = open::<P>(alloc, table, opened)?;
+    let (shared, seats, ticker, mut board) = open_read::<P>(alloc, table, opened, board)?;
+    let reader = board.take();
     let workers = Workers { seats, ticker };
     let Workers { seats, ticker } = run_all(rt, alloc, &shared, workers, plan, starts, gate)?;
     let closed = shared.close(seats, ticker);
     closed.holds();
-    Ok(closed.into_partition())
+    Ok(told(rt, closed, reader))
 }
 
-/// Runs the partition of this table: a thread for each core makes so many turns of it, one for the
-/// ticker so many ticks of 1, and then the partition is closed. What it answers is the closed
-/// partition.
+/// Runs the partition of this table: a thread for each core makes the planned turns of it, one for
+/// the ticker the planned ticks, each of 1, and then the partition is closed. The answer is the
+/// closed partition.
 ///
-/// Before each thread starts, `starts` is asked for it, the cores' first and then the ticker's. The errors:
-/// `NoThread` where `starts` or the system refuses a thread, and `Memory`. The threads that have begun are
-/// joined before, and no partition is left.
+/// Before each thread starts, `starts` is asked for it, the cores' first and then the ticker's. The
+/// errors: `NoThread` if `starts` or the system refuses a thread, and `Memory`. The threads that
+/// have begun are joined before, and no partition is left.
 pub fn run_partition_with<S: Starts, G: Gate + Sync, R: Threads + Wait + Sync>(
     rt: &R,
     alloc: Global,
@@ -80,7 +104,11 @@ pub fn run_partition_with<S: Starts, G: Gate + Sync, R: Threads + Wait + Sync>(
 {
     table.lawful();
     let opened = Opened::new(alloc, u32::from(table.cores()))?;
-    run_named::<Brand, S, G, R>(rt, alloc, table, opened, plan, starts, gate)
+    let board = NewBoard::without_readers();
+    match run_named::<Brand, S, G, R>(rt, alloc, table, opened, board, plan, starts, gate) {
+        Ok((partition, _front)) => Ok(partition),
+        Err(fault) => Err(fault),
+    }
 }
 
 /// Runs the partition of this table as `run_partition_with` does, and lets every thread start.
@@ -102,4 +130,40 @@ pub fn run_partition<G: Gate + Sync, R: Threads + Wait + Sync>(
     ensures few { IfOk result (λ closed. IsWithinPlan (plan_of table.cores plan) closed.machine.history) }
 {
     run_partition_with(rt, alloc, table, plan, &mut EveryThread, gate)
+}
+
+/// Runs the partition of this table as `run_partition` does, with one reader, which is told of the closed
+/// history. The answer is the closed partition, and the front after its last event, as the reader got
+/// it.
+pub fn run_partition_read<G: Gate + Sync, R: Threads + Wait + Sync>(
+    rt: &R,
+    alloc: Global,
+    table: Table,
+    plan: RunPlan,
+    gate: &G,
+) -> Result<(Partition, Front), RunFault>
+    ensures table { IfOk result (λ ran. ran.0.table ≡ table) }
+    ensures run { IfOk result (λ ran. IsRun table ran.0.machine.history) }
+    ensures ticks { IfOk result (λ ran. HasTicksOfOne ran.0.machine.history) }
+    ensures others { IfOk result (λ ran. HasNoOthers table.cores ran.0.machine.history) }
+    ensures done { IfOk result (λ ran. planned (plan_of table.cores plan) ≤ table.limit
+        → IsDone (plan_of table.cores plan) ran.0.machine.history) }
+    ensures full { IfOk result (λ ran. table.limit < planned (plan_of table.cores plan)
+        → length ran.0.machine.history ≡ table.limit) }
+    ensures few { IfOk result (λ ran. IsWithinPlan (plan_of table.cores plan) ran.0.machine.history) }
+    ensures front { IfOk result (λ ran. IsFrontAfter table ran.0.machine.history ran.1) }
+{
+    table.lawful();
+    let opened = Opened::new(alloc, u32::from(table.cores()))?;
+    let board = NewBoard::new(alloc, 1)?;
+    let starts = &mut EveryThread;
+    match run_named::<Brand, EveryThread, G, R>(
+        rt, alloc, table, opened, board, plan, starts, gate,
+    ) {
+        Ok((partition, front)) => match front {
+            Some(front) => Ok((partition, front)),
+            None => unreachable!(),
+        },
+        Err(fault) => Err(fault),
+    }
 }

@@ -4,13 +4,14 @@ ghost use Rattle.apex_cores.specs.Starts.{IsRefused};
 
 use crate::faults::RunFault;
 
-/// Says of each thread of a run whether it may start (this profile).
+/// Answers for each thread of a run whether it may start (this profile).
 pub trait Starts {
-    // What an answer may be: who is asked, the thread's number, the answer, and who was asked afterwards.
+    // The answers that may be given: the value before, the thread's number, the answer, and the
+    // value afterwards.
     ghost asks: { Self → ℕ → Bool → Self → Type 0 };
 
-    /// Whether the thread of this number may start. The thread of a core has the core's number, and that of
-    /// the ticker the next one. A run asks for each thread right before it starts it.
+    /// Whether the thread of this number may start. The thread of a core has the core's number, and
+    /// that of the ticker the next one. A run asks for each thread right before it starts it.
     fn may(&mut self, thread: u32) -> bool
         ensures { asks self.old thread result self.new };
 }

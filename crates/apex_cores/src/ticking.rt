@@ -5,18 +5,18 @@ ghost use Rattle.apex_cores.specs.Runs.{HasTicked};
 use apex_partition::{Naming, Shared, Ticker};
 use std::sync::Wait;
 
-/// What the worker of the ticker has done.
+/// The report of the worker of the ticker.
 #[derive(Drop)]
 pub struct TickerReport<P: Naming> {
     /// The ticker, with the entries of these ticks.
     pub ticker: Ticker<P>,
-    /// How many ticks it made.
+    /// The number of ticks that it made.
     pub ticks: u32,
     /// Whether a full history stopped it.
     pub full: bool,
 }
 
-/// Makes so many ticks of 1, one after the other, and stops earlier only where the history is full.
+/// Makes `ticks` ticks of 1, one after the other, and stops earlier only if the history is full.
 /// Takes no memory.
 pub fn run_ticker<P: Naming, R: Wait>(
     rt: &R,

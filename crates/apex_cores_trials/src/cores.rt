@@ -4,6 +4,7 @@ mod contention;
 mod crews;
 mod meetings;
 mod outlines;
+mod reading;
 mod refusals;
 mod values;
 mod workers;

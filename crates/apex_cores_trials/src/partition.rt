@@ -1,4 +1,5 @@
 //! Partitions by hand, and by the seats that share them.
 
 mod alone;
-mod shared;
+mod open;
+mod scenes;

@@ -1,4 +1,4 @@
--- What each change of records does to who waits for what it asked for.
+-- The waits that processes asked for, as records change.
 use Rattle.std.proofs.Common.{◌≡◌, ℕ, ◌<◌, ◌==◌, ◌&&◌, Bool, true, false, List, [], ◌++◌, length, Option, None, Some, nat_lt, ◌⊎◌, refl, sym, ◌∙◌, ap, arith, inl, inr, set, get_or}
 use Rattle.std.specs.Option.{option_and_then}
 use Rattle.std.proofs.lemmas.List.{get_or-set_other, get_or_past, length-set}
@@ -25,7 +25,7 @@ use Rattle.apex_dispatch.specs.Terms.{Notice}
 use Rattle.apex_dispatch.proofs.Satisfied.{Asks, AwaitsAt, begins_named, is_waking, wakes}
 use Rattle.apex_dispatch.proofs.Truths.{and_true, or_false}
 
--- what a process waits for after a change of the record of process p
+-- the wait that a process asked for, after a change of the record of process p
 wait_after : (records : List Record) (p q : ℕ) (r : Record) (w : Wait)
     → awaited (get_or (set records p r) q nobody) ≡ Some w
     → ((q ≡ p) × (awaited r ≡ Some w)) ⊎ (awaited (get_or records q nobody) ≡ Some w)
@@ -43,7 +43,7 @@ wait_after records p q r w h = elim (cases_eq q p) [
   | inr differs ↦ inr (ap awaited (sym (get_or-set_other records p q r nobody differs)) ∙ h)
 ]
 
--- what a process asked for that stands in the queue of an object
+-- a process in the queue of an object, and its wait, which it asked for
 pub record StandsFor (queue : Queue) (r : Record) (w : Wait) : Type 0 where
   pub waits : r.wait ≡ Some w
   pub asked : awaited r ≡ Some w
@@ -78,7 +78,7 @@ first_awaits roster queue p apart e =
 pub awaits_at : {queue : Queue} {r : Record} {w : Wait} → StandsFor queue r w → AwaitsAt (Some queue) r
 awaits_at {queue} {r} {w} stands = (w, stands.asked, stands.queued)
 
--- who waits in a queue by its own asking stands there
+-- a process whose wait it asked for, and has this queue, waits in it
 stands_suspended : (by_itself : Bool) (w : Wait) (queue : Queue) → or_suspended None by_itself ≡ Some w → queue_of w ≡ Some queue → ⊥
 stands_suspended true w queue h is = none-some queue (ap queue_of (same_Some Time w h) ∙ is)
 stands_suspended false w queue h is = none-some w h
@@ -97,7 +97,7 @@ awaited_stands (Some (Blackboard b)) by_itself w queue h is = ap queue_of (same_
 awaited_stands (Some (Event e)) by_itself w queue h is = ap queue_of (same_Some (Event e) w h) ∙ is
 awaited_stands (Some (Mutex m)) by_itself w queue h is = ap queue_of (same_Some (Mutex m) w h) ∙ is
 
--- who waits for what it asked for afterwards waited for it before
+-- a process in a wait that it asked for was in it before
 pub record Frees (old new : Roster) : Type 0 where
   pub still : (q : ℕ) (w : Wait) → awaited (record_at new q) ≡ Some w → awaited (record_at old q) ≡ Some w
 
@@ -117,7 +117,7 @@ frees_moved old new p r is less = record { still = still } where
     | inr elsewhere ↦ elsewhere
   ]
 
--- it waits for nothing that it asked for then
+-- afterwards it is in no wait that it asked for
 pub frees_changed : (old new : Roster) (p : ℕ) (r : Record) → new.records ≡ set old.records p r
     → awaited r ≡ None → Frees old new
 frees_changed old new p r is free =
@@ -132,7 +132,7 @@ frees_lessened roster p r less =
     (λ _. frees_moved roster (newest roster p r) p (record r { since = roster.young }) refl less)
     (λ _. frees_moved roster (with_record roster p r) p r refl less)
 
--- who wakes waits for nothing that it asked for
+-- a process that wakes waits for nothing that it asked for
 pub awake_free : (suspended : Option Suspender) → or_suspended None (is_by_itself (suspension_awake suspended)) ≡ None
 awake_free None = refl
 awake_free (Some Itself) = refl
@@ -148,19 +148,19 @@ frees_release roster p =
     frees_lessened roster p (released_at roster.now (record_at roster p))
     (λ w h. absurd (none-some w (sym (awake_free (record_at roster p).suspended) ∙ h)))
 
--- a change by which nobody waits who did not wait before
+-- a change by which no process waits that did not wait before
 pub asks_freed : (caller : Caller) (called : Option Call) (old new : Roster) → Frees old new
     → Asks caller called old new
 asks_freed caller called old new frees = record { still = λ q w h. inl (frees.still q w h) }
 
--- a change by which nobody waits who did not wait before, and then a call
+-- a change by which no process waits that did not wait before, and then a call
 pub asks_later : {caller : Caller} {called : Option Call} {first second third : Roster} → Frees first second
     → Asks caller called second third → Asks caller called first third
 asks_later frees asks = record {
   still = λ q w h. elim (asks.still q w h) [ inl before ↦ inl (frees.still q w before) | inr own ↦ inr own ];
 }
 
--- process p waits for what its call begins to wait for, and the others as before
+-- process p is in the wait that its call begins, and the others wait as before
 pub asks_waiting : (p : ℕ) (call : Call) (wait : Wait) (r : Record) (old new : Roster)
     → new.records ≡ set old.records p r
     → awaited r ≡ Some wait → begins call ≡ Some wait → Asks (Process p) (Some call) old new
@@ -185,7 +185,7 @@ pub waits_in_queue : (queue : Queue) (r : Record) (w : Wait) → awaited r ≡ S
 waits_in_queue queue r w waits is =
     waits_there queue r (awaited_stands r.wait (is_by_itself r.suspended) w queue waits is)
 
--- who waits in this queue afterwards waited there before
+-- a process that waits in this queue afterwards waited there before
 abbrev pub IsStill : Queue → Roster → Roster → Type 0
 IsStill queue old new = (p : ℕ) (w : Wait) → awaited (record_at new p) ≡ Some w → queue_of w ≡ Some queue
     → awaited (record_at old p) ≡ Some w
@@ -207,7 +207,7 @@ still_elsewhere queue caller call old new elsewhere asks p w waits is = elim (as
 pub still_freed : (queue : Queue) (old new : Roster) → Frees old new → IsStill queue old new
 still_freed queue old new frees p w waits is = frees.still p w waits
 
--- who is held back stays so while the object lacks what it waits for
+-- a process that is held back stays so while the object lacks what it waits for
 module _ (Lacks : Wait → Type 0) (queue : Queue) where
   pub held_still : (old new : Roster) → AreHeldBack Lacks queue old → IsStill queue old new → AreHeldBack Lacks queue new
   held_still old new held still p w waits is = held p w (still p w waits is) is
@@ -220,19 +220,20 @@ module _ (Lacks : Wait → Type 0) (queue : Queue) where
     | inr own ↦ lacks w own.1
   ]
 
-  -- and nobody is where nobody waits there
+  -- and none is held back if none waits there
   pub held_nobody : (roster : Roster) → ((p : ℕ) → waits_in queue (record_at roster p) ≡ false) → AreHeldBack Lacks queue roster
   held_nobody roster none p w waits is =
       absurd (both_ways _ (none p) (waits_in_queue queue (record_at roster p) w waits is))
 
--- who has what it waited for no longer waits
+-- a process that has what it waited for no longer waits
 pub frees_granted : (message : Option Message) (roster : Roster) (p : ℕ) → Frees roster (granted message roster p).roster
 frees_granted None roster p = frees_unblock roster p
 frees_granted (Some message) roster p =
     let r : Record = record (record_at roster p) { inbox = Some message } in
     frees_then (frees_moved roster (receive roster p message) p r refl (λ w h. h)) (frees_unblock (receive roster p message) p)
 
--- all who have what they waited for had waited in their queue, and nobody waits who did not wait before
+-- all processes that have what they waited for had waited in their queue, and no process waits that
+-- did not wait before
 pub record AreGranted (queue : Queue) (old new : Roster) (notices : List Notice) : Type 0 where
   pub frees : Frees old new
   pub waited : (q : ℕ) → wakes q notices ≡ true → AwaitsAt (Some queue) (record_at old q)

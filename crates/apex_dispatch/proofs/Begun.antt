@@ -1,7 +1,9 @@
 -- The entry into NORMAL: the starts that it begins.
 use Rattle.std.proofs.Common.{◌≡◌, ℕ, ◌+◌, ◌≤◌, Bool, true, false, cond, List, [], ◌∷◌, length, Some, refl, ap, ◌∙◌, arith, ◌==◌}
 use Rattle.std.proofs.lemmas.Bool.{both_ways}
+use Rattle.apex_types.specs.Limits.{most_processes}
 use Rattle.apex_types.specs.declared.Mode.TheVariants as mode
+use Rattle.apex_dispatch.specs.Premises.{most_given}
 use Rattle.apex_dispatch.specs.Terms.{Notice}
 use Rattle.apex_types.specs.declared.Notice.TheVariants.{Released}
 use Rattle.apex_types.specs.declared.Queue.TheVariants as queues
@@ -31,7 +33,7 @@ stays_begun roster p begun is = record {
   starts = (reach_begin_waiter roster p begun is).starts begun.starts;
 }
 
--- it tells one notice at the most
+-- it gives one notice at the most
 pub few_starts : (roster : Roster) (p : ℕ) → length (begin_waiter roster p).notices ≤ 1
 few_starts roster p = few_by (delay_of (record_at roster p).wait == 0) where
   few_by : (b : Bool) → length (cond {A = List Notice} b (Released p ∷ []) []) ≤ 1
@@ -41,11 +43,11 @@ few_starts roster p = few_by (delay_of (record_at roster p).wait == 0) where
 pub begun_normal : (roster : Roster) → HasOrderlyStarts roster → IsBegun (set_mode roster mode.Normal)
 begun_normal roster starts = record { normal = refl; starts = (reaches_set_mode roster mode.Normal refl).starts starts }
 
-pub reach_enter_normal : (roster : Roster) → HasOrderlyStarts roster → length roster.records ≤ 64
-    → Reaches 64 roster (enter_normal roster).roster
+pub reach_enter_normal : (roster : Roster) → HasOrderlyStarts roster → length roster.records ≤ most_processes
+    → Reaches most_given roster (enter_normal roster).roster
 unfolding enter_normal
 reach_enter_normal roster starts many =
     let steps = reaches_in_turn first_to_start begin_waiter IsBegun stays_begun reach_begin_waiter
     (length roster.records) (set_mode roster mode.Normal) (begun_normal roster starts) in
-    reaches_more (0 + length roster.records) 64 (omega (arith, many))
+    reaches_more (0 + length roster.records) most_given (omega (arith, many))
     (reaches_then 0 (length roster.records) (reaches_set_mode roster mode.Normal refl) steps)

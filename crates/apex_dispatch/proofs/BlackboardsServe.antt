@@ -1,4 +1,4 @@
--- Blackboards: what their services keep, and what an entry does to them.
+-- Blackboards: the facts that their services keep, and the effect of an entry on them.
 use Rattle.std.proofs.Common.{◌≡◌, ℕ, Bool, true, false, ◌||◌, not, cond, fold, filter, List, [], ◌∷◌, ◌++◌, flat_map, Option, None, Some, lit≤, refl, ◌∙◌, inl}
 use Rattle.std.proofs.lemmas.Bool.{eq-eqb}
 use Rattle.std.proofs.lemmas.List.Elements.{All-cons}
@@ -34,12 +34,12 @@ use Rattle.apex_types.proofs.Waking.{none_left, reach_grant_all}
 use Rattle.apex_dispatch.specs.AskedWaits.{AreAsked, AreHeldBack, begins}
 use Rattle.apex_dispatch.proofs.AskedWaits.{all_granted, asks_freed, frees_moved, held_asking, held_nobody, held_still, still_freed}
 use Rattle.apex_dispatch.proofs.Satisfied.{all_named, far_answered, filter_all, handed}
-use Rattle.apex_dispatch.proofs.Serving.{Scene, ServesBy, serves_same, serves_blocked, serves_freed, arrives_by}
+use Rattle.apex_dispatch.proofs.Serving.{Scene, ServesBy, serves_same, serves_blocked, serves_freed, arrives_by, arrives_by_each}
 use Rattle.apex_dispatch.proofs.ObjectsServe.{LawsOf, ServesOne, IsQuiet, IsRead, elsewhere, quiet_told}
 use Rattle.apex_dispatch.proofs.Truths.{or_false, or_true, other}
 use Rattle.apex_dispatch.proofs.Values.{created-push, fold_stays, folded-push}
 
--- who waits for blackboard b waits where it holds nothing
+-- a process that waits for blackboard b waits while it holds nothing
 abbrev pub IsEmpty : ℕ → List Entry → Wait → Type 0
 IsEmpty b history w = blackboard_message b history ≡ None
 
@@ -103,7 +103,7 @@ module _ (history : List Entry) (roster : Roster) (caller : Caller) (b : ℕ) (c
         (quiet_told named created_blackboard b history number now who caller (asks_for service) (Code code) bad) keeps.held;
   }
 
-  -- DISPLAY_BLACKBOARD: nobody waits then
+  -- DISPLAY_BLACKBOARD: no process waits then
   served_display : (message : Message) → Served (Display message)
       (accepted_with (record blackboard { message = Some message }) (grant_all (queues.Blackboard b) (Some message) roster))
   served_display message =
@@ -114,7 +114,7 @@ module _ (history : List Entry) (roster : Roster) (caller : Caller) (b : ℕ) (c
       let answered = flat_map (answered_by history) all.notices in
       record {
         serves = record {
-          arrives = arrives_by _ scene.few (reach_grant_all (queues.Blackboard b) (Some message) roster refl scene.starts);
+          arrives = arrives_by_each _ scene.few (reach_grant_all (queues.Blackboard b) (Some message) roster refl scene.starts);
           asks = asks_freed caller (Some display) roster all.roster granted.frees;
           woken = λ q woken. inl (granted.waited q woken);
         };

@@ -1,4 +1,4 @@
--- Buffers: what their services keep, and what an entry does to them.
+-- Buffers: the facts that their services keep, and the effect of an entry on them.
 use Rattle.std.proofs.Common.{◌≡◌, ℕ, ◌+◌, ◌<◌, ◌≤◌, Bool, true, false, ◌||◌, not, cond, nat_lt, filter, List, [], ◌∷◌, ◌++◌, length, Option, None, Some, lit≤, refl, sym, ◌∙◌, ap, subst, arith, append_assoc, append-nil, length-append, inl}
 use Rattle.std.proofs.lemmas.Bool.{both_ways, cond_both, eq-eqb, ltb-true, ltb-false}
 use Rattle.std.proofs.lemmas.List.Elements.{All-nil, All-cons}
@@ -41,14 +41,14 @@ use Rattle.apex_dispatch.proofs.ObjectsServe.{LawsOf, ServesOne, IsQuiet, IsRead
 use Rattle.apex_dispatch.proofs.Truths.{or_false, or_true, other}
 use Rattle.apex_dispatch.proofs.Values.{created-push}
 
--- what is kept of buffer b: each message is delivered once and in order, no more are held than it has room
--- for, and who waits for it waits for what is not there
+-- the facts that are kept of buffer b: each message is delivered once and in order, it holds no
+-- more than it has room for, and a process that waits for it waits for what is not there
 pub record KeepsBuffer (roster : Roster) (history : List Entry) (b : ℕ) (entry : BufferConfig) : Type 0 where
   pub delivered : IsDelivered (calls_where (names (queues.Buffer b)) history) (buffer_content b history)
   pub fits : length (buffer_content b history) ≤ entry.capacity
   pub held : AreHeldBack (LacksMessage entry.capacity (buffer_content b history)) (queues.Buffer b) roster
 
--- who waits in the queue of buffer b receives, or sends
+-- a process in the queue of buffer b receives, or sends
 receiver_wait : (b : ℕ) (w : Wait) → queue_of w ≡ Some (queues.Buffer b) → is_receiver (Some w) ≡ true → w ≡ Receive b
 receiver_wait b (Receive c) is h = let same : c ≡ b = cc in ap Receive same
 receiver_wait b _ is h = cc
@@ -65,7 +65,7 @@ unheld_wait : (b : ℕ) (w : Wait) → queue_of w ≡ Some (queues.Buffer b) →
 unheld_wait b (Receive c) is h = let same : c ≡ b = cc in ap Receive same
 unheld_wait b _ is h = cc
 
--- where the first message makes room for another one, who waited waits on
+-- if the room that the first message leaves is filled again, the other waiters wait on
 lacks_on : (capacity : ℕ) (message : Message) (later content : List Message) → length content ≡ capacity
     → (w : Wait) → LacksMessage capacity (message ∷ later) w → LacksMessage capacity content w
 lacks_on capacity message later content full (Receive b) lacks = cc
@@ -210,7 +210,7 @@ module _ (history : List Entry) (roster : Roster) (caller : Caller) (b : ℕ) (c
                 (held_still Lacks (queues.Buffer b) roster after keeps.held (still_freed (queues.Buffer b) roster after frees));
           }
 
-      -- where there is room and no receiver is first, nobody waits
+      -- if there is room and no receiver is first, no process waits
       nobody_waits : ((q : ℕ) → first_waiter roster (queues.Buffer b) ≡ Some q → is_receiver (record_at roster q).wait ≡ false)
           → length content < config.capacity → (q : ℕ) (w : Wait) → awaited (record_at roster q) ≡ Some w → queue_of w ≡ at → ⊥
       nobody_waits none room q w waits is = by_first (first_waiter roster (queues.Buffer b)) refl where
@@ -222,7 +222,7 @@ module _ (history : List Entry) (roster : Roster) (caller : Caller) (b : ℕ) (c
             let full : length content ≡ config.capacity = subst Lacks sends.1 (keeps.held r first.0 first.1.asked first.1.queued) in
             omega (arith, full, room)
 
-      -- it goes last where there is room
+      -- it goes last if there is room
       served_last : ((q : ℕ) → first_waiter roster (queues.Buffer b) ≡ Some q → is_receiver (record_at roster q).wait ≡ false)
           → Served send (send_last roster buffer b p message timeout)
       served_last none =
@@ -250,7 +250,7 @@ module _ (history : List Entry) (roster : Roster) (caller : Caller) (b : ℕ) (c
           (λ receives. served_receiver q is receives)
           (λ sends. served_last (λ r e. ap (λ (k : ℕ). is_receiver (record_at roster k).wait) (sym (same_Some q r (sym is ∙ e))) ∙ sends))
 
-    -- RECEIVE_BUFFER, where this is the first message, and these the later ones
+    -- RECEIVE_BUFFER, if this is the first message, and these are the later ones
     module _ (timeout : Timeout) (message : Message) (later : List Message) (holds : content ≡ message ∷ later) where
       abbrev receives : Call
       receives = asks_for (service.Receive timeout)
@@ -273,7 +273,7 @@ module _ (history : List Entry) (roster : Roster) (caller : Caller) (b : ℕ) (c
       fits_so : length later + 1 ≤ config.capacity
       fits_so = omega (arith, rw holds at keeps.fits)
 
-      -- nobody waits with a message
+      -- no process waits with a message
       served_alone : AreHeldBack (LacksMessage config.capacity later) (queues.Buffer b) after
           → Served (service.Receive timeout) (told after left (Gets message))
       served_alone held = record {
@@ -319,7 +319,7 @@ module _ (history : List Entry) (roster : Roster) (caller : Caller) (b : ℕ) (c
                 (subst (λ (held : List Message). LacksMessage config.capacity held v) holds (keeps.held r v (frees.still r v waits) queued)));
           }
 
-      -- a receiver doesn't wait where there is a message
+      -- no receiver waits if there is a message
       served_waiter : (q : ℕ) (sent : Option Message) → first_waiter after (queues.Buffer b) ≡ Some q → held_back (record_at after q).wait ≡ sent
           → Served (service.Receive timeout) (take_in after left message q sent)
       served_waiter q None is none =

@@ -1,6 +1,8 @@
--- After each service and each tick the objects that it leaves are those that the history then gives.
+-- After each service and each tick the objects that it leaves are those that the history then
+-- gives.
 use Rattle.std.proofs.Common.{◌≡◌, ℕ, ◌<◌, true, false, List, [], ◌∷◌, ◌++◌, length, Option, None, Some, option_and_then, option_map, refl}
 use Rattle.std.proofs.lemmas.Bool.{both_ways}
+use Rattle.apex_dispatch.specs.Premises.{most_given}
 use Rattle.apex_dispatch.specs.Terms.{Call, Caller, Entry, Notice, Queue, Reply, Who}
 use Rattle.apex_types.specs.declared.Call.TheVariants.{Partition, Process as ToProcess, Caller as ToCaller, Time as ToTime, Semaphore as ToSemaphore, Buffer as ToBuffer, Blackboard as ToBlackboard, Event as ToEvent, Mutex as ToMutex, Work as ToWork}
 use Rattle.apex_types.specs.declared.Caller.TheVariants.{Nobody}
@@ -32,11 +34,11 @@ use Rattle.apex_dispatch.proofs.SemaphoresServe.{semaphore_laws}
 use Rattle.apex_dispatch.proofs.Serving.{Scene, Serves}
 use Rattle.apex_dispatch.proofs.Values.{KeepsSemaphore}
 
--- no object of these queues is meant
+-- the queue of an object, if there is one, is none of these
 abbrev IsFar : (ℕ → Queue) → Option Queue → Type 0
 IsFar queue at = (j : ℕ) → is_queue (queue j) at ≡ false
 
--- the queues of two kinds
+-- the queues of two kinds differ
 abbrev AreApart : (ℕ → Queue) → (ℕ → Queue) → Type 0
 AreApart queue other = (j i : ℕ) → is_same_queue (queue j) (other i) ≡ false
 
@@ -56,7 +58,7 @@ far_mutex : (queue : ℕ → Queue) (target : Option ℕ) → IsFar queue (queue
 far_mutex queue None j = refl
 far_mutex queue (Some m) j = refl
 
--- what is kept of the objects, and of who waits
+-- the facts that are kept of the objects, and of their waiters
 pub record AreKept (table : Table) (roster : Roster) (history : List Entry) : Type 0 where
   pub semaphores : (s : ℕ) → s < length table.semaphores → KeepsSemaphore roster history s (semaphore_config table s)
   pub buffers : (b : ℕ) → b < length table.buffers → KeepsBuffer roster history b (buffer_config table b)
@@ -64,19 +66,20 @@ pub record AreKept (table : Table) (roster : Roster) (history : List Entry) : Ty
   pub events : (e : ℕ) → e < length table.events → KeepsEvent roster history e (event_config table e)
   pub asked : AreAsked roster history
 
--- the objects after an entry are those that the service left, and all stays kept
+-- the objects after an entry are those that the service left, and all facts stay kept
 pub record IsExact (table : Table) (history : List Entry) (e : Entry) (left : Objects) (roster : Roster) : Type 0 where
   pub objects : objects_after table (history ++ e ∷ []) ≡ left
   pub kept : AreKept table roster (history ++ e ∷ [])
 
--- what a service owes: it arrives at the roster that it leaves, who waits there asked for it, and it is exact
+-- the duties of a service: it arrives at the roster that it leaves, each process that waits there
+-- asked for its wait, and the objects are exact
 pub record ServesCall (table : Table) (history : List Entry) (roster : Roster) (caller : Caller) (call : Call) (o : Outcome Objects) : Type 0 where
-  pub arrives : Arrives 64 roster o.roster
+  pub arrives : Arrives most_given roster o.roster
   pub asks : Asks caller (Some call) roster o.roster
   pub exact : (number now : ℕ) (who : Who)
       → IsExact table history (entry_with number now who caller call o.reply o.notices) o.object o.roster
 
--- all stays kept where nobody waits who did not wait before
+-- all facts stay kept if no process waits that did not wait before
 pub kept_freed : (table : Table) (history : List Entry) (old new : Roster) → Frees old new → AreKept table old history → AreKept table new history
 kept_freed table history old new frees kept = record {
   semaphores = λ s inside. let keeps = kept.semaphores s inside in record { enough = keeps.enough; bounded = keeps.bounded };
@@ -140,7 +143,7 @@ module _ (table : Table) (history : List Entry) (roster : Roster) (kept : AreKep
   before = objects_after table history
 
   module _ (caller : Caller) (idle : IsIdle caller roster) where
-    -- a call, and what it leaves
+    -- a call, and its results
     module _ (call : Call) (at : Option Queue) (new : Roster) (reply : Reply) (notices : List Notice) (serves : Serves roster caller call at new notices) where
       asked_after : (number now : ℕ) (who : Who) → AreAsked new (history ++ entry_with number now who caller call reply notices ∷ [])
       asked_after number now who =
@@ -319,7 +322,8 @@ module _ (table : Table) (history : List Entry) (roster : Roster) (kept : AreKep
               (asked_after (ToMutex call) _ _ _ _ all.serves number now who);
         }
 
-  -- an event that asks for no call, leaves all objects, and wakes with NO_ERROR only who waited for time
+  -- an event without a call that leaves all objects, and wakes with NO_ERROR only processes that
+  -- waited for time or for a mutex
   pub exact_uncalled : (new : Roster) (e : Entry) → e.call ≡ None → e.process ≡ Nobody
       → ((p : ℕ) → wakes p e.notices ≡ true → WokenAt None (record_at roster p))
       → Frees roster new → IsExact table history e before new

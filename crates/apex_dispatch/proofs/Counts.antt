@@ -1,4 +1,4 @@
--- How many processes pass a test, and what the change of one record does to their number.
+-- The number of processes that pass a test, and its change with one record.
 use Rattle.std.proofs.Common.{◌≡◌, ℕ, ◌+◌, ◌<◌, ◌≤◌, Bool, true, if◌then◌else◌, List, length, count_by, ℤ, ◌∙◌, ap, inl, inr, arith}
 use Rattle.std.proofs.lemmas.Bool.{cases_Bool, cond_both}
 use Rattle.std.proofs.lemmas.List.Sums.{sum_by-le-sum_by, sum_by-set}
@@ -7,14 +7,14 @@ use Rattle.apex_types.specs.Roster.{Roster, nobody, record_at, with_record}
 use Rattle.apex_types.specs.Running.{is_eligible}
 use Rattle.apex_types.specs.Stamps.{newest, readied}
 
--- one, where it is so
+-- 1 if it is so, else 0
 abbrev pub one_if : Bool → ℕ
 one_if b = if b then 1 else 0
 
 abbrev pub count : (Record → Bool) → Roster → ℕ
 count passes roster = count_by passes roster.records
 
--- where all that pass one test pass another, no fewer pass that one
+-- if all that pass one test pass another, no fewer pass the other
 pub count_more : (passes others : Record → Bool) → ((r : Record) → passes r ≡ true → others r ≡ true)
     → (rs : List Record) → count_by passes rs ≤ count_by others rs
 count_more passes others more rs =

@@ -15,12 +15,12 @@ use Rattle.apex_types.proofs.Reaches.{Reaches, reaches_then, reaches_unblock, re
 use Rattle.apex_types.proofs.Rosters.{at_without_due}
 use Rattle.apex_dispatch.proofs.Counts.{count, counted, counted_readied}
 
--- before NORMAL nobody has a due
+-- before NORMAL no process has a due
 due_normal : (roster : Roster) → HasOrderlyStarts roster → (p : ℕ) → first_due roster ≡ Some p
     → is_normal roster.mode ≡ false → ⊥
 due_normal roster starts p is e = none-some roster.now (sym (starts.undue e p) ∙ first_due_now roster p is)
 
--- what the dues may rely on: starts are in order, and everybody is in time
+-- the premises of the dues: starts are in order, and every process is in time
 pub record IsServable (roster : Roster) : Type 0 where
   pub starts : HasOrderlyStarts roster
   pub times : AreInTime roster
@@ -63,7 +63,7 @@ module _ (roster : Roster) (p : ℕ) (before : IsServable roster) (is : first_du
   pub served_stays : IsServable (serve_due roster p).roster
   served_stays = record { starts = reach_serve_due.starts before.starts; times = reach_serve_due.times before.times }
 
--- it tells one notice
+-- it gives one notice
 pub one_due : (roster : Roster) (p : ℕ) → length (serve_due roster p).notices ≡ 1
 one_due roster p = one_by (record_at roster p).wait where
   one_by : (w : Option Wait) → length (wait_over (without_due roster p) p w).notices ≡ 1

@@ -1,4 +1,4 @@
--- Events: what their services keep, and what an entry does to them.
+-- Events: the facts that their services keep, and the effect of an entry on them.
 use Rattle.std.proofs.Common.{◌≡◌, ℕ, Bool, true, false, ◌||◌, not, cond, fold, filter, List, [], ◌∷◌, ◌++◌, flat_map, Option, None, Some, refl, ◌∙◌, inl}
 use Rattle.std.proofs.lemmas.Bool.{cond_both, eq-eqb}
 use Rattle.std.proofs.lemmas.List.Elements.{All-cons}
@@ -30,12 +30,12 @@ use Rattle.apex_types.proofs.Waking.{none_left, reach_grant_all}
 use Rattle.apex_dispatch.specs.AskedWaits.{AreAsked, AreHeldBack, begins}
 use Rattle.apex_dispatch.proofs.AskedWaits.{all_granted, asks_freed, held_asking, held_nobody, held_still}
 use Rattle.apex_dispatch.proofs.Satisfied.{all_named, far_answered, filter_all, handed}
-use Rattle.apex_dispatch.proofs.Serving.{Scene, ServesBy, serves_same, serves_blocked, arrives_by}
+use Rattle.apex_dispatch.proofs.Serving.{Scene, ServesBy, serves_same, serves_blocked, arrives_by_each}
 use Rattle.apex_dispatch.proofs.ObjectsServe.{LawsOf, ServesOne, IsQuiet, IsRead, elsewhere, quiet_told}
 use Rattle.apex_dispatch.proofs.Truths.{or_false, or_true, other}
 use Rattle.apex_dispatch.proofs.Values.{created-push, fold_stays, folded-push}
 
--- who waits for event e waits where it is down
+-- a process that waits for event e waits while it is down
 abbrev pub IsDown : ℕ → List Entry → ForWhat → Type 0
 IsDown e history w = is_up e history ≡ false
 
@@ -97,7 +97,7 @@ module _ (history : List Entry) (roster : Roster) (caller : Caller) (e : ℕ) (c
         (quiet_told named created_event e history number now who caller (asks_for service) (Code code) bad) keeps.held;
   }
 
-  -- SET_EVENT: nobody waits then
+  -- SET_EVENT: no process waits then
   served_set : Served Set (accepted_with (record event { up = true }) (grant_all (queues.Event e) None roster))
   served_set =
       let granted = all_granted (queues.Event e) None refl roster in
@@ -107,7 +107,7 @@ module _ (history : List Entry) (roster : Roster) (caller : Caller) (e : ℕ) (c
       let answered = flat_map (answered_by history) all.notices in
       record {
         serves = record {
-          arrives = arrives_by _ scene.few (reach_grant_all (queues.Event e) None roster refl scene.starts);
+          arrives = arrives_by_each _ scene.few (reach_grant_all (queues.Event e) None roster refl scene.starts);
           asks = asks_freed caller (Some set) roster all.roster granted.frees;
           woken = λ q woken. inl (granted.waited q woken);
         };

@@ -1,5 +1,5 @@
--- Texts that are gathered in a page, one behind the other: those of the things of a section, and the
--- sections.
+-- Texts that are gathered in a page, one behind the other: those of the things of a section, and
+-- the sections.
 use Rattle.std.proofs.Common.{◌≡◌, ℕ, zero, suc, ◌+◌, ◌-◌, ◌<◌, List, [], ◌∷◌, ◌++◌, Option, length, take, drop, get_or, refl, sym, ap, ◌∙◌, append_assoc, append-nil, take-append-drop, arith}
 use Rattle.std.proofs.KnownBytes.{Appends-nil, Appends-trans}
 use Rattle.std.specs.Prelude.{flat_map}
@@ -13,7 +13,7 @@ use Rattle.apex_history.proofs.Passing.{beginning_after, beginning_longer, passe
 use Rattle.apex_dispatch.specs.declared.listing.Section.TheVariants.{Cores, Processes, Semaphores, Buffers, Blackboards, Events, Mutexes}
 use Rattle.apex_dispatch.specs.Sections.{Listed, sections, section_text}
 
--- nothing is gathered behind what the page holds
+-- nothing is gathered behind the text of the page
 pub gathers_none : (a : Option (List ℕ)) (held : List ℕ) → Passes a a (held ++ []) held
 gathers_none a held = ([], append-nil held, Appends-nil a)
 
@@ -25,12 +25,12 @@ module _ (a b c : Option (List ℕ)) (text held more : List ℕ) (p : Passes a b
       let (done, split, second) = q in
       (front ++ done, whole ∙ ap (λ l. front ++ l) split ∙ sym (append_assoc front done kept), Appends-trans a b c front done first second)
 
-  -- where it fails, a beginning of all that was to come was written
+  -- if it fails, a prefix of all that was to come was written
   begins_more : (rest : List ℕ) → AppendsBeginning b c (held ++ more) → AppendsBeginning a c ((text ++ more) ++ rest)
   begins_more rest h =
       beginning_longer a c (text ++ more) rest (beginning_after a b c (text ++ more) (held ++ more) (passes_with a b text held more p) h)
 
--- the texts of the first n things are a beginning of those of more things
+-- the texts of the first n things are a prefix of those of more things
 texts_begin : (text : ℕ → List ℕ) (n left : ℕ) → (rest : List ℕ) × (texts_of text (left + n) ≡ texts_of text n ++ rest)
 texts_begin text n zero = let e : 0 + n ≡ n = omega arith in ([], rw e (sym (append-nil (texts_of text n))))
 texts_begin text n (suc left) =

@@ -1,5 +1,5 @@
 -- A process whose deadline is HARD, and passes at a tick, is dormant after that tick.
-use Rattle.std.proofs.Common.{◌≡◌, ◌≢◌, ℕ, zero, suc, ◌<◌, ◌≤◌, ◌⊎◌, false, Option, None, Some, length, refl, sym, ◌∙◌, ap, inl, inr, subst, arith}
+use Rattle.std.proofs.Common.{◌≡◌, ◌≢◌, ℕ, zero, suc, ◌<◌, ◌≤◌, ◌⊎◌, false, List, [], ◌∷◌, Option, None, Some, length, refl, sym, ◌∙◌, ap, inl, inr, subst, arith}
 use Rattle.std.proofs.lemmas.Bool.{cases_eq, cond_both}
 use Rattle.std.proofs.lemmas.List.Sums.{count_by-le-length}
 use Rattle.apex_dispatch.specs.Laws.{HardMissesStop}
@@ -8,7 +8,8 @@ use Rattle.apex_types.specs.declared.DeadlineType.TheVariants.{Soft, Hard}
 use Rattle.apex_types.specs.declared.Event.TheVariants.{Tick}
 use Rattle.apex_types.specs.declared.Queue.TheVariants as queues
 use Rattle.apex_types.specs.Dues.{first_missed, is_missed_at}
-use Rattle.apex_types.specs.Handovers.{hand_on, hand_to}
+use Rattle.apex_types.specs.Handovers.{hand_on, hand_over, hand_to}
+use Rattle.apex_types.specs.Held.{in_order}
 use Rattle.apex_types.specs.InTurn.{Changed, in_turn, next_and}
 use Rattle.apex_types.specs.Machine.{opening, run, tick}
 use Rattle.apex_types.specs.Roster.{Roster, record_at, with_record}
@@ -32,7 +33,7 @@ deadline_handed : (roster : Roster) (holding : Holding) (found : Option ℕ) →
     → (p : ℕ) → (record_at (hand_to roster holding found).roster p).deadline ≡ (record_at roster p).deadline
 deadline_handed roster holding None is p = refl
 deadline_handed roster holding (Some q) is p =
-    let r : Record = awake (record (record_at roster q) { owned = Some (record holding { depth = 1 }) }) in
+    let r : Record = awake (record (record_at roster q) { owned = record holding { depth = 1 } ∷ [] }) in
     let known = first_within roster (queues.Mutex holding.mutex) q is in
     cond_both {A = Roster} (is_eligible roster.mode r) (newest roster q r) (with_record roster q r)
     (λ (new : Roster). (record_at new p).deadline ≡ (record_at roster p).deadline)
@@ -45,16 +46,19 @@ deadline_handed roster holding (Some q) is p =
       | inr apart ↦ ap (λ (x : Record). x.deadline) ((another_record roster q known r).others p apart)
     ])
 
-deadline_handed_on : (roster : Roster) (owned : Option Holding) (p : ℕ)
-    → (record_at (hand_on roster owned).roster p).deadline ≡ (record_at roster p).deadline
-deadline_handed_on roster None p = refl
-deadline_handed_on roster (Some holding) p = deadline_handed roster holding (first_waiter roster (queues.Mutex holding.mutex)) refl p
+deadline_handed_on : (held : List Holding) (roster : Roster) (p : ℕ)
+    → (record_at (hand_on held roster).roster p).deadline ≡ (record_at roster p).deadline
+deadline_handed_on [] roster p = refl
+deadline_handed_on (holding ∷ held) roster p =
+    deadline_handed_on held (hand_over roster holding).roster p
+    ∙ deadline_handed roster holding (first_waiter roster (queues.Mutex holding.mutex)) refl p
 
--- nor does it start anybody
-dormant_handed_on : (roster : Roster) (owned : Option Holding) (p : ℕ) → (record_at roster p).started ≡ false
-    → (record_at (hand_on roster owned).roster p).started ≡ false
-dormant_handed_on roster None p e = e
-dormant_handed_on roster (Some holding) p e = (periods_hand_over roster holding p).dormant e
+-- nor does it start a process
+dormant_handed_on : (held : List Holding) (roster : Roster) (p : ℕ) → (record_at roster p).started ≡ false
+    → (record_at (hand_on held roster).roster p).started ≡ false
+dormant_handed_on [] roster p e = e
+dormant_handed_on (holding ∷ held) roster p e =
+    dormant_handed_on held (hand_over roster holding).roster p ((periods_hand_over roster holding p).dormant e)
 
 -- a miss of process q
 module _ (roster : Roster) (q : ℕ) (known : q < length roster.records) where
@@ -62,14 +66,14 @@ module _ (roster : Roster) (q : ℕ) (known : q < length roster.records) where
   deadline_missed : (kind : DeadlineType) (p : ℕ) → p ≢ q → (record_at (miss roster q kind).roster p).deadline ≡ (record_at roster p).deadline
   deadline_missed Soft p apart = refl
   deadline_missed Hard p apart =
-      deadline_handed_on (stop roster q) (record_at roster q).owned p
+      deadline_handed_on (in_order (record_at roster q).owned) (stop roster q) p
       ∙ ap (λ (x : Record). x.deadline) ((changes_record roster q (stopped (record_at roster q))).others p apart)
 
-  -- and stops it where its deadline is HARD
+  -- and stops it if its deadline is HARD
   dormant_missed : (kind : DeadlineType) → kind ≡ Hard → (record_at (miss roster q kind).roster q).started ≡ false
   dormant_missed Soft is = cc
   dormant_missed Hard is =
-      dormant_handed_on (stop roster q) (record_at roster q).owned q
+      dormant_handed_on (in_order (record_at roster q).owned) (stop roster q) q
       (ap (λ (x : Record). x.started) (at_record roster q known (stopped (record_at roster q))))
 
 -- the deadline of process p is now, and it is HARD
@@ -106,14 +110,14 @@ over_missed p roster q starts is over =
       | inr dormant ↦ inr ((reaches.periods p).dormant dormant)
     ]
 
--- where nobody misses a deadline now, it is dormant
+-- if no process misses a deadline now, process p is dormant
 over_none : (p : ℕ) (roster : Roster) → first_missed roster ≡ None → IsOver p roster.now roster → (record_at roster p).started ≡ false
 over_none p roster none over = elim over [
   | inl missing ↦ absurd (first_missed_none roster none p missing.deadline)
   | inr dormant ↦ dormant
 ]
 
--- how many miss a deadline now
+-- the number of processes that miss a deadline now
 abbrev missing : Roster → ℕ
 missing roster = count (is_missed_at roster.now) roster
 
@@ -148,7 +152,7 @@ module _ (p : ℕ) where
   stops roster starts over =
       stops_in_turn (length roster.records) roster starts (count_by-le-length (is_missed_at roster.now) roster.records) over
 
-  -- the dues then start nobody
+  -- the dues then start no process
   stays_stopped : (roster : Roster) → IsServable roster → IsOver p roster.now roster → (record_at (serve_instant roster).roster p).started ≡ false
   stays_stopped roster before over =
       let first = reach_serve_deadlines roster before.starts in

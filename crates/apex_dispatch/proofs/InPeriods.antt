@@ -1,4 +1,5 @@
--- The releases of a process since its start, over a run: each lies whole periods behind the one before.
+-- The releases of a process since its start, over a run: each is whole periods after the one
+-- before.
 use Rattle.std.proofs.Common.{◌≡◌, ℕ, List, [], ◌∷◌, ◌++◌, length, nat_lt, refl, sym, ap, subst}
 use Rattle.std.proofs.lemmas.Bool.{cond_both}
 use Rattle.apex_dispatch.specs.Laws.{ReleasesLieInPeriods}
@@ -12,7 +13,7 @@ use Rattle.apex_dispatch.proofs.Runs.{run-append}
 use Rattle.apex_dispatch.proofs.Sound.{IsSound, happened, happens, owes, sound_accept, sound_run}
 
 module _ (table : Table) (lawful : IsLawful table) (p : ℕ) where
-  -- the second machine's release is whole periods behind the first one's
+  -- the second machine's release is whole periods after the first one's
   abbrev IsBehind : Machine → Machine → Type 0
   IsBehind old new =
       IsWholePeriodsAfter (process_config table p).attributes.period (record_at old.roster p).release (record_at new.roster p).release

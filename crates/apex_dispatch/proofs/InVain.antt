@@ -1,4 +1,4 @@
--- Nobody waits for an object that has what it waits for.
+-- No process waits for an object that has what it waits for.
 use Rattle.std.proofs.Common.{◌≡◌, Some, refl}
 use Rattle.apex_dispatch.specs.Terms.{Record, Wait}
 use Rattle.apex_types.specs.declared.Wait.TheVariants.{Receive, Send, Blackboard, Event}
@@ -9,7 +9,7 @@ use Rattle.apex_dispatch.specs.AskedWaits.{asked_of, awaited}
 use Rattle.apex_dispatch.specs.Laws.{NobodyWaitsInVain}
 use Rattle.apex_dispatch.proofs.CallsServe.{AreKept}
 
--- who waits for what it asked for
+-- the wait of a process, which it asked for
 asked_for : (r : Record) (w : Wait) → r.wait ≡ Some w → asked_of (Some w) ≡ Some w → awaited r ≡ Some w
 asked_for r w is plain = rw (is, plain) refl
 

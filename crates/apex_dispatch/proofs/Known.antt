@@ -1,4 +1,4 @@
--- What the steps of an accepted table name is there.
+-- The things that the steps of an accepted table name are there.
 use Rattle.std.proofs.Common.{◌≡◌, ◌∙◌, ap, sym, inl, inr, ℕ, ◌<◌, Bool, true, false, List, length, slice_get, Option, Some, None, option_map, cond, refl, subst}
 use Rattle.std.proofs.lemmas.Bool.{cases_lt}
 use Rattle.std.proofs.lemmas.List.{get_or_past}
@@ -22,7 +22,7 @@ objects_are table history = record {
   mutexes = length-map_places _ 0 table.mutexes;
 }
 
--- what a call names is one of the objects
+-- the thing that a call names is one of the objects
 pub known_to : (table : Table) (objects : Objects) (call : Call) → AreOf table objects → IsKnown table call
     → IsKnownTo objects call
 known_to table objects (Partition call) all h = tt

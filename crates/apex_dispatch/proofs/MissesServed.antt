@@ -1,5 +1,5 @@
--- The deadlines at a tick: who misses one is told so, and a HARD one stops its process.
-use Rattle.std.proofs.Common.{◌≡◌, ℕ, ◌+◌, ◌<◌, ◌≤◌, Bool, true, false, ◌||◌, List, [], ◌∷◌, length, ℤ, Option, None, Some, refl, ◌∙◌, subst, arith, length-append}
+-- The deadlines at a tick: each miss has its notice, and one of a HARD deadline stops the process.
+use Rattle.std.proofs.Common.{◌≡◌, ℕ, ◌+◌, ◌*◌, ◌<◌, ◌≤◌, Bool, true, false, ◌||◌, List, [], ◌∷◌, length, ℤ, Option, None, Some, refl, ◌∙◌, subst, arith, length-append}
 use Rattle.std.proofs.lemmas.Bool.{eq-eqb}
 use Rattle.std.proofs.lemmas.List.Sums.{count_by-le-length}
 use Rattle.std.proofs.lemmas.Option.{none-some}
@@ -10,7 +10,8 @@ use Rattle.apex_types.specs.declared.Queue.TheVariants as queues
 use Rattle.apex_types.specs.declared.Wait.TheVariants.{Mutex}
 use Rattle.apex_types.specs.Dues.{first_missed, is_due_at, is_missed_at}
 use Rattle.apex_types.specs.declared.Notice.TheVariants.{Missed}
-use Rattle.apex_types.specs.Handovers.{hand_on, hand_to}
+use Rattle.apex_types.specs.Handovers.{halted, hand_on, hand_over, hand_to}
+use Rattle.apex_types.specs.Held.{in_order}
 use Rattle.apex_types.specs.InTurn.{behind}
 use Rattle.apex_types.specs.Roster.{Roster, record_at}
 use Rattle.apex_types.specs.Stamps.{HasOrderlyStarts, awake, set_deadline, stop, stopped}
@@ -19,7 +20,7 @@ use Rattle.apex_types.specs.Waiters.{first_waiter}
 use Rattle.apex_types.proofs.Dues.{first_missed_now, first_missed_within}
 use Rattle.apex_types.proofs.Handovers.{mutex_wait, reaches_halted}
 use Rattle.apex_types.proofs.InTurn.{holds_in_turn}
-use Rattle.apex_types.proofs.Reaches.{Reaches, reaches_none, reaches_then, reaches_set_deadline, reaches_in_turn}
+use Rattle.apex_types.proofs.Reaches.{Reaches, reaches_more, reaches_none, reaches_then, reaches_set_deadline, reaches_told}
 use Rattle.apex_types.proofs.Rosters.{at_record}
 use Rattle.apex_types.proofs.Starts.{first_stands, first_within}
 use Rattle.apex_dispatch.proofs.Counts.{count, count_more, counted, counted_readied}
@@ -36,37 +37,25 @@ module _ (roster : Roster) (p : ℕ) (starts : HasOrderlyStarts roster) (is : fi
   reach_cleared : Reaches 0 roster cleared
   reach_cleared = reaches_set_deadline roster p known None (λ t e. absurd (none-some t e))
 
-  reach_miss : (kind : DeadlineType) → Reaches 1 cleared (miss cleared p kind).roster
-  reach_miss Soft = reaches_none 1 cleared
+  -- a miss stamps at most as often as it tells
+  reach_miss : (kind : DeadlineType) → Reaches (length (miss cleared p kind).notices) cleared (miss cleared p kind).roster
+  reach_miss Soft = reaches_none 0 cleared
   reach_miss Hard = reaches_halted cleared p (rw reach_cleared.many known) (reach_cleared.starts starts)
 
-  pub reach_serve_missed : Reaches 1 roster (serve_missed roster p).roster
-  reach_serve_missed = reaches_then 0 1 reach_cleared (reach_miss (record_at roster p).attributes.deadline)
+  pub reach_serve_missed : Reaches (length (serve_missed roster p).notices) roster (serve_missed roster p).roster
+  reach_serve_missed =
+      let kind = (record_at roster p).attributes.deadline in
+      let told = length (miss cleared p kind).notices in
+      reaches_more (0 + told) (length (serve_missed roster p).notices) (omega arith) (reaches_then 0 told reach_cleared (reach_miss kind))
 
-pub reach_serve_deadlines : (roster : Roster) → HasOrderlyStarts roster → Reaches (length roster.records) roster (serve_deadlines roster).roster
+pub reach_serve_deadlines : (roster : Roster) → HasOrderlyStarts roster
+    → Reaches (length (serve_deadlines roster).notices) roster (serve_deadlines roster).roster
 reach_serve_deadlines roster starts =
-    reaches_in_turn first_missed serve_missed HasOrderlyStarts
+    reaches_told first_missed serve_missed HasOrderlyStarts
     (λ r p before is. (reach_serve_missed r p before is).starts before) reach_serve_missed
     (length roster.records) roster starts
 
--- a miss tells two notices at the most: that of the miss, and that of a mutex that changes hands
-few_handed : (roster : Roster) (holding : Holding) (found : Option ℕ) → length (hand_to roster holding found).notices ≤ 1
-few_handed roster holding None = omega arith
-few_handed roster holding (Some q) = omega arith
-
-few_stopped : (roster : Roster) (owned : Option Holding) → length (hand_on roster owned).notices ≤ 1
-few_stopped roster None = omega arith
-few_stopped roster (Some holding) = few_handed roster holding (first_waiter roster (queues.Mutex holding.mutex))
-
-few_missed : (roster : Roster) (p : ℕ) (kind : DeadlineType) → length (miss roster p kind).notices ≤ 1
-few_missed roster p Soft = omega arith
-few_missed roster p Hard = few_stopped (stop roster p) (record_at roster p).owned
-
-pub few_told : (roster : Roster) (p : ℕ) → length (serve_missed roster p).notices ≤ 2
-few_told roster p =
-    let kind = (record_at roster p).attributes.deadline in omega (arith, few_missed (set_deadline roster p None) p kind)
-
--- who may be woken or released at this instant: who is due then, or waits for a mutex
+-- a process may be woken or released at this instant: it is due then, or waits for a mutex
 unfoldable pub is_for_mutex : Option Wait → Bool
 is_for_mutex (Some (Mutex m)) = true
 is_for_mutex _ = false
@@ -82,7 +71,7 @@ missed_ageless : (t : ℕ) (r : Record) (since : ℤ) → is_missed_at t (record
 unfolding is_missed_at
 missed_ageless t r since = refl
 
--- each process that is told to be woken may not be woken again, and no more miss their deadline than before
+-- with n new notices n processes fewer may be woken, and no more miss their deadline than before
 record Lessens (t told : ℕ) (old new : Roster) : Type 0 where
   wakes : told + count (may_wake t) new ≤ count (may_wake t) old
   misses : count (is_missed_at t) new ≤ count (is_missed_at t) old
@@ -93,7 +82,7 @@ module _ (t : ℕ) where
   unfolding may_wake is_due_at is_for_mutex
   awake_wakes r = refl
 
-  awake_misses : (r : Record) (owned : Option Holding) → is_missed_at t (awake (record r { owned = owned })) ≡ is_missed_at t r
+  awake_misses : (r : Record) (owned : List Holding) → is_missed_at t (awake (record r { owned = owned })) ≡ is_missed_at t r
   unfolding is_missed_at
   awake_misses r owned = refl
 
@@ -109,7 +98,7 @@ module _ (t : ℕ) where
   less_handed roster holding None is = less_none roster
   less_handed roster holding (Some q) is =
       let queue = queues.Mutex holding.mutex in
-      let owned = Some (record holding { depth = 1 }) in
+      let owned : List Holding = record holding { depth = 1 } ∷ [] in
       let r : Record = awake (record (record_at roster q) { owned = owned }) in
       let within = first_within roster queue q is in
       let waits = mutex_wakes (record_at roster q) holding.mutex (mutex_wait (record_at roster q).wait holding.mutex (first_stands roster queue q is)) in
@@ -120,9 +109,17 @@ module _ (t : ℕ) where
         misses = omega (arith, rw (awake_misses (record_at roster q) owned) at missed);
       }
 
-  less_handed_on : (roster : Roster) (owned : Option Holding) → Lessens t (length (hand_on roster owned).notices) roster (hand_on roster owned).roster
-  less_handed_on roster None = less_none roster
-  less_handed_on roster (Some holding) = less_handed roster holding (first_waiter roster (queues.Mutex holding.mutex)) refl
+  less_handed_on : (held : List Holding) (roster : Roster) → Lessens t (length (hand_on held roster).notices) roster (hand_on held roster).roster
+  less_handed_on [] roster = less_none roster
+  less_handed_on (holding ∷ held) roster =
+      let handed = hand_over roster holding in
+      let others = hand_on held handed.roster in
+      let first = less_handed roster holding (first_waiter roster (queues.Mutex holding.mutex)) refl in
+      let second = less_handed_on held handed.roster in
+      record {
+        wakes = omega (arith, length-append handed.notices others.notices, first.wakes, second.wakes);
+        misses = omega (arith, first.misses, second.misses);
+      }
 
   stopped_wakes : (r : Record) → may_wake t (stopped r) ≡ false
   unfolding may_wake is_due_at is_for_mutex
@@ -147,8 +144,14 @@ module _ (t : ℕ) where
   less_missed roster p within Soft = less_none roster
   less_missed roster p within Hard =
       let first = less_stopped roster p within in
-      let second = less_handed_on (stop roster p) (record_at roster p).owned in
+      let second = less_handed_on (in_order (record_at roster p).owned) (stop roster p) in
       record { wakes = omega (arith, first.wakes, second.wakes); misses = omega (arith, first.misses, second.misses) }
+
+  told_now : (roster : Roster) (p : ℕ) → p < length roster.records → length (halted roster p).notices ≤ length roster.records
+  told_now roster p within =
+      let less = less_missed roster p within Hard in
+      let some = count_by-le-length (may_wake t) roster.records in
+      omega (arith, less.wakes, some)
 
   cleared_wakes : (r : Record) → may_wake t (record r { deadline = None }) ≡ may_wake t r
   unfolding may_wake is_due_at
@@ -162,7 +165,12 @@ module _ (t : ℕ) where
   unfolding is_missed_at
   misses r e = rw e (eq-eqb t t refl)
 
--- a miss tells as much more than the miss as fewer may be woken, and one fewer misses its deadline
+-- a stop wakes each process once at the most
+pub told_halted : (roster : Roster) (p : ℕ) → p < length roster.records → length (halted roster p).notices ≤ length roster.records
+told_halted roster = told_now roster.now roster
+
+-- a miss gives at most one notice more than processes that may no longer be woken, and one process
+-- fewer misses its deadline
 pub record Tells (t told : ℕ) (old new : Roster) : Type 0 where
   pub wakes : told + count (may_wake t) new ≤ count (may_wake t) old + 1
   pub misses : count (is_missed_at t) new + 1 ≤ count (is_missed_at t) old
@@ -185,20 +193,20 @@ missed_tells roster p is =
       misses = omega (arith, rest.misses, rw (was, cleared_misses t old) at missed);
     }
 
--- who is due may be woken
+-- a process that is due may be woken
 due_wakes : (t : ℕ) (r : Record) → is_due_at t r ≡ true → may_wake t r ≡ true
 unfolding may_wake
 due_wakes t r e = rw e refl
 
--- so few notices are told that there is room for those of the dues
+-- there are so few notices that there is room for those of the dues
 record Leaves (total now : ℕ) (roster : Roster) (notices : List Notice) : Type 0 where
   time : roster.now ≡ now
   starts : HasOrderlyStarts roster
   room : length notices + count (may_wake now) roster + count (is_missed_at now) roster ≤ total
 
-pub room_left : (roster : Roster) → HasOrderlyStarts roster → length roster.records ≤ 32
-    → let served = serve_deadlines roster in length served.notices + due_count served.roster ≤ 64
-room_left roster starts few =
+pub room_left : (roster : Roster) → HasOrderlyStarts roster
+    → let served = serve_deadlines roster in length served.notices + due_count served.roster ≤ 2 * length roster.records
+room_left roster starts =
     let all = holds_in_turn first_missed serve_missed (Leaves (count (may_wake roster.now) roster + count (is_missed_at roster.now) roster) roster.now)
     (λ r notices p is before.
     let reaches = reach_serve_missed r p before.starts is in
@@ -218,7 +226,7 @@ room_left roster starts few =
     let dues = count_more (is_due_at roster.now) (may_wake roster.now) (due_wakes roster.now) served.roster.records in
     let some = count_by-le-length (may_wake roster.now) roster.records in
     let others = count_by-le-length (is_missed_at roster.now) roster.records in
-    rw all.time (omega (arith, all.room, dues, some, others, few))
+    rw all.time (omega (arith, all.room, dues, some, others))
 
 -- the type of process p's deadline is the same without the deadline
 pub missed_is : (old middle : Roster) (p : ℕ) (kind : DeadlineType) → p < length old.records

@@ -1,6 +1,6 @@
--- Mutexes as objects of a kind: what their services keep.
-use Rattle.std.proofs.Common.{◌≡◌, ℕ, ◌+◌, ◌-◌, Bool, true, false, ◌==◌, cond, not, nat_le, nat_lt, List, [], Option, None, Some, lit≤, refl, sym, ◌∙◌, ap, arith, inr}
-use Rattle.std.proofs.lemmas.Bool.{both_ways, cond_both, eq-eqb, eqb-true, leb-false, ltb-true}
+-- Mutexes as objects of a kind: the facts that their services keep.
+use Rattle.std.proofs.Common.{◌≡◌, ℕ, ◌+◌, ◌-◌, ◌≤◌, Bool, true, false, ◌&&◌, cond, not, nat_le, nat_lt, List, [], ◌∷◌, ◌++◌, length, Option, None, Some, lit≤, refl, sym, ◌∙◌, ap, arith, inr}
+use Rattle.std.proofs.lemmas.Bool.{both_ways, cond_both, leb-false, ltb-true}
 use Rattle.apex_dispatch.specs.Terms.{Call, Caller, Entry, Holding, MutexService, Notice, Reply, ReturnCode, Timeout}
 use Rattle.apex_types.specs.declared.Call.TheVariants as call
 use Rattle.apex_types.specs.declared.Caller.TheVariants.{Process}
@@ -17,7 +17,8 @@ use Rattle.apex_types.specs.Handovers.{hand_over}
 use Rattle.apex_types.specs.History.{creates, is_created}
 use Rattle.apex_types.specs.Limits.{most_depth}
 use Rattle.apex_types.specs.MutexServices.{MutexObject, acquire_by, acquire_from, mutex_after, mutex_kind, mutex_own, owner_status, release_by}
-use Rattle.apex_types.specs.Owners.{HasOrderlyOwners, IsLawfulHolding, ceiling_of, depth_of, is_deepest, is_held, owner, owns, owns_another, record_of}
+use Rattle.apex_types.specs.Owners.{HasOrderlyOwners, ceiling_of, depth_of, is_deepest, is_poll, may_not_wait, owner, owns, owns_most, record_of}
+use Rattle.apex_types.specs.Held.{holding_of, with_depth, without}
 use Rattle.apex_types.specs.Roster.{Roster, record_at}
 use Rattle.apex_types.specs.Rows.{Outcome, refused, accepted}
 use Rattle.apex_types.specs.Satisfied.{is_no_error, is_satisfied}
@@ -25,8 +26,9 @@ use Rattle.apex_types.specs.Stamps.{block, own}
 use Rattle.apex_types.specs.Table.{MutexConfig, no_mutex}
 use Rattle.apex_types.specs.Waiting.{blocked, wait_for}
 use Rattle.apex_types.proofs.Dues.{due_later}
-use Rattle.apex_types.proofs.Handovers.{reaches_await, reaches_give_up, reaches_own}
-use Rattle.apex_types.proofs.Owners.{nobody_owns, owner_owns}
+use Rattle.apex_types.proofs.Handovers.{hands_at_depth, hands_more, reaches_await, reaches_give_up, reaches_own}
+use Rattle.apex_types.proofs.Held.{holds_nothing, is_held, none_held}
+use Rattle.apex_types.proofs.Owners.{Hands, nobody_owns, owner_owns}
 use Rattle.apex_types.proofs.Rows.{by_guard, by_caller}
 use Rattle.apex_types.proofs.Starts.{runnable}
 use Rattle.apex_dispatch.proofs.AskedWaits.{asks_freed}
@@ -48,9 +50,21 @@ mutex_stays new history e m entry none = record {
   kept = tt;
 }
 
-pub status_plain : (roster : Roster) (found : Option ℕ) → is_satisfied (owner_status roster found) ≡ false
-status_plain roster None = refl
-status_plain roster (Some p) = refl
+pub status_plain : (roster : Roster) (m : ℕ) (found : Option ℕ) → is_satisfied (owner_status roster m found) ≡ false
+status_plain roster m None = refl
+status_plain roster m (Some p) = refl
+
+-- what the guards leave of a caller that does not own the mutex: if it would wait it owns none, and it may
+-- own more
+may_wait_then : (owns none poll : Bool) → (not owns && not none && not poll) ≡ false → owns ≡ false → poll ≡ false → none ≡ true
+may_wait_then owns true poll e apart waits = refl
+may_wait_then true false poll e apart waits = absurd (both_ways true apart refl)
+may_wait_then false false true e apart waits = absurd (both_ways true waits refl)
+may_wait_then false false false e apart waits = absurd (both_ways true e refl)
+
+may_own_then : (owns most : Bool) → (not owns && most) ≡ false → owns ≡ false → most ≡ false
+may_own_then true most e apart = absurd (both_ways true apart refl)
+may_own_then false most e apart = e
 
 module _ (history : List Entry) (roster : Roster) (caller : Caller) (m : ℕ) (entry : MutexConfig) (scene : Scene roster caller) where
   abbrev mutex : MutexObject
@@ -83,82 +97,81 @@ module _ (history : List Entry) (roster : Roster) (caller : Caller) (m : ℕ) (e
     free : (record_at roster p).wait ≡ None
     free = (runnable roster.mode (record_at roster p) ready.eligible).free
 
-    -- it owns this mutex from now on, at this depth, and no other process owns it
-    served_owning : (service : MutexService) (holding : Holding)
-        → (HasOrderlyOwners roster → IsLawfulHolding roster holding)
-        → (HasOrderlyOwners roster → (q : ℕ) → owns holding.mutex (record_at roster q) ≡ true → q ≡ p)
-        → ((n : ℕ) → owns n (record_at roster p) ≡ true → n ≡ holding.mutex)
-        → Served service (accepted (own roster p (Some holding)) mutex [])
-    served_owning service holding lawful alone stays =
-        served service (own roster p (Some holding)) (Code NoError) []
-        (serves_freed roster caller (asks_for service) None (own roster p (Some holding)) []
-        (few (reaches_own roster p ready.known holding free lawful alone stays)) (own_frees roster p (Some holding)) (λ q. refl))
+    abbrev mine : List Holding
+    mine = (record_at roster p).owned
 
-    -- who owns the mutex so goes on owning it, at another depth
-    module _ (holding : Holding) (held : (record_at roster p).owned ≡ Some holding) where
-      p_owns : (n : ℕ) → owns n (record_at roster p) ≡ (holding.mutex == n)
-      p_owns n = ap (is_held n) held
+    -- it owns these mutexes from now on, as it may
+    served_owning : (service : MutexService) (owned : List Holding) → (HasOrderlyOwners roster → Hands roster p owned [] [])
+        → Served service (accepted (own roster p owned) mutex [])
+    served_owning service owned hands =
+        served service (own roster p owned) (Code NoError) []
+        (serves_freed roster caller (asks_for service) None (own roster p owned) []
+        (few (reaches_own roster p ready.known owned free hands)) (own_frees roster p owned) (λ q. refl))
 
-      served_depth : (service : MutexService) (depth : ℕ) → (HasOrderlyOwners roster → IsLawfulHolding roster (record holding { depth = depth }))
-          → Served service (accepted (own roster p (Some (record holding { depth = depth }))) mutex [])
-      served_depth service depth lawful =
-          served_owning service (record holding { depth = depth }) lawful
-          (λ orderly q owning. orderly.one holding.mutex q p owning (p_owns holding.mutex ∙ eq-eqb holding.mutex holding.mutex refl))
-          (λ n owning. sym (eqb-true holding.mutex n (sym (p_owns n) ∙ owning)))
+    -- who owns the mutex goes on owning it, at another depth
+    served_depth : (service : MutexService) (depth : ℕ) → (HasOrderlyOwners roster → (1 ≤ depth) × (depth ≤ most_depth))
+        → Served service (accepted (own roster p (with_depth m depth mine)) mutex [])
+    served_depth service depth range =
+        served_owning service (with_depth m depth mine)
+        (λ orderly. hands_at_depth roster p ready.known m depth (range orderly) orderly)
 
-    -- ACQUIRE_MUTEX of a free one, and of another one's
-    module _ (timeout : Timeout) (without : (record_at roster p).owned ≡ None) where
-      served_free : owner roster m ≡ None
-          → Served (Acquire timeout) (accepted (own roster p (Some (record { mutex = m; ceiling = ceiling_of roster m; depth = 1 }))) mutex [])
+    -- ACQUIRE_MUTEX by a process that does not own it: of a free one, and of another one's
+    module _ (timeout : Timeout) (apart : owns m (record_at roster p) ≡ false)
+        (waits : may_not_wait m timeout (record_at roster p) ≡ false) (room : owns_most roster m (record_at roster p) ≡ false) where
+      abbrev fresh : Holding
+      fresh = record { mutex = m; ceiling = ceiling_of roster m; depth = 1 }
+
+      served_free : owner roster m ≡ None → Served (Acquire timeout) (accepted (own roster p (mine ++ fresh ∷ [])) mutex [])
       served_free none =
-          served_owning (Acquire timeout) (record { mutex = m; ceiling = ceiling_of roster m; depth = 1 })
-          (λ orderly. record { ceiling = refl; depth = (omega arith, omega arith) })
-          (λ orderly q owning. absurd (both_ways _ (nobody_owns roster m none q) owning))
-          (λ n owning. absurd (both_ways _ (ap (is_held n) without) owning))
+          let few_owned = leb-false roster.rules.most_owned (length mine) (may_own_then (owns m (record_at roster p)) _ room apart) in
+          served_owning (Acquire timeout) (mine ++ fresh ∷ [])
+          (hands_more roster p ready.known fresh (record { ceiling = refl; depth = (lit≤ tt, lit≤ tt) }) few_owned (nobody_owns roster m none))
 
-      served_blocked : (due_in : Timeout) (other : ℕ) → owner roster m ≡ Some other
+      served_blocked : (due_in : Timeout) → is_poll timeout ≡ false → (other : ℕ) → owner roster m ≡ Some other
           → Served (Acquire timeout) (blocked roster mutex p (Mutex m) due_in)
-      served_blocked due_in other is =
+      served_blocked due_in long other is =
           let due = due_after roster due_in in
+          let without : mine ≡ [] = holds_nothing mine (may_wait_then (owns m (record_at roster p)) _ (is_poll timeout) waits apart long) in
           served (Acquire timeout) (block roster p (Mutex m) due) Blocked []
           (rw by (serves_waiting roster p (asks_for (Acquire timeout)) None (Mutex m) due refl refl
           (reaches_await roster p ready.known m due (due_later roster due_in) (ready_started roster p ready) (ready_normal roster p ready)
           without other (owner_owns roster m other is))))
 
-    served_waiting : (timeout : Timeout) → (record_at roster p).owned ≡ None → (other : ℕ) → owner roster m ≡ Some other
+    served_waiting : (timeout : Timeout) → owns m (record_at roster p) ≡ false → may_not_wait m timeout (record_at roster p) ≡ false
+        → owns_most roster m (record_at roster p) ≡ false → (other : ℕ) → owner roster m ≡ Some other
         → Served (Acquire timeout) (wait_for roster mutex p (Mutex m) timeout)
-    served_waiting Poll without other is = served_refused (Acquire Poll) NotAvailable refl
-    served_waiting (Ticks n) without other is = served_blocked (Ticks n) without (Ticks n) other is
-    served_waiting Infinite without other is = served_blocked Infinite without Infinite other is
+    served_waiting Poll apart waits room other is = served_refused (Acquire Poll) NotAvailable refl
+    served_waiting (Ticks n) apart waits room other is = served_blocked (Ticks n) apart waits room (Ticks n) refl other is
+    served_waiting Infinite apart waits room other is = served_blocked Infinite apart waits room Infinite refl other is
 
-    served_from : (timeout : Timeout) → (record_at roster p).owned ≡ None → (found : Option ℕ) → owner roster m ≡ found
+    served_from : (timeout : Timeout) → owns m (record_at roster p) ≡ false → may_not_wait m timeout (record_at roster p) ≡ false
+        → owns_most roster m (record_at roster p) ≡ false → (found : Option ℕ) → owner roster m ≡ found
         → Served (Acquire timeout) (acquire_from roster mutex m p timeout found)
-    served_from timeout without None is = served_free timeout without is
-    served_from timeout without (Some other) is = served_waiting timeout without other is
+    served_from timeout apart waits room None is = served_free timeout apart waits room is
+    served_from timeout apart waits room (Some other) is = served_waiting timeout apart waits room other is
 
-    served_acquire : (timeout : Timeout) → is_deepest (record_at roster p) ≡ false → (owned : Option Holding)
-        → (record_at roster p).owned ≡ owned → Served (Acquire timeout) (acquire_by roster mutex m p timeout owned)
-    served_acquire timeout shallow None held = served_from timeout held (owner roster m) refl
-    served_acquire timeout shallow (Some holding) held =
+    served_acquire : (timeout : Timeout) → may_not_wait m timeout (record_at roster p) ≡ false
+        → owns_most roster m (record_at roster p) ≡ false → is_deepest m (record_at roster p) ≡ false
+        → (found : Option Holding) → holding_of m mine ≡ found → Served (Acquire timeout) (acquire_by roster mutex m p timeout found)
+    served_acquire timeout waits room shallow None held =
+        served_from timeout (none_held m mine held) waits room (owner roster m) refl
+    served_acquire timeout waits room shallow (Some holding) held =
         let less = leb-false most_depth holding.depth (sym (ap (λ h. nat_le most_depth (depth_of h)) held) ∙ shallow) in
-        served_depth holding held (Acquire timeout) (holding.depth + 1) (λ orderly.
-        let lawful = orderly.holdings p holding held in
-        record { ceiling = lawful.ceiling; depth = (omega arith, omega (arith, less)) })
+        served_depth (Acquire timeout) (holding.depth + 1) (λ orderly. (omega arith, omega (arith, less)))
 
     -- RELEASE_MUTEX
-    served_release : (owned : Option Holding) → (record_at roster p).owned ≡ owned → Served Release (release_by roster mutex p owned)
+    served_release : (found : Option Holding) → holding_of m mine ≡ found → Served Release (release_by roster mutex m p found)
     served_release None held = served_refused Release InvalidMode refl
     served_release (Some holding) held =
-        let after = hand_over (own roster p None) holding in
-        let hands = gives_up roster p holding in
+        let after = hand_over (own roster p (without m mine)) holding in
+        let hands = gives_up roster p holding (without m mine) in
         cond_both {A = Outcome MutexObject} (nat_lt 1 holding.depth) _ _ (Served Release)
-        (λ deep. served_depth holding held Release (holding.depth - 1) (λ orderly.
-        let lawful = orderly.holdings p holding held in
+        (λ deep. served_depth Release (holding.depth - 1) (λ orderly.
+        let most = ((is_held m holding mine held).lawful roster (orderly.owned p).lawful).depth in
         let more = ltb-true 1 holding.depth deep in
-        let most = lawful.depth in
-        record { ceiling = lawful.ceiling; depth = (omega (arith, more), omega (arith, most)) }))
+        (omega (arith, more), omega (arith, most))))
         (λ _. served Release after.roster (Code NoError) after.notices (record {
-          arrives = arrives_by 2 (lit≤ tt) (reaches_give_up roster p ready.known holding held free scene.starts);
+          arrives = arrives_by 2 (lit≤ tt) (reaches_give_up roster p ready.known m holding held free scene.starts);
           asks = asks_freed caller (Some (asks_for Release)) roster after.roster hands.frees;
           woken = λ q woken. inr (holding.mutex, hands.woken q woken);
         }))
@@ -167,16 +180,18 @@ module _ (history : List Entry) (roster : Roster) (caller : Caller) (m : ℕ) (e
   served_own (Acquire timeout) =
       let acquire = Acquire timeout in
       guard acquire (not mutex.created) _ _ refl (λ _.
-      guard acquire (owns_another m (record_of roster caller)) _ _ refl (λ _.
+      guard acquire (may_not_wait m timeout (record_of roster caller)) _ _ refl (λ waits.
+      guard acquire (owns_most roster m (record_of roster caller)) _ _ refl (λ room.
       guard acquire (nat_lt (ceiling_of roster m) (record_of roster caller).base) _ _ refl (λ _.
-      guard acquire (is_deepest (record_of roster caller)) _ _ refl (λ shallow.
+      guard acquire (is_deepest m (record_of roster caller)) _ _ refl (λ shallow.
       by_caller roster mutex (Served acquire) (served_refused acquire) caller _
-      (λ p by. served_acquire p by (rw by at scene.ready) timeout (rw by at shallow) (record_at roster p).owned refl)))))
+      (λ p by. served_acquire p by (rw by at scene.ready) timeout (rw by at waits) (rw by at room) (rw by at shallow)
+      (holding_of m (record_at roster p).owned) refl))))))
   served_own Release =
       guard Release (not mutex.created) _ _ refl (λ _.
       guard Release (not (owns m (record_of roster caller))) _ _ refl (λ _.
       by_caller roster mutex (Served Release) (served_refused Release) caller _
-      (λ p by. served_release p by (rw by at scene.ready) (record_at roster p).owned refl)))
+      (λ p by. served_release p by (rw by at scene.ready) (holding_of m (record_at roster p).owned) refl)))
 
 -- mutexes are objects of a kind
 abbrev pub mutex_laws : LawsOf mutex_kind
@@ -192,7 +207,7 @@ mutex_laws = record {
   named = λ call j e. refl;
   apart = λ call j e. tt;
   awaited = λ c i j answered apart. refl;
-  status = λ roster x i. status_plain roster (owner roster i);
+  status = λ roster x i. status_plain roster i (owner roster i);
   stays = λ old new history e m entry keeps quiet still. mutex_stays new history e m entry quiet.create;
   makes = λ roster history e m entry keeps alone made. record {
     is = rw (created-push created_mutex m history e, made, or_true (is_created created_mutex m history)) refl;

@@ -1,4 +1,4 @@
--- Objects of any kind: what an entry does to them, and the services that each kind has.
+-- Objects of any kind: the effect of an entry on them, and the services that each kind has.
 use Rattle.std.proofs.Common.{◌≡◌, ◌≢◌, ℕ, ◌+◌, ◌<◌, ◌==◌, Bool, true, false, not, if◌then◌else◌, List, [], ◌∷◌, ◌++◌, Option, None, Some, option_and_then, option_map, All, length, set, get_or, flat_map, refl, sym, ◌∙◌, arith, inl, inr}
 use Rattle.std.proofs.lemmas.Bool.{cases_eq, eq-eqb}
 use Rattle.std.proofs.lemmas.List.Elements.{All-nil, All-cons, All-append, All-weaker}
@@ -24,7 +24,7 @@ use Rattle.apex_dispatch.proofs.Satisfied.{AnsweredAt, Asks, WokenAt, answered_a
 use Rattle.apex_dispatch.proofs.Serving.{Scene, Serves, ServesBy, serves_same}
 use Rattle.apex_dispatch.proofs.Truths.{and_false, other}
 
--- the entry of a call, as a history's number-th
+-- the entry of a call, with this number in a history
 abbrev pub entry_with : ℕ → ℕ → Who → Caller → Call → Reply → List Notice → Entry
 entry_with number now who caller call reply notices = record {
   number = number;
@@ -41,20 +41,23 @@ pub record IsQuiet (names : ℕ → Call → Bool) (created : Call → Option �
   pub calls : All (λ c. names i c ≡ false) (satisfied_by history e)
   pub create : creates created i e ≡ false
 
--- after one entry more, which leaves this roster, the i-th object is this one, and what is kept of it stays
+-- after one entry more, which leaves this roster, the i-th object is this one, and the facts that
+-- are kept of it stay
 pub record IsRead {C X : Type 0} (after : List Entry → ℕ → C → X) (Keeps : Roster → List Entry → ℕ → C → Type 0)
     (new : Roster) (history : List Entry) (e : Entry) (i : ℕ) (c : C) (x : X) : Type 0 where
   pub is : after (history ++ e ∷ []) i c ≡ x
   pub kept : Keeps new (history ++ e ∷ []) i c
 
--- what a service on the i-th object keeps: of the processes, and of the object as the history has it
+-- the facts that a service on the i-th object keeps: of the processes, and of the object as the
+-- history has it
 pub record ServesOne {C X : Type 0} (after : List Entry → ℕ → C → X) (Keeps : Roster → List Entry → ℕ → C → Type 0)
     (history : List Entry) (roster : Roster) (caller : Caller) (call : Call) (at : Option Queue) (i : ℕ) (c : C) (o : Outcome X) : Type 0 where
   pub serves : ServesBy roster caller call at o
   pub read : (number now : ℕ) (who : Who)
       → IsRead after Keeps o.roster history (entry_with number now who caller call o.reply o.notices) i c o.object
 
--- the queue of a kind's object, where the kind has one: who waits there afterwards waited there before
+-- the queue of a kind's object, if the kind has one: a process that waits there afterwards waited
+-- there before
 abbrev pub IsStillAt : Option Queue → Roster → Roster → Type 0
 IsStillAt None old new = Unit {0}
 IsStillAt (Some queue) old new = IsStill queue old new
@@ -76,8 +79,8 @@ pub still_freed_at : (at : Option Queue) (old new : Roster) → Frees old new �
 still_freed_at None old new frees = tt
 still_freed_at (Some queue) old new frees = still_freed queue old new frees
 
--- what the proofs know of a kind: how its calls stand among all calls, where its waiters wait, and what
--- its objects are after an entry
+-- the facts about a kind that proofs use: its calls among all calls, the queues of its waiters, and
+-- its objects after an entry
 pub record LawsOf {C X W : Type 0} (kind : KindOf C X W) : Type 1 where
   pub to : ObjectCall ℕ W → Call
   pub names : ℕ → Call → Bool
@@ -86,9 +89,9 @@ pub record LawsOf {C X W : Type 0} (kind : KindOf C X W) : Type 1 where
   pub nothing : C
   -- the queue in which processes wait for an object, if the kind has such queues
   pub at : ℕ → Option Queue
-  -- what is kept of an object, and of those who wait for it
+  -- the facts that are kept of an object, and of its waiters
   pub Keeps : Roster → List Entry → ℕ → C → Type 0
-  -- what its own services need of the processes
+  -- the premise of its own services about the processes
   pub Stands : Roster → ℕ → Type 0
   pub created : (call : ObjectCall ℕ W) → creation (to call) ≡ creation_of call
   pub named : (call : ObjectCall ℕ W) (j : ℕ) → is_place j (object_of call) ≡ false → names j (to call) ≡ false
@@ -106,13 +109,13 @@ pub record LawsOf {C X W : Type 0} (kind : KindOf C X W) : Type 1 where
       → ServesOne kind.after Keeps history roster caller (to (Own i service)) (at i) i c
       (kind.own roster (kind.after history i c) i caller service)
 
--- what isn't satisfied isn't accepted
+-- a reply that isn't satisfied isn't accepted
 unaccepted : (reply : Reply) → is_satisfied reply ≡ false → is_accepted reply ≡ false
 unaccepted (Gets message) plain = refl
 unaccepted (Code code) plain = plain
 unaccepted _ plain = refl
 
--- an entry that isn't satisfied and wakes nobody says nothing of anything
+-- an entry that isn't satisfied and wakes no process says nothing of anything
 pub quiet_told : (names : ℕ → Call → Bool) (created : Call → Option ℕ) (i : ℕ) (history : List Entry)
     (number now : ℕ) (who : Who) (caller : Caller) (call : Call) (reply : Reply) → is_satisfied reply ≡ false
     → IsQuiet names created i history (entry_with number now who caller call reply [])
@@ -121,8 +124,8 @@ quiet_told names created i history number now who caller call reply plain = reco
   create = rw (unaccepted reply plain) (and_false (is_place i (created call)));
 }
 
--- an entry whose call names another thing, and which wakes with NO_ERROR only who waited for another
--- one, says nothing of it
+-- an entry whose call names another thing, and which wakes with NO_ERROR only processes that waited
+-- for another one, says nothing of it
 pub quiet_elsewhere : (names : ℕ → Call → Bool) (created : Call → Option ℕ) (i : ℕ) (history : List Entry) (roster : Roster)
     (at : Option Queue) (number now : ℕ) (who : Who) (caller : Caller) (call : Call) (reply : Reply) (notices : List Notice)
     → AreAsked roster history → ((q : ℕ) → wakes q notices ≡ true → WokenAt at (record_at roster q))
@@ -140,8 +143,8 @@ quiet_elsewhere names created i history roster at number now who caller call rep
   here true = All-cons P call [] unnamed (All-nil P)
   here false = All-nil P
 
--- an event that asks for no call says nothing of it, where whom it wakes with NO_ERROR waited for time, or
--- for a mutex
+-- an event without a call says nothing of it, if the processes that it wakes with NO_ERROR waited
+-- for time, or for a mutex
 pub quiet_uncalled : (names : ℕ → Call → Bool) (created : Call → Option ℕ) (i : ℕ) (history : List Entry) (roster : Roster)
     (e : Entry) → AreAsked roster history → e.call ≡ None
     → ((q : ℕ) → wakes q e.notices ≡ true → WokenAt None (record_at roster q))
@@ -158,7 +161,7 @@ quiet_uncalled names created i history roster e asked uncalled woken far = recor
   nothing true = All-nil P
   nothing false = All-nil P
 
--- what is created is what is named
+-- a call creates no other thing than the one that it names
 created_named : {W : Type 0} (call : ObjectCall ℕ W) (j : ℕ) → is_place j (object_of call) ≡ false → is_place j (creation_of call) ≡ false
 created_named (Create named) j e = e
 created_named (GetId named) j e = refl
@@ -223,11 +226,11 @@ pub elsewhere : (queue : ℕ → Queue) → ((j i : ℕ) → is_same_queue (queu
 elsewhere queue same None j e = refl
 elsewhere queue same (Some i) j e = same j i ∙ e
 
--- where those wait whom a call on this object may wake
+-- the queue of the processes that a call on this object may wake
 abbrev pub queue_at : {C X W : Type 0} {kind : KindOf C X W} → LawsOf kind → Option ℕ → Option Queue
 queue_at laws target = option_and_then laws.at target
 
--- all objects of a kind, read off a history that keeps what it keeps of each
+-- all objects of a kind, read off a history that keeps the facts about each
 module _ {C X W : Type 0} (kind : KindOf C X W) (laws : LawsOf kind) (history : List Entry) (roster : Roster) (configs : List C)
     (keeps : (i : ℕ) → i < length configs → laws.Keeps roster history i (get_or configs i laws.nothing)) where
   abbrev config : ℕ → C
@@ -280,7 +283,7 @@ module _ {C X W : Type 0} (kind : KindOf C X W) (laws : LawsOf kind) (history : 
         (unnamed j) (rw uncreated refl) (λ c begun. far c j begun))
         (λ j. still_at (laws.at j) caller call roster new (elsewhere j) serves.asks)
 
-    -- what a service on these objects keeps: of the processes, and of the objects
+    -- the facts that a service on these objects keeps: of the processes, and of the objects
     pub record ServesAll (call : ObjectCall ℕ W) (at : Option Queue) (o : Outcome (List X)) : Type 0 where
       pub serves : ServesBy roster caller (laws.to call) at o
       pub read : (number now : ℕ) (who : Who) → AreRead o.roster (entry_with number now who caller (laws.to call) o.reply o.notices) o.object

@@ -1,5 +1,5 @@
--- The work that stands open on a core after an entry more: what the entry began, or what stood open before,
--- looked at once more.
+-- The work that is open on a core after one entry more: the work that the entry began, or the work
+-- that was open before, after one state more.
 use Rattle.std.proofs.Common.{◌≡◌, ℕ, Bool, true, false, ◌&&◌, List, [], ◌∷◌, ◌++◌, length, Option, None, Some, option_map, option_and_then, if◌then◌else◌, refl, ◌∙◌, ap, arith}
 use Rattle.std.specs.Option.{option_or}
 use Rattle.std.proofs.lemmas.List.Folds.{list_all-append}
@@ -76,7 +76,7 @@ module _ (core : ℕ) (e : Entry) (roster : Roster) where
       ap (option_and_then (open_since core)) (last_turn-push history past same)
       ∙ open_by (is_turn_of core e.who) (last_turn core history past)
 
--- the work that stands open after a deed
+-- the work that is open after a deed
 abbrev pub open_by_deed : Machine → Who → Deed → ℕ → Option OpenWork
 open_by_deed machine who deed core =
     if is_turn_of core who then option_map fresh (work_begun deed.caller deed.call deed.outcome.reply) else open_work machine core

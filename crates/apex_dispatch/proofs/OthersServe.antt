@@ -1,4 +1,5 @@
--- The services of no object: those of the partition, of time, and those that a process asks for itself.
+-- The services of no object: those of the partition, of time, and those that a process asks for
+-- itself.
 use Rattle.std.proofs.Common.{◌≡◌, ℕ, ◌+◌, false, not, List, [], ◌∷◌, is_none, is_some, None, Some, length, map, get_or, zero, suc, lit≤, refl, sym, ◌∙◌}
 use Rattle.std.proofs.lemmas.Bool.{both_ways}
 use Rattle.std.proofs.lemmas.List.Folds.{list_any-append}
@@ -21,6 +22,7 @@ use Rattle.apex_types.specs.Handovers.{halted}
 use Rattle.apex_types.specs.Owners.{is_owner}
 use Rattle.apex_types.specs.PartitionServices as partitions
 use Rattle.apex_types.specs.Periods.{is_beyond, is_periodic}
+use Rattle.apex_types.specs.Owners.{owns_some}
 use Rattle.apex_types.specs.Roster.{Roster, nobody, record_at, is_normal}
 use Rattle.apex_types.specs.Rows.{Outcome, told, refused}
 use Rattle.apex_types.specs.Satisfied.{is_no_error}
@@ -28,7 +30,6 @@ use Rattle.apex_types.specs.Stamps as stamps
 use Rattle.apex_types.specs.Ticks.{begin_notices}
 use Rattle.apex_types.specs.TimeServices as times
 use Rattle.apex_types.proofs.Dues.{due_later, from_now}
-use Rattle.apex_types.proofs.Handovers.{reaches_halted}
 use Rattle.apex_types.proofs.InTurn.{holds_in_turn}
 use Rattle.apex_types.proofs.Periods.{release_later, release_whole}
 use Rattle.apex_types.proofs.Reaches.{arrives_of, reaches_await_release, reaches_set_deadline, reaches_suspend_self, reaches_place_newest}
@@ -40,9 +41,10 @@ use Rattle.apex_dispatch.proofs.AskedWaits.{Frees, asks_freed, frees_then, frees
 use Rattle.apex_dispatch.proofs.HandedOver.{halts}
 use Rattle.apex_dispatch.proofs.ProcessesServe.{begin_frees, begin_quiet, blocked_frees}
 use Rattle.apex_dispatch.proofs.Satisfied.{is_waking}
-use Rattle.apex_dispatch.proofs.Serving.{Scene, Serves, ServesBy, AreQuiet, few, ready_started, ready_normal, serves_freed, serves_same, serves_blocked, arrives_by}
+use Rattle.apex_dispatch.proofs.Serving.{Scene, Serves, ServesBy, AreQuiet, few, ready_started, ready_normal, serves_freed, serves_same, serves_blocked, arrives_by, arrives_halted}
 
--- the entry into NORMAL wakes nobody, and nobody waits afterwards for what he asked for who did not before
+-- the entry into NORMAL wakes no process, and none is afterwards in a wait that it asked for and in
+-- which it was not before
 record Spares (old new : Roster) (notices : List Notice) : Type 0 where
   frees : Frees old new
   quiet : AreQuiet notices
@@ -61,20 +63,21 @@ enter_spares roster =
     (length roster.records) (stamps.set_mode roster mode.Normal) []
     (record { frees = record { still = λ q w h. h }; quiet = λ q. refl })
 
--- so it is where a periodic process waits for its next release
+-- the same of a periodic process that begins to wait for its next release
 await_frees : (roster : Roster) (p : ℕ) → Frees roster (stamps.await_release roster p)
 await_frees roster p =
     let r : Record = record (record_at roster p) { deadline = None } in
     let cleared = stamps.set_deadline roster p None in
     frees_then (frees_moved roster cleared p r refl (λ w h. h)) (blocked_frees cleared p Period _ refl)
 
--- in IDLE nobody waits
+-- in IDLE no process waits
 stopped_free : (rs : List Record) (p : ℕ) → awaited (get_or (map stamps.stopped rs) p nobody) ≡ None
 stopped_free [] p = refl
 stopped_free (r ∷ rs) zero = refl
 stopped_free (r ∷ rs) (suc p) = stopped_free rs p
 
--- what a service of no object keeps: whom it wakes with NO_ERROR had waited for time, and all objects stay
+-- the facts that a service of no object keeps: a process that it wakes with NO_ERROR had waited for
+-- time or for a mutex, and all objects stay
 pub record ServesNone {X : Type 0} (roster : Roster) (objects : X) (caller : Caller) (call : Call) (o : Outcome X) : Type 0 where
   pub serves : ServesBy roster caller call None o
   pub stays : o.object ≡ objects
@@ -135,14 +138,14 @@ module _ {X : Type 0} (roster : Roster) (objects : X) (caller : Caller) (scene :
     served_itself StopSelf =
         let halts_so = halts roster p in
         served _ _ _ _ (record {
-          arrives = few (reaches_halted roster p ready.known scene.starts);
+          arrives = arrives_halted roster p ready.known scene.starts scene.few;
           asks = asks_freed caller (Some (call.Caller StopSelf)) roster (halted roster p).roster halts_so.frees;
           woken = halts_so.woken;
         })
     served_itself (SuspendSelf timeout) =
         let asked = call.Caller (SuspendSelf timeout) in
         by_guard roster objects (Served asked) (served_refused asked) (is_periodic (record_at roster p)) _ _ refl (λ _.
-        by_guard roster objects (Served asked) (served_refused asked) (is_some (record_at roster p).owned) _ _ refl (λ _.
+        by_guard roster objects (Served asked) (served_refused asked) (owns_some (record_at roster p)) _ _ refl (λ _.
         served_suspension timeout))
     served_itself GetMyId = same (call.Caller GetMyId) _
     served_itself GetMyProcessorCoreId = same (call.Caller GetMyProcessorCoreId) _
@@ -157,12 +160,12 @@ module _ {X : Type 0} (roster : Roster) (objects : X) (caller : Caller) (scene :
         served _ _ _ _ (rw by (serves_blocked roster p ready (call.Time (TimedWait (Ticks n))) None Time (Ticks n) refl refl (λ m is. cc)))
     served_timed_wait Infinite = same (call.Time (TimedWait Infinite)) _
 
-    -- who waits for its next release waits for nothing that it asked for
+    -- a process that waits for its next release waits for nothing that it asked for
     served_periodic : Served (call.Time PeriodicWait) (times.periodic_wait roster objects p)
     served_periodic =
         let asked = call.Time PeriodicWait in
         by_guard roster objects (Served asked) (served_refused asked) (not (is_periodic (record_at roster p))) _ _ refl (λ _.
-        by_guard roster objects (Served asked) (served_refused asked) (is_some (record_at roster p).owned) _ _ refl (λ _.
+        by_guard roster objects (Served asked) (served_refused asked) (owns_some (record_at roster p)) _ _ refl (λ _.
         served _ _ _ _ (serves_freed roster caller asked None (stamps.await_release roster p) []
         (few (reaches_await_release roster p ready.known (release_later roster.now (record_at roster p) (scene.spans p))
         (release_whole roster.now (record_at roster p)) (ready_started roster p ready) (ready_normal roster p ready)))

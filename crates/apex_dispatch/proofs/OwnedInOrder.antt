@@ -1,48 +1,73 @@
 -- Each mutex is owned in order, in the subject's own words.
-use Rattle.std.proofs.Common.{◌≡◌, ℕ, ◌<◌, ◌≤◌, true, List, length, max, get_or, Option, None, Some, refl, ◌∙◌, ap, arith}
-use Rattle.std.proofs.lemmas.Bool.{both_ways, eqb-true}
+use Rattle.std.proofs.Common.{◌≡◌, ℕ, ◌<◌, ◌≤◌, true, List, [], ◌∷◌, length, max, get_or, Option, None, Some, refl, sym, ◌∙◌, ap, inl, inr, cond, subst, arith, Bool}
+use Rattle.std.proofs.lemmas.Bool.{both_ways, cases_Bool}
 use Rattle.std.proofs.lemmas.List.{get_or-map}
+use Rattle.std.proofs.lemmas.Option.{none-some, same_Some}
 use Rattle.apex_dispatch.specs.Terms.{Holding}
 use Rattle.apex_dispatch.specs.Laws.{MutexesAreOwnedInOrder}
+use Rattle.apex_types.specs.Held.{holding_of, holds, is_of, raised}
 use Rattle.apex_types.specs.Machine.{Machine}
-use Rattle.apex_types.specs.Owners.{HasOrderlyOwners, depth_of, is_held}
-use Rattle.apex_types.specs.Roster.{ceilings_of, record_at}
-use Rattle.apex_types.specs.Running.{raised}
+use Rattle.apex_types.specs.Owners.{HasOrderlyOwners, depth_of}
+use Rattle.apex_types.specs.Profiles.{owned_of}
+use Rattle.apex_types.specs.Roster.{MutexRules, ceilings_of, record_at, rules_of}
 use Rattle.apex_types.specs.Table.{Table, MutexConfig, mutex_config, no_mutex}
+use Rattle.apex_types.proofs.Held.{is_held, none_held}
 use Rattle.apex_types.proofs.Owners.{nobody_owns}
 
--- who owns a mutex holds it
-record Holds (m : ℕ) (owned : Option Holding) : Type 0 where
+-- a process that owns a mutex holds it
+record Holds (m : ℕ) (owned : List Holding) : Type 0 where
   holding : Holding
-  held : owned ≡ Some holding
-  same : holding.mutex ≡ m
+  held : holding_of m owned ≡ Some holding
 
-holds : (m : ℕ) (owned : Option Holding) → is_held m owned ≡ true → Holds m owned
-holds m None e = absurd (both_ways _ refl e)
-holds m (Some holding) e = record { holding = holding; held = refl; same = eqb-true holding.mutex m e }
+holds_so : (m : ℕ) (owned : List Holding) → holds m owned ≡ true → Holds m owned
+holds_so m owned e = found (holding_of m owned) refl where
+  found : (o : Option Holding) → holding_of m owned ≡ o → Holds m owned
+  found None is = absurd (both_ways _ (none_held m owned is) e)
+  found (Some holding) is = record { holding = holding; held = is }
+
+-- the greatest of a base and of ceilings is at least the base, and at least each ceiling
+above_base : (owned : List Holding) (base : ℕ) → base ≤ raised base owned
+above_base [] base = omega arith
+above_base (holding ∷ owned) base = let above = above_base owned (max base holding.ceiling) in omega (arith, above)
+
+above_ceiling : (m : ℕ) (holding : Holding) (owned : List Holding) (base : ℕ) → holding_of m owned ≡ Some holding
+    → holding.ceiling ≤ raised base owned
+above_ceiling m holding [] base is = absurd (none-some holding is)
+above_ceiling m holding (first ∷ owned) base is = elim (cases_Bool (is_of m first)) [
+  | inl e ↦
+      let same : first ≡ holding = same_Some first holding (sym (ap (λ (b : Bool). cond b (Some first) (holding_of m owned)) e) ∙ is) in
+      let above = above_base owned (max base first.ceiling) in
+      subst (λ (h : Holding). h.ceiling ≤ raised (max base first.ceiling) owned) same (omega (arith, above))
+  | inr e ↦
+      above_ceiling m holding owned (max base first.ceiling)
+      (sym (ap (λ (b : Bool). cond b (Some first) (holding_of m owned)) e) ∙ is)
+]
 
 -- the ceiling that the roster has of a mutex is its entry's
-ceiling_is : (table : Table) (ceilings : List ℕ) (m : ℕ) → ceilings ≡ ceilings_of table → m < length table.mutexes
-    → get_or ceilings m 0 ≡ (mutex_config table m).ceiling
-ceiling_is table ceilings m same inside =
-    ap (λ (c : List ℕ). get_or c m 0) same ∙ get_or-map (λ (entry : MutexConfig). entry.ceiling) table.mutexes m no_mutex 0 inside
+ceiling_is : (table : Table) (rules : MutexRules) (m : ℕ) → rules ≡ rules_of table → m < length table.mutexes
+    → get_or rules.ceilings m 0 ≡ (mutex_config table m).ceiling
+ceiling_is table rules m same inside =
+    ap (λ (r : MutexRules). get_or r.ceilings m 0) same ∙ get_or-map (λ (entry : MutexConfig). entry.ceiling) table.mutexes m no_mutex 0 inside
 
-pub owned_in_order : (table : Table) (machine : Machine) → machine.roster.ceilings ≡ ceilings_of table → HasOrderlyOwners machine.roster
+pub owned_in_order : (table : Table) (machine : Machine) → machine.roster.rules ≡ rules_of table → HasOrderlyOwners machine.roster
     → MutexesAreOwnedInOrder table machine
 owned_in_order table machine same orderly m inside = record {
   one = orderly.one m;
   raised = λ p owning.
-      let is = holds m (record_at machine.roster p).owned owning in
-      let lawful = orderly.holdings p is.holding is.held in
-      let ceiling : is.holding.ceiling ≡ (mutex_config table m).ceiling =
-      lawful.ceiling ∙ ap (get_or_at machine.roster.ceilings) is.same ∙ ceiling_is table machine.roster.ceilings m same inside in
-      let current = ap (raised (record_at machine.roster p).base) is.held in
-      omega (arith, ceiling, current, max_above (record_at machine.roster p).base is.holding.ceiling);
+      let owned = (record_at machine.roster p).owned in
+      let so = holds_so m owned owning in
+      let is = is_held m so.holding owned so.held in
+      let lawful = is.lawful machine.roster (orderly.owned p).lawful in
+      let ceiling : so.holding.ceiling ≡ (mutex_config table m).ceiling =
+      lawful.ceiling ∙ ap (get_or_at machine.roster.rules.ceilings) is.mutex ∙ ceiling_is table machine.roster.rules m same inside in
+      omega (arith, ceiling, above_ceiling m so.holding owned (record_at machine.roster p).base so.held);
   depth = λ p owning.
-      let is = holds m (record_at machine.roster p).owned owning in
-      let deep = ap depth_of is.held in
-      let range = (orderly.holdings p is.holding is.held).depth in
+      let owned = (record_at machine.roster p).owned in
+      let so = holds_so m owned owning in
+      let range = ((is_held m so.holding owned so.held).lawful machine.roster (orderly.owned p).lawful).depth in
+      let deep = ap depth_of so.held in
       (omega (arith, deep, range), omega (arith, deep, range));
+  most = λ p. subst (λ (rules : MutexRules). length (record_at machine.roster p).owned ≤ rules.most_owned) same (orderly.owned p).few;
   waiters = λ p waits. (orderly.waiters p m waits).without;
   free = λ none p waits.
       let found = orderly.waiters p m waits in
@@ -50,6 +75,3 @@ owned_in_order table machine same orderly m inside = record {
 } where
   get_or_at : List ℕ → ℕ → ℕ
   get_or_at ceilings n = get_or ceilings n 0
-
-  max_above : (a b : ℕ) → b ≤ max a b
-  max_above a b = omega arith

@@ -1,4 +1,4 @@
--- The past states of a run are those of the runs over its beginnings.
+-- The past states of a run are those of the runs over its prefixes.
 use Rattle.std.proofs.Common.{◌≡◌, ℕ, ◌+◌, ◌<◌, List, [], ◌∷◌, ◌++◌, length, get_or, nat_lt, take, refl, sym, ◌∙◌, ap, subst, inl, inr, arith, length-append}
 use Rattle.std.proofs.Math.Seq.{get_or-append_seam}
 use Rattle.std.proofs.lemmas.Bool.{cases_lt, cond_both, ltb-true}

@@ -1,8 +1,10 @@
--- Processes as objects of a kind: what their services keep.
+-- Processes as objects of a kind: the facts that their services keep.
 use Rattle.std.proofs.Common.{◌≡◌, ℕ, ◌+◌, ◌<◌, Bool, true, false, ◌&&◌, ◌||◌, ◌==◌, cond, not, nat_le, nat_lt, is_none, is_some, List, [], ◌∷◌, Option, None, Some, All, length, lit≤, refl, ap, ◌∙◌, inl}
 use Rattle.std.proofs.lemmas.Bool.{both_ways, cond_both, not-false}
 use Rattle.std.proofs.lemmas.List.Elements.{All-nil, All-cons}
 use Rattle.std.proofs.lemmas.Option.{none-some}
+use Rattle.apex_types.specs.Limits.{most_priority}
+use Rattle.apex_dispatch.specs.Premises.{most_given}
 use Rattle.apex_dispatch.specs.Terms.{Call, Caller, Entry, Notice, ProcessService, Record, Reply, ReturnCode, Timeout, Wait}
 use Rattle.apex_types.specs.declared.Call.TheVariants as call
 use Rattle.apex_types.specs.declared.Notice.TheVariants.{Released, Woken}
@@ -20,6 +22,7 @@ use Rattle.apex_types.specs.Handovers.{halted}
 use Rattle.apex_types.specs.History.{creates, is_created}
 use Rattle.apex_types.specs.ProcessServices as services
 use Rattle.apex_types.specs.ProcessServices.{ProcessObject, process_after, process_kind}
+use Rattle.apex_types.specs.Owners.{owns_some}
 use Rattle.apex_types.specs.Roster.{Roster, record_at, with_record, is_normal}
 use Rattle.apex_types.specs.Rows.{Outcome, refused, accepted}
 use Rattle.apex_types.specs.Running.{is_eligible}
@@ -28,7 +31,6 @@ use Rattle.apex_types.specs.Stamps as stamps
 use Rattle.apex_types.specs.Table.{ProcessConfig, no_process}
 use Rattle.apex_types.specs.Ticks.{begin_notices}
 use Rattle.apex_types.specs.Waiters.{queue_in, goes_by_priority}
-use Rattle.apex_types.proofs.Handovers.{reaches_halted}
 use Rattle.apex_types.proofs.Reaches.{Arrives, reaches_set_priority, arrives_more, arrives_set_core, arrives_start, reaches_suspend, reaches_resume}
 use Rattle.apex_types.proofs.Rows.{by_guard}
 use Rattle.apex_types.proofs.Starts.{waitless_queue}
@@ -36,12 +38,12 @@ use Rattle.apex_dispatch.specs.AskedWaits.{asked_of, awaited, or_suspended}
 use Rattle.apex_dispatch.proofs.AskedWaits.{Frees, frees_then, frees_moved, frees_changed, frees_lessened, frees_unblock, asks_freed, awake_free, frees_release}
 use Rattle.apex_dispatch.proofs.HandedOver.{halts}
 use Rattle.apex_dispatch.proofs.Satisfied.{WokenAt, wakes, woken_alone}
-use Rattle.apex_dispatch.proofs.Serving.{Scene, Serves, AreQuiet, few, serves_same, serves_freed, arrives_by}
+use Rattle.apex_dispatch.proofs.Serving.{Scene, Serves, AreQuiet, few, serves_same, serves_freed, arrives_by, arrives_halted}
 use Rattle.apex_dispatch.proofs.ObjectsServe.{LawsOf, ServesOne, IsRead}
 use Rattle.apex_dispatch.proofs.Truths.{neither, or_false, or_true}
 use Rattle.apex_dispatch.proofs.Values.{created-push}
 
--- no call names a process of which its object would keep a value
+-- objects of processes keep no value, so no call is named for one
 abbrev pub unnamed : ℕ → Call → Bool
 unnamed p c = false
 
@@ -60,7 +62,7 @@ process_stays new history e p entry none = record {
   kept = tt;
 }
 
--- a start that begins, or waits, makes nobody wait for what he asked for
+-- a start that begins, or waits, puts no process into a wait that it asked for
 pub begin_quiet : (p delay : ℕ) → AreQuiet (begin_notices p delay)
 begin_quiet p delay =
     cond_both {A = List Notice} (delay == 0) (Released p ∷ []) [] AreQuiet (λ _ q. refl) (λ _ q. refl)
@@ -84,7 +86,7 @@ in_cold_start : (cold normal : Bool) → (cold ≡ false → normal ≡ true) �
 in_cold_start true normal called early = refl
 in_cold_start false normal called early = absurd (both_ways _ early (called refl))
 
--- who is suspended no longer, or by another, waits for no more than before
+-- a process that is no longer suspended, or is so by another, waits for no more than before
 suspended_less : (wait : Option Wait) (by_itself : Bool) (w : Wait)
     → or_suspended (asked_of wait) false ≡ Some w → or_suspended (asked_of wait) by_itself ≡ Some w
 suspended_less wait by_itself w h = by_asked (asked_of wait) h where
@@ -111,7 +113,7 @@ module _ (roster : Roster) (p : ℕ) where
   priority_frees : (priority : ℕ) → Frees roster (stamps.set_priority roster p priority)
   priority_frees priority =
       let changed : Record = record r { base = priority } in
-      let stays = is_some r.owned && stamps.is_level changed r in
+      let stays = owns_some r && stamps.is_level changed r in
       cond_both {A = Roster} ((is_eligible roster.mode r && not stays) || goes_by_priority roster (queue_in r))
       (stamps.newest roster p changed) (with_record roster p changed) (Frees roster)
       (λ _. frees_moved roster (stamps.newest roster p changed) p (record changed { since = roster.young }) refl (λ w h. h))
@@ -124,7 +126,7 @@ module _ (roster : Roster) (p : ℕ) where
 
   -- RESUME
   module _ (caller : Caller) (call : Call) (scene : Scene roster caller) (known : p < length roster.records) (started : r.started ≡ true) where
-    -- before NORMAL nobody that is started has suspended itself
+    -- before NORMAL no process that is started has suspended itself
     itself_normal : stamps.is_by_itself r.suspended ≡ true → is_normal roster.mode ≡ false → ⊥
     itself_normal by e = waitless_queue r queues.Normal (scene.one p by) (scene.starts.early e p started)
 
@@ -167,8 +169,8 @@ module _ (history : List Entry) (roster : Roster) (caller : Caller) (p : ℕ) (e
     read = λ number now who. process_stays new history _ p entry refl;
   }
 
-  -- nobody is woken, and nobody waits who did not wait before
-  served_freed : (service : ProcessService) (new : Roster) (notices : List Notice) → Arrives 64 roster new → Frees roster new
+  -- no process is woken, and none waits that did not wait before
+  served_freed : (service : ProcessService) (new : Roster) (notices : List Notice) → Arrives most_given roster new → Frees roster new
       → AreQuiet notices → Served service (accepted new process notices)
   served_freed service new notices arrives frees quiet =
       served service new (Code NoError) notices (serves_freed roster caller (asks_for service) None new notices arrives frees quiet)
@@ -188,7 +190,7 @@ module _ (history : List Entry) (roster : Roster) (caller : Caller) (p : ℕ) (e
       guard service (record_at roster p).started _ _ refl (λ dormant.
       guard service (services.is_unfit_delay (record_at roster p) delay) _ _ refl (λ _.
       served_freed service (stamps.start roster p ticks) (services.start_notices roster p ticks)
-      (arrives_more 1 64 (lit≤ tt) (arrives_start roster p known ticks dormant)) (start_frees roster p ticks) (start_quiet roster p ticks))))
+      (arrives_more 1 most_given (lit≤ tt) (arrives_start roster p known ticks dormant)) (start_frees roster p ticks) (start_quiet roster p ticks))))
 
   pub served_own : (service : ProcessService) → Served service (services.process_own roster process p caller service)
   served_own (InitializeCoreAffinity core) =
@@ -198,12 +200,12 @@ module _ (history : List Entry) (roster : Roster) (caller : Caller) (p : ℕ) (e
       guard service (not (nat_lt core roster.cores)) _ _ refl (λ _.
       let r : Record = record (record_at roster p) { core = core } in
       served_freed service (stamps.set_core roster p core) []
-      (arrives_more 0 64 (lit≤ tt) (arrives_set_core roster p known core (in_cold_start _ _ scene.called early)))
+      (arrives_more 0 most_given (lit≤ tt) (arrives_set_core roster p known core (in_cold_start _ _ scene.called early)))
       (frees_moved roster (stamps.set_core roster p core) p r refl (λ w h. h)) (λ q. refl))))
   served_own (SetPriority priority) =
       let service = SetPriority priority in
       guard service (not process.created) _ _ refl (λ _.
-      guard service (not (nat_le 1 priority && nat_le priority 239)) _ _ refl (λ _.
+      guard service (not (nat_le 1 priority && nat_le priority most_priority)) _ _ refl (λ _.
       guard service (not (record_at roster p).started) _ _ refl (λ _.
       served_freed service (stamps.set_priority roster p priority) []
       (few (reaches_set_priority roster p known priority)) (priority_frees roster p priority) (λ q. refl))))
@@ -216,7 +218,7 @@ module _ (history : List Entry) (roster : Roster) (caller : Caller) (p : ℕ) (e
       let after = halted roster p in
       let halts_so = halts roster p in
       served Stop after.roster (Code NoError) after.notices (record {
-        arrives = few (reaches_halted roster p known scene.starts);
+        arrives = arrives_halted roster p known scene.starts scene.few;
         asks = asks_freed caller (Some (asks_for Stop)) roster after.roster halts_so.frees;
         woken = halts_so.woken;
       }))))
@@ -225,7 +227,7 @@ module _ (history : List Entry) (roster : Roster) (caller : Caller) (p : ℕ) (e
       guard Suspend (not process.created) _ _ refl (λ _.
       guard Suspend (services.is_unsuspendable (record_at roster p)) _ _ refl (λ _.
       guard Suspend (is_some (record_at roster p).suspended) _ _ refl (λ _.
-      guard Suspend (is_some (record_at roster p).owned) _ _ refl (λ _.
+      guard Suspend (owns_some (record_at roster p)) _ _ refl (λ _.
       served_freed Suspend (stamps.suspend roster p) []
       (arrives_by 0 (lit≤ tt) (reaches_suspend roster p known)) (suspend_frees roster p) (λ q. refl))))))
   served_own Resume =

@@ -1,4 +1,4 @@
--- Who stands in a queue, from its first waiter on.
+-- The processes in a queue, from its first waiter on.
 use Rattle.std.proofs.Common.{◌≡◌, ℕ, zero, suc, true, [], Option, None, Some, refl, sym}
 use Rattle.std.specs.Prelude.{IfSome}
 use Rattle.std.proofs.lemmas.Bool.{and_parts}
@@ -27,7 +27,7 @@ next_stands roster queue ahead (Some p) e =
     let passes = waits_behind discipline queue (record_at roster ahead) in
     (and_parts _ _ (place_passes passes (waits_before discipline) roster.records p nobody (sym e))).0
 
--- nobody stands behind nobody
+-- no process is behind none
 pub none_behind : (roster : Roster) (queue : Queue) (n : ℕ) → waiters_from roster queue n None ≡ []
 none_behind roster queue zero = refl
 none_behind roster queue (suc n) = refl

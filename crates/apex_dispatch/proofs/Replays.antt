@@ -1,8 +1,9 @@
--- What a kernel keeps: that its history replays, and with it all that holds after every run.
+-- The facts that a kernel keeps: its history replays, and all that holds after every run holds.
 use Rattle.std.proofs.Common.{◌≡◌, ℕ, ◌+◌, ◌*◌, ◌<◌, ◌≤◌, Option, None, arith, List, [], ◌∷◌, ◌++◌, length, ap, ap₂, refl, sym, ◌∙◌, subst, option_map, if◌then◌else◌}
 use Rattle.std.proofs.lemmas.List.Elements.{All-nil, All-push}
 use Rattle.std.proofs.lemmas.List.Sums.{sum_by-append}
 use Rattle.std.proofs.lemmas.Int.{ints}
+use Rattle.apex_types.specs.Limits.{most_ticks}
 use Rattle.apex_dispatch.specs.Terms.{Call, Caller, Entry, Event, Notice, OpenWork, Reply}
 use Rattle.apex_types.specs.Callers.{is_by_init}
 use Rattle.apex_types.specs.History.{init_count}
@@ -18,7 +19,7 @@ use Rattle.apex_dispatch.specs.Works.{work_at}
 use Rattle.apex_dispatch.proofs.OpenWorks.{open_after}
 use Rattle.apex_dispatch.proofs.Sound.{IsSound, who_of, deed_at, happened, happens, objects_happen, sound_run, sound_happen, told}
 
--- the history has an init step more where the init list asked for the call
+-- the history has one more init step if the init list asked for the call
 init_count_happen : (table : Table) (machine : Machine) (event : Event)
     → init_count (happen table machine event).history
     ≡ init_count machine.history + (if is_by_init (deed_at table machine (objects_after table machine.history) event).caller then 1 else 0)
@@ -29,7 +30,7 @@ init_count_happen table machine event =
     ∙ sum_by-append (λ (x : Entry). if is_by_init x.process then 1 else 0) machine.history (e ∷ [])
     ∙ omega arith
 
--- what a kernel keeps is sound
+-- the machine of a kernel is sound
 pub kept_sound : {kernel : KernelState} {init_made log_limit : ℕ} {works : List (Option OpenWork)}
     → IsKept kernel init_made log_limit works → IsSound kernel.table kernel.machine
 kept_sound {kernel} kept =
@@ -37,7 +38,7 @@ kept_sound {kernel} kept =
 
 -- and its time is in range
 pub kept_time : {kernel : KernelState} {init_made log_limit : ℕ} {works : List (Option OpenWork)} → IsKept kernel init_made log_limit works
-    → kernel.machine.roster.now ≤ 1048576 * length kernel.machine.history
+    → kernel.machine.roster.now ≤ most_ticks * length kernel.machine.history
 kept_time kept = (kept_sound kept).time kept.events
 
 -- and stamps are left
@@ -56,7 +57,7 @@ machine_is : (table : Table) (machine : Machine) → replay table machine.histor
     → machine_with table machine.roster machine.history ≡ machine
 machine_is table machine replays = ap (λ (m : Machine). record machine { past = m.past }) replays
 
--- the kernel is the one after the event, and keeps what each kernel keeps
+-- the kernel is the one after the event, and keeps the facts that each kernel keeps
 pub record IsAfter (table : Table) (old : Machine) (event : Event) (kernel : KernelState)
     (init_made log_limit : ℕ) (works : List (Option OpenWork)) : Type 0 where
   pub is : kernel ≡ kernel_in table (happen table old event)
@@ -83,7 +84,7 @@ module _ (table : Table) (objects : Objects) (roster : Roster) (history : List E
       ap (λ (m : Machine). machine_with table m.roster m.history) (sym (happens table machine event))
       ∙ machine_is table (happen table machine event) after_sound.replays
 
-  -- so it is where the event's deed was done on the running values, and its entry added
+  -- so it is if the event's deed was done on the running values, and its entry added
   pub after_does : {caller : Caller} {call : Option Call} {reply : Reply} {left : Roster} {now : Objects}
       → {notices : List Notice} → Does (deed_at table machine objects event) caller call reply left now [] notices
       → (entries : List Entry) → entries ≡ history ++ record {

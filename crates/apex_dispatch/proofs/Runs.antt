@@ -28,7 +28,7 @@ pub run-full : (table : Table) (machine : Machine) (events : List Event) → tab
 run-full table machine [] full = refl
 run-full table machine (event ∷ events) full = rw (accept-full table machine event full) (run-full table machine events full)
 
--- a run is a run over its beginning, and then over the rest
+-- a run is a run over a prefix of it, and then over the rest
 pub run-append : (table : Table) (machine : Machine) (first rest : List Event)
     → run table machine (first ++ rest) ≡ run table (run table machine first) rest
 run-append table machine [] rest = refl

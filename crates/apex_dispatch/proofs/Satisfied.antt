@@ -1,4 +1,5 @@
--- What one entry more satisfies, and whose latest call it leaves: laws for things of all kinds.
+-- The calls that one entry more satisfies, and the latest calls that it leaves: laws for things of
+-- all kinds.
 use Rattle.std.proofs.Common.{◌≡◌, ℕ, Bool, true, false, ◌&&◌, ◌||◌, ◌==◌, List, [], ◌∷◌, ◌++◌, Option, None, Some, option_and_then, option_to_list, filter, flat_map, All, if◌then◌else◌, ◌⊎◌, inl, inr, refl, sym, ◌∙◌, ap, append_assoc, append-nil}
 use Rattle.std.specs.List.{list_any}
 use Rattle.std.proofs.lemmas.Bool.{eq-eqb, eqb-true, cases_Bool}
@@ -78,7 +79,7 @@ is_waking p (Missed q kind) = false
 abbrev pub wakes : ℕ → List Notice → Bool
 wakes p notices = list_any (is_waking p) notices
 
--- the calls that notices answer are the latest ones of those whom they wake with NO_ERROR
+-- the calls that notices answer are the latest ones of the processes that they wake with NO_ERROR
 answered_all : (P : Call → Type 0) (history : List Entry) (notices : List Notice)
     → ((p : ℕ) (c : Call) → wakes p notices ≡ true → latest_call p history ≡ Some c → P c)
     → All P (flat_map (answered_by history) notices)
@@ -97,7 +98,7 @@ answered_all P history (Woken p code ∷ notices) holds =
       here true None holds = All-nil P
       here true (Some c) holds = All-cons P c [] (holds c refl refl) (All-nil P)
 
--- process p waits by its own asking in this queue, or for time where there is none
+-- process p is in a wait that it asked for, in this queue, or for time if there is none
 abbrev pub AwaitsAt : Option Queue → Record → Type 0
 AwaitsAt at r = (w : Wait) × (awaited r ≡ Some w) × (queue_of w ≡ at)
 
@@ -105,8 +106,8 @@ AwaitsAt at r = (w : Wait) × (awaited r ≡ Some w) × (queue_of w ≡ at)
 abbrev pub BeginsAt : Option Queue → Call → Type 0
 BeginsAt at c = (w : Wait) × (begins c ≡ Some w) × (queue_of w ≡ at)
 
--- who a service may wake that works on this queue: who waits there, or for a mutex, which a stop hands
--- over
+-- a process that a service on this queue may wake: it waits there, or for a mutex, which a stop
+-- hands over
 abbrev pub WokenAt : Option Queue → Record → Type 0
 WokenAt at r = AwaitsAt at r ⊎ ((m : ℕ) × AwaitsAt (Some (queues.Mutex m)) r)
 
@@ -125,7 +126,8 @@ answered_at roster history notices at asked woken =
       | inr waits ↦ inr (waits.0, (waits.1.0, rw is at (asked p waits.1.0 waits.1.1), waits.1.2))
     ])
 
--- where all whom an entry wakes with NO_ERROR waited there, each call that it answers begins a wait there
+-- if all processes that an entry wakes with NO_ERROR waited there, each call that it answers begins
+-- a wait there
 pub handed : (roster : Roster) (history : List Entry) (notices : List Notice) (at : Option Queue)
     → AreAsked roster history
     → ((p : ℕ) → wakes p notices ≡ true → AwaitsAt at (record_at roster p))
@@ -134,7 +136,7 @@ handed roster history notices at asked waited =
     answered_all (BeginsAt at) history notices
     (λ p c woken is. let waits = waited p woken in (waits.0, rw is at (asked p waits.0 waits.1), waits.2))
 
--- the call that one process has answered, where no other is woken
+-- the call of one process that is answered, if no other process is woken
 pub handed_one : (roster : Roster) (history : List Entry) (p : ℕ) (w : Wait)
     → AreAsked roster history
     → awaited (record_at roster p) ≡ Some w
@@ -221,8 +223,8 @@ begins_send c b message h = elim (begun_by c (Send b message) h) [
   | inr found ↦ (rw found.1 refl, rw found.1 refl)
 ]
 
--- who waits afterwards for what it asked for waited for it before, or is the caller, and the call
--- begins that wait
+-- a process that is afterwards in a wait that it asked for was in it before, or is the caller, and
+-- the call begins that wait
 pub record Asks (caller : Caller) (called : Option Call) (old new : Roster) : Type 0 where
   pub still : (q : ℕ) (w : Wait) → awaited (record_at new q) ≡ Some w
       → (awaited (record_at old q) ≡ Some w)
@@ -233,7 +235,7 @@ abbrev pub IsIdle : Caller → Roster → Type 0
 IsIdle caller roster =
     (q : ℕ) (w : Wait) → is_by_process q caller ≡ true → awaited (record_at roster q) ≡ Some w → ⊥
 
--- an entry more keeps it true that who waits asked for it
+-- with one entry more it stays true that each process in such a wait asked for it
 pub asked-push : (history : List Entry) (e : Entry) (old new : Roster) → IsIdle e.process old
     → AreAsked old history → Asks e.process e.call old new → AreAsked new (history ++ e ∷ [])
 asked-push history e old new idle asked asks p w waits =
@@ -246,7 +248,7 @@ asked-push history e old new idle asked asks p w waits =
       | inr own ↦ pushed ∙ rw own.0 own.1
     ]
 
--- one notice wakes nobody but its process
+-- one notice wakes no process but its own
 pub woken_alone : (q p : ℕ) → wakes q (Woken p NoError ∷ []) ≡ true → q ≡ p
 woken_alone q p woken = eqb-true q p (only (q == p) woken) where
   only : (b : Bool) → ((b && true) || false) ≡ true → b ≡ true

@@ -1,4 +1,4 @@
--- Semaphores: what their services keep, and what an entry does to their values.
+-- Semaphores: the facts that their services keep, and the effect of an entry on their values.
 use Rattle.std.proofs.Common.{◌≡◌, ℕ, ◌+◌, ◌-◌, ◌≤◌, Bool, true, false, cond, not, nat_lt, List, [], ◌∷◌, Option, None, Some, count_by, refl, ◌∙◌, ap, arith, inl}
 use Rattle.std.proofs.lemmas.Bool.{cond_both, eq-eqb, ltb-true, not-false}
 use Rattle.std.proofs.lemmas.List.Elements.{All-nil, All-cons}
@@ -64,7 +64,7 @@ module _ (history : List Entry) (roster : Roster) (caller : Caller) (s : ℕ) (e
         (quiet_told named created_semaphore s history number now who caller (asks_for service) (Code code) bad);
   }
 
-  -- an accepted call that wakes nobody
+  -- an accepted call that wakes no process
   read_alone : (service : SemaphoreService) (v : ℕ) (number now : ℕ) (who : Who)
       → v + count_by is_wait (asks_for service ∷ []) ≡ semaphore.value + count_by is_signal (asks_for service ∷ [])
       → v ≤ entry.maximum

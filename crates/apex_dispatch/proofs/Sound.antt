@@ -1,4 +1,5 @@
--- What holds after every list of events: at the opening, and after each turn and each tick.
+-- The facts that hold after every list of events: at the opening, and after each turn and each
+-- tick.
 use Rattle.std.proofs.Common.{◌≡◌, ℕ, zero, suc, ◌+◌, ◌*◌, ◌<◌, ◌≤◌, ◌&&◌, ◌==◌, nat_lt, subst, Bool, true, false, List, [], ◌∷◌, ◌++◌, length, get_or, Option, None, Some, option_map, cond, if◌then◌else◌, pos, ◌+ℤ◌, ◌≤ℤ◌, refl, sym, ◌∙◌, ap, arith, length-append, inl, inr}
 use Rattle.std.specs.Prelude.{All}
 use Rattle.std.proofs.lemmas.Bool.{both_ways, cond_both, ltb-true}
@@ -6,15 +7,18 @@ use Rattle.std.proofs.lemmas.List.{map-append}
 use Rattle.std.proofs.lemmas.List.Elements.{All-nil, All-pop, All-push}
 use Rattle.std.proofs.lemmas.Int.{ints}
 use Rattle.std.proofs.lemmas.Option.{none-some, same_Some}
+use Rattle.apex_types.specs.Limits.{most_processes, most_ticks}
+use Rattle.apex_dispatch.specs.Premises.{most_given}
 use Rattle.apex_dispatch.specs.Terms.{Call, Event, OpenWork, Record, Wait, Who, Work}
 use Rattle.apex_types.specs.declared.Event.TheVariants.{Turn, Tick}
 use Rattle.apex_types.specs.declared.Wait.TheVariants.{Period, Mutex}
 use Rattle.apex_types.specs.declared.Who.TheVariants.{Core, Ticker}
 use Rattle.apex_types.specs.Distinct.{IsStamped}
 use Rattle.apex_types.specs.History.{init_count}
-use Rattle.apex_types.specs.Lines.{IsPrintable}
+use Rattle.apex_calls.specs.Lines.{IsPrintable}
 use Rattle.apex_types.specs.Machine.{Machine, Deed, Objects, objects_after, tick_deed, turn_deed, due_init_call, open_work, opening, after_deed, turn, tick, happen, accept, run, replay, events_of, event_of, entry_of}
-use Rattle.apex_types.specs.Owners.{is_held}
+use Rattle.apex_types.specs.Held.{holds}
+use Rattle.apex_types.specs.Owners.{AreLawfullyOwned}
 use Rattle.apex_types.specs.Periods.{AreInTime}
 use Rattle.apex_types.specs.Places.{map_places}
 use Rattle.apex_types.specs.Roster.{Roster, nobody, opening_record, opening_roster, record_at, is_cold_start}
@@ -22,6 +26,7 @@ use Rattle.apex_types.specs.Stamps.{advance_to}
 use Rattle.apex_types.specs.Table.{Table, ProcessConfig, IsLawful, no_process}
 use Rattle.apex_types.specs.Ticks.{tick_goal}
 use Rattle.apex_types.specs.Works.{fresh, is_turn_of, watched, work_begun}
+use Rattle.apex_types.proofs.BothProfiles.{lawful_count, some_owned}
 use Rattle.apex_types.proofs.DistinctStamps.{stamped_opening, stamped_advance_to}
 use Rattle.apex_types.proofs.Dues.{goal_before_deadlines, goal_before_dues, goal_forward, goal_near}
 use Rattle.apex_types.proofs.Owners.{owners_kept}
@@ -35,7 +40,7 @@ use Rattle.apex_dispatch.proofs.Runs.{length-happen, accept-room, run-append}
 use Rattle.apex_dispatch.proofs.TickTold.{tick_owes}
 use Rattle.apex_dispatch.proofs.Turns.{IsAtWork, IsOrderly, Owes, turn_owes}
 
--- who tells of an event, what it does, and where time goes at it
+-- the maker of an event, its deed, and the instant to which time goes at it
 abbrev pub who_of : Event → Who
 who_of (Turn core) = Core core
 who_of (Tick n) = Ticker
@@ -49,7 +54,7 @@ abbrev pub instant_of : Roster → Event → ℕ
 instant_of roster (Turn core) = roster.now
 instant_of roster (Tick n) = tick_goal roster n
 
--- an event adds the entry that tells of its deed
+-- an event adds the entry of its deed
 abbrev pub happened : Table → Machine → Event → Machine
 happened table machine event =
     after_deed machine (who_of event) (deed_at table machine (objects_after table machine.history) event)
@@ -60,13 +65,13 @@ unfolding turn tick
 happens table machine (Turn core) = refl
 happens table machine (Tick n) = refl
 
--- the entry tells of the event
+-- the entry records the event
 tells : (table : Table) (machine : Machine) (number : ℕ) (objects : Objects) (event : Event)
     → event_of (entry_of number (who_of event) (deed_at table machine objects event)) ≡ event
 tells table machine number objects (Turn core) = refl
 tells table machine number objects (Tick n) = refl
 
--- the events that the history then tells of
+-- the events that the history then records
 pub told : (table : Table) (machine : Machine) (event : Event)
     → events_of (happen table machine event).history ≡ events_of machine.history ++ event ∷ []
 told table machine event =
@@ -80,20 +85,20 @@ told table machine event =
 -- events in range take at most 1,048,576 ticks for each entry
 abbrev pub IsTimely : Table → Machine → Type 0
 IsTimely table machine = All (IsWithin table.cores) (events_of machine.history)
-    → machine.roster.now ≤ 1048576 * length machine.history
+    → machine.roster.now ≤ most_ticks * length machine.history
 
--- who has work open on a core is at work there
+-- a process with work open on a core is at work there
 abbrev pub AreAtWork : Machine → Type 0
 AreAtWork machine = (core : ℕ) (o : OpenWork) → open_work machine core ≡ Some o → IsAtWork machine.roster core o.work.process
 
--- what holds of the machine after every list of events on an accepted table: all is in order, stamps
--- differ, and are left for all that the history's limit still admits, every process is in time, the
--- ids of each entry are the table's, the history is within the limit and replays, time is in range, there is a
--- state for each entry, and whoever has work open is at work
+-- the facts about the machine after every list of events on an accepted table: all is in order,
+-- stamps differ, and are left for all that the history's limit still admits, every process is in
+-- time, the ids of each entry are the table's, the history is within the limit and replays, time is
+-- in range, there is a state for each entry, and each process with work open is at work
 pub record IsSound (table : Table) (machine : Machine) : Type 0 where
   pub orderly : IsOrderly table machine.history machine.roster
-  pub stamps : machine.roster.young ≤ℤ pos (64 + 64 * length machine.history)
-  pub older : pos 0 ≤ℤ (machine.roster.old +ℤ pos (64 * length machine.history))
+  pub stamps : machine.roster.young ≤ℤ pos (2 * most_processes + most_given * length machine.history)
+  pub older : pos 0 ≤ℤ (machine.roster.old +ℤ pos (most_given * length machine.history))
   pub stamped : IsStamped machine.roster
   pub times : AreInTime machine.roster
   pub known : All (IsPrintable table) machine.history
@@ -108,7 +113,7 @@ due_cold : (cold first : Bool) (next : Option Call) (call : Call) → cond (cold
 due_cold true first next call e = refl
 due_cold false first next call e = absurd (none-some call e)
 
--- what stands open after a deed is work that it began, or work that stood open before
+-- work that is open after a deed is work that it began, or work that was open before
 stood_open : (roster : Roster) (core : ℕ) (found : Option OpenWork) (o : OpenWork) → option_map (watched roster core) found ≡ Some o
     → (before : OpenWork) × (found ≡ Some before) × (before.work ≡ o.work)
 stood_open roster core None o e = absurd (none-some o e)
@@ -119,10 +124,11 @@ just_begun : (begun : Option Work) (o : OpenWork) → option_map fresh begun ≡
 just_begun None o e = absurd (none-some o e)
 just_begun (Some work) o e = ap (λ (x : OpenWork). Some x.work) (same_Some (fresh work) o e)
 
--- time goes forward, past no due and no deadline, and by 1,048,576 at the most in an event that is in range
+-- time goes forward, past no due and no deadline, and by 1,048,576 at the most in an event that is
+-- in range
 pub record GoesTo (cores : ℕ) (event : Event) (roster : Roster) (t : ℕ) : Type 0 where
   pub forward : roster.now ≤ t
-  pub near : IsWithin cores event → t ≤ roster.now + 1048576
+  pub near : IsWithin cores event → t ≤ roster.now + most_ticks
   pub times : AreInTime (advance_to roster t)
 
 module _ (table : Table) (lawful : IsLawful table) (machine : Machine) (sound : IsSound table machine) where
@@ -137,7 +143,7 @@ module _ (table : Table) (lawful : IsLawful table) (machine : Machine) (sound : 
         times = in_time_later roster (tick_goal roster n) sound.times forward (goal_before_dues roster n) (goal_before_deadlines roster n);
       }
 
-  -- what the event's deed owes from then on
+  -- the duties of the event's deed from then on
   pub owes : (event : Event)
       → Owes table machine.history (advance_to machine.roster (instant_of machine.roster event)) (who_of event)
       (deed_at table machine (objects_after table machine.history) event)
@@ -147,7 +153,7 @@ module _ (table : Table) (lawful : IsLawful table) (machine : Machine) (sound : 
       (due_init_call table machine core)
       (known_due table (init_count machine.history) lawful (cold && core == 0)) (due_cold cold (core == 0) _)
   owes (Tick n) =
-      let count = lawful.process_count in
+      let count = lawful_count table lawful in
       tick_owes table machine.history machine.roster sound.orderly (omega (arith, sound.orderly.many, count)) n (goes (Tick n)).times
 
   -- the objects are then those that the deed left
@@ -156,7 +162,7 @@ module _ (table : Table) (lawful : IsLawful table) (machine : Machine) (sound : 
   objects_happen event =
       ap (λ (m : Machine). objects_after table m.history) (happens table machine event) ∙ (owes event).exact.objects
 
-  -- time goes forward, and is in range where ticks are
+  -- time goes forward, and is in range if ticks are
   forward_happen : (event : Event) → machine.roster.now ≤ (happen table machine event).roster.now
   forward_happen event = rw (happens table machine event, (owes event).arrives.moves.time) (goes event).forward
 
@@ -173,7 +179,8 @@ module _ (table : Table) (lawful : IsLawful table) (machine : Machine) (sound : 
       let again = run-append table (opening table) (events_of machine.history) (event ∷ []) in
       rw (told table machine event, again, sound.replays) (accept-room table machine event room)
 
-  -- whoever has work open on another core stays at work: it is bound to that core, and asks for nothing
+  -- a process with work open on another core stays at work: it is bound to that core, and asks for
+  -- nothing
   stays_at_work : (event : Event) (core p : ℕ) → is_turn_of core (who_of event) ≡ false → IsAtWork machine.roster core p
       → IsAtWork (happened table machine event).roster core p
   stays_at_work event core p elsewhere at =
@@ -225,13 +232,13 @@ module _ (table : Table) (lawful : IsLawful table) (machine : Machine) (sound : 
       subst (IsSound table) (sym is) (record {
         orderly = record {
           many = moves.many ∙ orderly.many;
-          ceilings = moves.ceilings ∙ orderly.ceilings;
+          rules = moves.rules ∙ orderly.rules;
           attributes = λ p. arrives.attributes p ∙ orderly.attributes p;
           one = moves.one orderly.one;
           starts = moves.starts
               (record { dormant = starts.dormant; early = starts.early; undue = starts.undue });
           owners = arrives.owners (owners_kept machine.roster (advance_to machine.roster (instant_of machine.roster event))
-              (record { ceilings = refl; owned = λ q. refl; mutex = λ q m is. is }) orderly.owners);
+              (record { rules = refl; owned = λ q. refl; mutex = λ q m is. is }) orderly.owners);
           kept = due.exact.kept;
         };
         stamps = rw longer (omega (arith, ints, moves.stamps, sound.stamps));
@@ -246,7 +253,7 @@ module _ (table : Table) (lawful : IsLawful table) (machine : Machine) (sound : 
         workers = workers_happen event;
       })
 
-  -- so it is where the history may be full
+  -- so it is if the history may be full
   pub sound_accept : (event : Event) → IsSound table (accept table machine event)
   sound_accept event =
       cond_both {A = Machine} (nat_lt (length machine.history) table.limit) (happen table machine event) machine
@@ -272,7 +279,7 @@ forward_after table lawful machine (event ∷ events) sound =
     let first = forward_accept table lawful machine sound event in
     omega (arith, first, forward_after table lawful (accept table machine event) events after)
 
--- at the opening nobody is started, waits, is suspended or released, has a due or a deadline
+-- at the opening no process is started, waits, is suspended or released, or has a due or a deadline
 record IsDormant (r : Record) : Type 0 where
   started : r.started ≡ false
   suspended : r.suspended ≡ None
@@ -280,7 +287,7 @@ record IsDormant (r : Record) : Type 0 where
   due : r.due ≡ None
   deadline : r.deadline ≡ None
   release : r.release ≡ 0
-  owned : r.owned ≡ None
+  owned : r.owned ≡ []
 
 opening_dormant : (entries : List ProcessConfig) (q p : ℕ)
     → IsDormant (get_or (map_places opening_record q entries) p nobody)
@@ -297,14 +304,14 @@ opening_attributes (e ∷ entries) q (suc p) = opening_attributes entries (q + 1
 
 pub sound_opening : (table : Table) → IsLawful table → IsSound table (opening table)
 sound_opening table lawful =
-    let count = lawful.process_count in
+    let count = lawful_count table lawful in
     let dormant = opening_dormant table.processes 0 in
     let nobody_asked : (p : ℕ) (w : Wait) → awaited (record_at (opening_roster table) p) ≡ Some w → ⊥ =
     λ p w h. none-some w (rw ((dormant p).wait, (dormant p).suspended) at h) in
     record {
       orderly = record {
         many = length-map_places opening_record 0 table.processes;
-        ceilings = refl;
+        rules = refl;
         attributes = opening_attributes table.processes 0;
         one = λ p h. (dormant p).wait;
         starts = record {
@@ -313,8 +320,10 @@ sound_opening table lawful =
           undue = λ e p. (dormant p).due;
         };
         owners = record {
-          holdings = λ p holding h. absurd (none-some holding (sym (dormant p).owned ∙ h));
-          one = λ m p q first second. absurd (both_ways false refl (sym (ap (is_held m) (dormant p).owned) ∙ first));
+          most = some_owned table.profile;
+          owned = λ p.
+              subst (AreLawfullyOwned (opening_roster table)) (sym (dormant p).owned) (record { lawful = tt; few = omega arith });
+          one = λ m p q first second. absurd (both_ways false refl (sym (ap (holds m) (dormant p).owned) ∙ first));
           waiters = λ p m h. absurd (none-some (Mutex m) (sym (dormant p).wait ∙ h));
         };
         kept = record {

@@ -1,9 +1,10 @@
--- What a tick owes: it leaves all objects as they are, for whom it wakes with NO_ERROR had waited for time,
--- or for the mutex of a process that missed a HARD deadline.
+-- The duties of a tick: it leaves all objects as they are, for a process that it wakes with
+-- NO_ERROR had waited for time, or for the mutex of a process that missed a HARD deadline.
 use Rattle.std.proofs.Common.{◌≡◌, ℕ, ◌+◌, ◌≤◌, Bool, true, false, ◌&&◌, ◌==◌, List, [], ◌++◌, length, Option, None, Some, refl, sym, ◌∙◌, inl, inr, arith}
-use Rattle.std.proofs.lemmas.Bool.{cases_Bool, and_parts, eqb-true, both_ways}
-use Rattle.std.proofs.lemmas.List.Folds.{list_any-append}
+use Rattle.std.proofs.lemmas.Bool.{and_parts, eqb-true, both_ways}
 use Rattle.std.proofs.lemmas.Option.{none-some}
+use Rattle.apex_types.specs.Limits.{most_processes}
+use Rattle.apex_dispatch.specs.Premises.{most_given}
 use Rattle.apex_dispatch.specs.Terms.{DeadlineType, Entry, Notice, Record, Wait}
 use Rattle.apex_types.specs.declared.Caller.TheVariants.{Nobody}
 use Rattle.apex_types.specs.declared.DeadlineType.TheVariants.{Soft, Hard}
@@ -21,11 +22,11 @@ use Rattle.apex_types.proofs.InTurn.{holds_in_turn}
 use Rattle.apex_types.proofs.Reaches.{Reaches, arrives_of, reaches_more, reaches_then}
 use Rattle.apex_dispatch.specs.AskedWaits.{asked_of, or_suspended}
 use Rattle.apex_dispatch.proofs.DuesServed.{IsServable, reach_serve_dues}
-use Rattle.apex_dispatch.proofs.MissesServed.{reach_serve_deadlines}
+use Rattle.apex_dispatch.proofs.MissesServed.{reach_serve_deadlines, room_left}
 use Rattle.apex_dispatch.proofs.AskedWaits.{Frees, asks_freed, frees_none, frees_then, frees_moved, frees_release, frees_unblock}
 use Rattle.apex_dispatch.proofs.CallsServe.{exact_uncalled}
-use Rattle.apex_dispatch.proofs.HandedOver.{halts}
-use Rattle.apex_dispatch.proofs.Satisfied.{WokenAt, is_waking, wakes}
+use Rattle.apex_dispatch.proofs.HandedOver.{IsServed, halts, served_none, served_then, waited_then}
+use Rattle.apex_dispatch.proofs.Satisfied.{wakes}
 use Rattle.apex_dispatch.proofs.Truths.{or_false, and_false}
 use Rattle.apex_dispatch.proofs.Turns.{IsOrderly, Owes}
 
@@ -40,8 +41,8 @@ unfolding is_for_time
 for_time (Some Time) by_itself h = refl
 for_time _ by_itself h = cc
 
--- whatever process p waited for, nobody waits afterwards who did not wait before, and only a wait for time
--- ends with NO_ERROR
+-- whatever process p waited for, no process waits afterwards that did not wait before, and only a
+-- wait for time ends with NO_ERROR
 over_frees : (roster : Roster) (p : ℕ) (wait : Option Wait) → Frees roster (wait_over roster p wait).roster
 over_frees roster p (Some Time) = frees_unblock roster p
 over_frees roster p (Some Start) = frees_release roster p
@@ -55,33 +56,6 @@ over_waking roster p q (Some Time) = or_false (q == p && true)
 over_waking roster p q (Some Start) = sym (and_false (q == p))
 over_waking roster p q (Some Period) = sym (and_false (q == p))
 over_waking roster p q _ = or_false (q == p && false)
-
--- nobody waits who did not wait before, and who was woken with NO_ERROR had waited for time or for a mutex
-record IsServed (old new : Roster) (notices : List Notice) : Type 0 where
-  frees : Frees old new
-  woken : (q : ℕ) → wakes q notices ≡ true → WokenAt None (record_at old q)
-
--- who waits in the one roster waited in the other
-waited_then : (old new : Roster) (q : ℕ) → Frees old new → WokenAt None (record_at new q) → WokenAt None (record_at old q)
-waited_then old new q frees waits = elim waits [
-  | inl timed ↦ inl (timed.0, frees.still q timed.0 timed.1, timed.2)
-  | inr mutex ↦ inr (mutex.0, (mutex.1.0, frees.still q mutex.1.0 mutex.1.1, mutex.1.2))
-]
-
--- one change more
-served_then : (old roster new : Roster) (before told : List Notice) → IsServed old roster before → IsServed roster new told
-    → IsServed old new (before ++ told)
-served_then old roster new before told first second = record {
-  frees = frees_then first.frees second.frees;
-  woken = λ q h. elim (cases_Bool (wakes q before)) [
-    | inl earlier ↦ first.woken q earlier
-    | inr not_earlier ↦
-        waited_then old roster q first.frees (second.woken q (rw (list_any-append (is_waking q) before told, not_earlier) at h))
-  ];
-}
-
-served_none : (roster : Roster) → IsServed roster roster []
-served_none roster = record { frees = frees_none roster; woken = λ q h. absurd (both_ways false refl h) }
 
 -- one due is served
 due_served : (roster : Roster) (p : ℕ) → IsServed roster (serve_due roster p).roster (serve_due roster p).notices
@@ -97,10 +71,10 @@ due_served roster p =
           inl (Time, rw (← eqb-true q p here.0) at waited, refl);
     }
 
--- a miss wakes nobody but who waited for the mutex of who is stopped
+-- a miss wakes only a process that waited for the mutex of the stopped one
 miss_served : (roster : Roster) (p : ℕ) (kind : DeadlineType) → IsServed roster (miss roster p kind).roster (miss roster p kind).notices
 miss_served roster p Soft = served_none roster
-miss_served roster p Hard = let halts_so = halts roster p in record { frees = halts_so.frees; woken = halts_so.woken }
+miss_served roster p Hard = halts roster p
 
 missed_served : (roster : Roster) (p : ℕ) → IsServed roster (serve_missed roster p).roster (serve_missed roster p).notices
 missed_served roster p =
@@ -128,19 +102,21 @@ instant_served roster =
     (all_served first_missed serve_missed missed_served (length roster.records) roster)
     (all_served first_due serve_due due_served (length first.roster.records) first.roster)
 
--- so many stamps are given at an instant
-pub reach_serve_instant : (roster : Roster) → IsServable roster → length roster.records ≤ 32 → Reaches 64 roster (serve_instant roster).roster
+-- the stamps that are given at an instant: one for each notice of the misses, and one for each due
+pub reach_serve_instant : (roster : Roster) → IsServable roster → length roster.records ≤ most_processes
+    → Reaches most_given roster (serve_instant roster).roster
 reach_serve_instant roster before few =
     let first = reach_serve_deadlines roster before.starts in
     let after = serve_deadlines roster in
     let servable : IsServable after.roster = record { starts = first.starts before.starts; times = first.times before.times } in
     let second = reach_serve_dues after.roster servable in
-    reaches_more (length roster.records + length after.roster.records) 64 (omega (arith, few, first.many))
-    (reaches_then (length roster.records) (length after.roster.records) first second)
+    reaches_more (length after.notices + length after.roster.records) most_given
+    (omega (arith, few, first.many, room_left roster before.starts))
+    (reaches_then (length after.notices) (length after.roster.records) first second)
 
 -- a tick owes this from the instant at which it halts
 pub tick_owes : (table : Table) (history : List Entry) (roster : Roster) → IsOrderly table history roster
-    → length roster.records ≤ 32 → (n : ℕ) → AreInTime (advance_to roster (tick_goal roster n))
+    → length roster.records ≤ most_processes → (n : ℕ) → AreInTime (advance_to roster (tick_goal roster n))
     → Owes table history (advance_to roster (tick_goal roster n)) Ticker
     (tick_deed roster (objects_after table history) n)
 unfolding pass_time

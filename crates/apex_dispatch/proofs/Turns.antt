@@ -1,9 +1,11 @@
--- What a turn owes: it arrives at the roster that it leaves, and the running objects are those that the
--- history then gives.
+-- The duties of a turn: it arrives at the roster that it leaves, and the running objects are those
+-- that the history then gives.
 use Rattle.std.proofs.Common.{◌≡◌, ℕ, ◌+◌, ◌<◌, ◌≤◌, ◌==◌, Bool, true, false, List, [], length, Option, None, Some, is_none, IfSome, lit≤, refl, sym, ◌∙◌, ap, subst, inl, inr, arith}
 use Rattle.std.proofs.lemmas.Option.{none-some, same_Some}
 use Rattle.std.proofs.lemmas.Bool.{both_ways, and_parts, cases_lt, cond_both, eq-eqb, eqb-true}
 use Rattle.std.proofs.lemmas.List.{get_or_past}
+use Rattle.apex_types.specs.Limits.{most_processes}
+use Rattle.apex_dispatch.specs.Premises.{most_given}
 use Rattle.apex_dispatch.specs.Terms.{Attributes, Call, Caller, Entry, Mode, OpenWork, Record, Reply, Suspender, Wait, Who, Work}
 use Rattle.apex_types.specs.declared.Call.TheVariants.{Caller as ToCaller, Work as ToWork}
 use Rattle.apex_types.specs.declared.CallerCall.TheVariants.{StopSelf}
@@ -14,12 +16,13 @@ use Rattle.apex_types.specs.Callers.{IsReady, IsReadyCaller, is_by_process}
 use Rattle.apex_types.specs.Calls.{is_work}
 use Rattle.apex_types.specs.Machine.{Objects, objects_after, Deed, service, served, next_place, move_on, script_deed, ended_deed, chosen_deed, turn_deed, step_of, entry_of}
 use Rattle.apex_types.specs.Owners.{HasOrderlyOwners}
-use Rattle.apex_types.specs.Roster.{Roster, ceilings_of, is_cold_start, is_normal, record_at}
+use Rattle.apex_types.specs.Roster.{Roster, is_cold_start, is_normal, record_at, rules_of}
 use Rattle.apex_types.specs.Rows.{Outcome}
 use Rattle.apex_types.specs.Running.{is_eligible, chosen}
 use Rattle.apex_types.specs.Stamps.{WaitsForOne, HasOrderlyStarts, is_by_itself, set_step}
 use Rattle.apex_types.specs.Table.{Table, ProcessConfig, no_process, process_config, IsLawful, IsKnown}
 use Rattle.apex_types.specs.Works.{is_turn_of, work_begun}
+use Rattle.apex_types.proofs.BothProfiles.{lawful_count}
 use Rattle.apex_types.proofs.Periods.{HasSomeTicks}
 use Rattle.apex_types.proofs.Reaches.{Arrives, Reaches, arrives_of, arrives_then, reaches_more, reaches_none, reaches_set_step, started_step}
 use Rattle.apex_types.proofs.Modes.{normal_late}
@@ -32,7 +35,7 @@ use Rattle.apex_dispatch.proofs.Satisfied.{Asks, IsIdle}
 use Rattle.apex_dispatch.proofs.OthersServe.{ServesNone}
 use Rattle.apex_dispatch.proofs.Serving.{Scene, serves_freed}
 
--- who is eligible waits for nothing that it asked for
+-- an eligible process waits for nothing that it asked for
 eligible_free : (mode : Mode) (r : Record) → is_eligible mode r ≡ true → awaited r ≡ None
 eligible_free mode r e =
     let waits = and_parts _ (is_none r.wait) e in
@@ -44,7 +47,7 @@ eligible_free mode r e =
       nothing None (Some by) h i = cc
       nothing (Some w) suspended h i = cc
 
--- so does a caller
+-- the same of a caller
 ready_idle : (roster : Roster) (caller : Caller) → IsReadyCaller roster caller → IsIdle caller roster
 ready_idle roster (Process p) ready q w by h =
     none-some w (sym (eligible_free roster.mode (record_at roster p) ready.eligible) ∙ rw (eqb-true q p by) at h)
@@ -68,27 +71,29 @@ spans_of table lawful roster same p n is =
     config_spans table lawful p n (sym (ap (λ (attributes : Attributes). attributes.period) (same p)) ∙ is)
 
 -- what a deed may rely on: there is a record for each process of the table, with the attributes that it
--- gives, and the ceilings are the table's; who suspended itself waits for nothing else; starts and owners are in order, and all is kept
+-- gives, and the rules of mutexes are the table's; a process that suspended itself waits for nothing else; starts and owners are in order, and all is kept
 pub record IsOrderly (table : Table) (history : List Entry) (roster : Roster) : Type 0 where
   pub many : length roster.records ≡ length table.processes
-  pub ceilings : roster.ceilings ≡ ceilings_of table
+  pub rules : roster.rules ≡ rules_of table
   pub attributes : (p : ℕ) → (record_at roster p).attributes ≡ (process_config table p).attributes
   pub one : WaitsForOne roster
   pub starts : HasOrderlyStarts roster
   pub owners : HasOrderlyOwners roster
   pub kept : AreKept table roster history
 
--- who has work open on a core is bound to it, and has asked for nothing since; and COLD_START is over
+-- a process with work open on a core is bound to it, and has asked for nothing since; and
+-- COLD_START is over
 pub record IsAtWork (roster : Roster) (core p : ℕ) : Type 0 where
   pub known : p < length roster.records
   pub bound : (record_at roster p).core ≡ core
   pub idle : awaited (record_at roster p) ≡ None
   pub late : is_cold_start roster.mode ≡ false
 
--- what it owes then: it arrives at the roster that it leaves, its call is the table's, who waits asked for it,
--- its caller is of the core, who begins work is at work there, and all stays kept
+-- the duties of a deed then: it arrives at the roster that it leaves, its call is the table's, each
+-- process that waits asked for its wait, its caller is of the core, a process that begins work is
+-- at work there, and all facts stay kept
 pub record Owes (table : Table) (history : List Entry) (old : Roster) (who : Who) (deed : Deed) : Type 0 where
-  pub arrives : Arrives 64 old deed.outcome.roster
+  pub arrives : Arrives most_given old deed.outcome.roster
   pub known : IfSome deed.call (IsKnown table)
   pub asks : Asks deed.caller deed.call old deed.outcome.roster
   pub own : (p : ℕ) → is_by_process p deed.caller ≡ true → is_turn_of (record_at old p).core who ≡ true
@@ -96,11 +101,11 @@ pub record Owes (table : Table) (history : List Entry) (old : Roster) (who : Who
       → IsAtWork deed.outcome.roster core work.process
   pub exact : IsExact table history (entry_of (length history + 1) who deed) deed.outcome.object deed.outcome.roster
 
--- a process that has work open when it begins to call at a turn of this core
+-- a process that calls at a turn of this core is bound to it
 abbrev IsOfCore : Roster → ℕ → Caller → Type 0
 IsOfCore roster core caller = (p : ℕ) → is_by_process p caller ≡ true → core ≡ (record_at roster p).core
 
--- who is ready on its core and begins work is at work there
+-- a process that is ready on its core and begins work is at work there
 module _ {X : Type 0} (roster : Roster) (objects : X) (core : ℕ) where
   ready_at_work : (p : ℕ) → IsReady roster p → core ≡ (record_at roster p).core → IsAtWork roster core p
   ready_at_work p ready same = record {
@@ -132,8 +137,8 @@ module _ (table : Table) (lawful : IsLawful table) (history : List Entry) (core 
       → IsOfCore roster core caller → (is_cold_start roster.mode ≡ false → is_normal roster.mode ≡ true)
       → (call : Call) → IsKnown table call → OwesHere roster (served roster objects caller call)
   served_owes roster orderly caller ready own called call known =
-      let count = lawful.process_count in
-      let few : length roster.records ≤ 64 = omega (arith, orderly.many, count) in
+      let count = lawful_count table lawful in
+      let few : length roster.records ≤ most_processes = omega (arith, orderly.many, count) in
       let scene : Scene roster caller = record {
         starts = orderly.starts;
         one = orderly.one;
@@ -174,7 +179,7 @@ module _ (table : Table) (lawful : IsLawful table) (history : List Entry) (core 
         let owes = served_owes moved
         (record {
           many = moves.many ∙ orderly.many;
-          ceilings = moves.ceilings ∙ orderly.ceilings;
+          rules = moves.rules ∙ orderly.rules;
           attributes = λ q. (moves.periods q).attributes ∙ orderly.attributes q;
           one = moves.one orderly.one;
           starts = moves.starts orderly.starts;
@@ -185,7 +190,7 @@ module _ (table : Table) (lawful : IsLawful table) (history : List Entry) (core 
         (λ q by. same ∙ ap (λ (k : ℕ). (record_at roster k).core) (sym (eqb-true q p by)) ∙ sym (cores q))
         (λ _. (runnable roster.mode (record_at roster p) ready.eligible).normal) call known in
         record {
-          arrives = arrives_then 0 64 moves (λ q. started_step roster p next ready.known q) owes.arrives;
+          arrives = arrives_then 0 most_given moves (λ q. started_step roster p next ready.known q) owes.arrives;
           known = owes.known;
           asks = asks_later frees owes.asks;
           own = λ q by. ap (λ (c : ℕ). c == core) (sym (cores q)) ∙ owes.own q by;
@@ -204,7 +209,7 @@ module _ (table : Table) (lawful : IsLawful table) (history : List Entry) (core 
 
     chosen_owes : (found : Option ℕ) → chosen roster core ≡ found → OwesHere roster (chosen_deed table roster objects found)
     chosen_owes None is = record {
-      arrives = arrives_of (reaches_none 64 roster);
+      arrives = arrives_of (reaches_none most_given roster);
       known = tt;
       asks = asks_freed Nobody None roster roster (frees_none roster);
       own = λ p by. absurd (both_ways false refl by);
@@ -214,7 +219,7 @@ module _ (table : Table) (lawful : IsLawful table) (history : List Entry) (core 
     }
     chosen_owes (Some p) is = script_owes p (chosen_ready roster core p is) (sym (chosen_core roster core p is)) (step_of table roster p) refl
 
-    -- work ends, and whoever began it calls nothing
+    -- work ends, and the process that began it calls nothing
     module _ (work : Work) (at : IsAtWork roster core work.process) where
       abbrev p : ℕ
       p = work.process
@@ -222,7 +227,7 @@ module _ (table : Table) (lawful : IsLawful table) (history : List Entry) (core 
       idle : IsIdle (Process p) roster
       idle q w by h = none-some w (sym at.idle ∙ rw (eqb-true q p by) at h)
 
-      ended_by : (new : Roster) (reply : Reply) → Reaches 64 roster new → Frees roster new
+      ended_by : (new : Roster) (reply : Reply) → Reaches most_given roster new → Frees roster new
           → ((w : Work) → work_begun (Process p) (Some (ToWork work.amount)) reply ≡ Some w → ⊥)
           → OwesHere roster (record {
             caller = Process p;
@@ -248,9 +253,9 @@ module _ (table : Table) (lawful : IsLawful table) (history : List Entry) (core 
       ended_owes true =
           let r = record_at roster p in
           let next = next_place (process_config table p) r.step in
-          ended_by (set_step roster p next) Done (reaches_more 0 64 (lit≤ tt) (reaches_set_step roster p at.known next))
+          ended_by (set_step roster p next) Done (reaches_more 0 most_given (lit≤ tt) (reaches_set_step roster p at.known next))
           (frees_moved roster (set_step roster p next) p (record r { step = next }) refl (λ w h. h)) (λ w e. none-some w e)
-      ended_owes false = ended_by roster Lost (reaches_none 64 roster) (frees_none roster) (λ w e. none-some w e)
+      ended_owes false = ended_by roster Lost (reaches_none most_given roster) (frees_none roster) (λ w e. none-some w e)
 
     pub turn_owes : (ongoing : Option OpenWork) → ((o : OpenWork) → ongoing ≡ Some o → IsAtWork roster core o.work.process)
         → (due : Option Call) → ((call : Call) → due ≡ Some call → IsKnown table call)

@@ -1,4 +1,4 @@
--- Work is done exactly where its process kept the core, and lost exactly where it did not.
+-- Work is done exactly if its process kept the core, and lost exactly if it did not.
 use Rattle.std.proofs.Common.{◌≡◌, ℕ, ◌+◌, ◌-◌, ◌<◌, ◌≤◌, Bool, true, false, List, [], ◌∷◌, ◌++◌, length, Option, None, Some, option_and_then, All, get_or, drop, take, refl, sym, ◌∙◌, ap, subst, arith}
 use Rattle.std.proofs.lemmas.Bool.{both_ways, eq-eqb, eqb-true}
 use Rattle.std.proofs.lemmas.List.{get_or-drop, length-drop}
@@ -61,7 +61,7 @@ module _ (table : Table) (machine : Machine) (past : PastIsTheRuns table machine
   abbrev unbroken : Bool
   unbroken = is_unbroken core p states
 
-  -- what stands open on the core
+  -- the work that is open on the core
   stands_open : open_work machine core ≡ Some (record { work = work; unbroken = unbroken })
   stands_open =
       let fits : length machine.past ≡ length (begun.earlier ++ begun.entry ∷ begun.later) = same ∙ ap length begun.parts in
@@ -70,7 +70,7 @@ module _ (table : Table) (machine : Machine) (past : PastIsTheRuns table machine
       ∙ ap (option_and_then (open_since core)) last
       ∙ rw begun.begun refl
 
-  -- the state after so many entries
+  -- the state after k entries
   state_is : (k : ℕ) (d : Roster) → first < k → k ≤ length machine.history
       → get_or states (k - 1 - first) d ≡ (run table (opening table) (take k (events_of machine.history))).roster
   state_is k d above within =
@@ -103,7 +103,7 @@ module _ (table : Table) (machine : Machine) (past : PastIsTheRuns table machine
   reply_is : (deed_of table machine core).outcome.reply ≡ (ended table machine.roster objects p unbroken).reply
   reply_is = rw stands_open refl
 
-  -- the reply, by whether it was kept
+  -- the reply, by whether the process kept the core
   ends_by : (b : Bool) → (b ≡ true → KeptTheCore table machine core first p) → (KeptTheCore table machine core first p → b ≡ true)
       → (deed_of table machine core).outcome.reply ≡ (ended table machine.roster objects p b).reply
       → EndsAsItWasKept table machine core work begun

@@ -1,4 +1,4 @@
--- What one entry more does to the objects that are read off the history.
+-- One entry more, and the objects that are read off the history.
 use Rattle.std.proofs.Common.{◌≡◌, ℕ, ◌+◌, ◌-◌, ◌≤◌, Bool, false, ◌||◌, Option, Some, List, [], ◌∷◌, ◌++◌, All, fold, count_by, if◌then◌else◌, filter, refl, ◌∙◌, ap, arith}
 use Rattle.std.proofs.lemmas.List.Elements.{All-head, All-tail}
 use Rattle.std.proofs.lemmas.List.Sums.{fold-append, sum_by-append}
@@ -16,7 +16,7 @@ use Rattle.apex_dispatch.proofs.Satisfied.{BeginsAt, calls-push, filter_all}
 use Rattle.apex_dispatch.proofs.ObjectsServe.{IsQuiet, IsRead}
 use Rattle.apex_dispatch.proofs.Truths.{or_false}
 
--- one entry more creates what its call says
+-- one entry more creates the thing that its call creates
 pub created-push : (created : Call → Option ℕ) (i : ℕ) (history : List Entry) (e : Entry)
     → is_created created i (history ++ e ∷ []) ≡ (is_created created i history || creates created i e)
 created-push created i history e =
@@ -32,7 +32,7 @@ folded-push step start queue history e more is =
     ap (fold step start) (calls-push (names queue) history e ∙ ap (λ c. calls ++ c) is)
     ∙ fold-append step start calls more
 
--- calls that begin waits leave it, where none of these changes it
+-- calls that begin waits leave it, if none of these changes it
 pub fold_stays : {V : Type 0} (step : V → Call → V) → ((c : Call) (w : Wait) → begins c ≡ Some w → (v : V) → step v c ≡ v)
     → (at : Option Queue) (calls : List Call) → All (BeginsAt at) calls → (v : V) → fold step v calls ≡ v
 fold_stays step still at [] all v = refl
@@ -49,7 +49,8 @@ accounts_more initial v after calls more accounts balance =
     let signals = sum_by-append (λ (c : Call). if is_signal c then 1 else 0) calls more in
     omega (arith, waits, signals, accounts, balance)
 
--- what is kept of semaphore s: its value accounts for all its satisfied calls, and is at most its maximum
+-- the facts that are kept of semaphore s: its value accounts for all its satisfied calls, and is at
+-- most its maximum
 pub record KeepsSemaphore (roster : Roster) (history : List Entry) (s : ℕ) (entry : SemaphoreConfig) : Type 0 where
   pub enough : IsAccounted entry.initial s history
   pub bounded : semaphore_value entry.initial s history ≤ entry.maximum

@@ -1,5 +1,5 @@
--- What a kernel keeps of waits and values: who waits asked for it last and waits for what is not there,
--- and no value is too great.
+-- The facts that a kernel keeps of waits and values: a waiting process asked for its wait with its
+-- latest call, and waits for what is not there; no value is too great.
 use Rattle.std.specs.Prelude.{◌≡◌, ℕ, ◌+◌, Bool, List, [], Option, None, Some, length, count_by, option_and_then, if◌then◌else◌}
 use Rattle.apex_dispatch.specs.Terms.{Call, Entry, Message, Queue, Record, Wait}
 use Rattle.apex_types.specs.declared.BlackboardService.TheVariants as blackboard
@@ -19,17 +19,17 @@ use Rattle.apex_types.specs.Stamps.{is_by_itself}
 use Rattle.apex_types.specs.Calls.{names, is_wait, is_signal}
 use Rattle.apex_types.specs.Satisfied.{latest_call, calls_where, semaphore_value}
 
--- value v accounts for these calls: v and the waits are together the initial value and the signals
+-- value v accounts for these calls: v plus the waits is the initial value plus the signals
 abbrev pub Accounts : ℕ → List Call → ℕ → Type 0
 Accounts initial calls v = v + count_by is_wait calls ≡ initial + count_by is_signal calls
 
 -- the value of semaphore s accounts for all its satisfied calls: no more waits are satisfied than
--- its start and its signals allow
+-- its initial value and its signals allow
 abbrev pub IsAccounted : ℕ → ℕ → List Entry → Type 0
 IsAccounted initial s history =
     Accounts initial (calls_where (names (queues.Semaphore s)) history) (semaphore_value initial s history)
 
--- the wait that a call begins where it is not answered at once
+-- the wait that a call begins if it is not answered at once
 abbrev pub begins : Call → Option Wait
 begins (call.Semaphore (Own s (semaphore.Wait timeout))) = Some (Semaphore s)
 begins (call.Buffer (Own b (buffer.Send message timeout))) = Some (Send b message)
@@ -52,27 +52,28 @@ asked_of (Some (Event e)) = Some (Event e)
 asked_of (Some (Mutex m)) = Some (Mutex m)
 asked_of _ = None
 
--- else, where the process suspended itself, it waits for time
+-- this wait; without one, a wait for time if the process suspended itself
 abbrev pub or_suspended : Option Wait → Bool → Option Wait
 or_suspended (Some w) by_itself = Some w
 or_suspended None by_itself = if by_itself then Some Time else None
 
--- what the process waits for by its own asking: an object, or time
+-- the wait that the process asked for: for an object, or for time
 abbrev pub awaited : Record → Option Wait
 awaited r = or_suspended (asked_of r.wait) (is_by_itself r.suspended)
 
--- who waits for what it asked for has, as the latest call of its own, one that begins that wait
+-- a process in a wait that it asked for has, as the latest call of its own, one that begins that
+-- wait
 abbrev pub AreAsked : Roster → List Entry → Type 0
 AreAsked roster history = (p : ℕ) (w : Wait) → awaited (record_at roster p) ≡ Some w
     → option_and_then begins (latest_call p history) ≡ Some w
 
--- who waits in the queue by its own asking waits for what is not there
+-- a process that asked for its wait in the queue waits for what is not there
 abbrev pub AreHeldBack : (Wait → Type 0) → Queue → Roster → Type 0
 AreHeldBack Lacks queue roster = (p : ℕ) (w : Wait) → awaited (record_at roster p) ≡ Some w
     → queue_of w ≡ Some queue → Lacks w
 
--- what a buffer of this capacity lacks that holds these messages: a receiver waits where it is empty, a
--- sender where it is full
+-- a buffer of this capacity that holds these messages lacks what the wait is for: a receiver waits
+-- if it is empty, a sender if it is full
 abbrev pub LacksMessage : ℕ → List Message → Wait → Type 0
 LacksMessage capacity messages (Receive b) = messages ≡ []
 LacksMessage capacity messages (Send b message) = length messages ≡ capacity

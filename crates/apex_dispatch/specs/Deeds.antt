@@ -1,11 +1,11 @@
--- What carrying out a deed leaves.
+-- The results of a deed that was carried out.
 use Rattle.std.specs.Prelude.{◌≡◌, List, Option}
 use Rattle.apex_dispatch.specs.Terms.{Call, Caller, Notice, Reply}
 use Rattle.apex_types.specs.Machine.{Deed, Objects}
 use Rattle.apex_types.specs.Roster.{Roster}
 use Rattle.apex_types.specs.Rows.{Leaves}
 
--- the deed was done: its caller, its call, and what its outcome leaves
+-- the deed was done: its caller, its call, and its outcome
 pub record Does (deed : Deed) (who : Caller) (asked : Option Call) (answer : Reply) (left : Roster) (objects : Objects) (before after : List Notice) : Type 0 where
   pub caller : who ≡ deed.caller
   pub call : asked ≡ deed.call

@@ -1,10 +1,10 @@
--- Which events a partition may be asked for.
+-- The events that a partition may be asked for.
 use Rattle.std.specs.Prelude.{ℕ, ◌<◌, ◌≤◌}
 use Rattle.apex_types.specs.Limits.{most_ticks}
 use Rattle.apex_dispatch.specs.Terms.{Event}
 use Rattle.apex_types.specs.declared.Event.TheVariants.{Turn, Tick}
 
--- a turn is of one of so many cores, and a tick of 1 to 1,048,576
+-- a turn is of a core below this number, and a tick of 1 to 1,048,576
 abbrev pub IsWithin : ℕ → Event → Type 0
 IsWithin cores (Turn core) = core < cores
 IsWithin cores (Tick n) = (1 ≤ n) × (n ≤ most_ticks)

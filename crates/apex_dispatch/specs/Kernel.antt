@@ -1,4 +1,4 @@
--- What every contract sees of a kernel, and what each kernel keeps.
+-- A kernel as every contract sees it, and the facts that each kernel keeps.
 use Rattle.std.specs.Prelude.{◌≡◌, ℕ, List, Option, All}
 use Rattle.apex_dispatch.specs.Terms.{Entry, OpenWork}
 use Rattle.apex_types.specs.Table.{Table, IsLawful}
@@ -30,9 +30,10 @@ kernel_with table objects roster history = record {
   objects = objects;
 }
 
--- what each kernel keeps: its table is lawful, its log's limit is the table's, its counter of init
--- steps, its running values and the work that stands open on each core are the history's, and the events
--- that its history tells of are in range and, run anew, give the machine's very state
+-- the facts that each kernel keeps: its table is lawful; its log's limit is the table's; its
+-- counter of init steps, its running values and the work that is open on each core are the
+-- history's; and the events that its history records are in range and, run anew, give the machine's
+-- very state
 pub record IsKept (kernel : KernelState) (init_made log_limit : ℕ) (works : List (Option OpenWork)) : Type 0 where
   pub lawful : IsLawful kernel.table
   pub limit : log_limit ≡ kernel.table.limit

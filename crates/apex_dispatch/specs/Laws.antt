@@ -8,6 +8,8 @@ use Rattle.apex_types.specs.declared.Wait.TheVariants.{Receive, Send, Blackboard
 use Rattle.apex_types.specs.Calls.{names, is_receive, sent_message}
 use Rattle.apex_types.specs.Dues.{HasNoPastDeadline, HasNoPastDue}
 use Rattle.apex_types.specs.Limits.{most_depth}
+use Rattle.apex_types.specs.Held.{holding_of}
+use Rattle.apex_types.specs.Profiles.{owned_of}
 use Rattle.apex_types.specs.Owners.{depth_of, owner, owns}
 use Rattle.apex_types.specs.Periods.{IsReleased, IsWholePeriodsAfter}
 use Rattle.apex_types.specs.Roster.{record_at}
@@ -18,25 +20,25 @@ use Rattle.apex_types.specs.Satisfied.{calls_where, semaphore_value, buffer_cont
 use Rattle.apex_types.specs.Machine.{Machine, run, opening, open_work, tick, events_of}
 use Rattle.apex_dispatch.specs.AskedWaits.{IsAccounted}
 
--- the value of semaphore s accounts for all its satisfied calls, so that it never served more waits
--- than its start and its signals allow, and it is at most its maximum
+-- the value of semaphore s accounts for all its satisfied calls, so that no more waits were served
+-- than its initial value and its signals allow, and it is at most its maximum
 pub record IsInRange (table : Table) (history : List Entry) (s : ℕ) : Type 0 where
   pub served : IsAccounted (semaphore_config table s).initial s history
   pub most : semaphore_value (semaphore_config table s).initial s history ≤ (semaphore_config table s).maximum
 
--- that holds of each semaphore
+-- each semaphore is in range
 abbrev pub AreInRange : Table → List Entry → Type 0
 AreInRange table history = (s : ℕ) → s < length table.semaphores → IsInRange table history s
 
--- the messages that buffer b delivered: as many as receives of it were satisfied, those that were sent
--- first
+-- the messages that buffer b delivered, one for each satisfied receive, are the first of those that
+-- were sent, and its content is the rest
 pub record IsInOrder (history : List Entry) (b : ℕ) : Type 0 where
   pub delivered : List Message
   pub many : length delivered ≡ count_by is_receive (calls_where (names (queues.Buffer b)) history)
   pub sent : filter_map sent_message (calls_where (names (queues.Buffer b)) history) ≡ delivered ++ buffer_content b history
 
--- each message that was sent to buffer b comes out once and in order, and no more are held than it has
--- room for; a receiver waits only where it is empty, and a sender only where it is full
+-- each message that was sent to buffer b comes out once and in order, and it holds no more than it
+-- has room for; a receiver waits only if it is empty, and a sender only if it is full
 pub record BufferIsInOrder (table : Table) (machine : Machine) (b : ℕ) : Type 0 where
   pub order : IsInOrder machine.history b
   pub room : length (buffer_content b machine.history) ≤ (buffer_config table b).capacity
@@ -44,7 +46,8 @@ pub record BufferIsInOrder (table : Table) (machine : Machine) (b : ℕ) : Type 
   pub senders : (p : ℕ) (message : Message) → (record_at machine.roster p).wait ≡ Some (Send b message)
       → length (buffer_content b machine.history) ≡ (buffer_config table b).capacity
 
--- who waits for blackboard b or for event e waits where the blackboard is empty or the event is down
+-- a process that waits for blackboard b or for event e waits only while the blackboard is empty or
+-- the event is down
 abbrev pub ReadersWaitForMessages : Machine → ℕ → Type 0
 ReadersWaitForMessages machine b = (p : ℕ) → (record_at machine.roster p).wait ≡ Some (Blackboard b)
     → blackboard_message b machine.history ≡ None
@@ -52,24 +55,26 @@ ReadersWaitForMessages machine b = (p : ℕ) → (record_at machine.roster p).wa
 abbrev pub WaitersWaitForEvents : Machine → ℕ → Type 0
 WaitersWaitForEvents machine e = (p : ℕ) → (record_at machine.roster p).wait ≡ Some (Event e) → is_up e machine.history ≡ false
 
--- in every run nobody waits for what is there, and buffers deliver in order
+-- no process waits for an object that has what it waits for, and buffers deliver in order
 pub record NobodyWaitsInVain (table : Table) (machine : Machine) : Type 0 where
   pub buffers : (b : ℕ) → b < length table.buffers → BufferIsInOrder table machine b
   pub blackboards : (b : ℕ) → b < length table.blackboards → ReadersWaitForMessages machine b
   pub events : (e : ℕ) → e < length table.events → WaitersWaitForEvents machine e
 
 -- mutex m has one owner at the most, whose current priority is at least the ceiling, and which owns it at
--- a depth of 1 to 32; who waits for it owns none, and where nobody owns it nobody waits for it
+-- a depth of 1 to 32; no process owns more mutexes than its profile allows; a process that waits for it
+-- owns none, and if no process owns it none waits for it
 pub record MutexIsOwnedInOrder (table : Table) (machine : Machine) (m : ℕ) : Type 0 where
   pub one : (p q : ℕ) → owns m (record_at machine.roster p) ≡ true → owns m (record_at machine.roster q) ≡ true → p ≡ q
   pub raised : (p : ℕ) → owns m (record_at machine.roster p) ≡ true
       → (mutex_config table m).ceiling ≤ current_priority (record_at machine.roster p)
   pub depth : (p : ℕ) → owns m (record_at machine.roster p) ≡ true
-      → (1 ≤ depth_of (record_at machine.roster p).owned) × (depth_of (record_at machine.roster p).owned ≤ most_depth)
-  pub waiters : (p : ℕ) → (record_at machine.roster p).wait ≡ Some (Mutex m) → (record_at machine.roster p).owned ≡ None
+      → let depth = depth_of (holding_of m (record_at machine.roster p).owned) in (1 ≤ depth) × (depth ≤ most_depth)
+  pub most : (p : ℕ) → length (record_at machine.roster p).owned ≤ owned_of table.profile
+  pub waiters : (p : ℕ) → (record_at machine.roster p).wait ≡ Some (Mutex m) → (record_at machine.roster p).owned ≡ []
   pub free : owner machine.roster m ≡ None → (p : ℕ) → (record_at machine.roster p).wait ≢ Some (Mutex m)
 
--- that holds of each mutex
+-- each mutex is owned in order
 abbrev pub MutexesAreOwnedInOrder : Table → Machine → Type 0
 MutexesAreOwnedInOrder table machine = (m : ℕ) → m < length table.mutexes → MutexIsOwnedInOrder table machine m
 
@@ -86,12 +91,12 @@ RunsCompose table machine = (first rest : List Happening)
 abbrev pub RunsStayWithin : Table → Type 0
 RunsStayWithin table = (events : List Happening) → length (run table (opening table) events).history ≤ table.limit
 
--- the events that the history of a run tells, run anew, give the same state and the same history
+-- the events that the history of a run records, run anew, give the same state and the same history
 abbrev pub HistoriesReplay : Table → Type 0
 HistoriesReplay table = (events : List Happening) →
     let machine = run table (opening table) events in run table (opening table) (events_of machine.history) ≡ machine
 
--- in every run time never goes back, and no due and no deadline that stands is below now
+-- in every run time never goes back, and no due and no deadline is below now
 pub record TimeGoesForward (table : Table) : Type 0 where
   pub forward : (first rest : List Happening) → (run table (opening table) first).roster.now ≤ (run table (opening table) (first ++ rest)).roster.now
   pub dues : (events : List Happening) → HasNoPastDue (run table (opening table) events).roster
@@ -102,8 +107,8 @@ abbrev pub StaysReleased : Table → List Happening → List Happening → ℕ �
 StaysReleased table first rest p = (some others : List Happening) → rest ≡ some ++ others
     → IsReleased (record_at (run table (opening table) (first ++ some)).roster p)
 
--- in every run a process is released whole periods after the release before, as long as it isn't stopped;
--- so all its releases since its start lie whole periods behind the first one
+-- in every run a process is released whole periods after the release before, as long as it isn't
+-- stopped; so all its releases since its start are whole periods after the first one
 abbrev pub ReleasesLieInPeriods : Table → Type 0
 ReleasesLieInPeriods table = (first rest : List Happening) (p : ℕ) → StaysReleased table first rest p
     → IsWholePeriodsAfter (process_config table p).attributes.period
@@ -118,7 +123,7 @@ HardMissesStop table = (events : List Happening) (n p t : ℕ) →
     (process_config table p).attributes.deadline ≡ Hard → (record_at before.roster p).deadline ≡ Some t
     → t ≤ after.roster.now → (record_at after.roster p).started ≡ false
 
--- in every run whoever has work open on a core is bound to that core
+-- in every run a process with work open on a core is bound to that core
 abbrev pub WorkersStay : Table → Type 0
 WorkersStay table = (events : List Happening) (core : ℕ) (o : OpenWork) →
     let machine = run table (opening table) events in

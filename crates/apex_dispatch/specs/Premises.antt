@@ -1,14 +1,15 @@
--- What a service and a tick may rely on: what is named is there, and stamps are left.
-use Rattle.std.specs.Prelude.{◌≡◌, ℕ, ◌<ℤ◌, ◌+ℤ◌, count_by, length, pos}
+-- The premises of a service and of a tick: the things that are named are there, and stamps are
+-- left.
+use Rattle.std.specs.Prelude.{◌*◌, ◌≡◌, ℕ, ◌<ℤ◌, ◌+ℤ◌, count_by, length, pos}
 use Rattle.apex_dispatch.specs.Terms.{Call}
 use Rattle.apex_types.specs.declared.Call.TheVariants.{Partition, Process as ToProcess, Caller as ToCaller, Time, Semaphore, Buffer, Blackboard, Event, Mutex, Work}
 use Rattle.apex_types.specs.Dues.{is_due_at}
-use Rattle.apex_types.specs.Limits.{most_stamps}
+use Rattle.apex_types.specs.Limits.{most_processes, most_stamps}
 use Rattle.apex_types.specs.Machine.{Objects}
 use Rattle.apex_types.specs.Roster.{Roster}
 use Rattle.apex_types.specs.Table.{Table, IsKnownObject}
 
--- what the call names is one of these objects
+-- if the call names a thing, it is one of these objects
 abbrev pub IsKnownTo : Objects → Call → Type 0
 IsKnownTo objects (Partition call) = Unit {0}
 IsKnownTo objects (ToProcess call) = IsKnownObject (length objects.processes) call
@@ -30,11 +31,16 @@ pub record AreOf (table : Table) (objects : Objects) : Type 0 where
   pub events : length objects.events ≡ length table.events
   pub mutexes : length objects.mutexes ≡ length table.mutexes
 
+-- the stamps that one event gives at the most: as many as the deadlines tell notices, two for each process, and one for
+-- each due
+abbrev pub most_given : ℕ
+most_given = 3 * most_processes
+
 -- there are stamps left for every process
 pub record HasStampsForAll (roster : Roster) : Type 0 where
-  pub young : (roster.young +ℤ pos 64) <ℤ pos most_stamps
-  pub old : pos 64 <ℤ (roster.old +ℤ pos most_stamps)
+  pub young : (roster.young +ℤ pos most_processes) <ℤ pos most_stamps
+  pub old : pos most_processes <ℤ (roster.old +ℤ pos most_stamps)
 
--- how many processes are due now
+-- the number of processes that are due now
 abbrev pub due_count : Roster → ℕ
 due_count roster = count_by (is_due_at roster.now) roster.records

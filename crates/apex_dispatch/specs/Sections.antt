@@ -1,4 +1,4 @@
--- The sections of the status listing: what each one lists, and their order (this profile).
+-- The sections of the status listing, and their order (this profile).
 use Rattle.std.specs.Prelude.{◌≡◌, ◌≤◌, ℕ, List, [], ◌∷◌, length, Option, None, Some}
 use Rattle.apex_types.specs.declared.Queue.TheVariants as queues
 use Rattle.apex_types.specs.Limits.{most_cores}
@@ -13,22 +13,22 @@ use Rattle.apex_dispatch.specs.declared.listing.Section.{Section}
 use Rattle.apex_dispatch.specs.declared.listing.Section.TheVariants.{Time, Mode, History, Cores, Processes, Semaphores, Buffers, Blackboards, Events, Mutexes}
 use Rattle.apex_dispatch.specs.Premises.{AreOf}
 
--- what is listed: a table, its processes and objects, and how many entries the history has
+-- all that is listed: a table, its processes and objects, and the number of entries of the history
 pub record Listed : Type 0 where
   pub table : Table
   pub roster : Roster
   pub objects : Objects
   pub entries : ℕ
 
--- the table is lawful, there are no more cores than a partition has, and there are a record and an object
--- for each entry of the table
+-- the table is lawful, there are no more cores than a partition has, and there are a record and an
+-- object for each entry of the table
 pub record IsListable (listed : Listed) : Type 0 where
   pub lawful : IsLawful listed.table
   pub cores : listed.roster.cores ≤ most_cores
   pub records : length listed.roster.records ≡ length listed.table.processes
   pub objects : AreOf listed.table listed.objects
 
--- how many things a section lists, created or not
+-- the number of things that a section lists, created or not
 abbrev pub thing_count : Listed → Section → ℕ
 thing_count listed Time = 1
 thing_count listed Mode = 1
@@ -41,7 +41,7 @@ thing_count listed Blackboards = length listed.table.blackboards
 thing_count listed Events = length listed.table.events
 thing_count listed Mutexes = length listed.table.mutexes
 
--- what is listed of the thing at a place of a section
+-- the text of the thing at a place of a section
 abbrev pub thing_text : Listed → Section → ℕ → List ℕ
 thing_text listed Time i = time_line listed.roster.now
 thing_text listed Mode i = mode_line listed.roster.mode
@@ -54,7 +54,7 @@ thing_text listed Blackboards i = blackboard_listing listed.table listed.roster 
 thing_text listed Events i = event_listing listed.table listed.roster listed.objects i
 thing_text listed Mutexes i = mutex_listing listed.table listed.roster listed.objects i
 
--- who waits for the thing at a place of a section
+-- the waiters for the thing at a place of a section
 abbrev pub waiting_at : Listed → Section → ℕ → List ℕ
 waiting_at listed Semaphores i = waiters listed.roster (queues.Semaphore i)
 waiting_at listed Buffers i = waiters listed.roster (queues.Buffer i)
@@ -63,7 +63,7 @@ waiting_at listed Events i = waiters listed.roster (queues.Event i)
 waiting_at listed Mutexes i = waiters listed.roster (queues.Mutex i)
 waiting_at listed _ i = []
 
--- what a section lists
+-- the text of a section
 abbrev pub section_text : Listed → Section → List ℕ
 section_text listed section = texts_of (thing_text listed section) (thing_count listed section)
 
@@ -72,7 +72,7 @@ abbrev pub sections : List Section
 sections =
     Time ∷ Mode ∷ History ∷ Cores ∷ Processes ∷ Semaphores ∷ Buffers ∷ Blackboards ∷ Events ∷ Mutexes ∷ []
 
--- the row has this text and can be printed; where there is no row there is no text
+-- the row has this text and can be printed; without a row there is no text
 abbrev pub Tells : Table → Option StatusRow → List ℕ → Type 0
 Tells table None text = text ≡ []
 Tells table (Some row) text = IsPrintableRow table row × (text ≡ row_text table row)

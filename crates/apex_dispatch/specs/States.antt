@@ -1,4 +1,4 @@
--- The four states of a process, each told for itself (ARINC 653 Part 1, process management).
+-- The four states of a process, each defined by itself (ARINC 653 Part 1, process management).
 use Rattle.std.specs.Prelude.{◌≡◌, ◌≢◌, ℕ, ◌<◌, true, false, List, Some, length}
 use Rattle.apex_dispatch.specs.Terms.{Event, State}
 use Rattle.apex_types.specs.declared.State.TheVariants.{Dormant, Ready, Running, Waiting}
@@ -7,7 +7,7 @@ use Rattle.apex_types.specs.Running.{is_eligible, chosen, process_state}
 use Rattle.apex_types.specs.Table.{Table}
 use Rattle.apex_types.specs.Machine.{run, opening}
 
--- what each state says of process p: dormant, it is not started; ready, it is eligible and no core's
+-- process p is in this state: dormant, it is not started; ready, it is eligible and no core's
 -- chosen one; running, it is a core's chosen one; waiting, it is started and not eligible
 abbrev pub IsIn : Roster → ℕ → State → Type 0
 IsIn roster p Dormant = (record_at roster p).started ≡ false

@@ -1,5 +1,5 @@
--- How work ends: done exactly where its process kept the core from the entry that began it on, and lost
--- exactly where it did not.
+-- The end of work: it is done exactly if its process kept the core from the entry that began it on,
+-- and lost exactly if it did not.
 use Rattle.std.specs.Prelude.{◌≡◌, ◌↔◌, ℕ, ◌<◌, ◌≤◌, true, false, List, ◌∷◌, ◌++◌, Some, All, length, take}
 use Rattle.apex_dispatch.specs.Terms.{Entry, Event as Happening, Work}
 use Rattle.apex_types.specs.declared.Reply.TheVariants.{Done, Lost}
@@ -23,14 +23,15 @@ abbrev pub KeptTheCore : Table → Machine → ℕ → ℕ → ℕ → Type 0
 KeptTheCore table machine core n p = (k : ℕ) → n < k → k ≤ length machine.history
     → chosen (run table (opening table) (take k (events_of machine.history))).roster core ≡ Some p
 
--- what the core's next turn answers
+-- the core's next turn answers DONE exactly if the process kept the core, and LOST exactly if it
+-- did not
 pub record EndsAsItWasKept (table : Table) (machine : Machine) (core : ℕ) (work : Work) (begun : HasBegun machine.history core work) : Type 0 where
   pub done : ((deed_of table machine core).outcome.reply ≡ Done)
       ↔ KeptTheCore table machine core (length begun.earlier) work.process
   pub lost : ((deed_of table machine core).outcome.reply ≡ Lost)
       ↔ (KeptTheCore table machine core (length begun.earlier) work.process → ⊥)
 
--- that holds in every run of all work that a core has begun
+-- in every run all work that a core has begun ends as its process kept the core
 abbrev pub WorkEndsAsItWasKept : Table → Type 0
 WorkEndsAsItWasKept table = (events : List Happening) (core : ℕ) (work : Work) →
     let machine = run table (opening table) events in

@@ -1,6 +1,8 @@
 -- Worked histories: small tables and events, and the lines that the definitions give for them.
 use Rattle.std.specs.Prelude.{◌≡◌, ℕ, true, false, None, Some, List, [], ◌∷◌, codes, flat_map, map, replicate, ◌++◌}
 use Rattle.apex_dispatch.specs.Terms.{Attributes, Call, Event}
+use Rattle.apex_types.specs.declared.Profile.TheVariants.{One}
+use Rattle.apex_types.specs.Limits.{usual_entries}
 use Rattle.apex_types.specs.declared.Call.TheVariants.{Partition, Process, Caller, Time, Semaphore, Work}
 use Rattle.apex_types.specs.declared.DeadlineType.TheVariants.{Soft}
 use Rattle.apex_types.specs.declared.Discipline.TheVariants.{Fifo, Priority}
@@ -17,7 +19,7 @@ use Rattle.apex_types.specs.declared.Timeout.TheVariants.{Poll, Ticks, Infinite}
 use Rattle.apex_types.specs.declared.Event.TheVariants.{Turn, Tick}
 use Rattle.apex_types.specs.Table.{Table, ProcessConfig, Step}
 use Rattle.apex_types.specs.Machine.{run, opening}
-use Rattle.apex_types.specs.Lines.{lines_of}
+use Rattle.apex_calls.specs.Lines.{lines_of}
 use Rattle.apex_table.specs.DefaultInit.{bare}
 
 -- the steps of calls that name no literal
@@ -36,8 +38,9 @@ starts name priority core script =
 -- a waiter on core 0 and a signaller on core 1, with one semaphore of value 0
 abbrev pub waiter_and_signaller : Table
 waiter_and_signaller = record {
+  profile = One;
   cores = 2;
-  limit = 4096;
+  limit = usual_entries;
   processes =
       starts (codes "P1") 10 0 (Semaphore (Own 0 (Wait Infinite)) ∷ [])
       ∷ starts (codes "P2") 10 1 (Semaphore (Own 0 Signal) ∷ []) ∷ [];
@@ -57,8 +60,9 @@ waiter_and_signaller = record {
 -- a process with an empty script
 abbrev pub empty_script : Table
 empty_script = record {
+  profile = One;
   cores = 1;
-  limit = 4096;
+  limit = usual_entries;
   processes = starts (codes "P") 10 0 [] ∷ [];
   semaphores = [];
   buffers = [];
@@ -121,8 +125,9 @@ EmptyScriptStopsItself =
 -- a process that waits on a semaphore for 5 ticks, and one that signals and asks for the value
 abbrev pub timed_waiter : Table
 timed_waiter = record {
+  profile = One;
   cores = 2;
-  limit = 4096;
+  limit = usual_entries;
   processes =
       starts (codes "P1") 10 0 (Semaphore (Own 0 (Wait (Ticks 5))) ∷ [])
       ∷ starts (codes "P2") 10 1 (Semaphore (Own 0 Signal) ∷ Semaphore (GetStatus 0) ∷ []) ∷ [];
@@ -134,7 +139,7 @@ timed_waiter = record {
   init = waiter_and_signaller.init;
 }
 
--- a waiter whose time is out gets no signal
+-- a waiter whose timeout is over gets no signal
 abbrev pub TimedOutWaiterGetsNoSignal : Type 0
 TimedOutWaiterGetsNoSignal =
     history_lines timed_waiter (replicate 9 (Turn 0) ++ Tick 5 ∷ Turn 1 ∷ Turn 1 ∷ [])
@@ -147,8 +152,9 @@ TimedOutWaiterGetsNoSignal =
 -- two processes that wait for 9 ticks, and one that waits for 4
 abbrev pub three_timers : Table
 three_timers = record {
+  profile = One;
   cores = 1;
-  limit = 4096;
+  limit = usual_entries;
   processes =
       starts (codes "A") 10 0 (Time (TimedWait (Ticks 9)) ∷ Caller GetMyId ∷ [])
       ∷ starts (codes "B") 10 0 (Time (TimedWait (Ticks 9)) ∷ [])
@@ -191,8 +197,9 @@ TickHaltsAtTheNextInstant =
 -- a process that starts another one after 3 ticks
 abbrev pub delayed_starter : Table
 delayed_starter = record {
+  profile = One;
   cores = 1;
-  limit = 4096;
+  limit = usual_entries;
   processes =
       starts (codes "A") 10 0 (Process (Own 1 (DelayedStart (Ticks 3))) ∷ [])
       ∷ (record { name = codes "B"; attributes = aperiodic 20; core = 0; loops = false; start = false; script = bares (Time GetTime ∷ []) }) ∷ [];
@@ -222,12 +229,13 @@ DelayedStartReleasesAtItsTime =
     ∷ codes "8 3 ticker - tick 5 -> ADVANCED 3 | released 2"
     ∷ codes "9 3 core0 2 GET_TIME -> VALUE 3" ∷ [])
 
--- two waiters in a queue by priority, and a process that makes the first one as urgent as the second one
--- before it signals
+-- two waiters in a queue by priority, and a process that makes the first one as urgent as the
+-- second one before it signals
 abbrev pub ranked_waiters : Table
 ranked_waiters = record {
+  profile = One;
   cores = 2;
-  limit = 4096;
+  limit = usual_entries;
   processes =
       starts (codes "A") 10 0 (Semaphore (Own 0 (Wait Infinite)) ∷ [])
       ∷ starts (codes "B") 20 1 (Semaphore (Own 0 (Wait Infinite)) ∷ [])
@@ -270,8 +278,9 @@ PriorityChangeMovesPriorityWaiter =
 -- a waiter, and a process that suspends it, signals, and resumes it
 abbrev pub suspended_waiter : Table
 suspended_waiter = record {
+  profile = One;
   cores = 2;
-  limit = 4096;
+  limit = usual_entries;
   processes =
       starts (codes "P1") 10 0 (Semaphore (Own 0 (Wait Infinite)) ∷ [])
       ∷ starts (codes "P2") 10 1 (Process (Own 0 Suspend) ∷ Semaphore (Own 0 Signal) ∷ Process (GetStatus 0) ∷ Process (Own 0 Resume) ∷ Process (GetStatus 0) ∷ []) ∷ [];
@@ -298,8 +307,9 @@ SuspendedWaiterIsWokenAndStaysWaiting =
 -- a process that suspends itself for 3 ticks, and then for none
 abbrev pub self_suspender : Table
 self_suspender = record {
+  profile = One;
   cores = 1;
-  limit = 4096;
+  limit = usual_entries;
   processes =
       starts (codes "A") 10 0 (Caller (SuspendSelf (Ticks 3)) ∷ Caller (SuspendSelf Poll) ∷ []) ∷ [];
   semaphores = [];
@@ -326,8 +336,9 @@ SuspensionOfItselfEnds =
 -- a process of period 10 that has 4 ticks for each release
 abbrev pub periodic_process : Table
 periodic_process = record {
+  profile = One;
   cores = 1;
-  limit = 4096;
+  limit = usual_entries;
   processes = (record {
     name = codes "A";
     attributes = record { priority = 10; period = Some 10; capacity = Some 4; deadline = Soft };
@@ -344,7 +355,7 @@ periodic_process = record {
   init = empty_script.init;
 }
 
--- a missed deadline is told, and a late wait ends at the next whole period
+-- a missed deadline has its notice, and a late wait ends at the next whole period
 abbrev pub MissedDeadlineThenNextRelease : Type 0
 MissedDeadlineThenNextRelease =
     history_lines periodic_process (replicate 4 (Turn 0) ++ Tick 23 ∷ Tick 19 ∷ Turn 0 ∷ Tick 9 ∷ Turn 0 ∷ [])
@@ -362,8 +373,9 @@ MissedDeadlineThenNextRelease =
 -- a worker, a more urgent process that waits, and on core 1 one that wakes it and stops it
 abbrev pub worker_and_disturber : Table
 worker_and_disturber = record {
+  profile = One;
   cores = 2;
-  limit = 4096;
+  limit = usual_entries;
   processes =
       starts (codes "A") 10 0 (Work 3 ∷ [])
       ∷ starts (codes "H") 20 0 (Semaphore (Own 0 (Wait Infinite)) ∷ [])
@@ -406,8 +418,9 @@ WorkIsLostAfterAbsence =
 -- an init list with refused steps, and a process that ends the partition
 abbrev pub own_init_list : Table
 own_init_list = record {
+  profile = One;
   cores = 1;
-  limit = 4096;
+  limit = usual_entries;
   processes =
       starts (codes "P") 10 0 (Process (Create (Known 0)) ∷ Partition (SetPartitionMode Idle) ∷ []) ∷ [];
   semaphores = [];

@@ -1,4 +1,5 @@
-//! The effect of a turn: an init step, the step of the chosen process, the end of its work, or nothing.
+//! The effect of a turn: an init step, the step of the chosen process, the end of its work, or
+//! nothing.
 ghost use Rattle.std.specs.Prelude.{◌≡◌, ◌<◌, ◌≤◌, length, Some};
 ghost use Rattle.apex_types.specs.Limits.{most_processes, most_steps};
 ghost use Rattle.std.specs.Option.{ForSome};
@@ -75,7 +76,8 @@ fn ask<S: Store>(
     }
 }
 
-/// The place after this one: behind its last step a looping script is at its first one again.
+/// The place after this one; after its last step a looping script goes to the first one, any other
+/// to its end.
 fn next_place(process: &ProcessConfig, step: u8) -> u8
     requires { length process.now.script ≤ most_steps }
     ensures { result ≡ next_place process.now step }
@@ -106,8 +108,8 @@ fn is_work(call: &Call) -> bool
     matches!(call, Call::Work(_))
 }
 
-/// The process carries out its step, and moves on before it but for work, which two turns carry out; the
-/// end of its script is STOP_SELF.
+/// The process carries out its step. It moves on before it, except for work, which two turns carry
+/// out; the end of its script is STOP_SELF.
 #[inline(always)]
 fn carry_out_step<S: Store>(
     table: &Table,
@@ -147,8 +149,8 @@ fn carry_out_step<S: Store>(
     }
 }
 
-/// Ends the work that the core has begun; else carries out the init step that is due, else the step of the
-/// core's chosen process, else nothing.
+/// Ends the work that the core has begun; else carries out the init step that is due, else the step
+/// of the core's chosen process, else nothing.
 #[inline(always)]
 pub(crate) fn carry_out<S: Store>(
     table: &Table,

@@ -4,7 +4,7 @@ ghost use Rattle.std.specs.Io.KnownBytes.{Appends};
 ghost use Rattle.apex_types.specs.Callers.{is_by_init};
 ghost use Rattle.apex_types.specs.Limits.{latest, most_entries, most_ticks};
 ghost use Rattle.apex_types.specs.Roster.{opening_roster, is_cold_start};
-ghost use Rattle.apex_types.specs.Lines.{IsPrintable};
+ghost use Rattle.apex_calls.specs.Lines.{IsPrintable};
 ghost use Rattle.apex_types.specs.Listing.{listing, listing_of};
 ghost use Rattle.apex_types.specs.Machine.{opening, turn, tick, happen, run, replay, events_of};
 ghost use Rattle.apex_types.specs.Table.{IsLawful, call_in};
@@ -32,7 +32,7 @@ pub struct Kernel<S: Store> {
     table: Table,
     store: S,
     objects: Objects,
-    /// How many init steps were carried out.
+    /// The number of init steps that were carried out.
     init_made: usize,
     works: Works,
     log: Log,
@@ -51,7 +51,7 @@ impl<S: Store> Model for Kernel<S> {
         k.init_made k.log.limit k.works };
 }
 
-/// The init step that is due in a turn of the core, where so many were carried out.
+/// The init step that is due in a turn of the core, after `init_made` init steps.
 fn due_call<S: Store>(table: &Table, store: &S, init_made: usize, core: CoreId) -> Option<Call>
     ensures { result ≡ (if is_cold_start (S.roster store.now).mode && core == 0 then call_in table.now.init init_made else None) }
 {
@@ -62,7 +62,7 @@ fn due_call<S: Store>(table: &Table, store: &S, init_made: usize, core: CoreId) 
     }
 }
 
-/// How many init steps a turn carries out that this caller asks in.
+/// The number of init steps that a turn with this caller carries out.
 fn steps_by(caller: &Caller) -> usize
     ensures { result ≡ (if is_by_init caller.now then 1 else 0) }
 {
@@ -72,7 +72,7 @@ fn steps_by(caller: &Caller) -> usize
     }
 }
 
-/// Refuses an event where the history has no room for its entry.
+/// Refuses an event if the history has no room for its entry.
 fn refuse_full(log: &Log) -> Result<(), Full>
     ensures accepted { IsOk result ↔ (length log.now.entries < log.now.limit) }
     ensures full { IfErr result (λ e. (e.entries ≡ length log.now.entries) × (e.entries ≡ log.now.limit)) }
@@ -86,7 +86,7 @@ fn refuse_full(log: &Log) -> Result<(), Full>
     }
 }
 
-/// Adds the entry that tells of a deed.
+/// Adds the entry of a deed.
 #[inline(always)]
 fn append<S: Store>(log: &mut Log, store: &S, who: Who, deed: Deed, notices: &Notices)
     requires room { length log.old.entries < log.old.limit }
@@ -135,7 +135,8 @@ impl<S: Store> Kernel<S> {
         })
     }
 
-    /// One turn of the core, whole.
+    /// One turn of the core, whole. `Full` if the history has no room for its entry, and then
+    /// nothing changes.
     pub fn turn(&mut self, core: CoreId) -> Result<(), Full>
         requires { core < self.old.table.cores }
         ensures accepted { IsOk result ↔ (length self.old.machine.history < self.old.table.limit) }
@@ -168,8 +169,9 @@ impl<S: Store> Kernel<S> {
         Ok(())
     }
 
-    /// One tick, whole: time goes on by `n` ticks, but not past the next instant at which a wait ends
-    /// by itself.
+    /// One tick, whole: time goes on by `n` ticks, but not past the next instant at which a wait
+    /// ends by itself or a deadline passes. `Full` if the history has no room for its entry, and
+    /// then nothing changes.
     pub fn tick(&mut self, n: u32) -> Result<(), Full>
         requires range { (1 ≤ n) × (n ≤ most_ticks) }
         ensures accepted { IsOk result ↔ (length self.old.machine.history < self.old.table.limit) }
@@ -204,8 +206,9 @@ impl<S: Store> Kernel<S> {
         }
     }
 
-    /// The events, one after the other, up to the first for which the history has no room; those
-    /// before it stand. So the state is that after the events of the history and these.
+    /// The events, one after the other, up to the first for which the history has no room, which is
+    /// answered `Full`; those before it are done. So the state is that after the events of the
+    /// history and these.
     pub fn run(&mut self, events: &[Event]) -> Result<(), Full>
         requires { All (IsWithin self.old.table.cores) events.now }
         ensures done { self.new ≡ kernel_in self.old.table
@@ -221,11 +224,11 @@ impl<S: Store> Kernel<S> {
         Ok(())
     }
 
-    /// What holds of every kernel: its running values are those that its history gives; the events
-    /// that its history tells of are in range and, run anew, give its very state; it has a record for
-    /// each process of the table, and no two of them have the same stamp; its history is within the
-    /// table's limit; its time is at most 2^36 ticks; and the ids that its entries name are the
-    /// table's.
+    /// The facts about every kernel: its running values are those that its history gives; the
+    /// events that its history records are in range and, run anew, give its very state; it has a
+    /// record for each process of the table, and no two of them have the same stamp; its history is
+    /// within the table's limit; its time is at most 2^36 ticks; and the ids that its entries name
+    /// are the table's.
     pub fn holds(&self)
         ensures values { self.now ≡ kernel_in self.now.table self.now.machine }
         ensures replays { replay self.now.table self.now.machine.history ≡ self.now.machine }
@@ -255,7 +258,7 @@ impl<S: Store> Kernel<S> {
         self.log.entry(place)
     }
 
-    /// What is listed of the partition.
+    /// The listing of the partition.
     fn listing(&self) -> Listing<'_, S>
         ensures { listing_of result.table result.roster result.objects result.entries ≡ listing self.now.table self.now.machine }
     {
@@ -271,7 +274,8 @@ impl<S: Store> Kernel<S> {
     /// Writes the status listing of the present state, many of its lines with one write (this
     /// profile). Takes no memory: the lines are gathered in the page.
     ///
-    /// Where a write failed, a beginning of the listing was written. What the page held is forgotten.
+    /// If a write failed, a prefix of the listing was written. The text that the page held before
+    /// is forgotten.
     pub fn print_status<W: Sink>(&self, page: &mut Page, writer: &mut Counted<W>) -> io::Result<()>
         ensures ok { OnOk result (Appends (W.contents (inner_of writer.old)) (W.contents (inner_of writer.new)) (listing self.now.table self.now.machine)) }
         ensures err { OnErr result (AppendsBeginning (W.contents (inner_of writer.old)) (W.contents (inner_of writer.new)) (listing self.now.table self.now.machine)) }

@@ -14,8 +14,8 @@ use apex_store::Store;
 use apex_table::Table;
 use apex_types::{CoreId, Queue};
 
-/// In every kernel each core's running process is the highest-priority, longest-ready one bound to it
-/// (ARINC 653 Part 1, process management; here core by core).
+/// In every kernel each core's running process is the highest-priority, longest-ready one bound to
+/// it (ARINC 653 Part 1, process management; here core by core).
 pub fn most_urgent_runs<S: Store>(kernel: &Kernel<S>, core: CoreId)
     ensures { RunsMostUrgent kernel.now.machine.roster core }
 {
@@ -32,8 +32,8 @@ pub fn first_waiter_is_first<S: Store>(kernel: &Kernel<S>, queue: Queue)
     apex_store::first_waiter_is_first(kernel.store(), queue);
 }
 
-/// In every run each process is in exactly one of the four states, and those that run are exactly the
-/// chosen ones (ARINC 653 Part 1, process management).
+/// In every run each process is in exactly one of the four states, and those that run are exactly
+/// the chosen ones (ARINC 653 Part 1, process management).
 pub fn each_has_one_state(table: &Table)
     ensures { EachHasOneState table.now }
 {
@@ -47,7 +47,7 @@ pub fn values_stay_in_range(table: &Table)
     table.lawful();
 }
 
-/// A run is a run over its beginning, and then over the rest.
+/// A run is a run over a prefix of it, and then over the rest.
 pub fn runs_compose<S: Store>(kernel: &Kernel<S>)
     ensures { RunsCompose kernel.now.table kernel.now.machine }
 {
@@ -61,16 +61,16 @@ pub fn runs_stay_within(table: &Table)
     table.lawful();
 }
 
-/// The events that the history of a run tells, run anew, give the same state and the same history: so
-/// a history can be replayed from its lines alone.
+/// The events that the history of a run records, run anew, give the same state and the same
+/// history: so a history can be replayed from its lines alone.
 pub fn histories_replay(table: &Table)
     ensures { HistoriesReplay table.now }
 {
     table.lawful();
 }
 
-/// In every run time never goes back, and no due and no deadline that stands is below now: no wait
-/// outlasts its due unseen, and no deadline passes unseen.
+/// In every run time never goes back, and no due and no deadline is below now: no wait outlasts its
+/// due unseen, and no deadline passes unseen.
 pub fn time_goes_forward(table: &Table)
     ensures { TimeGoesForward table.now }
 {
@@ -78,7 +78,7 @@ pub fn time_goes_forward(table: &Table)
 }
 
 /// In every run a process is released whole periods after the release before, as long as it isn't
-/// stopped: so all its releases since its start lie whole periods behind the first one.
+/// stopped: so all its releases since its start are whole periods after the first one.
 pub fn releases_lie_in_periods(table: &Table)
     ensures { ReleasesLieInPeriods table.now }
 {
@@ -92,15 +92,15 @@ pub fn hard_misses_stop(table: &Table)
     table.lawful();
 }
 
-/// In every run whoever has work open on a core is bound to that core.
+/// In every run a process with work open on a core is bound to that core.
 pub fn workers_stay(table: &Table)
     ensures { WorkersStay table.now }
 {
     table.lawful();
 }
 
-/// In every run the work that a core has begun is done by its next turn exactly where its process was the
-/// core's chosen one after the entry that began it and after every later one; else it is lost.
+/// In every run the work that a core has begun is done by its next turn exactly if its process was
+/// the core's chosen one after the entry that began it and after every later one; else it is lost.
 pub fn work_ends_as_it_was_kept(table: &Table)
     ensures { WorkEndsAsItWasKept table.now }
 {
@@ -108,7 +108,7 @@ pub fn work_ends_as_it_was_kept(table: &Table)
 }
 
 /// In every kernel each semaphore's value is from 0 to its maximum, time was never later than it is
-/// now, and no due and no deadline that stands is below now.
+/// now, and no due and no deadline is below now.
 pub fn values_and_dues_are_in_range<S: Store>(kernel: &Kernel<S>)
     ensures values { AreInRange kernel.now.table kernel.now.machine.history }
     ensures running { All IsWithinItsMaximum kernel.now.objects.semaphores }
@@ -121,8 +121,8 @@ pub fn values_and_dues_are_in_range<S: Store>(kernel: &Kernel<S>)
     time_goes_forward(kernel.table());
 }
 
-/// In every kernel each message that was sent to a buffer comes out once and in order, no buffer holds
-/// more than it has room for, and nobody waits for an object that has what it waits for.
+/// In every kernel each message that was sent to a buffer comes out once and in order, no buffer
+/// holds more than it has room for, and no process waits for an object that has what it waits for.
 pub fn nobody_waits_in_vain<S: Store>(kernel: &Kernel<S>)
     ensures { NobodyWaitsInVain kernel.now.table kernel.now.machine }
 {
@@ -130,7 +130,7 @@ pub fn nobody_waits_in_vain<S: Store>(kernel: &Kernel<S>)
 }
 
 /// In every kernel each mutex has one owner at the most, whose current priority is at least the
-/// ceiling, at a depth of 1 to 32; and nobody waits for a free one.
+/// ceiling, at a depth of 1 to 32; and no process waits for a free one.
 pub fn mutexes_are_owned_in_order<S: Store>(kernel: &Kernel<S>)
     ensures { MutexesAreOwnedInOrder kernel.now.table kernel.now.machine }
 {

@@ -49,13 +49,13 @@ const SECTIONS: [Section; 10] = [
     Section::Mutexes,
 ];
 
-/// What is listed of a partition.
+/// All that is listed of a partition.
 #[derive(Drop)]
 pub(crate) struct Listing<'a, S: Store> {
     pub(crate) table: &'a Table,
     pub(crate) store: &'a S,
     pub(crate) objects: &'a Objects,
-    /// How many entries the history has.
+    /// The number of entries that the history has.
     pub(crate) entries: u32,
 }
 
@@ -80,7 +80,7 @@ impl<'a, S: Store> Model for Listing<'a, S> {
 }
 
 impl<'a, S: Store> Listing<'a, S> {
-    /// How many things the section lists, created or not.
+    /// The number of things that the section lists, created or not.
     fn count(&self, section: Section) -> usize
         ensures { result ≡ thing_count self.now section }
     {
@@ -96,7 +96,7 @@ impl<'a, S: Store> Listing<'a, S> {
         }
     }
 
-    /// Who waits for the thing at this place of the section.
+    /// The waiters for the thing at this place of the section.
     fn waiting(&self, section: Section, place: usize) -> Waiters
         requires { place < thing_count self.now section }
         ensures { result ≡ waiting_at self.now section place }
@@ -117,7 +117,7 @@ impl<'a, S: Store> Listing<'a, S> {
         }
     }
 
-    /// The row of a process, where it is created.
+    /// The row of a process, if it is created.
     fn process(&self, process: ProcessId) -> Option<StatusRow<'a>>
         requires { process < length self.now.table.processes }
         ensures { Tells self.now.table result (process_listing self.now.table self.now.roster self.now.objects process) }
@@ -134,7 +134,7 @@ impl<'a, S: Store> Listing<'a, S> {
         })
     }
 
-    /// The row of a semaphore, where it is created.
+    /// The row of a semaphore, if it is created.
     fn semaphore<'r>(&self, semaphore: SemaphoreId, waiting: &'r Waiters) -> Option<StatusRow<'r>>
         requires known { semaphore < length self.now.table.semaphores }
         requires waiting { waiting.now ≡ waiters self.now.roster (queues.Semaphore semaphore) }
@@ -153,7 +153,7 @@ impl<'a, S: Store> Listing<'a, S> {
         })
     }
 
-    /// The row of a buffer, where it is created.
+    /// The row of a buffer, if it is created.
     fn buffer<'r>(&'r self, buffer: BufferId, waiting: &'r Waiters) -> Option<StatusRow<'r>>
         requires known { buffer < length self.now.table.buffers }
         requires waiting { waiting.now ≡ waiters self.now.roster (queues.Buffer buffer) }
@@ -171,7 +171,7 @@ impl<'a, S: Store> Listing<'a, S> {
         })
     }
 
-    /// The row of a blackboard, where it is created.
+    /// The row of a blackboard, if it is created.
     fn blackboard<'r>(
         &self,
         blackboard: BlackboardId,
@@ -194,7 +194,7 @@ impl<'a, S: Store> Listing<'a, S> {
         })
     }
 
-    /// The row of an event, where it is created.
+    /// The row of an event, if it is created.
     fn event<'r>(&self, event: EventId, waiting: &'r Waiters) -> Option<StatusRow<'r>>
         requires known { event < length self.now.table.events }
         requires waiting { waiting.now ≡ waiters self.now.roster (queues.Event event) }
@@ -213,18 +213,20 @@ impl<'a, S: Store> Listing<'a, S> {
         })
     }
 
-    /// How deep the mutex is owned. 0 where it is free.
+    /// The depth at which the mutex is owned. 0 if it is free.
     fn depth(&self, mutex: MutexId) -> u8
-        ensures { result ≡ owned_depth self.now.roster (owner self.now.roster mutex) }
+        ensures { result ≡ owned_depth self.now.roster mutex (owner self.now.roster mutex) }
     {
-        let owner = self.store.owner(mutex);
-        match owner.and_then(|process| self.store.record(process).owned) {
+        let Some(process) = self.store.owner(mutex) else {
+            return 0;
+        };
+        match self.store.record(process).owned.holding_of(mutex) {
             Some(holding) => holding.depth,
             None => 0,
         }
     }
 
-    /// The row of a mutex, where it is created.
+    /// The row of a mutex, if it is created.
     fn mutex<'r>(&self, mutex: MutexId, waiting: &'r Waiters) -> Option<StatusRow<'r>>
         requires known { mutex < length self.now.table.mutexes }
         requires waiting { waiting.now ≡ waiters self.now.roster (queues.Mutex mutex) }
@@ -254,8 +256,8 @@ impl<'a, S: Store> Listing<'a, S> {
         }
     }
 
-    /// The row of the thing at this place of the section, for which these wait. None for what isn't
-    /// created.
+    /// The row of the thing at this place of the section, for which these processes wait. None if
+    /// it isn't created.
     fn row<'r>(
         &'r self,
         section: Section,
@@ -281,7 +283,7 @@ impl<'a, S: Store> Listing<'a, S> {
         }
     }
 
-    /// Gathers what is listed of the thing at this place of the section.
+    /// Gathers the text of the thing at this place of the section.
     fn gather<W: Sink>(
         &self,
         section: Section,
@@ -320,9 +322,10 @@ impl<'a, S: Store> Listing<'a, S> {
         Ok(())
     }
 
-    /// Writes the listing, many of its lines with one write. What the page held is forgotten.
+    /// Writes the listing, many of its lines with one write. The text that the page held before is
+    /// forgotten.
     ///
-    /// Where a write failed, a beginning of the listing was written.
+    /// If a write failed, a prefix of the listing was written.
     pub(crate) fn print<W: Sink>(&self, page: &mut Page, writer: &mut Counted<W>) -> Result<()>
         ensures ok { OnOk result (Appends (W.contents (inner_of writer.old)) (W.contents (inner_of writer.new)) (listing_of self.now.table self.now.roster self.now.objects self.now.entries)) }
         ensures err { OnErr result (AppendsBeginning (W.contents (inner_of writer.old)) (W.contents (inner_of writer.new)) (listing_of self.now.table self.now.roster self.now.objects self.now.entries)) }

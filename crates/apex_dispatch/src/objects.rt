@@ -12,7 +12,8 @@ use apex_types::{BlackboardId, BufferId, SemaphoreId};
 use std::alloc::{AllocError, Global};
 use std::marker::Model;
 
-/// What the services see besides the processes' records: running values, which the history gives too.
+/// The objects, which the services see besides the processes' records: running values, which the
+/// history gives too.
 #[derive(Drop)]
 pub(crate) struct Objects {
     pub(crate) processes: Vec<ProcessObject>,

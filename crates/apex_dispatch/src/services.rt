@@ -22,7 +22,7 @@ mod time;
 pub(crate) use process::ProcessObject;
 
 /// Carries out a call of any service.
-// Apart, so that its callers are small enough to be inlined.
+// In a function of its own, so that its callers are small enough to be inlined.
 #[inline(never)]
 pub(crate) fn serve<S: Store>(
     store: &mut S,

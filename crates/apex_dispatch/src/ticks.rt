@@ -1,19 +1,19 @@
-//! The effect of a tick: time goes on to the next instant at the latest, and there deadlines are missed
-//! and waits end.
+//! The effect of a tick: time goes on to the next instant at the latest, and there deadlines are
+//! missed and waits end.
 ghost use Rattle.std.specs.Prelude.{◌≡◌, ◌+◌, ◌-◌, ◌<◌, ◌≤◌, ◌^◌, [], ◌∷◌, ◌++◌, length};
-ghost use Rattle.apex_types.specs.Limits.{latest, most_notices, most_processes};
+ghost use Rattle.apex_types.specs.Limits.{latest, most_notices, most_owned, most_processes};
 ghost use Rattle.apex_types.specs.declared.Notice.TheVariants.{Missed};
 ghost use Rattle.apex_types.specs.Dues.{HasTime};
 ghost use Rattle.apex_types.specs.InTurn.{Makes, behind};
 ghost use Rattle.apex_types.specs.Periods.{AreInTime};
-ghost use Rattle.apex_types.specs.Stamps.{HasManyStamps, HasOrderlyStarts, HasStamps};
+ghost use Rattle.apex_types.specs.Stamps.{HasManyStamps, HasOrderlyStarts, HasStamps, HasStampsFor};
 ghost use Rattle.apex_types.specs.Ticks as ticks;
 ghost use Rattle.apex_dispatch.specs.Premises.{HasStampsForAll, due_count};
 
 use apex_store::{Store, halt};
 use apex_types::{DeadlineType, Notice, Notices, ProcessId, ReturnCode, Wait};
 
-/// The smaller of an instant and the next one, where there is one.
+/// The smaller of an instant and the next one, if there is one.
 fn not_beyond(instant: u64, next: Option<u64>) -> u64
     ensures { result ≡ ticks.not_beyond instant next }
 {
@@ -23,7 +23,7 @@ fn not_beyond(instant: u64, next: Option<u64>) -> u64
     }
 }
 
-/// Where a tick of `n` goes: to the smaller of now + `n` and the next instant.
+/// The instant to which a tick of `n` goes: the smaller of now + `n` and the next instant.
 fn tick_goal<S: Store>(store: &S, n: u32) -> u64
     requires time { HasTime (S.roster store.now) }
     ensures { result ≡ ticks.tick_goal (S.roster store.now) n }
@@ -31,11 +31,12 @@ fn tick_goal<S: Store>(store: &S, n: u32) -> u64
     not_beyond(store.now() + u64::from(n), store.next_instant())
 }
 
-/// The process missed its deadline: a HARD one stops it, and a mutex that it owned goes on at once.
+/// The process missed its deadline: a HARD one stops it, and the mutexes that it owned go on at
+/// once.
 fn miss<S: Store>(store: &mut S, process: ProcessId, deadline: DeadlineType, notices: &mut Notices)
     requires known { process < length (S.roster store.old).records }
-    requires stamps { HasStamps (S.roster store.old) }
-    requires room { length notices.old + 1 < most_notices }
+    requires stamps { HasStampsFor most_owned (S.roster store.old) }
+    requires room { length notices.old + 1 + length (ticks.miss (S.roster store.old) process deadline).notices ≤ most_notices }
     ensures { Makes (behind (Missed process deadline ∷ []) (ticks.miss (S.roster store.old) process deadline))
         (S.roster store.new) notices.old notices.new }
 {
@@ -46,7 +47,7 @@ fn miss<S: Store>(store: &mut S, process: ProcessId, deadline: DeadlineType, not
     }
 }
 
-/// The deadlines at now, by process number.
+/// The deadlines at now are served, by process number.
 fn serve_deadlines<S: Store>(store: &mut S, notices: &mut Notices)
     requires few { length (S.roster store.old).records ≤ most_processes }
     requires starts { HasOrderlyStarts (S.roster store.old) }
@@ -66,8 +67,8 @@ fn serve_deadlines<S: Store>(store: &mut S, notices: &mut Notices)
     }
 }
 
-/// The wait of a process ends at its due, by what it waited for; where it waits for nothing, its
-/// suspension of itself ends.
+/// The wait of a process ends at its due, by the thing for which it waited; if it waits for
+/// nothing, its suspension of itself ends.
 fn wait_over<S: Store>(store: &mut S, process: ProcessId, wait: Option<Wait>, notices: &mut Notices)
     requires known { process < length (S.roster store.old).records }
     requires stamps { HasStamps (S.roster store.old) }
@@ -92,7 +93,7 @@ fn wait_over<S: Store>(store: &mut S, process: ProcessId, wait: Option<Wait>, no
     }
 }
 
-/// The dues at now, by process number.
+/// The dues at now are served, by process number.
 fn serve_dues<S: Store>(store: &mut S, notices: &mut Notices)
     requires few { length (S.roster store.old).records ≤ most_processes }
     requires starts { HasOrderlyStarts (S.roster store.old) }
@@ -114,7 +115,7 @@ fn serve_dues<S: Store>(store: &mut S, notices: &mut Notices)
     }
 }
 
-/// What is at now: the deadlines first, and then the dues.
+/// The deadlines at now are served first, and then the dues.
 fn serve_instant<S: Store>(store: &mut S, notices: &mut Notices)
     requires few { length (S.roster store.old).records ≤ most_processes }
     requires starts { HasOrderlyStarts (S.roster store.old) }
@@ -129,8 +130,8 @@ fn serve_instant<S: Store>(store: &mut S, notices: &mut Notices)
     serve_dues(store, notices);
 }
 
-/// Time goes on by a tick of `n`, and what is at that instant is served: the deadlines, and then the
-/// dues. Answers how far time went, in ticks.
+/// Time goes on by a tick of `n`, and the deadlines and then the dues at that instant are served.
+/// Answers the ticks by which time went on.
 #[tactic(auto, unfolding(apex_types::specs::Ticks::pass_time))]
 pub(crate) fn pass_time<S: Store>(store: &mut S, n: u32, notices: &mut Notices) -> u32
     requires few { length (S.roster store.old).records ≤ most_processes }

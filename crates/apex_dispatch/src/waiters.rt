@@ -4,13 +4,13 @@ ghost use Rattle.apex_types.specs.Limits.{most_processes};
 ghost use Rattle.apex_types.specs.Listing.{waiters};
 
 use apex_store::Store;
-use apex_types::{ProcessId, Queue};
+use apex_types::{MOST_PROCESSES, ProcessId, Queue};
 use std::marker::Model;
 
-/// Processes one behind the other, 32 at the most.
+/// Processes one behind the other, [`MOST_PROCESSES`] at the most.
 #[derive(Drop)]
 pub(crate) struct Waiters {
-    processes: [ProcessId; 32],
+    processes: [ProcessId; MOST_PROCESSES],
     count: usize,
 }
 
@@ -26,12 +26,12 @@ impl Model for Waiters {
 }
 
 impl Waiters {
-    /// Nobody.
+    /// No process.
     pub(crate) fn new() -> Waiters
         ensures { result ≡ [] }
     {
         Waiters {
-            processes: [ProcessId::at(0); 32],
+            processes: [ProcessId::at(0); MOST_PROCESSES],
             count: 0,
         }
     }
@@ -52,7 +52,7 @@ impl Waiters {
     }
 }
 
-/// Who waits in the queue, from the first waiter on.
+/// The waiters of the queue, from the first one on.
 #[tactic(auto, unfolding(apex_types::specs::Listing::waiters))]
 pub(crate) fn waiters_in<S: Store>(store: &S, queue: &Queue) -> Waiters
     requires { length (S.roster store.now).records ≤ most_processes }

@@ -5,13 +5,15 @@ ghost use Rattle.apex_types.specs.Works.{fresh, watched};
 ghost use Rattle.apex_dispatch.specs.Works.{broken, work_at};
 
 use apex_store::Store;
-use apex_types::{CoreId, OpenWork, Work};
+use apex_types::{CoreId, MOST_CORES, OpenWork, Work};
 use std::marker::Model;
+
+const CORES: usize = MOST_CORES as usize;
 
 /// The work that each core has begun and not ended.
 #[derive(Drop)]
 pub(crate) struct Works {
-    of_core: [Option<OpenWork>; 8],
+    of_core: [Option<OpenWork>; CORES],
 }
 
 impl Model for Works {
@@ -31,7 +33,9 @@ impl Works {
     pub(crate) fn new() -> Works
         ensures { (core : ℕ) → work_at result core ≡ None }
     {
-        Works { of_core: [None; 8] }
+        Works {
+            of_core: [None; CORES],
+        }
     }
 
     /// The work that the core has begun and not ended.
@@ -41,7 +45,7 @@ impl Works {
         self.of_core[usize::from(core.number())]
     }
 
-    /// A turn of the core ended what was open there, and began this work or none.
+    /// A turn of the core ended the work that was open there, and began this work or none.
     pub(crate) fn begin(&mut self, core: CoreId, work: Option<Work>)
         ensures { (c : ℕ) → work_at self.new c ≡ (if c == core then option_map fresh work else work_at self.old c) }
     {

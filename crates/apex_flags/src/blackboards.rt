@@ -52,9 +52,9 @@ impl Blackboard {
         self.message
     }
 
-    /// DISPLAY_BLACKBOARD: the message replaces the old one, and all who wait for one get it, who
-    /// waits longest first. INVALID_PARAM where the blackboard isn't created or the message is empty
-    /// or too long.
+    /// DISPLAY_BLACKBOARD: the message replaces the old one, and all processes that wait for one
+    /// get it, the longest waiter first. INVALID_PARAM if the blackboard isn't created or the
+    /// message is empty or too long.
     pub fn display<S: Store>(
         &mut self,
         store: &mut S,
@@ -76,10 +76,10 @@ impl Blackboard {
         Reply::Code(ReturnCode::NoError)
     }
 
-    /// READ_BLACKBOARD: the caller gets the message; where there is none it waits for the time in
-    /// ticks that it may. INVALID_PARAM where the blackboard isn't created, INVALID_MODE where the
-    /// caller owns a mutex and would wait, or no process calls, NOT_AVAILABLE where the caller may not
-    /// wait.
+    /// READ_BLACKBOARD: the caller gets the message; if there is none it waits until the timeout,
+    /// in ticks, is over. INVALID_PARAM if the blackboard isn't created; INVALID_MODE if the caller
+    /// owns a mutex and the timeout isn't 0, or no process calls; NOT_AVAILABLE in place of a wait
+    /// if the timeout is 0.
     pub fn read<S: Store>(
         &self,
         store: &mut S,
@@ -112,7 +112,7 @@ impl Blackboard {
         }
     }
 
-    /// CLEAR_BLACKBOARD. INVALID_PARAM where the blackboard isn't created.
+    /// CLEAR_BLACKBOARD: the blackboard holds no message. INVALID_PARAM if it isn't created.
     pub fn clear<S: Store>(&mut self, store: &S) -> Reply
         ensures { Leaves (services.clear_blackboard (S.roster store.now) self.old)
             (S.roster store.now) self.new result [] [] }

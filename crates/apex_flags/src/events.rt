@@ -48,8 +48,8 @@ impl Event {
         self.up
     }
 
-    /// SET_EVENT: the event is up, and all who wait for it are woken, who waits longest first.
-    /// INVALID_PARAM where the event isn't created.
+    /// SET_EVENT: the event is up, and all processes that wait for it are woken, the longest waiter
+    /// first. INVALID_PARAM if the event isn't created.
     pub fn set<S: Store>(&mut self, store: &mut S, id: EventId, notices: &mut Notices) -> Reply
         requires few { length (S.roster store.old).records ≤ most_processes }
         requires stamps { HasManyStamps (S.roster store.old) }
@@ -65,7 +65,7 @@ impl Event {
         Reply::Code(ReturnCode::NoError)
     }
 
-    /// RESET_EVENT: the event is down. INVALID_PARAM where the event isn't created.
+    /// RESET_EVENT: the event is down. INVALID_PARAM if it isn't created.
     pub fn reset<S: Store>(&mut self, store: &S) -> Reply
         ensures { Leaves (services.reset_event (S.roster store.now) self.old)
             (S.roster store.now) self.new result [] [] }
@@ -77,9 +77,9 @@ impl Event {
         Reply::Code(ReturnCode::NoError)
     }
 
-    /// WAIT_EVENT: where the event is down the caller waits for the time in ticks that it may.
-    /// INVALID_PARAM where the event isn't created, INVALID_MODE where the caller owns a mutex and
-    /// would wait, or no process calls, NOT_AVAILABLE where the caller may not wait.
+    /// WAIT_EVENT: if the event is down the caller waits until the timeout, in ticks, is over.
+    /// INVALID_PARAM if the event isn't created; INVALID_MODE if the caller owns a mutex and the
+    /// timeout isn't 0, or no process calls; NOT_AVAILABLE in place of a wait if the timeout is 0.
     pub fn wait<S: Store>(
         &self,
         store: &mut S,

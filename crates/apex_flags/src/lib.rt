@@ -1,8 +1,8 @@
 //! The services of blackboards and of events (ARINC 653 Part 1, intrapartition communication), over
 //! any store.
 //!
-//! Each is an object of its kind. What a display or a set brings is there for all: it releases every
-//! process that waits, in the order in which they wait.
+//! Each is an object of its kind. A display and a set release every process that waits, in the
+//! order in which they wait.
 #![tactic(auto)]
 
 mod blackboards;

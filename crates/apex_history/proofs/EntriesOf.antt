@@ -4,6 +4,7 @@ use Rattle.std.specs.List.{AllByRecursion, last_or, slice_range}
 use Rattle.std.proofs.lemmas.List.{drop-append-le, take-append-le, take_all}
 use Rattle.std.proofs.lemmas.Option.{slice_get-get_or}
 use Rattle.std.proofs.Math.Seq.{drop-append_seam}
+use Rattle.apex_types.specs.Limits.{most_notices}
 use Rattle.apex_history.specs.Terms.{Entry, Notice}
 use Rattle.apex_types.proofs.Places.{length-map_places, get_or-map_places}
 use Rattle.apex_history.specs.RowEntries.{RowEntry, entry_of, entries_from, IsWithin, IsKept}
@@ -69,7 +70,7 @@ entries_put notices rows entry number within =
 
 -- a log that has room for one more is kept with it
 pub kept_put : (limit row_room notice_room more_room : ℕ) (rows : List RowEntry) (notices : List Notice) (entry : Entry)
-    → IsKept limit row_room notice_room rows notices → length rows < limit → length entry.notices ≤ 64 → notice_room ≤ more_room
+    → IsKept limit row_room notice_room rows notices → length rows < limit → length entry.notices ≤ most_notices → notice_room ≤ more_room
     → IsKept limit row_room more_room (rows ++ row_of notices entry ∷ []) (notices ++ entry.notices)
 kept_put limit row_room notice_room more_room rows notices entry kept room few more =
     let longer = length-append notices entry.notices in

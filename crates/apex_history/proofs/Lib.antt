@@ -1,3 +1,4 @@
+pub mod CallWords
 pub mod EntriesOf
 pub mod Joined
 pub mod LinesOf

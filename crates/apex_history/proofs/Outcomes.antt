@@ -1,4 +1,4 @@
--- A fact that holds holds where a call failed.
+-- A fact that holds also holds if a call failed.
 use Rattle.std.proofs.Common.{Result, Ok, Err, OnErr}
 
 pub OnErr-always : {T E P : Type 0} (r : Result T E) → P → OnErr r P

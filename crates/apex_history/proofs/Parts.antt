@@ -5,7 +5,7 @@ use Rattle.std.proofs.lemmas.List.{take_rest}
 use Rattle.std.proofs.lemmas.List.Splits.{slice_split_first, slice_split_none}
 use Rattle.std.proofs.lemmas.List.Sums.{fails_before_first}
 
--- the parts, where the first separator stands at i; what follows is a range of the list
+-- the parts, if the first separator is at i; the rest is a range of the list
 pub split_at_first : (p : ℕ → Bool) (xs : List ℕ) (i : ℕ) → position p xs ≡ Some i
     → slice_split p xs ≡ take i xs ∷ slice_split p (take (length xs - (i + 1)) (drop (i + 1) xs))
 split_at_first p xs i found = rw take_rest (go (nat_lt (position_or_len p xs) (length xs)) refl)
@@ -20,7 +20,7 @@ split_at_first p xs i found = rw take_rest (go (nat_lt (position_or_len p xs) (l
         let nowhere : None ≡ Some i = rw t at found in
         cc
 
--- the one part, where no separator stands
+-- the one part, if there is no separator
 pub split_at_none : (p : ℕ → Bool) (xs : List ℕ) → position p xs ≡ None → slice_split p xs ≡ xs ∷ []
 split_at_none p xs found = go (nat_lt (position_or_len p xs) (length xs)) refl
   where

@@ -4,25 +4,25 @@ use Rattle.std.proofs.KnownBytes.{Appends-trans}
 use Rattle.std.specs.Io.KnownBytes.{Appends}
 use Rattle.apex_history.specs.Terms.{Entry}
 use Rattle.apex_types.specs.Table.{Table}
-use Rattle.apex_types.specs.Lines.{lines_of}
+use Rattle.apex_calls.specs.Lines.{lines_of}
 use Rattle.apex_history.specs.Counted.{AppendsBeginning}
 use Rattle.apex_history.specs.Page.{Passes}
 use Rattle.apex_history.proofs.LinesOf.{lines_split}
 
--- a beginning of a text is one of a longer text
+-- a prefix of a text is one of a longer text
 pub beginning_longer : (a b : Option (List ℕ)) (text more : List ℕ) → AppendsBeginning a b text → AppendsBeginning a b (text ++ more)
 beginning_longer a b text more h =
     let (done, rest, split, appended) = h in
     (done, rest ++ more, ap (λ l. l ++ more) split ∙ append_assoc done rest more, appended)
 
--- a beginning of what the page held is a beginning of the text
+-- a prefix of the text that the page held is a prefix of the whole text
 pub beginning_after : (a b c : Option (List ℕ)) (text held : List ℕ) → Passes a b text held → AppendsBeginning b c held → AppendsBeginning a c text
 beginning_after a b c text held p h =
     let (front, whole, first) = p in
     let (done, rest, split, second) = h in
     (front ++ done, rest, whole ∙ ap (λ l. front ++ l) split ∙ sym (append_assoc front done rest), Appends-trans a b c front done first second)
 
--- what comes behind the text stays behind what is held
+-- bytes behind the text stay behind those that are held
 pub passes_with : (a b : Option (List ℕ)) (text held more : List ℕ) → Passes a b text held → Passes a b (text ++ more) (held ++ more)
 passes_with a b text held more p =
     let (done, split, appended) = p in
@@ -34,7 +34,7 @@ passes_all a b c text held p more =
     let (done, split, first) = p in
     subst (Appends a c) (sym split) (Appends-trans a b c done held first more)
 
--- the page hands on a part of what it held, and takes a line
+-- the page hands on a part of its text, and takes a line
 pub passes_more : (a b c : Option (List ℕ)) (text held kept line : List ℕ) → Passes a b text held → Passes b c held kept → Passes a c (text ++ line) (kept ++ line)
 passes_more a b c text held kept line p q =
     let (front, whole, first) = p in
@@ -42,7 +42,7 @@ passes_more a b c text held kept line p q =
     let same : text ≡ (front ++ done) ++ kept = whole ∙ ap (λ l. front ++ l) split ∙ sym (append_assoc front done kept) in
     (front ++ done, ap (λ l. l ++ line) same ∙ append_assoc (front ++ done) kept line, Appends-trans a b c front done first second)
 
--- a beginning of what the page held of the first lines is a beginning of all lines
+-- a prefix of the page's part of the first lines is a prefix of all lines
 pub beginning_of_lines : (a b c : Option (List ℕ)) (table : Table) (first others entries : List Entry) (held : List ℕ)
     → entries ≡ first ++ others → Passes a b (lines_of table first) held → AppendsBeginning b c held → AppendsBeginning a c (lines_of table entries)
 beginning_of_lines a b c table first others entries held split p h =

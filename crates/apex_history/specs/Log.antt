@@ -2,7 +2,7 @@
 use Rattle.std.specs.Prelude.{ℕ, List}
 use Rattle.apex_history.specs.Terms.{Entry}
 
--- the entries so far, the oldest first, and how many there may be
+-- the entries so far, the oldest first, and the most that there may be
 pub record History : Type 0 where
   pub entries : List Entry
   pub limit : ℕ

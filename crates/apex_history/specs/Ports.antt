@@ -1,9 +1,9 @@
--- What a reader and a writer have left and hold, and how many of their calls failed.
+-- The bytes that a reader has left and a writer holds, and the numbers of their calls that failed.
 use Rattle.std.specs.Prelude.{◌≡◌, ℕ, List, Option, IfSome}
 use Rattle.apex_history.specs.Counted.{one_more}
 
--- what the reader has left and what the writer holds, where they tell it, and how many reads and
--- writes have failed
+-- the bytes that the reader has left and that the writer holds, if they are known, and the numbers
+-- of reads and writes that failed
 pub record Ports : Type 0 where
   pub left : Option (List ℕ)
   pub held : Option (List ℕ)
@@ -29,6 +29,6 @@ abbrev pub AWriteFails : Ports → Ports → Type 0
 AWriteFails before after =
     (after.failed_reads ≡ before.failed_reads) × (after.failed_writes ≡ one_more before.failed_writes)
 
--- the bytes are those that the reader had left, where it tells them
+-- the bytes are those that the reader had left, if these are known
 abbrev pub IsLeft : List ℕ → Ports → Type 0
 IsLeft bytes before = IfSome before.left (λ xs. bytes ≡ xs)

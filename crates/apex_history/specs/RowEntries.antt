@@ -1,4 +1,4 @@
--- How a log keeps its entries: a row for each, and the notices of all of them in one list.
+-- The entries as a log keeps them: a row for each, and the notices of all of them in one list.
 use Rattle.std.specs.Prelude.{ℕ, ◌+◌, ◌*◌, ◌≤◌, List, Option, Some, None, length}
 use Rattle.std.specs.List.{AllByRecursion, slice_range}
 use Rattle.apex_history.specs.Terms.{Call, Caller, Entry, Notice, Reply, Who}
@@ -7,7 +7,7 @@ use Rattle.apex_history.specs.declared.rows.Asked.TheVariants.{For, Nothing}
 use Rattle.apex_types.specs.Limits.{most_entries, most_notices}
 use Rattle.apex_types.specs.Places.{map_places}
 
--- who asked, and for which call
+-- the caller, and its call if there is one
 abbrev pub caller_in : Asked → Caller
 caller_in (For caller call) = caller
 caller_in (Nothing caller) = caller
@@ -42,13 +42,13 @@ entry_of notices place row = record {
 abbrev pub entries_from : List Notice → ℕ → List RowEntry → List Entry
 entries_from notices place rows = map_places (entry_of notices) place rows
 
--- the row's notices are a part of so many, and no more than an event's
+-- the row's notices are a part of the first `many`, and no more than an event's
 pub record IsWithin (many : ℕ) (row : RowEntry) : Type 0 where
   pub order : row.start ≤ row.end
   pub few : row.end ≤ row.start + most_notices
   pub within : row.end ≤ many
 
--- what each log keeps: it has the room for its limit of rows, and for the notices of each
+-- the facts that each log keeps: it has the room for its limit of rows, and for the notices of each
 pub record IsKept (limit row_room notice_room : ℕ) (rows : List RowEntry) (notices : List Notice) : Type 0 where
   pub limits : (1 ≤ limit) × (limit ≤ most_entries)
   pub many : length rows ≤ limit

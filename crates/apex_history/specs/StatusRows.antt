@@ -19,11 +19,11 @@ row_text table (Blackboard blackboard message waiting) = blackboard_line table b
 row_text table (Event event up waiting) = event_line table event up waiting.now
 row_text table (Mutex mutex owner depth waiting) = mutex_line table mutex owner depth waiting.now
 
--- the thing is one of so many, and no more wait for it than there are processes
+-- the thing is one of `many`, and no more processes wait for it than a table may have
 abbrev pub IsListed : ℕ → ℕ → List ℕ → Type 0
 IsListed many i waiting = (i < many) × (length waiting ≤ most_processes)
 
--- what the row is about is the table's, and its lists are as short as the table's limits have them
+-- a thing of the table that the row is about is there, and the row's lists are within the limits
 abbrev pub IsPrintableRow : Table → StatusRow → Type 0
 IsPrintableRow table (Time now) = Unit {0}
 IsPrintableRow table (Mode mode) = Unit {0}

@@ -7,7 +7,7 @@ ghost use Rattle.apex_history.specs.Counted.{inner_of, failures_of, reads_left_o
 use crate::sources::{Sink, Source};
 use std::io::{Error, ErrorKind, Read, Result, Write};
 
-/// How many reads a counted reader lets through.
+/// The number of reads that a counted reader lets through.
 const READS: u64 = 4_294_967_296;
 
 /// A reader or writer that counts the calls of `T` that failed.
@@ -36,7 +36,7 @@ impl<T> Counted<T> {
         }
     }
 
-    /// How many calls failed so far.
+    /// The number of calls that failed so far.
     pub fn failures(&self) -> u64
         ensures { result ≡ failures_of self.now }
     {

@@ -6,10 +6,10 @@ use crate::sources::{Sink, Source};
 use std::io::{Error, ErrorKind, Result};
 use std::marker::Model;
 
-/// A reader and writer over memory whose call of a number that is known beforehand fails: a device
-/// for tests.
+/// A device for tests: a reader and writer over memory, one call of which fails; the number of this
+/// call is known beforehand.
 ///
-/// Reads take bytes from the front on, writes append within the room that the memory had when the
+/// Reads take bytes from the front on. Writes append within the room that the memory had when the
 /// device was made; a write that finds no room takes none.
 #[derive(Drop)]
 pub struct FailAt {
@@ -55,7 +55,7 @@ impl FailAt {
         self.bytes.as_slice()
     }
 
-    // Makes one call more, and says whether it fails.
+    // Makes one call more, which fails if it is the one that fails.
     fn call(&mut self) -> Result<()>
         ensures fails { FailsAt self.old result }
         ensures after { self.new ≡ called self.old }

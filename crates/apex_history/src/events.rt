@@ -4,18 +4,18 @@ ghost use Rattle.apex_history.specs.Words.{parts, parts_after};
 ghost use Rattle.apex_history.specs.ReadLines.{turn_named, tick_named, event_named, line_result};
 
 use crate::words::{cut, read_core, read_ticks};
-use apex_types::Event;
+use apex_types::{Event, MOST_LINE};
 
-/// Why a line names no event.
+/// The reason why a line names no event.
 #[derive(Clone, Copy, Debug, PartialEq, Eq)]
 pub enum LineFault {
     /// Its words name no event.
     BadLine,
-    /// It has more than 4,096 bytes.
+    /// It has more than [`MOST_LINE`] bytes.
     TooLong,
 }
 
-/// The turn of a core, where the third word of a line names one.
+/// The turn of a core, if the third word of a line names one.
 fn read_turn(who: &[u8]) -> Option<Event>
     ensures { result ≡ turn_named who.now }
 {
@@ -23,7 +23,7 @@ fn read_turn(who: &[u8]) -> Option<Event>
     read_core(core).map(Event::Turn)
 }
 
-/// The tick, where the third word of a line and what stands behind it name one.
+/// The tick, if the third word of a line and the words behind it name one.
 fn read_tick(who: &[u8], after: Option<&[u8]>) -> Option<Event>
     ensures { result ≡ tick_named (who.now ∷ parts_after 32 (option_map (λ rest. rest.now) after.entry)) }
 {
@@ -49,19 +49,19 @@ fn event_in(line: &[u8]) -> Option<Event>
     }
 }
 
-/// The event that a line of a history names, which is given without its line feed.
+/// The event that a line of a history names; the line is given without its line feed.
 ///
 /// Its third word is `coreC`, C a core from 0 to 7, or its third to sixth words are
 /// `ticker - tick n`, n from 1 to 1,048,576 without a leading zero; nothing else of it counts. A
-/// word is what stands between single spaces, and may be empty (this profile).
+/// word is the text between two single spaces, and may be empty (this profile).
 ///
 /// # Errors
 ///
-/// `TooLong` where the line has more than 4,096 bytes, else `BadLine` where it names no event.
+/// `TooLong` if the line has more than [`MOST_LINE`] bytes, else `BadLine` if it names no event.
 pub fn read_line(line: &[u8]) -> Result<Event, LineFault>
     ensures { result ≡ line_result line.now }
 {
-    if line.len() > 4096 {
+    if line.len() > MOST_LINE {
         return Err(LineFault::TooLong);
     }
     event_in(line).ok_or(LineFault::BadLine)

@@ -4,12 +4,9 @@ ghost use Rattle.apex_types.specs.Limits.{most_entries};
 
 use crate::lent::Entries;
 use crate::rows::{Asked, Row};
-use apex_types::{LentEntry, Notice};
+use apex_types::{LentEntry, MOST_NOTICES, Notice};
 use std::alloc::{AllocError, Global};
 use std::marker::Model;
-
-/// How many notices an entry has at the most.
-const NOTICES: usize = 64;
 
 /// The entries of one history, the oldest first, up to a limit that is set beforehand.
 #[derive(Drop)]
@@ -39,7 +36,7 @@ fn put_notices(all: &mut Vec<Notice>, notices: &[Notice])
     ensures items { all.new.items ≡ all.old.items ++ notices.now }
     ensures room { vec_capacity all.old ≤ vec_capacity all.new }
 {
-    // As of most events.
+    // Most events have none.
     if notices.is_empty() {
         return;
     }
@@ -58,7 +55,7 @@ impl Log {
         ensures limit { IfOk result (λ log. log.limit ≡ limit) }
     {
         let rows = Vec::with_capacity(alloc, limit as usize)?;
-        let notices = Vec::with_capacity(alloc, NOTICES * limit as usize)?;
+        let notices = Vec::with_capacity(alloc, MOST_NOTICES * limit as usize)?;
         Ok(Log {
             rows,
             notices,
@@ -100,7 +97,7 @@ impl Log {
         Entries::new(self.rows.as_slice(), self.notices.as_slice())
     }
 
-    /// How many entries there are.
+    /// The number of entries.
     pub fn len(&self) -> usize
         ensures value { result ≡ length self.now.entries }
         ensures range { result ≤ self.now.limit }
@@ -115,7 +112,7 @@ impl Log {
         self.len() == 0
     }
 
-    /// How many entries there may be: 1 to 65,536.
+    /// The most entries that there may be: 1 to 65,536.
     pub fn limit(&self) -> u32
         ensures value { result ≡ self.now.limit }
         ensures range { (1 ≤ result) × (result ≤ most_entries) }
@@ -123,7 +120,7 @@ impl Log {
         self.limit
     }
 
-    /// Whether there are as many entries as there may be.
+    /// Whether there is no room for another entry.
     pub fn is_full(&self) -> bool
         ensures full { IsTrue result ↔ (length self.now.entries ≡ self.now.limit) }
         ensures room { result ≡ false → length self.now.entries < self.now.limit }

@@ -1,8 +1,10 @@
 //! A page of text, in which lines are gathered before they are written.
 ghost use Rattle.std.specs.Prelude.{◌≡◌, ◌+◌, ◌≤◌, [], ◌++◌, length, IfOk, OnOk, OnErr};
 ghost use Rattle.std.specs.Io.KnownBytes.{Appends};
+ghost use Rattle.apex_history.specs.declared.puts.TheConstants.{LINES_ROOM};
 ghost use Rattle.apex_history.specs.Counted.{inner_of, failures_of, CountsFailure, AppendsBeginning};
 ghost use Rattle.apex_history.specs.Page.{Passes};
+ghost use Rattle.apex_history.specs.declared.pages.TheConstants.{PAGE_ROOM};
 
 use crate::counting::Counted;
 use crate::puts::LINES_ROOM;
@@ -12,10 +14,10 @@ use std::io;
 use std::io::Write;
 use std::marker::Model;
 
-/// How many bytes a page holds at the most.
-const PAGE_ROOM: usize = 65_536;
+/// The most bytes that a page holds.
+const PAGE_ROOM: usize = 8 * LINES_ROOM;
 
-/// A buffer of text that is made beforehand, in which lines are gathered so that many of them are
+/// A buffer of text that is made beforehand. Lines are gathered in it, so that many of them are
 /// written at once.
 #[derive(Drop)]
 pub struct Page {
@@ -24,16 +26,17 @@ pub struct Page {
 
 impl Model for Page {
     ghost use Rattle.std.specs.Prelude.{ℕ, List, ◌≤◌, length, vec_capacity};
+    ghost use Rattle.apex_history.specs.declared.pages.TheConstants.{PAGE_ROOM};
 
     ghost Value = { List ℕ };
 
     ghost view = { λ p. p.text.items };
 
-    ghost invariant = { λ p. (length p.text.items ≤ 65536) × (65536 ≤ vec_capacity p.text) };
+    ghost invariant = { λ p. (length p.text.items ≤ PAGE_ROOM) × (PAGE_ROOM ≤ vec_capacity p.text) };
 }
 
 impl Page {
-    /// An empty page, which takes the memory for 65,536 bytes at once. It fails only for want of
+    /// An empty page, which takes the memory for [`PAGE_ROOM`] bytes at once. It fails only for want of
     /// memory.
     pub fn new(alloc: Global) -> Result<Page, AllocError>
         ensures { IfOk result (λ page. page ≡ []) }
@@ -49,10 +52,10 @@ impl Page {
         self.text.clear();
     }
 
-    /// Writes the text out where lines may not fit behind it.
+    /// Writes the text out if lines may not fit behind it.
     pub(crate) fn make_room<W: Sink>(&mut self, writer: &mut Counted<W>) -> io::Result<()>
         ensures ok { OnOk result (Passes (W.contents (inner_of writer.old)) (W.contents (inner_of writer.new)) self.old self.new) }
-        ensures room { length self.new + 8192 ≤ 65536 }
+        ensures room { length self.new + LINES_ROOM ≤ PAGE_ROOM }
         ensures empty { OnErr result (self.new ≡ []) }
         ensures err { OnErr result (AppendsBeginning (W.contents (inner_of writer.old)) (W.contents (inner_of writer.new)) self.old) }
         ensures counted { CountsFailure result (failures_of writer.old) (failures_of writer.new) }
@@ -65,7 +68,7 @@ impl Page {
 
     /// Puts lines behind the text.
     pub(crate) fn put(&mut self, lines: &[u8])
-        requires { length self.old + length lines.now ≤ 65536 }
+        requires { length self.old + length lines.now ≤ PAGE_ROOM }
         ensures { self.new ≡ self.old ++ lines.now }
     {
         let taken = self.text.extend_from_slice(lines);
@@ -73,7 +76,7 @@ impl Page {
         prove!(fits);
     }
 
-    /// Writes the text out, and forgets it also where a write failed, which leaves a beginning of it.
+    /// Writes the text out, and forgets it even if a write failed, which leaves a prefix of it.
     pub fn hand_on<W: Sink>(&mut self, writer: &mut Counted<W>) -> io::Result<()>
         ensures ok { OnOk result (Appends (W.contents (inner_of writer.old)) (W.contents (inner_of writer.new)) self.old) }
         ensures empty { self.new ≡ [] }

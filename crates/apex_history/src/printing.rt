@@ -1,23 +1,25 @@
 //! The lines of an entry and of a history, written to a writer.
 ghost use Rattle.std.specs.Prelude.{◌≡◌, ◌+◌, ◌≤◌, [], ◌++◌, All, OnOk, OnErr};
+ghost use Rattle.apex_history.specs.declared.puts.TheConstants.{LINES_ROOM};
 ghost use Rattle.arrayvec.specs.ArrayVec.{array_vec_len};
 ghost use Rattle.std.specs.Io.KnownBytes.{Appends};
-ghost use Rattle.apex_types.specs.Lines.{line_of, lines_of, IsPrintable};
+ghost use Rattle.apex_types.specs.Limits.{most_line};
+ghost use Rattle.apex_calls.specs.Lines.{line_of, lines_of, IsPrintable};
 ghost use Rattle.apex_history.specs.Counted.{inner_of, failures_of, CountsFailure, AppendsBeginning};
 ghost use Rattle.apex_history.specs.Page.{Passes};
 
 use crate::counting::Counted;
 use crate::lent::Entries;
 use crate::pages::Page;
-use crate::puts::{LINE_ROOM, LINES_ROOM, Lines, put_line};
+use crate::puts::{LINES_ROOM, Lines, put_line};
 use crate::sources::Sink;
 use apex_table::Table;
-use apex_types::LentEntry;
+use apex_types::{LentEntry, MOST_LINE};
 use std::io::{Result, Write};
 
 /// Writes the line of the entry, with its line feed. Takes no memory.
 ///
-/// Where a write failed, a beginning of the line was written.
+/// If a write failed, a prefix of the line was written.
 pub fn print_entry<W: Sink>(
     table: &Table,
     entry: &LentEntry<'_>,
@@ -33,7 +35,7 @@ pub fn print_entry<W: Sink>(
     writer.write_all(line.as_slice())
 }
 
-/// Moves the lines into the page, whose text goes out first where they may not fit behind it.
+/// Moves the lines into the page, whose text goes out first if they may not fit behind it.
 pub(crate) fn pass_on<W: Sink>(
     lines: &mut Lines,
     page: &mut Page,
@@ -51,21 +53,21 @@ pub(crate) fn pass_on<W: Sink>(
     Ok(())
 }
 
-/// Moves the lines into the page where one more may not fit behind them.
+/// Moves the lines into the page if one more may not fit behind them.
 fn make_room<W: Sink>(lines: &mut Lines, page: &mut Page, writer: &mut Counted<W>) -> Result<()>
     ensures ok { OnOk result (Passes (W.contents (inner_of writer.old)) (W.contents (inner_of writer.new)) (page.old ++ lines.old.items) (page.new ++ lines.new.items)) }
-    ensures room { OnOk result (array_vec_len lines.new + 4096 ≤ 8192) }
+    ensures room { OnOk result (array_vec_len lines.new + most_line ≤ LINES_ROOM) }
     ensures empty { OnErr result (page.new ≡ []) }
     ensures err { OnErr result (AppendsBeginning (W.contents (inner_of writer.old)) (W.contents (inner_of writer.new)) (page.old ++ lines.old.items)) }
     ensures counted { CountsFailure result (failures_of writer.old) (failures_of writer.new) }
 {
-    if lines.len() + LINE_ROOM <= LINES_ROOM {
+    if lines.len() + MOST_LINE <= LINES_ROOM {
         return Ok(());
     }
     pass_on(lines, page, writer)
 }
 
-/// Writes out what the page holds, and then the lines.
+/// Writes out the text of the page, and then the lines.
 fn hand_on<W: Sink>(lines: &mut Lines, page: &mut Page, writer: &mut Counted<W>) -> Result<()>
     ensures ok { OnOk result (Appends (W.contents (inner_of writer.old)) (W.contents (inner_of writer.new)) (page.old ++ lines.old.items)) }
     ensures empty { page.new ≡ [] }
@@ -79,7 +81,8 @@ fn hand_on<W: Sink>(lines: &mut Lines, page: &mut Page, writer: &mut Counted<W>)
 /// Writes the lines of the entries, many of them with one write. Takes no memory: the lines are
 /// gathered in the page.
 ///
-/// Where a write failed, a beginning of the lines was written. What the page held is forgotten.
+/// If a write failed, a prefix of the lines was written. The text that the page held before is
+/// forgotten.
 pub fn print_history<W: Sink>(
     table: &Table,
     entries: Entries<'_>,

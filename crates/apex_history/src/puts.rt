@@ -1,50 +1,45 @@
 //! The words of a history's line, put one behind the other.
 ghost use Rattle.std.specs.Prelude.{◌≡◌, ◌+◌, ◌<◌, ◌≤◌, ◌++◌, length, flat_map, codes, decimal, IfSome};
-ghost use Rattle.apex_types.specs.Limits.{most_notices};
+ghost use Rattle.apex_history.specs.declared.puts.TheConstants.{LINES_ROOM, NOTICE_ROOM, NOTICES_ROOM};
+ghost use Rattle.apex_types.specs.Limits.{most_line, most_notices};
 ghost use Rattle.arrayvec.specs.ArrayVec.{array_vec_len};
 ghost use Rattle.apex_types.specs.Table.{IsKnown};
-ghost use Rattle.apex_types.specs.Lines.{id_text, code_text, deadline_text, timeout_text, call_text, no_call_text, asked_text, who_text, caller_text, reply_text, notice_text, noticed_text, line_of, IsPrintable};
+ghost use Rattle.apex_types.specs.Texts.{id_text};
+ghost use Rattle.apex_calls.specs.CallText.{timeout_text};
+ghost use Rattle.apex_calls.specs.Lines.{code_text, deadline_text, no_call_text, asked_text, who_text, caller_text, reply_text, notice_text, noticed_text, line_of, IsPrintable};
 
-mod blackboard;
-mod buffer;
-mod caller;
-mod event;
+mod call;
 mod message;
-mod mutex;
-mod object;
-mod partition;
-mod process;
-mod semaphore;
 mod status;
 mod status_rows;
-mod time;
 
 use apex_table::Table;
 use apex_types::{
-    Call, Caller, DeadlineType, Id, LentEntry, Name, Notice, Reply, ReturnCode, Span, Timeout, Who,
+    Call, Caller, DeadlineType, Id, LentEntry, MOST_LINE, MOST_NOTICES, Name, Notice, Reply,
+    ReturnCode, Timeout, Who,
 };
 use arrayvec::ArrayVec;
-use caller::put_caller_call;
+use call::put_call;
 use itoa::Buffer;
 use message::put_message;
-use object::put_object_call;
-use partition::put_partition_call;
 pub(crate) use status_rows::put_row;
-use time::put_time_call;
 
-/// How many bytes a line of a history has at the most.
-pub(crate) const LINE_ROOM: usize = 4096;
+/// The most bytes of the lines that are put together before they go to a page.
+pub const LINES_ROOM: usize = 2 * MOST_LINE;
 
-/// How many bytes the lines have at the most that are put together before they go to a page.
-pub(crate) const LINES_ROOM: usize = 8192;
+/// The most bytes of a notice, with the separator before it.
+const NOTICE_ROOM: usize = 27;
 
-/// Lines of a history, one behind the other: a buffer of at most 8,192 bytes, of which a line takes
-/// at most 4,096.
-pub type Lines = ArrayVec<u8, 8192>;
+/// The most bytes of the notices of an entry.
+const NOTICES_ROOM: usize = NOTICE_ROOM * MOST_NOTICES;
+
+/// Lines of a history, one behind the other: a buffer of at most [`LINES_ROOM`] bytes, of which a line
+/// takes at most [`MOST_LINE`].
+pub type Lines = ArrayVec<u8, LINES_ROOM>;
 
 #[inline(always)]
 fn put(line: &mut Lines, text: &str)
-    requires { array_vec_len line.old + length text.now ≤ 8192 }
+    requires { array_vec_len line.old + length text.now ≤ LINES_ROOM }
     ensures text { line.new.items ≡ line.old.items ++ text.now }
     ensures len { array_vec_len line.new ≡ array_vec_len line.old + length text.now }
 {
@@ -53,7 +48,7 @@ fn put(line: &mut Lines, text: &str)
 
 #[inline(always)]
 fn put_bytes(line: &mut Lines, text: &[u8])
-    requires { array_vec_len line.old + length text.now ≤ 8192 }
+    requires { array_vec_len line.old + length text.now ≤ LINES_ROOM }
     ensures text { line.new.items ≡ line.old.items ++ text.now }
     ensures len { array_vec_len line.new ≡ array_vec_len line.old + length text.now }
 {
@@ -67,7 +62,7 @@ fn put_bytes(line: &mut Lines, text: &[u8])
 #[tactic(auto, using(std::proofs::lemmas::Fmt::decimal_digit))]
 fn put_digit(line: &mut Lines, digit: u8)
     requires digit { digit < 10 }
-    requires room { array_vec_len line.old + 10 ≤ 8192 }
+    requires room { array_vec_len line.old + 10 ≤ LINES_ROOM }
     ensures text { line.new.items ≡ line.old.items ++ decimal digit }
     ensures short { array_vec_len line.new ≤ array_vec_len line.old + 10 }
 {
@@ -78,17 +73,17 @@ fn put_digit(line: &mut Lines, digit: u8)
 #[tactic(auto, using(itoa::proofs::Decimal::decimal_two))]
 fn put_two_digits(line: &mut Lines, number: u8)
     requires digits { (10 ≤ number) × (number < 100) }
-    requires room { array_vec_len line.old + 10 ≤ 8192 }
+    requires room { array_vec_len line.old + 10 ≤ LINES_ROOM }
     ensures text { line.new.items ≡ line.old.items ++ decimal number }
     ensures short { array_vec_len line.new ≤ array_vec_len line.old + 10 }
 {
     put_bytes(line, &[b'0' + number / 10, b'0' + number % 10]);
 }
 
-// A number of any length, apart so that what comes before it is inlined.
+// A number of any length, in a function of its own so that the shorter cases are inlined.
 #[inline(never)]
 fn put_digits(line: &mut Lines, number: u32)
-    requires { array_vec_len line.old + 10 ≤ 8192 }
+    requires { array_vec_len line.old + 10 ≤ LINES_ROOM }
     ensures text { line.new.items ≡ line.old.items ++ decimal number }
     ensures short { array_vec_len line.new ≤ array_vec_len line.old + 10 }
 {
@@ -98,7 +93,7 @@ fn put_digits(line: &mut Lines, number: u32)
 
 #[inline(always)]
 fn put_number(line: &mut Lines, number: u32)
-    requires { array_vec_len line.old + 10 ≤ 8192 }
+    requires { array_vec_len line.old + 10 ≤ LINES_ROOM }
     ensures text { line.new.items ≡ line.old.items ++ decimal number }
     ensures short { array_vec_len line.new ≤ array_vec_len line.old + 10 }
 {
@@ -114,7 +109,7 @@ fn put_number(line: &mut Lines, number: u32)
 // As `put_digits`.
 #[inline(never)]
 fn put_long_digits(line: &mut Lines, number: u64)
-    requires { array_vec_len line.old + 20 ≤ 8192 }
+    requires { array_vec_len line.old + 20 ≤ LINES_ROOM }
     ensures text { line.new.items ≡ line.old.items ++ decimal number }
     ensures short { array_vec_len line.new ≤ array_vec_len line.old + 20 }
 {
@@ -124,7 +119,7 @@ fn put_long_digits(line: &mut Lines, number: u64)
 
 #[inline(always)]
 fn put_long_number(line: &mut Lines, number: u64)
-    requires { array_vec_len line.old + 20 ≤ 8192 }
+    requires { array_vec_len line.old + 20 ≤ LINES_ROOM }
     ensures text { line.new.items ≡ line.old.items ++ decimal number }
     ensures short { array_vec_len line.new ≤ array_vec_len line.old + 20 }
 {
@@ -135,11 +130,13 @@ fn put_long_number(line: &mut Lines, number: u64)
     }
 }
 
+#[tactic(auto, using(crate::proofs::LinesOf::id_put))]
 fn put_id<K: Copy>(line: &mut Lines, id: Id<K>)
-    requires { array_vec_len line.old + 10 ≤ 8192 }
+    requires { array_vec_len line.old + 10 ≤ LINES_ROOM }
     ensures text { line.new.items ≡ line.old.items ++ id_text id }
-    ensures short { array_vec_len line.new ≤ array_vec_len line.old + 10 }
+    ensures short { array_vec_len line.new ≤ array_vec_len line.old + 3 }
 {
+    prove!(id.place() < 256);
     put_number(line, id.number());
 }
 
@@ -159,7 +156,7 @@ fn code_name(code: &ReturnCode) -> &'static str
 }
 
 fn put_timeout(line: &mut Lines, timeout: &Timeout)
-    requires { array_vec_len line.old + 10 ≤ 8192 }
+    requires { array_vec_len line.old + 10 ≤ LINES_ROOM }
     ensures text { line.new.items ≡ line.old.items ++ timeout_text timeout.now }
     ensures short { array_vec_len line.new ≤ array_vec_len line.old + 10 }
 {
@@ -171,92 +168,16 @@ fn put_timeout(line: &mut Lines, timeout: &Timeout)
 }
 
 fn put_name(line: &mut Lines, name: &Name)
-    requires { array_vec_len line.old + 30 ≤ 8192 }
+    requires { array_vec_len line.old + 30 ≤ LINES_ROOM }
     ensures text { line.new.items ≡ line.old.items ++ name.now }
     ensures short { array_vec_len line.new ≤ array_vec_len line.old + 30 }
 {
     put_bytes(line, name.as_bytes());
 }
 
-// A service's word, with the space behind it, and a timeout.
-#[tactic(auto, using(std::proofs::Common::append_assoc))]
-fn put_with_timeout(line: &mut Lines, word: &str, timeout: &Timeout)
-    requires { array_vec_len line.old + length word.now + 10 ≤ 8192 }
-    ensures text { line.new.items ≡ line.old.items ++ (word.now ++ timeout_text timeout.now) }
-    ensures short { array_vec_len line.new ≤ array_vec_len line.old + length word.now + 10 }
-{
-    put(line, word);
-    put_timeout(line, timeout);
-}
-
-// Such a word and a name.
-#[tactic(auto, using(std::proofs::Common::append_assoc))]
-fn put_with_name(line: &mut Lines, word: &str, name: &Name)
-    requires { array_vec_len line.old + length word.now + 30 ≤ 8192 }
-    ensures text { line.new.items ≡ line.old.items ++ (word.now ++ name.now) }
-    ensures short { array_vec_len line.new ≤ array_vec_len line.old + length word.now + 30 }
-{
-    put(line, word);
-    put_name(line, name);
-}
-
-// Such a word, a name and a number.
-#[tactic(auto, using(std::proofs::Common::append_assoc))]
-fn put_with_name_and_number(line: &mut Lines, word: &str, name: &Name, number: u32)
-    requires { array_vec_len line.old + length word.now + 41 ≤ 8192 }
-    ensures text { line.new.items ≡ line.old.items ++ (word.now ++ name.now ++ codes " " ++ decimal number) }
-    ensures short { array_vec_len line.new ≤ array_vec_len line.old + length word.now + 41 }
-{
-    put_with_name(line, word, name);
-    put(line, " ");
-    put_number(line, number);
-}
-
-// Such a word, a name and a timeout.
-#[tactic(auto, using(std::proofs::Common::append_assoc))]
-fn put_with_name_and_timeout(line: &mut Lines, word: &str, name: &Name, timeout: &Timeout)
-    requires { array_vec_len line.old + length word.now + 41 ≤ 8192 }
-    ensures text { line.new.items ≡ line.old.items ++ (word.now ++ name.now ++ codes " " ++ timeout_text timeout.now) }
-    ensures short { array_vec_len line.new ≤ array_vec_len line.old + length word.now + 41 }
-{
-    put_with_name(line, word, name);
-    put(line, " ");
-    put_timeout(line, timeout);
-}
-
-#[tactic(auto, using(std::proofs::Common::append_assoc))]
-fn put_work(line: &mut Lines, amount: Span)
-    requires { array_vec_len line.old + 15 ≤ 8192 }
-    ensures text { line.new.items ≡ line.old.items ++ (codes "work " ++ decimal amount) }
-    ensures short { array_vec_len line.new ≤ array_vec_len line.old + 15 }
-{
-    put(line, "work ");
-    put_number(line, amount.ticks());
-}
-
-fn put_call(line: &mut Lines, table: &Table, call: &Call)
-    requires known { IsKnown table.now call.now }
-    requires room { array_vec_len line.old + 192 ≤ 8192 }
-    ensures text { line.new.items ≡ line.old.items ++ call_text table.now call.now }
-    ensures short { array_vec_len line.new ≤ array_vec_len line.old + 192 }
-{
-    match call {
-        Call::Partition(call) => put_partition_call(line, call),
-        Call::Process(call) => put_object_call(line, table, call),
-        Call::Caller(call) => put_caller_call(line, call),
-        Call::Time(call) => put_time_call(line, call),
-        Call::Semaphore(call) => put_object_call(line, table, call),
-        Call::Buffer(call) => put_object_call(line, table, call),
-        Call::Blackboard(call) => put_object_call(line, table, call),
-        Call::Event(call) => put_object_call(line, table, call),
-        Call::Mutex(call) => put_object_call(line, table, call),
-        Call::Work(amount) => put_work(line, *amount),
-    }
-}
-
 #[tactic(auto, using(std::proofs::Common::append_assoc))]
 fn put_no_call(line: &mut Lines, reply: &Reply)
-    requires { array_vec_len line.old + 15 ≤ 8192 }
+    requires { array_vec_len line.old + 15 ≤ LINES_ROOM }
     ensures text { line.new.items ≡ line.old.items ++ no_call_text reply.now }
     ensures short { array_vec_len line.new ≤ array_vec_len line.old + 15 }
 {
@@ -271,9 +192,9 @@ fn put_no_call(line: &mut Lines, reply: &Reply)
 
 fn put_asked(line: &mut Lines, table: &Table, asked: &Option<Call>, reply: &Reply)
     requires known { IfSome asked.now (IsKnown table.now) }
-    requires room { array_vec_len line.old + 192 ≤ 8192 }
+    requires room { array_vec_len line.old + 419 ≤ LINES_ROOM }
     ensures text { line.new.items ≡ line.old.items ++ asked_text table.now asked.now reply.now }
-    ensures short { array_vec_len line.new ≤ array_vec_len line.old + 192 }
+    ensures short { array_vec_len line.new ≤ array_vec_len line.old + 419 }
 {
     match asked {
         Some(call) => put_call(line, table, call),
@@ -283,7 +204,7 @@ fn put_asked(line: &mut Lines, table: &Table, asked: &Option<Call>, reply: &Repl
 
 #[tactic(auto, using(std::proofs::Common::append_assoc))]
 fn put_who(line: &mut Lines, who: &Who)
-    requires { array_vec_len line.old + 14 ≤ 8192 }
+    requires { array_vec_len line.old + 14 ≤ LINES_ROOM }
     ensures text { line.new.items ≡ line.old.items ++ who_text who.now }
     ensures short { array_vec_len line.new ≤ array_vec_len line.old + 14 }
 {
@@ -297,7 +218,7 @@ fn put_who(line: &mut Lines, who: &Who)
 }
 
 fn put_caller(line: &mut Lines, caller: &Caller)
-    requires { array_vec_len line.old + 10 ≤ 8192 }
+    requires { array_vec_len line.old + 10 ≤ LINES_ROOM }
     ensures text { line.new.items ≡ line.old.items ++ caller_text caller.now }
     ensures short { array_vec_len line.new ≤ array_vec_len line.old + 10 }
 {
@@ -310,7 +231,7 @@ fn put_caller(line: &mut Lines, caller: &Caller)
 
 #[tactic(auto, using(std::proofs::Common::append_assoc))]
 fn put_reply(line: &mut Lines, table: &Table, reply: &Reply)
-    requires { array_vec_len line.old + 144 ≤ 8192 }
+    requires { array_vec_len line.old + 144 ≤ LINES_ROOM }
     ensures text { line.new.items ≡ line.old.items ++ reply_text table.now reply.now }
     ensures short { array_vec_len line.new ≤ array_vec_len line.old + 144 }
 {
@@ -355,9 +276,9 @@ fn deadline_name(deadline: &DeadlineType) -> &'static str
 
 #[tactic(auto, using(std::proofs::Common::append_assoc))]
 fn put_notice(line: &mut Lines, notice: &Notice)
-    requires { array_vec_len line.old + 34 ≤ 8192 }
+    requires { array_vec_len line.old + 34 ≤ LINES_ROOM }
     ensures text { line.new.items ≡ line.old.items ++ notice_text notice.now }
-    ensures short { array_vec_len line.new ≤ array_vec_len line.old + 34 }
+    ensures short { array_vec_len line.new ≤ array_vec_len line.old + 24 }
 {
     match notice {
         Notice::Woken(process, code) => {
@@ -381,9 +302,9 @@ fn put_notice(line: &mut Lines, notice: &Notice)
 
 #[tactic(auto, using(std::proofs::Common::append_assoc))]
 fn put_noticed(line: &mut Lines, notice: &Notice)
-    requires { array_vec_len line.old + 40 ≤ 8192 }
+    requires { array_vec_len line.old + 40 ≤ LINES_ROOM }
     ensures text { line.new.items ≡ line.old.items ++ noticed_text notice.now }
-    ensures short { array_vec_len line.new ≤ array_vec_len line.old + 40 }
+    ensures short { array_vec_len line.new ≤ array_vec_len line.old + NOTICE_ROOM }
 {
     put(line, " | ");
     put_notice(line, notice);
@@ -391,9 +312,9 @@ fn put_noticed(line: &mut Lines, notice: &Notice)
 
 fn put_notices(line: &mut Lines, notices: &[Notice])
     requires few { length notices.now ≤ most_notices }
-    requires room { array_vec_len line.old + 2560 ≤ 8192 }
+    requires room { array_vec_len line.old + NOTICES_ROOM + 13 ≤ LINES_ROOM }
     ensures text { line.new.items ≡ line.old.items ++ flat_map noticed_text notices.now }
-    ensures short { array_vec_len line.new ≤ array_vec_len line.old + 2560 }
+    ensures short { array_vec_len line.new ≤ array_vec_len line.old + NOTICES_ROOM }
 {
     for notice in notices {
         put_noticed(line, notice);
@@ -404,9 +325,9 @@ fn put_notices(line: &mut Lines, notices: &[Notice])
 #[tactic(auto, using(std::proofs::Common::append_assoc))]
 fn put_entry(lines: &mut Lines, table: &Table, entry: &LentEntry<'_>)
     requires printable { IsPrintable table.now entry.now }
-    requires room { array_vec_len lines.old + 4096 ≤ 8192 }
+    requires room { array_vec_len lines.old + most_line ≤ LINES_ROOM }
     ensures text { lines.new.items ≡ lines.old.items ++ line_of table.now entry.entry.now }
-    ensures short { array_vec_len lines.new ≤ array_vec_len lines.old + 4096 }
+    ensures short { array_vec_len lines.new ≤ array_vec_len lines.old + most_line }
 {
     put_number(lines, entry.number);
     put(lines, " ");
@@ -425,13 +346,13 @@ fn put_entry(lines: &mut Lines, table: &Table, entry: &LentEntry<'_>)
 
 /// Puts the line of the entry, with its line feed, behind the others. Takes no memory.
 ///
-/// A line has at most 4,096 bytes: so much room there has to be.
+/// A line has at most [`MOST_LINE`] bytes: so much room there has to be.
 #[tactic(auto, using(crate::proofs::LinesOf::length_put))]
 pub fn put_line(lines: &mut Lines, table: &Table, entry: &LentEntry<'_>)
     requires printable { IsPrintable table.now entry.now }
-    requires room { array_vec_len lines.old + 4096 ≤ 8192 }
+    requires room { array_vec_len lines.old + most_line ≤ LINES_ROOM }
     ensures text { lines.new.items ≡ lines.old.items ++ line_of table.now entry.entry.now }
-    ensures short { length (line_of table.now entry.entry.now) ≤ 4096 }
+    ensures short { length (line_of table.now entry.entry.now) ≤ most_line }
 {
     put_entry(lines, table, entry);
 }

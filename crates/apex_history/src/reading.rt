@@ -10,7 +10,7 @@ use std::alloc::{AllocError, Global};
 use std::io::Read;
 use thiserror::Error;
 
-/// Why the bytes of a reader were not read to their end.
+/// The reason why the bytes of a reader were not read to their end.
 #[derive(Clone, Copy, Debug, PartialEq, Eq, Error)]
 pub enum ReadFault {
     #[error("out of memory")]
@@ -27,7 +27,8 @@ impl From<AllocError> for ReadFault {
     }
 }
 
-/// Reads to the end, and gives all the bytes. It stops at the first read that fails.
+/// Reads to the end, and gives all the bytes. `Read` at the first read that fails, and `Memory` if
+/// a growth was refused; it stops there.
 pub fn read_all<R: Source>(alloc: Global, reader: &mut Counted<R>) -> Result<Vec<u8>, ReadFault>
     ensures bytes { IfOk result (λ all. IfSome (R.remaining (inner_of reader.old)) (λ xs. all.items ≡ xs)) }
     ensures end { OnOk result (IsAtEnd (R.remaining (inner_of reader.new))) }

@@ -6,8 +6,8 @@ ghost use Rattle.apex_history.specs.RowEntries.{caller_in, call_in, entry_of, Is
 use apex_types::{Call, Caller, LentEntry, Notice, Reply, Who};
 use std::marker::Model;
 
-/// Who asked for the call of an entry, and the call, where there is one. One enum for both takes no
-/// more room than an `Option` of the call alone.
+/// The caller of an entry, and the call, if there is one. One enum for both takes no more room than
+/// an `Option` of the call alone.
 #[derive(Clone, Copy)]
 pub(crate) enum Asked {
     For(Caller, Call),
@@ -44,7 +44,7 @@ impl Asked {
 }
 
 /// An entry as a log keeps it: the row's place is its number, and its notices are a part of those
-/// of all rows. The fields stand in the order that leaves no gaps.
+/// of all rows. The order of the fields leaves no gaps.
 #[derive(Drop)]
 pub(crate) struct Row {
     pub(crate) now: u64,
@@ -53,7 +53,7 @@ pub(crate) struct Row {
     /// The place of its first notice.
     pub(crate) start: u32,
     pub(crate) who: Who,
-    /// How many notices it has.
+    /// The number of its notices.
     pub(crate) count: u8,
 }
 
@@ -77,7 +77,7 @@ impl Model for Row {
 }
 
 impl Row {
-    /// The entry of this row, where it is at this place, counted from 0.
+    /// The entry of this row at this place, counted from 0.
     pub(crate) fn lent<'a>(&self, place: u32, notices: &'a [Notice]) -> LentEntry<'a>
         requires within { IsWithin (length notices.now) self.now }
         requires place { place < most_entries }

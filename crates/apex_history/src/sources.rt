@@ -6,13 +6,13 @@ ghost use Rattle.std.specs.declared.io.Error.{Error};
 
 use std::io::{Read, Result, Write};
 
-/// A reader of which contracts know what a read may answer. Each `Read` is one that may answer
+/// A reader whose reads have known answers in contracts. Each `Read` is one that may answer
 /// anything.
 pub trait Source {
-    // The bytes that are left, where they are known.
+    // The bytes that are left, if they are known.
     ghost remaining: { Self → Option (List ℕ) };
 
-    // What a read may do: the reader and the buffer, the answer, and both afterwards.
+    // The answers that a read may give: the reader and the buffer, the answer, and both afterwards.
     ghost gives: { Self → List ℕ → Result ℕ Error → List ℕ → Self → Type 0 };
 
     fn give(&mut self, buf: &mut [u8]) -> Result<usize>
@@ -21,16 +21,17 @@ pub trait Source {
         ensures gives { gives self.old buf.old result buf.new self.new };
 }
 
-/// A writer of which contracts know what a write and a flush may answer. Each `Write` is one that
-/// may answer anything.
+/// A writer whose writes and flushes have known answers in contracts. Each `Write` is one that may
+/// answer anything.
 pub trait Sink {
-    // The bytes that it holds, where they are known.
+    // The bytes that it holds, if they are known.
     ghost contents: { Self → Option (List ℕ) };
 
-    // What a write may do: the writer and the bytes, the answer, and the writer afterwards.
+    // The answers that a write may give: the writer and the bytes, the answer, and the writer
+    // afterwards.
     ghost accepts: { Self → List ℕ → Result ℕ Error → Self → Type 0 };
 
-    // What a flush may do.
+    // The answers that a flush may give.
     ghost drains: { Self → Result (Unit {0}) Error → Self → Type 0 };
 
     fn accept(&mut self, buf: &[u8]) -> Result<usize>

@@ -16,7 +16,7 @@ use std::io::{Result, Write};
 
 /// Writes one line of the status listing, with its line feed. Takes no memory.
 ///
-/// Where a write failed, a beginning of the line was written.
+/// If a write failed, a prefix of the line was written.
 pub fn print_row<W: Sink>(table: &Table, row: &StatusRow<'_>, writer: &mut Counted<W>) -> Result<()>
     requires { IsPrintableRow table.now row.now }
     ensures ok { OnOk result (Appends (W.contents (inner_of writer.old)) (W.contents (inner_of writer.new)) (row_text table.now row.now)) }
@@ -28,10 +28,10 @@ pub fn print_row<W: Sink>(table: &Table, row: &StatusRow<'_>, writer: &mut Count
     writer.write_all(line.as_slice())
 }
 
-/// Puts one line of the status listing into the page, whose text goes out first where the line may not
+/// Puts one line of the status listing into the page, whose text goes out first if the line may not
 /// fit behind it. Takes no memory.
 ///
-/// Where a write failed, a beginning of what the page held was written, and the page is empty.
+/// If a write failed, a prefix of the text that the page held was written, and the page is empty.
 pub fn gather_row<W: Sink>(
     table: &Table,
     row: &StatusRow<'_>,

@@ -5,14 +5,14 @@ use apex_types::{
     SemaphoreId, State,
 };
 
-/// One line of the status listing (this profile). Those who wait stand in the order of their queue,
-/// 32 at the most.
+/// One line of the status listing (this profile). Waiters are in the order of their queue, 32 at
+/// the most.
 #[derive(Clone, Copy, Drop)]
 pub enum StatusRow<'a> {
     /// The time in ticks.
     Time(u64),
     Mode(Mode),
-    /// How many entries the history has.
+    /// The number of entries that the history has.
     History(u32),
     Core {
         core: CoreId,
@@ -48,7 +48,7 @@ pub enum StatusRow<'a> {
     Mutex {
         mutex: MutexId,
         owner: Option<ProcessId>,
-        /// How deep it is owned. 0 where it is free.
+        /// The depth at which it is owned. 0 if it is free.
         depth: u8,
         waiting: &'a [ProcessId],
     },

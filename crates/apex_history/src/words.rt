@@ -4,10 +4,10 @@ ghost use Rattle.std.specs.List.{position};
 ghost use Rattle.apex_types.specs.Limits.{most_ticks};
 ghost use Rattle.apex_history.specs.Words.{parts, parts_after, core_of, ticks_of};
 
-use apex_types::{CoreId, number_at_most};
+use apex_types::{CoreId, MOST_TICKS, number_at_most};
 use std::marker::Model;
 
-/// So many ticks of time, 1 to 1,048,576.
+/// A number of ticks of time, 1 to 1,048,576.
 #[derive(Clone, Copy, PartialEq, Eq)]
 pub struct Ticks {
     count: u32,
@@ -27,7 +27,7 @@ impl Model for Ticks {
 }
 
 impl Ticks {
-    /// How many ticks, 1 to 1,048,576.
+    /// The number of ticks, 1 to 1,048,576.
     pub fn count(self) -> u32
         ensures value { result ≡ self }
         ensures range { (1 ≤ result) × (result ≤ most_ticks) }
@@ -43,7 +43,7 @@ fn place_of(text: &[u8], separator: u8) -> Option<usize>
     text.iter().position(|byte| *byte == separator)
 }
 
-/// What stands before the first separator, and what stands after it where there is one.
+/// The text before the first separator, and the text after it if there is one.
 #[tactic(auto, using(crate::proofs::Parts::split_at_first, crate::proofs::Parts::split_at_none))]
 pub fn cut(text: &[u8], separator: u8) -> (&[u8], Option<&[u8]>)
     ensures parts { parts separator text.now
@@ -66,11 +66,12 @@ pub fn read_core(word: &[u8]) -> Option<CoreId>
     }
 }
 
-/// So many ticks of time, where the word is a number from 1 to 1,048,576 without a leading zero.
+/// The ticks of time that a word writes, if it is a number from 1 to 1,048,576 without a leading
+/// zero.
 pub fn read_ticks(word: &[u8]) -> Option<Ticks>
     ensures { result ≡ ticks_of word.now }
 {
-    let count = number_at_most(word, 1_048_576)?;
+    let count = number_at_most(word, MOST_TICKS)?;
     if count >= 1 {
         Some(Ticks { count })
     } else {

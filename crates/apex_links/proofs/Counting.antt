@@ -1,4 +1,4 @@
--- A list of the places at which others pass a test is as long as there are others that pass it.
+-- A list of the places at which others pass a test is as long as the number of others that pass it.
 use Rattle.std.proofs.Common.{◌≡◌, ℕ, suc, ◌+◌, ◌-◌, ◌<◌, Bool, true, false, List, [], ◌∷◌, length, get_or, inl, inr, refl, ap, sym, subst, ◌∙◌, arith}
 use Rattle.std.specs.List.{count_by}
 use Rattle.std.specs.Prelude.{cond}
@@ -8,13 +8,13 @@ use Rattle.apex_links.specs.Neighbours.{stands_in, IsDistinct}
 use Rattle.apex_links.specs.Links.{without}
 use Rattle.apex_links.proofs.Places.{distinct_without, left_out, length_without, stays_without, without_gone}
 
--- a list in which nobody stands
+-- a list without a process is empty
 nobody_long : (xs : List ℕ) → ((p : ℕ) → stands_in p xs ≡ false) → length xs ≡ 0
 nobody_long [] none = refl
 nobody_long (x ∷ xs) none = absurd (grind (arith, none x))
 
 module _ {X : Type 0} (passes : X → Bool) (d : X) (fails : passes d ≡ false) where
-  -- the numbers of the list are the places, counted from k, of those that pass the test
+  -- the numbers of the list are the places, counted from k, of the others that pass the test
   record ArePlaces (k : ℕ) (others : List X) (xs : List ℕ) : Type 0 where
     from : (p : ℕ) → p < k → stands_in p xs ≡ false
     each : (i : ℕ) → stands_in (k + i) xs ≡ passes (get_or others i d)
@@ -81,7 +81,7 @@ module _ {X : Type 0} (passes : X → Bool) (d : X) (fails : passes d ≡ false)
         rest ∙ sym (no_more x others isnt)
   ]
 
-  -- the numbers of the list are the places of those that pass the test
+  -- the numbers of the list are the places of the others that pass the test
   pub count_places : (others : List X) (xs : List ℕ) → IsDistinct xs → ((p : ℕ) → stands_in p xs ≡ passes (get_or others p d)) → length xs ≡ count_by passes others
   count_places others xs distinct each = counted_from 0 others xs distinct (record {
     from = λ p low. absurd (omega (arith, low));

@@ -1,4 +1,4 @@
--- What is linked stays linked as a process is put into a list, or taken out of it.
+-- The links stay right as a process is put into a list, or taken out of it.
 use Rattle.std.proofs.Common.{◌≡◌, ◌≢◌, ℕ, ◌<◌, true, false, ◌||◌, List, [], ◌∷◌, ◌++◌, length, Option, None, Some, IfSome, inl, inr, refl, arith}
 use Rattle.std.specs.Prelude.{if◌then◌else◌}
 use Rattle.std.proofs.lemmas.Bool.{cases_eq, cases_Bool}
@@ -10,13 +10,14 @@ use Rattle.apex_links.specs.Chains.{free, node_at, ends_at, spliced, respliced, 
 use Rattle.apex_links.proofs.Neighbours.{stands_in-append, last_in, first_stands, first_joined, last_joined, first_parted, last_parted, before_joined, after_joined, before_here, after_here, before_parted, after_parted}
 use Rattle.apex_links.proofs.Splices.{length-spliced, spliced_here, spliced_other, respliced_here, respliced_other}
 
--- the lists are the same but for list l, in which n stands between a front and a rest
+-- the lists are the same but for list l, in which n is between a front and a rest
 pub record IsPut (lists others : ℕ → List ℕ) (l n : ℕ) (front rest : List ℕ) : Type 0 where
   pub without : lists l ≡ front ++ rest
   pub within : others l ≡ front ++ n ∷ rest
   pub kept : (m : ℕ) → m ≢ l → others m ≡ lists m
 
--- a list stays distinct as one is put into it that stands nowhere in it, and as one is taken out of it
+-- a list stays distinct if a process that is nowhere in it is put into it, and if one is taken out
+-- of it
 pub distinct_put : (n : ℕ) (front rest : List ℕ) → IsDistinct (front ++ rest) → stands_in n (front ++ rest) ≡ false → IsDistinct (front ++ n ∷ rest)
 distinct_put n [] rest d out = (out, d)
 distinct_put n (x ∷ xs) rest d out = (grind (arith, stands_in-append x xs (n ∷ rest), stands_in-append x xs rest, d.0, out), distinct_put n xs rest d.1 (grind (arith, out)))
@@ -25,24 +26,24 @@ pub distinct_taken : (n : ℕ) (front rest : List ℕ) → IsDistinct (front ++ 
 distinct_taken n [] rest d = d.1
 distinct_taken n (x ∷ xs) rest d = (grind (arith, stands_in-append x xs (n ∷ rest), stands_in-append x xs rest, d.0), distinct_taken n xs rest d.1)
 
--- who is taken out of a list stands nowhere in what is left
+-- a process that is taken out of a list is nowhere in the rest
 pub taken_out : (n : ℕ) (front rest : List ℕ) → IsDistinct (front ++ n ∷ rest) → stands_in n (front ++ rest) ≡ false
 taken_out n [] rest d = d.0
 taken_out n (x ∷ xs) rest d = grind (arith, stands_in-append x xs (n ∷ rest), d.0, taken_out n xs rest d.1)
 
--- who stands in a list with n in between is n, or stood there before
+-- a process in a list with n in between is n, or was there before
 pub stands_put : (p n : ℕ) (front rest : List ℕ) → p ≢ n → stands_in p (front ++ n ∷ rest) ≡ stands_in p (front ++ rest)
 stands_put p n front rest apart = grind (arith, stands_in-append p front (n ∷ rest), stands_in-append p front rest, apart)
 
 pub stands_here : (n : ℕ) (front rest : List ℕ) → stands_in n (front ++ n ∷ rest) ≡ true
 stands_here n front rest = grind (arith, stands_in-append n front (n ∷ rest))
 
--- what is true of the only one that an option may be
+-- a property of the process that an option may be
 if_some : (P : ℕ → Type 0) (o : Option ℕ) → ((p : ℕ) → is_process p o ≡ true → P p) → IfSome o P
 if_some P None each = tt
 if_some P (Some p) each = each p (grind arith)
 
--- who stands in a front or in a rest stands in list l
+-- a process in a front or in a rest is in list l
 module _ (nodes : List Node) (ends : List Ends) (lists : ℕ → List ℕ) (l : ℕ) (front rest : List ℕ) (linked : AreLinked nodes ends lists)
     (parts : (p : ℕ) → (stands_in p front || stands_in p rest) ≡ true → stands_in p (lists l) ≡ true) where
   last_here : (p : ℕ) → is_process p (last_of front) ≡ true → stands_in p (lists l) ≡ true
@@ -67,16 +68,16 @@ module _ (nodes : List Node) (ends : List Ends) (lists : ℕ → List ℕ) (l : 
   pub first_labelled : (p : ℕ) → (node_at nodes p).list ≢ Some l → is_process p (first_of rest) ≡ false
   first_labelled p other = elim (cases_Bool (is_process p (first_of rest))) [ inl e ↦ absurd (other (label p (first_here p e))) | inr e ↦ e ]
 
--- who stands in one of two lists stands in the whole of them
+-- a process that is not in two lists together is in neither of them
 out_of_front : (n : ℕ) (front rest : List ℕ) → stands_in n (front ++ rest) ≡ false → stands_in n front ≡ false
 out_of_front n front rest out = grind (arith, stands_in-append n front rest, out)
 
--- who stands in two lists finds them to be one
+-- two lists that have a process in common are one
 one_list : {nodes : List Node} {ends : List Ends} {lists : ℕ → List ℕ} → AreLinked nodes ends lists
     → (l m p : ℕ) → stands_in p (lists l) ≡ true → stands_in p (lists m) ≡ true → m ≡ l
 one_list linked l m p here there = grind (arith, linked.links l p here, linked.links m p there)
 
--- a process that stands in no list is put in between
+-- a process that is in no list is put in between
 module _ (nodes : List Node) (ends : List Ends) (lists others : ℕ → List ℕ) (l n : ℕ) (front rest : List ℕ)
     (put : IsPut lists others l n front rest) (known : n < length nodes) (bound : l < length ends)
     (linked : AreLinked nodes ends lists) (out : (m : ℕ) → stands_in n (lists m) ≡ false) where
@@ -185,7 +186,7 @@ module _ (nodes : List Node) (ends : List Ends) (lists others : ℕ → List ℕ
     distinct = distinct_m;
   }
 
--- a process that stands in between is taken out
+-- a process that is in between is taken out
 module _ (nodes : List Node) (ends : List Ends) (lists others : ℕ → List ℕ) (l n : ℕ) (front rest : List ℕ)
     (put : IsPut others lists l n front rest) (known : n < length nodes) (bound : l < length ends)
     (linked : AreLinked nodes ends lists) where
@@ -212,7 +213,7 @@ module _ (nodes : List Node) (ends : List Ends) (lists others : ℕ → List ℕ
   left_node p apart = spliced_other nodes n free (last_of front) (first_of rest) (first_of rest) (last_of front) p apart
       (last_known nodes ends lists l front rest linked gone) (first_known nodes ends lists l front rest linked gone)
 
-  -- who stands in a list now is not n, and stood there before
+  -- a process that is in a list now is not n, and was there before
   stood : (m p : ℕ) → stands_in p (others m) ≡ true → (p ≢ n) × (stands_in p (lists m) ≡ true)
   stood m p stands = elim (cases_eq m l) [
     | inl e ↦

@@ -1,16 +1,16 @@
--- Who stands beside whom where one process is put into a list, or taken out of it.
+-- The neighbours in a list as one process is put into it, or taken out of it.
 use Rattle.std.proofs.Common.{◌≡◌, ◌≢◌, ℕ, true, false, ◌||◌, List, [], ◌∷◌, ◌++◌, Option, None, Some, is_none, inl, inr, refl, arith}
 use Rattle.std.specs.Prelude.{if◌then◌else◌}
 use Rattle.std.proofs.lemmas.Bool.{cases_Bool}
 use Rattle.apex_types.specs.Running.{is_process}
 use Rattle.apex_links.specs.Neighbours.{stands_in, IsDistinct, first_of, last_behind, last_of, after_in, before_behind, before_in}
 
--- who stands in one of two lists
+-- a process is in two lists together if it is in one of them
 pub stands_in-append : (p : ℕ) (xs ys : List ℕ) → stands_in p (xs ++ ys) ≡ (stands_in p xs || stands_in p ys)
 stands_in-append p [] ys = refl
 stands_in-append p (x ∷ xs) ys = grind (arith, stands_in-append p xs ys)
 
--- the last of a list stands in it
+-- the last of a list is in it
 pub last_stands : (p : ℕ) (b : Option ℕ) (x : ℕ) (xs : List ℕ) → is_process p (last_behind b (x ∷ xs)) ≡ true → stands_in p (x ∷ xs) ≡ true
 last_stands p b x [] e = grind (arith, e)
 last_stands p b x (y ∷ ys) e = grind (arith, last_stands p (Some x) y ys e)
@@ -19,12 +19,12 @@ pub last_in : (p : ℕ) (xs : List ℕ) → is_process p (last_of xs) ≡ true �
 last_in p [] e = absurd (grind (arith, e))
 last_in p (x ∷ xs) e = last_stands p None x xs e
 
--- the first of a list stands in it
+-- the first of a list is in it
 pub first_stands : (p : ℕ) (xs : List ℕ) → is_process p (first_of xs) ≡ true → stands_in p xs ≡ true
 first_stands p [] e = grind (arith, e)
 first_stands p (x ∷ xs) e = grind (arith, e)
 
--- who stands in a list behind another one is not that one's
+-- the neighbours in a list of a process p other than n
 module _ (n p : ℕ) (apart : p ≢ n) where
   -- with n in between, n comes before the first of the rest
   pub before_joined : (b : Option ℕ) (front rest : List ℕ) → IsDistinct (front ++ rest)
@@ -64,7 +64,7 @@ before_first p b [] [] d here = absurd (grind (arith, here))
 before_first p b [] (y ∷ ys) d here = grind (arith, here)
 before_first p b (x ∷ xs) rest d here = grind (arith, before_first p (Some x) xs rest d.1, first_stands p rest, stands_in-append x xs rest, d.0, here)
 
--- without n, its neighbours stand beside each other
+-- without n, its neighbours are beside each other
 module _ (n p : ℕ) (apart : p ≢ n) (front rest : List ℕ) (d : IsDistinct (front ++ rest)) where
   pub before_parted : before_in p (front ++ rest) ≡ (if is_process p (first_of rest) then last_of front else before_in p (front ++ n ∷ rest))
   before_parted = elim (cases_Bool (is_process p (first_of rest))) as (λ _. before_in p (front ++ rest) ≡ (if is_process p (first_of rest) then last_of front else before_in p (front ++ n ∷ rest))) [
@@ -78,12 +78,12 @@ module _ (n p : ℕ) (apart : p ≢ n) (front rest : List ℕ) (d : IsDistinct (
     | inr e ↦ rw (after_joined n p apart None front rest refl d, e) refl
   ]
 
--- the last of a list behind another one is somebody
-last_some : (b : ℕ) (xs : List ℕ) → is_none (last_behind (Some b) xs) ≡ false
+-- a list behind a process has a last one
+pub last_some : (b : ℕ) (xs : List ℕ) → is_none (last_behind (Some b) xs) ≡ false
 last_some b [] = refl
 last_some b (x ∷ xs) = last_some x xs
 
--- n is the first where nobody stands before it, and the last where nobody stands behind it
+-- n is the first if no process is before it, and the last if none is behind it
 pub first_joined : (n : ℕ) (front rest : List ℕ) → first_of (front ++ n ∷ rest) ≡ (if is_none (last_of front) then Some n else first_of (front ++ rest))
 first_joined n [] rest = refl
 first_joined n (x ∷ xs) rest = rw (last_some x xs) refl
@@ -93,7 +93,7 @@ last_joined n b [] [] = refl
 last_joined n b [] (y ∷ ys) = refl
 last_joined n b (x ∷ xs) rest = last_joined n (Some x) xs rest
 
--- without n, the first and the last are who stood beside it where it was the first or the last
+-- without n, its neighbours are the first and the last if n was the first or the last
 pub first_parted : (n : ℕ) (front rest : List ℕ) → first_of (front ++ rest) ≡ (if is_none (last_of front) then first_of rest else first_of (front ++ n ∷ rest))
 first_parted n [] rest = refl
 first_parted n (x ∷ xs) rest = rw (last_some x xs) refl

@@ -9,7 +9,7 @@ use Rattle.apex_links.specs.Links.{Links, list_at, with_list, removed, without, 
 use Rattle.apex_links.specs.Placing.{placed}
 use Rattle.apex_links.proofs.Walks.{past}
 
--- where a process stands, a list has a front and a rest
+-- a list in which a process is has a front and a rest
 pub record HasParts (p : ℕ) (xs : List ℕ) : Type 0 where
   pub front : List ℕ
   pub rest : List ℕ
@@ -48,7 +48,7 @@ pub put_out : (other p : ℕ) (xs : List ℕ) → stands_in other xs ≡ false �
 put_out other p [] out = refl
 put_out other p (x ∷ xs) out = grind (arith, out, put_out other p xs)
 
--- who stands in the list without p
+-- every other process stays in the list without p
 pub stays_without : (p q : ℕ) (xs : List ℕ) → q ≢ p → stands_in q (without p xs) ≡ stands_in q xs
 stays_without p q [] apart = refl
 stays_without p q (x ∷ xs) apart = elim (cases_eq p x) as (λ _. stands_in q (without p (x ∷ xs)) ≡ stands_in q (x ∷ xs)) [
@@ -69,7 +69,7 @@ left_out p q xs out = elim (cases_Bool (stands_in q (without p xs))) [
   | inr gone ↦ gone
 ]
 
--- the first of a list stands in it
+-- the first of a list is in it
 pub first_stands : (p : ℕ) (xs : List ℕ) → first_of xs ≡ Some p → stands_in p xs ≡ true
 first_stands p [] e = absurd (grind (arith, e))
 first_stands p (x ∷ xs) e = grind (arith, same_Some x p e)
@@ -138,7 +138,7 @@ at_map f e (x ∷ xs) (suc l) = at_map f e xs l
 pub map_same : (f : List ℕ → List ℕ) → f [] ≡ [] → (xs : List (List ℕ)) → ((l : ℕ) → f (get_or xs l []) ≡ get_or xs l []) → map f xs ≡ xs
 map_same f e xs each = ext_get_or [] _ _ (length-map xs f) (λ l _. at_map f e xs l ∙ each l)
 
--- who is at a place of a list stands in it, and is followed by who is at the next place
+-- the process at a place of a list is in it, and the one at the next place comes behind it
 pub at_stands : (n : ℕ) (xs : List ℕ) (k : ℕ) → slice_get xs k ≡ Some n → stands_in n xs ≡ true
 at_stands n [] k there = absurd (grind (arith, there))
 at_stands n (x ∷ xs) zero there = grind (arith, there)
@@ -155,13 +155,13 @@ after_at n (x ∷ xs) (suc k) d there =
     let e : suc k + 1 ≡ suc (k + 1) = omega arith in
     rw e (past n x xs (at_stands n xs k there) d.0 ∙ after_at n xs k d.1 there)
 
--- a list that somebody stands in is one of the set
+-- a list with a process is one of the set
 pub known_list : (lists : List (List ℕ)) (l p : ℕ) → stands_in p (get_or lists l []) ≡ true → l < length lists
 known_list [] l p stands = absurd (grind (arith, stands))
 known_list (x ∷ xs) zero p stands = omega arith
 known_list (x ∷ xs) (suc l) p stands = omega (arith, known_list xs l p stands)
 
--- who is taken out stands in no list
+-- a process that is taken out of a list is no longer in it
 pub without_gone : (n : ℕ) (xs : List ℕ) → IsDistinct xs → stands_in n (without n xs) ≡ false
 without_gone n [] d = refl
 without_gone n (x ∷ xs) d = elim (cases_eq n x) as (λ _. stands_in n (without n (x ∷ xs)) ≡ false) [
@@ -169,7 +169,7 @@ without_gone n (x ∷ xs) d = elim (cases_eq n x) as (λ _. stands_in n (without
   | inr apart ↦ grind (arith, apart, without_gone n xs d.1)
 ]
 
--- as many of the same
+-- n of the same
 pub same_all : {A : Type 0} (x : A) (many i : ℕ) → get_or (replicate many x) i x ≡ x
 same_all x zero i = refl
 same_all x (suc many) zero = refl
@@ -186,18 +186,18 @@ module _ (links : Links) where
   pub at_with_other : (l m : ℕ) (xs : List ℕ) → m ≢ l → list_at (with_list links l xs) m ≡ list_at links m
   at_with_other l m xs apart = get_or-set_other links.lists l m xs [] apart
 
-  -- who stands in one list alone stands in no other
+  -- a process that is in one list alone is in no other
   pub only_there : (p l m : ℕ) → IsOnlyIn links p l → m ≢ l → stands_in p (list_at links m) ≡ false
   only_there p l m only apart = elim (cases_Bool (stands_in p (list_at links m))) [
     | inl e ↦ absurd (apart (only.alone m e))
     | inr e ↦ e
   ]
 
-  -- another process stands where it stood as one is taken out
+  -- every other process stays as one is taken out
   pub stays_removed : (p q l : ℕ) → q ≢ p → stands_in q (list_at (removed links p) l) ≡ stands_in q (list_at links l)
   stays_removed p q l apart = rw (at_removed p l) (stays_without p q (list_at links l) apart)
 
-  -- a set of so many lists stays one
+  -- a set keeps the number of its lists
   pub as_many_removed : (p : ℕ) → length (removed links p).lists ≡ length links.lists
   as_many_removed p = length-map links.lists (without p)
 

@@ -1,4 +1,4 @@
--- Lists in an order, as one process comes or goes, and who is first or next in them.
+-- Lists in an order, as one process comes or goes, and the first and the next one in them.
 use Rattle.std.proofs.Common.{◌≡◌, ◌≢◌, ℕ, Bool, true, false, List, [], ◌∷◌, ◌++◌, None, Some, inl, inr, sym, subst, ◌∙◌, arith}
 use Rattle.std.proofs.lemmas.Bool.{cases_eq, cases_Bool}
 use Rattle.std.proofs.lemmas.Option.{same_Some}
@@ -21,7 +21,7 @@ module _ (before : ℕ → ℕ → Bool) where
         subst (λ (ys : List ℕ). IsSorted before ys) (sym stays) ((λ q here. o.0 q (stood_before p q xs here)), sorted_without p xs o.1)
   ]
 
-  -- a process comes that goes behind all others
+  -- a process comes behind all others
   pub sorted_behind : (p : ℕ) (xs : List ℕ) → ((q : ℕ) → stands_in q xs ≡ true → before q p ≡ true) → IsSorted before xs → IsSorted before (xs ++ p ∷ [])
   sorted_behind p [] last o = ((λ q here. absurd (grind (arith, here))), tt)
   sorted_behind p (x ∷ xs) last o = (each, sorted_behind p xs (λ q here. last q (grind (arith, here))) o.1) where
@@ -31,7 +31,7 @@ module _ (before : ℕ → ℕ → Bool) where
       | inr apart ↦ o.0 q (grind (arith, apart, sym (stands_behind p q xs) ∙ here))
     ]
 
-  -- a process comes that goes before those that pass a test, and behind the others
+  -- a process comes before those that pass a test, and behind the others
   module _ (passes : ℕ → Bool) (p : ℕ) where
     pub sorted_placed : (xs : List ℕ) → ((q : ℕ) → stands_in q xs ≡ true → passes q ≡ true → before p q ≡ true)
         → ((q : ℕ) → stands_in q xs ≡ true → passes q ≡ false → before q p ≡ true)
@@ -66,7 +66,7 @@ module _ (before : ℕ → ℕ → Bool) where
       let apart : q ≢ x = λ f. other (f ∙ same) in
       subst (λ (y : ℕ). before y q ≡ true) same (o.0 q (grind (arith, here, apart)))
 
-  -- an order in which nobody comes before itself, and no two before each other
+  -- an order in which no process comes before itself, and no two before each other
   module _ (one_way : (p q : ℕ) → before p q ≡ true → before q p ≡ false) where
     not_both : (p q : ℕ) → before p q ≡ true → before q p ≡ true → ⊥
     not_both p q one other = absurd (grind (arith, one_way p q one, other))
@@ -81,7 +81,7 @@ module _ (before : ℕ → ℕ → Bool) where
       sorted_distinct xs o.1,
     )
 
-    -- who comes behind process p, the next one comes before: all others that do
+    -- the next one behind process p comes before all others behind p
     pub next_before : (p n q : ℕ) (xs : List ℕ) → IsSorted before xs → stands_in p xs ≡ true → after_in p xs ≡ Some n
         → stands_in q xs ≡ true → before p q ≡ true → q ≢ n → before n q ≡ true
     next_before p n q [] o stands e here later other = absurd (grind (arith, stands))
@@ -113,7 +113,7 @@ module _ (before : ℕ → ℕ → Bool) where
           next_none p q xs o.1 there (grind (arith, e, differs)) (grind (arith, here, apart)) later
     ]
 
-  -- the next one stands behind
+  -- the next one is in the list
   pub next_stands : (p n : ℕ) (xs : List ℕ) → after_in p xs ≡ Some n → stands_in n xs ≡ true
   next_stands p n [] e = absurd (grind (arith, e))
   next_stands p n (x ∷ xs) e = elim (cases_eq p x) [
@@ -132,7 +132,7 @@ module _ (before : ℕ → ℕ → Bool) where
     | inr differs ↦ next_behind p n xs o.1 (grind (arith, e, differs))
   ]
 
--- another order that says the same of those in the list
+-- another order that agrees about those in the list
 pub sorted_same : (before other : ℕ → ℕ → Bool) (xs : List ℕ) → ((p q : ℕ) → stands_in p xs ≡ true → stands_in q xs ≡ true → other p q ≡ before p q)
     → IsSorted before xs → IsSorted other xs
 sorted_same before other [] same o = tt

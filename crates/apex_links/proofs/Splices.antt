@@ -2,12 +2,12 @@
 use Rattle.std.proofs.Common.{◌≡◌, ◌≢◌, ℕ, ◌<◌, List, length, Option, None, Some, is_none, refl, arith}
 use Rattle.std.specs.Prelude.{if◌then◌else◌}
 use Rattle.std.specs.Option.{IfSome}
-use Rattle.std.proofs.lemmas.Grind.{common_steps}
-use Rattle.std.proofs.lemmas.List.{length-set, get_or-set_other}
+use Rattle.std.proofs.lemmas.Grind.{common_steps, get_or-set_at}
+use Rattle.std.proofs.lemmas.List.{length-set, get_or-set_other, set-set}
 use Rattle.apex_types.specs.Running.{is_process}
 use Rattle.apex_links.specs.declared.chains.Node.{Node}
 use Rattle.apex_links.specs.declared.chains.Ends.{Ends}
-use Rattle.apex_links.specs.Chains.{node_at, ends_at, followed, preceded, spliced, respliced}
+use Rattle.apex_links.specs.Chains.{no_ends, node_at, ends_at, followed, led, preceded, spliced, respliced, trailed}
 
 module _ (nodes : List Node) where
   length-followed : (before after : Option ℕ) → length (followed nodes before after) ≡ length nodes
@@ -61,3 +61,12 @@ module _ (ends : List Ends) (l : ℕ) (before after first last : Option ℕ) whe
 
   pub respliced_other : (m : ℕ) → m ≢ l → ends_at (respliced ends l before after first last) m ≡ ends_at ends m
   respliced_other m apart = get_or-set_other ends l m _ _ apart
+
+  -- a list that begins and ends anew has these ends
+  pub led_trailed : l < length ends → trailed (led ends l before first) l after last ≡ respliced ends l before after first last
+  led_trailed known = ends_of before after known where
+    ends_of : (before after : Option ℕ) → l < length ends → trailed (led ends l before first) l after last ≡ respliced ends l before after first last
+    ends_of None None known = rw (get_or-set_at ends l l (record (ends_at ends l) { first = first }) no_ends refl known) (set-set ends l _ _)
+    ends_of None (Some q) known = grind (arith, common_steps, known)
+    ends_of (Some p) None known = grind (arith, common_steps, known)
+    ends_of (Some p) (Some q) known = grind (arith, common_steps, known)

@@ -1,4 +1,4 @@
--- What each call makes of the lists.
+-- The lists that each call leaves.
 use Rattle.std.proofs.Common.{◌≡◌, ◌≢◌, ℕ, ◌+◌, ◌<◌, Bool, true, false, ◌||◌, List, [], ◌∷◌, ◌++◌, length, map, set, get_or, slice_get, replicate, Option, None, Some, IfSome, inl, inr, refl, ap, sym, subst, ◌∙◌, arith}
 use Rattle.std.proofs.lemmas.Bool.{cases_Bool}
 use Rattle.std.proofs.lemmas.Grind.{get_or-set_at}
@@ -7,7 +7,7 @@ use Rattle.std.proofs.lemmas.Option.{same_Some}
 use Rattle.apex_links.specs.declared.chains.Node.{Node}
 use Rattle.apex_links.specs.declared.chains.Ends.{Ends}
 use Rattle.apex_links.specs.Neighbours.{stands_in, first_of, last_of}
-use Rattle.apex_links.specs.Links.{Links, pushed_back, pushed_front, removed, inserted_before, without, put_before, IsFree, IsSound}
+use Rattle.apex_links.specs.Links.{Links, pushed_back, pushed_front, removed, inserted_before, without, put_before, IsFree, IsOnlyIn, IsSound}
 use Rattle.apex_links.specs.Chains.{free, no_ends, node_at, ends_at, lists_of, links_of, spliced, respliced, AreLinked, IsLinked}
 use Rattle.apex_links.proofs.Neighbours.{stands_in-append, before_here, after_here}
 use Rattle.apex_links.proofs.Splices.{length-spliced, length-respliced}
@@ -26,7 +26,7 @@ shown nodes ends many lists all long linked =
     let e = lists_are nodes ends lists long linked in
     record { linked = rw e linked; seen = rw (e, all) refl }
 
--- who stands in no list of a set stands in none of an equal one
+-- a process in no list of a set is in none of an equal one
 pub free_then : {links other : Links} (n : ℕ) → links ≡ other → IsFree other n → IsFree links n
 free_then n e out = subst (λ (some : Links). IsFree some n) (sym e) out
 
@@ -45,23 +45,31 @@ module _ (nodes : List Node) (ends : List Ends) (linked : IsLinked nodes ends) w
   long : length lists ≡ length ends
   long = length-map ends _
 
-  -- the node of who stands in a list, with a front and a rest
+  -- the node of a process in a list with a front and a rest
   standing : (p l : ℕ) → stands_in p (at l) ≡ true → (there : HasParts p (at l)) → node_at nodes p ≡ record { list = Some l; before = last_of there.front; after = first_of there.rest }
   standing p l stands there =
       let node = linked.links l p stands in
       rw (node, there.whole, before_here p None there.front there.rest there.first, after_here p there.front there.rest there.first) refl
 
-  -- who stands in one list stands in no other
+  -- a process in one list is in no other
   nowhere : (p l m : ℕ) → (node_at nodes p).list ≡ Some l → m ≢ l → stands_in p (at m) ≡ false
   nowhere p l m is differs = elim (cases_Bool (stands_in p (at m))) [
     | inl e ↦ absurd (differs (same_Some m l (rw (linked.links m p e) at is)))
     | inr e ↦ e
   ]
 
+  -- a process in a list is in that one alone
+  pub only_in : (p l : ℕ) → (node_at nodes p).list ≡ Some l → IsOnlyIn (links_of nodes ends) p l
+  only_in p l is = record {
+    known = known_list lists l p (linked.members l p is);
+    here = linked.members l p is;
+    alone = λ m stands. same_Some m l (rw (linked.links m p stands) at is);
+  }
+
   beside : (p l : ℕ) (there : HasParts p (at l)) → (q : ℕ) → (stands_in q there.front || stands_in q there.rest) ≡ true → stands_in q (at l) ≡ true
   beside p l there q stands = rw there.whole (grind (arith, stands_in-append q there.front (p ∷ there.rest), stands))
 
-  -- the list and the neighbours of who stands in a list are known
+  -- the list and the neighbours of a process in a list are known
   pub known_bound : (p l : ℕ) → (node_at nodes p).list ≡ Some l → l < length ends
   known_bound p l is = omega (arith, long, known_list lists l p (linked.members l p is))
 
@@ -85,7 +93,7 @@ module _ (nodes : List Node) (ends : List Ends) (linked : IsLinked nodes ends) w
   known_last l = rw (linked.edges l) (last_known nodes ends at l (at l) [] linked (λ p stands. just _ stands))
 
   module _ (n : ℕ) (known : n < length nodes) (out : IsFree (links_of nodes ends) n) (news : List Node) (newends : List Ends) where
-    -- a process that stands in no list is put into one
+    -- a process that is in no list is put into one
     put_shows : (l : ℕ) (front rest : List ℕ) (others : List (List ℕ)) → l < length lists → length others ≡ length lists
         → IsPut at (λ m. get_or others m []) l n front rest
         → news ≡ spliced nodes n (record { list = Some l; before = last_of front; after = first_of rest }) (last_of front) (first_of rest) (Some n) (Some n)
@@ -165,7 +173,7 @@ module _ (nodes : List Node) (ends : List Ends) (linked : IsLinked nodes ends) w
   pub removed_out : (n : ℕ) → IsFree (removed (links_of nodes ends) n) n
   removed_out n l = rw (at_map (without n) refl lists l) (without_gone n (at l) (linked.distinct l))
 
-  -- nothing changes for who stands in no list
+  -- nothing changes for a process that is in no list
   not_listed : (n : ℕ) → (node_at nodes n).list ≡ None → (l : ℕ) → stands_in n (at l) ≡ false
   not_listed n is l = elim (cases_Bool (stands_in n (at l))) [
     | inl e ↦ absurd (grind (arith, rw (linked.links l n e) at is))
@@ -180,7 +188,7 @@ module _ (nodes : List Node) (ends : List Ends) (linked : IsLinked nodes ends) w
   inserted_free other n is = ap (λ (ls : List (List ℕ)). record { processes = length nodes; lists = ls })
       (sym (map_same (put_before other n) refl lists (λ l. put_out other n (at l) (not_listed other is l))))
 
-  -- who stands in no list has no list's number, and nobody behind it
+  -- a process that is in no list has no list's number, and no process behind it
   pub next_free : (n : ℕ) → IsFree (links_of nodes ends) n → (node_at nodes n).after ≡ None
   next_free n out = bare_after (node_at nodes n).list refl where
     bare_after : (list : Option ℕ) → (node_at nodes n).list ≡ list → (node_at nodes n).after ≡ None

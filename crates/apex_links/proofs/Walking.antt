@@ -1,12 +1,13 @@
--- Where a process goes by a test, and how a walk finds the place.
+-- The place of a process by a test, and the walk that finds it.
 use Rattle.std.proofs.Common.{◌≡◌, ◌≢◌, ℕ, zero, suc, ◌<◌, ◌≤◌, Bool, true, false, List, [], ◌∷◌, ◌++◌, length, map, set, get_or, slice_get, Option, None, Some, inl, inr, refl, ap, sym, subst, ◌∙◌, arith}
 use Rattle.std.proofs.lemmas.Bool.{cases_eq, cases_Bool}
 use Rattle.std.proofs.lemmas.Grind.{get_or-set_at}
 use Rattle.std.proofs.lemmas.List.{ext_get_or, get_or-set_other, length-map, length-set}
 use Rattle.std.proofs.lemmas.Option.{same_Some}
-use Rattle.apex_links.specs.Neighbours.{stands_in}
+use Rattle.apex_links.specs.Neighbours.{stands_in, last_behind, last_of}
 use Rattle.apex_links.specs.Links.{Links, list_at, with_list, put_before, inserted_before, IsSound}
-use Rattle.apex_links.specs.Placing.{first_such, placed}
+use Rattle.apex_links.specs.Placing.{first_such, placed, IsRising}
+use Rattle.apex_links.proofs.Neighbours.{last_in, last_some, last_stands}
 use Rattle.apex_links.proofs.Places.{at_map, at_stands, put_out}
 
 module _ (passes : ℕ → Bool) where
@@ -36,6 +37,26 @@ module _ (passes : ℕ → Bool) where
     | inr isnt ↦ rw isnt (ap (λ (ys : List ℕ). x ∷ ys) (placed_behind p xs (rw isnt at e)))
   ]
 
+  -- if the last one of a list does not pass the test, none does
+  last_fails : (b : Option ℕ) (p x : ℕ) (xs : List ℕ) → IsRising passes (x ∷ xs) → last_behind b (x ∷ xs) ≡ Some p → passes p ≡ false
+      → first_such passes (x ∷ xs) ≡ None
+  last_fails b p x [] rising e isnt = grind (arith, same_Some x p e, isnt)
+  last_fails b p x (y ∷ ys) rising e isnt =
+      let rest = last_fails (Some x) p y ys rising.1 e isnt in
+      let there : stands_in p (y ∷ ys) ≡ true = last_stands p (Some x) y ys (rw e (grind arith)) in
+      elim (cases_Bool (passes x)) [
+        | inl is ↦ absurd (grind (arith, rising.0 is p there, isnt))
+        | inr out ↦ rw out rest
+      ]
+
+  pub none_passes : (p : ℕ) (xs : List ℕ) → IsRising passes xs → last_of xs ≡ Some p → passes p ≡ false → first_such passes xs ≡ None
+  none_passes p [] rising e isnt = refl
+  none_passes p (x ∷ xs) rising e isnt = last_fails None p x xs rising e isnt
+
+  pub nobody_passes : (xs : List ℕ) → last_of xs ≡ None → first_such passes xs ≡ None
+  nobody_passes [] e = refl
+  nobody_passes (x ∷ xs) e = absurd (grind (arith, last_some x xs, e))
+
   -- the first that passes the test, from this place of the list on
   abbrev pub such_from : ℕ → List ℕ → Option ℕ
   such_from zero xs = first_such passes xs
@@ -64,7 +85,7 @@ module _ (passes : ℕ → Bool) where
   past_all (suc k) [] short = refl
   past_all (suc k) (x ∷ xs) short = past_all k xs (omega (arith, short))
 
--- a process is put before one that stands in list l: that list changes, and isnt other
+-- a process is put before one in list l: that list changes, and no other
 module _ (links : Links) (sound : IsSound links) (l p other : ℕ) (inside : l < length links.lists) (here : stands_in other (list_at links l) ≡ true) where
   elsewhere : (m : ℕ) → m ≢ l → stands_in other (list_at links m) ≡ false
   elsewhere m apart = elim (cases_Bool (stands_in other (list_at links m))) [
@@ -93,3 +114,7 @@ module _ (links : Links) (sound : IsSound links) (l k p : ℕ) (at : Option ℕ)
 
   pub here_known : p < links.processes
   here_known = sound.known l p here_stands
+
+-- the last of a list is known
+pub last_known : (links : Links) → IsSound links → (l p : ℕ) → last_of (list_at links l) ≡ Some p → p < links.processes
+last_known links sound l p e = sound.known l p (last_in p (list_at links l) (rw e (grind arith)))

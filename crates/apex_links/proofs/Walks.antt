@@ -10,7 +10,7 @@ use Rattle.apex_links.specs.declared.chains.Ends.{Ends}
 use Rattle.apex_links.specs.Neighbours.{stands_in, IsDistinct, first_of, after_in}
 use Rattle.apex_links.specs.Chains.{no_ends, node_at, walk, lists_of, AreLinked}
 
--- the words of the library for who stands in a list, and for a distinct one
+-- the library's words for a process in a list, and for a distinct list
 stands_any : (p : ℕ) (xs : List ℕ) → list_any (eqb p) xs ≡ stands_in p xs
 stands_any p [] = refl
 stands_any p (x ∷ xs) = grind (arith, stands_any p xs)
@@ -28,7 +28,7 @@ distinct_by (x ∷ xs) d = (all_apart x xs d.0, distinct_by xs d.1)
 pub short_list : (xs : List ℕ) (n : ℕ) → IsDistinct xs → ((p : ℕ) → stands_in p xs ≡ true → p < n) → length xs ≤ n
 short_list xs n d known = length-le_from_distinct_below xs n (distinct_by xs d) (λ p h. known p (rw (← stands_any p xs) h))
 
--- who stands behind the first of a list
+-- the process behind one that is behind the first of a list
 pub past : (p x : ℕ) (xs : List ℕ) → stands_in p xs ≡ true → stands_in x xs ≡ false → after_in p (x ∷ xs) ≡ after_in p xs
 past p x xs stands out = elim (cases_eq p x) [
   | inl e ↦ absurd (grind (arith, rw e at stands, out))

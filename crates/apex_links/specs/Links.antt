@@ -1,5 +1,5 @@
--- What a contract sees of linked lists: how many processes there are, and who stands in each list, from its
--- first to its last.
+-- Linked lists as a contract sees them: the number of processes, and the processes of each list,
+-- from its first to its last.
 use Rattle.std.specs.Prelude.{◌≡◌, ℕ, ◌+◌, ◌<◌, ◌≤◌, true, false, ◌==◌, if◌then◌else◌, List, [], ◌∷◌, ◌++◌, map, length, replicate, slice_get, slice_index_or, slice_set, Option, Some}
 use Rattle.apex_links.specs.Neighbours.{stands_in, after_in, IsDistinct}
 
@@ -7,30 +7,30 @@ pub record Links : Type 0 where
   pub processes : ℕ
   pub lists : List (List ℕ)
 
--- so many processes, which stand in none of so many lists
+-- empty lists, with the number of the processes and that of the lists
 abbrev pub empty_links : ℕ → ℕ → Links
 empty_links processes lists = record { processes = processes; lists = replicate lists [] }
 
--- who stands in list l
+-- the processes of list l
 abbrev pub list_at : Links → ℕ → List ℕ
 list_at links l = slice_index_or links.lists l []
 
--- process p stands in no list
+-- process p is in no list
 abbrev pub IsFree : Links → ℕ → Type 0
 IsFree links p = (l : ℕ) → stands_in p (list_at links l) ≡ false
 
--- process p stands in list l, and in no other
+-- process p is in list l, and in no other
 pub record IsOnlyIn (links : Links) (p l : ℕ) : Type 0 where
   pub known : l < length links.lists
   pub here : stands_in p (list_at links l) ≡ true
   pub alone : (m : ℕ) → stands_in p (list_at links m) ≡ true → m ≡ l
 
--- this one, or nobody, comes behind process p in the list in which it stands
+-- this process, or none, comes behind process p in the list of p
 abbrev pub IsBehind : Links → ℕ → Option ℕ → Type 0
 IsBehind links p next =
     (l : ℕ) → stands_in p (list_at links l) ≡ true → next ≡ after_in p (list_at links l)
 
--- this one, or nobody, is at the next place of the list where process p is at place k
+-- this process, or none, is at the next place of the list in which process p is at place k
 abbrev pub IsNextAt : Links → ℕ → Option ℕ → Type 0
 IsNextAt links p next =
     (l k : ℕ) → slice_get (list_at links l) k ≡ Some p → next ≡ slice_get (list_at links l) (k + 1)
@@ -52,7 +52,7 @@ abbrev pub without : ℕ → List ℕ → List ℕ
 without p [] = []
 without p (x ∷ xs) = if p == x then xs else x ∷ without p xs
 
--- process p stands in no list from now on
+-- process p is in no list from now on
 abbrev pub removed : Links → ℕ → Links
 removed links p = record links { lists = map (without p) links.lists }
 
@@ -61,11 +61,11 @@ abbrev pub put_before : ℕ → ℕ → List ℕ → List ℕ
 put_before other p [] = []
 put_before other p (x ∷ xs) = if other == x then p ∷ x ∷ xs else x ∷ put_before other p xs
 
--- process p stands right before another one from now on
+-- process p is right before another one from now on
 abbrev pub inserted_before : Links → ℕ → ℕ → Links
 inserted_before links other p = record links { lists = map (put_before other p) links.lists }
 
--- no process stands in two places
+-- the processes of the lists are known, and none is in two places
 pub record IsSound (links : Links) : Type 0 where
   pub known : (l p : ℕ) → stands_in p (list_at links l) ≡ true → p < links.processes
   pub distinct : (l : ℕ) → IsDistinct (list_at links l)

@@ -1,12 +1,12 @@
--- Who stands beside whom in a list of processes.
+-- Neighbours in a list of processes.
 use Rattle.std.specs.Prelude.{◌≡◌, ℕ, Bool, false, ◌||◌, ◌==◌, if◌then◌else◌, List, [], ◌∷◌, Option, None, Some, ⊤}
 
--- process p stands in the list
+-- process p is in the list
 abbrev pub stands_in : ℕ → List ℕ → Bool
 stands_in p [] = false
 stands_in p (x ∷ xs) = p == x || stands_in p xs
 
--- no process stands in the list twice
+-- no process is in the list twice
 abbrev pub IsDistinct : List ℕ → Type 0
 IsDistinct [] = ⊤
 IsDistinct (x ∷ xs) = (stands_in x xs ≡ false) × IsDistinct xs
@@ -16,7 +16,7 @@ abbrev pub first_of : List ℕ → Option ℕ
 first_of [] = None
 first_of (x ∷ xs) = Some x
 
--- the last of the list, or who comes before it where the list is empty
+-- the last of the list, or the one before it if the list is empty
 abbrev pub last_behind : Option ℕ → List ℕ → Option ℕ
 last_behind before [] = before
 last_behind before (x ∷ xs) = last_behind (Some x) xs
@@ -25,16 +25,16 @@ last_behind before (x ∷ xs) = last_behind (Some x) xs
 abbrev pub last_of : List ℕ → Option ℕ
 last_of xs = last_behind None xs
 
--- who comes behind process p
+-- the process behind process p
 abbrev pub after_in : ℕ → List ℕ → Option ℕ
 after_in p [] = None
 after_in p (x ∷ xs) = if p == x then first_of xs else after_in p xs
 
--- who comes before process p, where the list stands behind the one that is given
+-- the process before process p in a list that comes behind the one that is given
 abbrev pub before_behind : Option ℕ → ℕ → List ℕ → Option ℕ
 before_behind before p [] = None
 before_behind before p (x ∷ xs) = if p == x then before else before_behind (Some x) p xs
 
--- who comes before process p
+-- the process before process p
 abbrev pub before_in : ℕ → List ℕ → Option ℕ
 before_in p xs = before_behind None p xs

@@ -1,13 +1,13 @@
 //! Linked lists in memory: a node for each process, and the two ends of each list.
 ghost use Rattle.std.specs.Prelude.{◌≡◌, ◌<◌, length, replicate, slice_set, IfOk};
-ghost use Rattle.apex_links.specs.Chains.{ends_at, ends_with, ends_without, followed, free, no_ends, node_at, nodes_with, nodes_without, preceded, rebound, IsKnown};
+ghost use Rattle.apex_links.specs.Chains.{ends_at, ends_with, ends_without, followed, free, led, no_ends, node_at, nodes_with, nodes_without, preceded, trailed, IsKnown};
 
 use crate::lists::ListId;
 use crate::visits::Visits;
 use apex_types::ProcessId;
 use std::alloc::{AllocError, Global};
 
-/// The list in which a process stands, and its neighbours there.
+/// The list of a process, and its neighbours there.
 #[derive(Clone, Copy)]
 pub(crate) struct Node {
     pub(crate) list: Option<ListId>,
@@ -15,7 +15,7 @@ pub(crate) struct Node {
     pub(crate) after: Option<ProcessId>,
 }
 
-/// The node of a process that stands in no list.
+/// The node of a process that is in no list.
 const FREE: Node = Node {
     list: None,
     before: None,
@@ -38,7 +38,7 @@ pub(crate) struct Chains {
 }
 
 impl Chains {
-    /// So many processes, which stand in none of so many lists. Fails only for want of memory.
+    /// Empty lists, `lists` of them, for `processes` processes. Fails only for want of memory.
     pub(crate) fn new(alloc: Global, processes: u16, lists: u16) -> Result<Chains, AllocError>
         ensures nodes { IfOk result (λ chains. chains.nodes.items ≡ replicate processes free) }
         ensures ends { IfOk result (λ chains. chains.ends.items ≡ replicate lists no_ends) }
@@ -56,98 +56,70 @@ impl Chains {
         })
     }
 
-    /// How many processes there are.
+    /// The number of processes.
     pub(crate) fn process_count(&self) -> usize
         ensures { result ≡ length self.now.nodes.items }
     {
         self.nodes.len()
     }
 
-    /// How many nodes have been read or written so far.
+    /// The number of nodes that have been read or written so far.
     pub(crate) fn visits(&self) -> u64 {
         self.visits.count()
     }
 
     /// The node of the process. Every node is read here.
-    pub(crate) fn node(&self, process: ProcessId) -> Node
+    pub(crate) fn node(&self, process: ProcessId) -> &Node
         requires { process < length self.now.nodes.items }
-        ensures { result ≡ node_at self.now.nodes.items process }
+        ensures { result.now ≡ node_at self.now.nodes.items process }
     {
         self.visits.note();
-        self.nodes[process.place()]
-    }
-
-    /// The process has this node from now on. Every node is written here.
-    fn put(&mut self, process: ProcessId, node: Node)
-        requires { process < length self.old.nodes.items }
-        ensures nodes { self.new.nodes.items ≡ slice_set self.old.nodes.items process node }
-        ensures ends { self.new.ends.items ≡ self.old.ends.items }
-    {
-        self.visits.note();
-        self.nodes[process.place()] = node;
+        &self.nodes[process.place()]
     }
 
     /// The ends of the list.
-    pub(crate) fn ends(&self, list: ListId) -> Ends
+    pub(crate) fn ends(&self, list: ListId) -> &Ends
         requires { list < length self.now.ends.items }
-        ensures { result ≡ ends_at self.now.ends.items list }
+        ensures { result.now ≡ ends_at self.now.ends.items list }
     {
-        self.ends[list.place()]
+        &self.ends[list.place()]
     }
 
-    /// Behind the first process, where there is one, comes the other one from now on.
-    fn follow(&mut self, before: Option<ProcessId>, after: Option<ProcessId>)
-        requires { IsKnown self.old.nodes.items before }
+    /// Behind the first process comes the other one from now on; without a first process, the list
+    /// begins with the other one.
+    fn follow(&mut self, list: ListId, before: Option<ProcessId>, after: Option<ProcessId>)
+        requires list { list < length self.old.ends.items }
+        requires before { IsKnown self.old.nodes.items before }
         ensures nodes { self.new.nodes.items ≡ followed self.old.nodes.items before after }
-        ensures ends { self.new.ends.items ≡ self.old.ends.items }
+        ensures ends { self.new.ends.items ≡ led self.old.ends.items list before after }
     {
-        if let Some(process) = before {
-            let node = self.node(process);
-            self.put(process, Node { after, ..node });
+        match before {
+            Some(process) => {
+                self.visits.note();
+                self.nodes[process.place()].after = after;
+            }
+            None => self.ends[list.place()].first = after,
         }
     }
 
-    /// Before the first process, where there is one, comes the other one from now on.
-    fn precede(&mut self, after: Option<ProcessId>, before: Option<ProcessId>)
-        requires { IsKnown self.old.nodes.items after }
+    /// Before the first process comes the other one from now on; without a first process, the list
+    /// ends with the other one.
+    fn precede(&mut self, list: ListId, after: Option<ProcessId>, before: Option<ProcessId>)
+        requires list { list < length self.old.ends.items }
+        requires after { IsKnown self.old.nodes.items after }
         ensures nodes { self.new.nodes.items ≡ preceded self.old.nodes.items after before }
-        ensures ends { self.new.ends.items ≡ self.old.ends.items }
+        ensures ends { self.new.ends.items ≡ trailed self.old.ends.items list after before }
     {
-        if let Some(process) = after {
-            let node = self.node(process);
-            self.put(process, Node { before, ..node });
+        match after {
+            Some(process) => {
+                self.visits.note();
+                self.nodes[process.place()].before = before;
+            }
+            None => self.ends[list.place()].last = before,
         }
     }
 
-    /// The list begins with the first of these where nobody stands before the place that changes, and ends
-    /// with the last where nobody stands behind it.
-    fn bound(
-        &mut self,
-        list: ListId,
-        place: &Node,
-        first: Option<ProcessId>,
-        last: Option<ProcessId>,
-    )
-        requires { list < length self.old.ends.items }
-        ensures nodes { self.new.nodes.items ≡ self.old.nodes.items }
-        ensures ends { self.new.ends.items ≡ rebound self.old.ends.items list place.now first last }
-    {
-        let ends = self.ends[list.place()];
-        self.ends[list.place()] = Ends {
-            first: if place.before.is_none() {
-                first
-            } else {
-                ends.first
-            },
-            last: if place.after.is_none() {
-                last
-            } else {
-                ends.last
-            },
-        };
-    }
-
-    /// The process stands in the list from now on, at this place between two neighbours.
+    /// The process is in the list from now on, at this place between two neighbours.
     pub(crate) fn join(&mut self, list: ListId, process: ProcessId, place: Node)
         requires list { list < length self.old.ends.items }
         requires process { process < length self.old.nodes.items }
@@ -156,24 +128,24 @@ impl Chains {
         ensures nodes { self.new.nodes.items ≡ nodes_with self.old.nodes.items process place }
         ensures ends { self.new.ends.items ≡ ends_with self.old.ends.items list process place }
     {
-        self.follow(place.before, Some(process));
-        self.precede(place.after, Some(process));
-        self.put(process, place);
-        self.bound(list, &place, Some(process), Some(process));
+        self.follow(list, place.before, Some(process));
+        self.precede(list, place.after, Some(process));
+        self.visits.note();
+        self.nodes[process.place()] = place;
     }
 
-    /// The process, which stands in the list at this place, stands in no list from now on.
-    pub(crate) fn part(&mut self, list: ListId, process: ProcessId, place: Node)
+    /// The process, which is in the list at the place of its node, is in no list from now on.
+    pub(crate) fn part(&mut self, list: ListId, process: ProcessId)
         requires list { list < length self.old.ends.items }
         requires process { process < length self.old.nodes.items }
-        requires before { IsKnown self.old.nodes.items place.before }
-        requires after { IsKnown self.old.nodes.items place.after }
-        ensures nodes { self.new.nodes.items ≡ nodes_without self.old.nodes.items process place }
-        ensures ends { self.new.ends.items ≡ ends_without self.old.ends.items list place }
+        requires before { IsKnown self.old.nodes.items (node_at self.old.nodes.items process).before }
+        requires after { IsKnown self.old.nodes.items (node_at self.old.nodes.items process).after }
+        ensures nodes { self.new.nodes.items ≡ nodes_without self.old.nodes.items process (node_at self.old.nodes.items process) }
+        ensures ends { self.new.ends.items ≡ ends_without self.old.ends.items list (node_at self.old.nodes.items process) }
     {
-        self.follow(place.before, place.after);
-        self.precede(place.after, place.before);
-        self.put(process, FREE);
-        self.bound(list, &place, place.after, place.before);
+        let place = self.nodes[process.place()];
+        self.follow(list, place.before, place.after);
+        self.precede(list, place.after, place.before);
+        self.nodes[process.place()] = FREE;
     }
 }

@@ -1,7 +1,7 @@
 //! Linked lists of processes.
 ghost use Rattle.std.specs.Prelude.{◌≡◌, ◌<◌, length, None, IfOk, MatchOption};
 ghost use Rattle.apex_links.specs.Links.{empty_links, inserted_before, list_at, pushed_back, pushed_front, removed, IsBehind, IsFree, IsNextAt, IsOnlyIn, IsSound};
-ghost use Rattle.apex_links.specs.Neighbours.{first_of};
+ghost use Rattle.apex_links.specs.Neighbours.{first_of, last_of};
 
 use crate::chains::{Chains, Node};
 use crate::lists::ListId;
@@ -11,8 +11,8 @@ use std::marker::Model;
 
 /// A set of linked lists of processes.
 ///
-/// A process stands in at most one list, and a contract sees each list whole. Every call takes the same
-/// few steps, however many processes stand in the lists, and none but `new` takes memory.
+/// A process is in at most one list, and a contract sees each list whole. Every call takes the same
+/// few steps, however many processes are in the lists, and none but `new` takes memory.
 #[derive(Drop)]
 pub struct LinkSet {
     chains: Chains,
@@ -30,7 +30,8 @@ impl Model for LinkSet {
 }
 
 impl LinkSet {
-    /// So many processes, which stand in none of so many lists. Fails only for want of memory.
+    /// A set of empty lists, `lists` of them, for `processes` processes. Fails only for want of
+    /// memory.
     pub fn new(alloc: Global, processes: u16, lists: u16) -> Result<LinkSet, AllocError>
         ensures { IfOk result (λ links. links ≡ empty_links processes lists) }
     {
@@ -39,26 +40,27 @@ impl LinkSet {
         })
     }
 
-    /// A process stands in one place of one list at most.
+    /// A process is in one place of one list at most.
     pub fn holds(&self)
         ensures { IsSound self.now }
     {
         let _ = &self.chains;
     }
 
-    /// How many nodes the calls, reading ones too, have read or written since the set was made.
+    /// The number of nodes that the calls, reading ones too, have read or written since the set was
+    /// made.
     pub fn visits(&self) -> u64 {
         self.chains.visits()
     }
 
-    /// How many processes there are.
+    /// The number of processes.
     pub(crate) fn process_count(&self) -> usize
         ensures { result ≡ self.now.processes }
     {
         self.chains.process_count()
     }
 
-    /// The list in which the process stands.
+    /// The list in which the process is, if it is in one.
     pub fn list_of(&self, process: ProcessId) -> Option<ListId>
         requires { process < self.now.processes }
         ensures { MatchOption result (IsFree self.now process) (λ l. IsOnlyIn self.now process l) }
@@ -74,7 +76,15 @@ impl LinkSet {
         self.chains.ends(list).first
     }
 
-    /// Who comes behind the process in its list; none for one that stands in no list.
+    /// The last of the list.
+    pub fn back(&self, list: ListId) -> Option<ProcessId>
+        requires { list < length self.now.lists }
+        ensures { result ≡ last_of (list_at self.now list) }
+    {
+        self.chains.ends(list).last
+    }
+
+    /// The process behind this one in its list; none for one that is in no list.
     pub fn next(&self, process: ProcessId) -> Option<ProcessId>
         requires { process < self.now.processes }
         ensures free { IsFree self.now process → result ≡ None }
@@ -84,7 +94,7 @@ impl LinkSet {
         self.chains.node(process).after
     }
 
-    /// The process, which stands in no list, goes behind all others of this one.
+    /// The process, which is in no list, goes behind all others of this one.
     pub fn push_back(&mut self, list: ListId, process: ProcessId)
         requires list { list < length self.old.lists }
         requires process { process < self.old.processes }
@@ -99,7 +109,7 @@ impl LinkSet {
         self.chains.join(list, process, place);
     }
 
-    /// The process, which stands in no list, goes before all others of this one.
+    /// The process, which is in no list, goes before all others of this one.
     pub fn push_front(&mut self, list: ListId, process: ProcessId)
         requires list { list < length self.old.lists }
         requires process { process < self.old.processes }
@@ -114,8 +124,8 @@ impl LinkSet {
         self.chains.join(list, process, place);
     }
 
-    /// The process, which stands in no list, goes right before another one. Nothing changes where that one
-    /// stands in no list.
+    /// The process, which is in no list, goes right before another one. Nothing changes if that one
+    /// is in no list.
     pub fn insert_before(&mut self, other: ProcessId, process: ProcessId)
         requires other { other < self.old.processes }
         requires process { process < self.old.processes }
@@ -126,21 +136,32 @@ impl LinkSet {
         if let Some(list) = place.list {
             let place = Node {
                 after: Some(other),
-                ..place
+                ..*place
             };
             self.chains.join(list, process, place);
         }
     }
 
-    /// The process stands in no list from now on.
+    /// The process is in no list from now on. Returns the list in which it was, if it was in one.
+    pub fn take(&mut self, process: ProcessId) -> Option<ListId>
+        requires { process < self.old.processes }
+        ensures list { MatchOption result (IsFree self.old process) (λ l. IsOnlyIn self.old process l) }
+        ensures lists { self.new ≡ removed self.old process }
+        ensures free { IsFree self.new process }
+    {
+        let list = self.chains.node(process).list;
+        if let Some(list) = list {
+            self.chains.part(list, process);
+        }
+        list
+    }
+
+    /// The process is in no list from now on.
     pub fn remove(&mut self, process: ProcessId)
         requires { process < self.old.processes }
         ensures lists { self.new ≡ removed self.old process }
         ensures free { IsFree self.new process }
     {
-        let place = self.chains.node(process);
-        if let Some(list) = place.list {
-            self.chains.part(list, process, place);
-        }
+        let _ = self.take(process);
     }
 }

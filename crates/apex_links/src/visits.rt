@@ -1,7 +1,8 @@
 //! The number of nodes and records that have been looked at.
 use std::cell::Cell;
 
-/// A count that goes up by one at each visit, and stays at the greatest `u64`. No contract speaks of it.
+/// A count that goes up by one at each visit, and stays at the greatest `u64`. No contract speaks
+/// of it.
 #[derive(Drop)]
 pub struct Visits {
     count: Cell<u64>,
@@ -20,7 +21,7 @@ impl Visits {
         self.count.set(self.count.get().saturating_add(1));
     }
 
-    /// How many visits there were.
+    /// The number of visits.
     pub fn count(&self) -> u64 {
         self.count.get()
     }

@@ -1,18 +1,18 @@
 //! The mutex as its services see it, and the services that mutexes alone have.
-ghost use Rattle.std.specs.Prelude.{◌≡◌, ◌≤◌, [], length, false};
-ghost use Rattle.apex_types.specs.Limits.{most_processes};
+ghost use Rattle.std.specs.Prelude.{◌≡◌, ◌<◌, ◌≤◌, [], length, false};
+ghost use Rattle.apex_types.specs.Limits.{most_owned, most_processes};
 ghost use Rattle.apex_types.specs.Callers.{IsReady, IsReadyCaller};
 ghost use Rattle.apex_types.specs.Dues.{HasTime};
 ghost use Rattle.apex_types.specs.MutexServices as services;
-ghost use Rattle.apex_types.specs.Owners.{is_deepest, owns_another, record_of};
+ghost use Rattle.apex_types.specs.Owners.{is_deepest, may_not_wait, owns, owns_most, record_of};
 ghost use Rattle.apex_types.specs.Roster.{Roster, record_at};
 ghost use Rattle.apex_types.specs.Rows.{Leaves};
 ghost use Rattle.apex_types.specs.Stamps.{HasManyStamps};
 
 use apex_store::{Object, Store, hand_over, wait_for};
 use apex_types::{
-    Caller, Holding, MutexId, MutexKind, MutexService, Notices, ProcessId, Record, Reply,
-    ReturnCode, Timeout, Wait,
+    Caller, Holding, Holdings, MOST_DEPTH, MutexId, MutexKind, MutexService, Notices, ProcessId,
+    Record, Reply, ReturnCode, Timeout, Wait,
 };
 use std::marker::Model;
 
@@ -32,19 +32,27 @@ impl Model for Mutex {
     ghost inverse = { λ m. record { created = m.created } };
 }
 
-/// The process owns a mutex, which is another one.
-fn owns_another(row: &Record, mutex: MutexId) -> bool
-    ensures { result ≡ owns_another mutex row.now }
+/// The process owns another mutex than this one and not this one, and would wait.
+fn may_not_wait(row: &Record, mutex: MutexId, timeout: Timeout) -> bool
+    ensures { result ≡ may_not_wait mutex timeout row.now }
 {
-    row.owned.is_some() && !row.owns(mutex)
+    !row.owns(mutex) && row.owns_some() && timeout != Timeout::Poll
 }
 
-/// The process owns a mutex, and may not go deeper.
-fn is_deepest(row: &Record) -> bool
-    ensures { result ≡ is_deepest row.now }
+/// The process owns as many mutexes as it may, and not this one.
+fn owns_most<S: Store>(store: &S, row: &Record, mutex: MutexId) -> bool
+    ensures value { result ≡ owns_most (S.roster store.now) mutex row.now }
+    ensures room { result ≡ false → owns mutex row.now ≡ false → length row.now.owned < most_owned }
 {
-    match &row.owned {
-        Some(holding) => holding.depth >= 32,
+    !row.owns(mutex) && row.owned.len() >= store.most_owned()
+}
+
+/// The process owns this mutex, and may not go deeper.
+fn is_deepest(row: &Record, mutex: MutexId) -> bool
+    ensures { result ≡ is_deepest mutex row.now }
+{
+    match row.owned.holding_of(mutex) {
+        Some(holding) => holding.depth >= MOST_DEPTH,
         None => false,
     }
 }
@@ -57,15 +65,18 @@ impl Mutex {
         Mutex { created: false }
     }
 
-    /// The process, which calls and owns no mutex, owns this one where it is free, else it waits for
-    /// the time in ticks that it may.
+    /// The process, which calls and does not own this mutex, owns it too if it is free, else it waits
+    /// until the timeout, in ticks, is over. `owned` has the mutexes that it owns already.
     fn acquire_from<S: Store>(
         &self,
         store: &mut S,
         id: MutexId,
         process: ProcessId,
+        owned: &Holdings,
         timeout: Timeout,
     ) -> Reply
+        requires owned { owned.now ≡ (record_at (S.roster store.old) process).owned }
+        requires few { length owned.now < most_owned }
         requires ready { IsReady (S.roster store.old) process }
         requires stamps { HasManyStamps (S.roster store.old) }
         requires time { HasTime (S.roster store.old) }
@@ -80,14 +91,18 @@ impl Mutex {
             ceiling: store.ceiling(id),
             depth: 1,
         };
-        store.own(process, Some(holding));
+        let mut owned = *owned;
+        owned.push(holding);
+        store.own(process, owned);
         Reply::Code(ReturnCode::NoError)
     }
 
-    /// ACQUIRE_MUTEX: the owner goes one deeper; where the mutex is free the caller owns it, else it
-    /// waits for the time in ticks that it may. INVALID_PARAM where the mutex isn't created;
-    /// INVALID_MODE where the caller owns another one, its base priority is above the ceiling, it owns
-    /// this one 32 deep, or no process calls; NOT_AVAILABLE where the caller may not wait.
+    /// ACQUIRE_MUTEX: the owner goes one deeper; if the mutex is free the caller owns it, else it
+    /// waits until the timeout, in ticks, is over. INVALID_PARAM if the mutex isn't created;
+    /// INVALID_MODE if the caller owns another one and not this one and would wait, owns as many as
+    /// it may, its base priority is above the ceiling, it owns this one [`MOST_DEPTH`] deep, or no
+    /// process calls; NOT_AVAILABLE in place of a wait if the timeout is 0.
+    #[tactic(auto, using(apex_types::proofs::Held::none_held))]
     pub fn acquire<S: Store>(
         &self,
         store: &mut S,
@@ -108,25 +123,26 @@ impl Mutex {
             return Reply::Code(ReturnCode::InvalidMode);
         };
         let record = store.record(*process);
-        if owns_another(&record, id) || record.base > store.ceiling(id) || is_deepest(&record) {
+        if may_not_wait(&record, id, timeout)
+            || owns_most(store, &record, id)
+            || record.base > store.ceiling(id)
+            || is_deepest(&record, id)
+        {
             return Reply::Code(ReturnCode::InvalidMode);
         }
-        match record.owned {
+        match record.owned.holding_of(id) {
             Some(holding) => {
-                let deeper = Holding {
-                    depth: holding.depth + 1,
-                    ..holding
-                };
-                store.own(*process, Some(deeper));
+                store.own(*process, record.owned.with_depth(id, holding.depth + 1));
                 Reply::Code(ReturnCode::NoError)
             }
-            None => self.acquire_from(store, id, *process, timeout),
+            None => self.acquire_from(store, id, *process, &record.owned, timeout),
         }
     }
 
-    /// RELEASE_MUTEX: the owner goes one less deep; with the last release it gives the mutex up, which
-    /// goes to the first waiter. INVALID_PARAM where the mutex isn't created, INVALID_MODE where the
-    /// caller doesn't own it.
+    /// RELEASE_MUTEX: the owner goes one less deep; with the last release it gives the mutex up,
+    /// which goes to the first waiter. INVALID_PARAM if the mutex isn't created, INVALID_MODE if
+    /// the caller doesn't own it.
+    #[tactic(auto, using(apex_types::proofs::Handovers::few_handed_over))]
     pub fn release<S: Store>(
         &self,
         store: &mut S,
@@ -147,21 +163,20 @@ impl Mutex {
             return Reply::Code(ReturnCode::InvalidMode);
         };
         let record = store.record(*process);
-        match record.owned {
-            Some(holding) if holding.mutex == id => {
-                if holding.depth > 1 {
-                    let shallower = Holding {
-                        depth: holding.depth - 1,
-                        ..holding
-                    };
-                    store.own(*process, Some(shallower));
-                } else {
-                    store.own(*process, None);
-                    hand_over(store, &holding, notices);
-                }
+        if !record.owns(id) {
+            return Reply::Code(ReturnCode::InvalidMode);
+        }
+        match record.owned.holding_of(id) {
+            Some(holding) if holding.depth > 1 => {
+                store.own(*process, record.owned.with_depth(id, holding.depth - 1));
                 Reply::Code(ReturnCode::NoError)
             }
-            _ => Reply::Code(ReturnCode::InvalidMode),
+            Some(holding) => {
+                store.own(*process, record.owned.without(id));
+                hand_over(store, &holding, notices);
+                Reply::Code(ReturnCode::NoError)
+            }
+            None => Reply::Code(ReturnCode::InvalidMode),
         }
     }
 }
@@ -195,7 +210,7 @@ impl Object for Mutex {
     {
         match store.owner(id) {
             Some(owner) => {
-                let depth = match store.record(owner).owned {
+                let depth = match store.record(owner).owned.holding_of(id) {
                     Some(holding) => holding.depth,
                     None => 0,
                 };

@@ -22,7 +22,7 @@ latest_is before history who e f latest last =
     let there : last_or None history ≡ Some e = ap (λ (h : List Entry). last_or None h) latest.added ∙ last_added None before e in
     cc (there, last)
 
--- what a turn adds
+-- the entry that a turn adds
 abbrev pub turn_entry : Table → Machine → ℕ → Entry
 turn_entry table machine core = entry_of (length machine.history + 1) (Core core) (deed_of table machine core)
 
@@ -31,7 +31,7 @@ pub turn_adds : (table : Table) (machine : Machine) (core : ℕ)
 unfolding turn
 turn_adds table machine core = record { added = refl; by = refl; number = refl }
 
--- what a tick adds
+-- the entry that a tick adds
 abbrev pub tick_entry : Table → Machine → ℕ → Entry
 tick_entry table machine n =
     entry_of (length machine.history + 1) Ticker (tick_deed machine.roster (objects_after table machine.history) n)
@@ -50,7 +50,7 @@ tick_asks table machine n e latest =
     latest_is machine.history (tick table machine n).history Ticker (tick_entry table machine n) e (tick_adds table machine n) last in
     ap asked_ticks (sym same)
 
--- so the last entry is what was added
+-- so the last entry is the one that was added
 pub latest_found : (before history : List Entry) (who : Who) (f : Entry) → (e : Entry) × IsLatest before who e history
     → last_or None history ≡ Some f → IsLatest before who f history
 latest_found before history who f some last =

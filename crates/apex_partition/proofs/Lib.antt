@@ -1,3 +1,5 @@
+pub mod Forward
+pub mod Fronts
 pub mod Latest
 pub mod Seated
 pub mod Standing

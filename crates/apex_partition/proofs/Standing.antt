@@ -1,4 +1,5 @@
--- Who runs, and where each process stands, by lists that are those of the state.
+-- The running process of each core, and the lists of each process, by lists that are those of the
+-- state.
 use Rattle.std.proofs.Common.{◌≡◌, ℕ, zero, suc, ◌<◌, ◌≤◌, Bool, true, false, Option, Some, None, inl, inr, refl, sym, subst, ◌∙◌, arith}
 use Rattle.std.proofs.lemmas.Bool.{and_parts, and_from, both_ways, cases_Bool, cases_eq, eq-eqb}
 use Rattle.std.proofs.lemmas.Option.{none-some}
@@ -54,14 +55,14 @@ module _ (roster : Roster) (links : Links) (are : AreReadyLists roster links) (p
       let run = find_run links core 256 (omega arith) (λ q above within. absurd (omega (arith, above, within))) in
       subst (λ (o : Option ℕ). RunsByLists links core o) (found_chosen roster links core are places inside run.0 run.1) run.1
 
-  -- who is eligible stands in the ready list of its core and current priority
+  -- an eligible process is in the ready list of its core and current priority
   in_its_list : (p : ℕ) → is_eligible roster.mode (record_at roster p) ≡ true → IsInItsReadyList links p (record_at roster p)
   in_its_list p eligible =
       let r = record_at roster p in
       are.members r.core (current_priority r) p ((places p).core eligible) ((places p).priority eligible)
       ∙ and_from _ _ eligible (and_from _ _ (eq-eqb r.core r.core refl) (eq-eqb (current_priority r) (current_priority r) refl))
 
-  -- who is not stands in none
+  -- one that is not eligible is in none
   in_no_list : (p : ℕ) → is_eligible roster.mode (record_at roster p) ≡ false → IsInNoReadyList links p
   in_no_list p out = λ core priority c k.
       elim (cases_Bool (stands_in p (list_at links (ready_list core priority)))) [
@@ -80,7 +81,7 @@ module _ (store : Queued) (are : AreListsOfState store) where
   stands_by p dormant true true true s e = in_its_list store.roster store.standings.links are.ready are.places p e
   stands_by p dormant true true false s e = in_its_list store.roster store.standings.links are.ready are.places p e
 
-  -- each process, which waits in no queue where it is dormant, stands where its state says
+  -- each process, which waits in no queue if it is dormant, is in the lists of its state
   pub stands_as : (p : ℕ) → ((record_at store.roster p).started ≡ false → queue_in (record_at store.roster p) ≡ None)
       → StandsAs store.standings.links p (record_at store.roster p) (process_state store.roster p)
   stands_as p dormant = stands_by p dormant _ _ (is_process p (chosen store.roster (record_at store.roster p).core)) refl refl

@@ -1,4 +1,4 @@
--- The headline: what holds of a partition whenever its lock is free.
+-- The headline: the facts about a partition whenever its lock is free.
 use Rattle.std.specs.Prelude.{◌≡◌, ℕ, ◌<◌, length, slice_index_or}
 use Rattle.apex_types.specs.Limits.{most_cores}
 use Rattle.apex_types.specs.Machine.{events_of, opening, run}
@@ -22,7 +22,7 @@ stored_semaphore partition s = slice_index_or partition.objects.semaphores s sem
 abbrev pub start_of : KernelState → ℕ → ℕ
 start_of partition s = (semaphore_config partition.table s).initial
 
--- whenever the partition's lock is free, of the partition and of the store that it lends
+-- the facts about the partition and the store that it lends, whenever the partition's lock is free
 pub record Headline (partition : KernelState) (store : Queued) : Type 0 where
   -- the store's processes are the partition's
   pub processes : store.roster ≡ partition.machine.roster
@@ -43,9 +43,10 @@ pub record Headline (partition : KernelState) (store : Queued) : Type 0 where
   -- and no more waits were satisfied than these allow
   pub served : (s : ℕ) → s < length partition.table.semaphores
       → IsAccounted (start_of partition s) s partition.machine.history
-  -- and the stored history replays on the one-thread machine with the same return codes and releases
+  -- and the stored history replays on the one-thread machine with the same return codes and
+  -- releases
   pub replays : run partition.table (opening partition.table) (events_of partition.machine.history) ≡ partition.machine
 
--- the headline holds of the partition and of the store that it keeps its processes in
+-- the headline holds of the partition and of the store in which it keeps its processes
 abbrev pub HasHeadline : KernelState → Type 0
 HasHeadline partition = (store : Queued) × Headline partition store

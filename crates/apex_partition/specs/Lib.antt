@@ -1,3 +1,4 @@
 pub mod Standing
 pub mod Headline
 pub mod Seats
+pub mod Forward

@@ -1,4 +1,4 @@
--- What the seats of a partition and its ticker have made of the history.
+-- The entries of a history that the seats of a partition and its ticker have made.
 use Rattle.std.specs.Prelude.{◌≡◌, ℕ, ◌+◌, ◌<◌, true, List, [], ◌∷◌, ◌++◌, length, sum_by, ⊤}
 use Rattle.apex_types.specs.declared.entries.Entry.{Entry}
 use Rattle.apex_types.specs.declared.entries.Event.{Event}
@@ -20,11 +20,11 @@ asked_ticks e = asked_in e.reply
 abbrev pub ticks_asked : List Entry → ℕ
 ticks_asked entries = sum_by asked_ticks entries
 
--- the same seat after an entry more
+-- the same seat after one entry more
 abbrev pub with_entry : Spoken → Entry → Spoken
 with_entry seat e = record { who = seat.who; own = seat.own ++ e ∷ []; told = seat.told }
 
--- the same seat after it was told that the history is full
+-- the same seat after it learned that the history is full
 abbrev pub told_full : Spoken → Spoken
 told_full seat = record { who = seat.who; own = seat.own; told = true }
 
@@ -37,13 +37,13 @@ AreSeatsFrom core (seat ∷ seats) = (seat.who ≡ Core core) × AreSeatsFrom (c
 abbrev pub IsSeated : List Spoken → Type 0
 IsSeated seats = AreSeatsFrom 0 seats
 
--- the history's entries of this core, or of the ticker, are those that the seat made and no others; and
--- where the seat was told that the history is full, the history stands at its limit
+-- the history's entries of this core, or of the ticker, are those that the seat made and no others;
+-- and if the seat knows that the history is full, the history is at its limit
 pub record IsSettled (table : Table) (history : List Entry) (who : Who) (seat : Spoken) : Type 0 where
   pub own : own_entries who history ≡ seat.own
   pub told : seat.told ≡ true → length history ≡ table.limit
 
--- one of so many cores, or the ticker
+-- the maker is a core below this number, or the ticker
 abbrev pub IsOneOf : ℕ → Who → Type 0
 IsOneOf cores (Core core) = core < cores
 IsOneOf cores Ticker = ⊤

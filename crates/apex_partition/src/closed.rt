@@ -1,41 +1,57 @@
 //! A partition that was closed.
-ghost use Rattle.std.specs.Prelude.{◌≡◌, ◌≤◌, All, length};
+ghost use Rattle.std.specs.Prelude.{◌≡◌, ◌≤◌, All, MatchOption, None, length};
+ghost use mathlib.Core.List.{IsPrefix};
+ghost use Rattle.apex_board.specs.Fronts.{IsFrontAfter};
 ghost use Rattle.apex_receipts.specs.Receipts.{Stands};
-ghost use Rattle.apex_types.specs.Lines.{IsPrintable};
+ghost use Rattle.apex_calls.specs.Lines.{IsPrintable};
 
 use crate::partitions::Partition;
+use apex_board::{Front, Publisher, Reader};
 use apex_history::Entries;
 use apex_receipts::{Naming, Receipt, Story};
 use apex_table::Table;
 use apex_types::LentEntry;
 use std::marker::Model;
+use std::sync::Wait;
 
 /// A partition to whose history nothing will be added. Contracts see it as that history.
 #[derive(Drop)]
 pub struct Closed<P: Naming> {
     partition: Partition,
     story: Story<P>,
+    publisher: Option<Publisher<P>>,
 }
 
 impl<P: Naming> Model for Closed<P> {
-    ghost use Rattle.std.specs.Prelude.{◌≡◌, List};
+    ghost use Rattle.std.specs.Prelude.{◌≡◌, List, MatchOption, None};
     ghost use Rattle.apex_types.specs.declared.entries.Entry.{Entry};
 
     ghost Value = { List Entry };
 
     ghost view = { λ c. c.story };
 
-    ghost invariant = { λ c. (c.partition.table ≡ P.table) × (c.story ≡ c.partition.machine.history) };
+    ghost invariant = { λ c. (c.partition.table ≡ P.table) × (c.story ≡ c.partition.machine.history)
+        × MatchOption c.publisher (P.cell ≡ None) (λ history. history ≡ c.story) };
 }
 
 impl<P: Naming> Closed<P> {
-    /// The closed partition of this history, which its scribe has finished.
-    pub(crate) fn new(partition: Partition, story: Story<P>) -> Closed<P>
+    /// The closed partition of this history, which its scribe has finished and, if it has readers, its
+    /// publisher has published.
+    pub(crate) fn new(
+        partition: Partition,
+        story: Story<P>,
+        publisher: Option<Publisher<P>>,
+    ) -> Closed<P>
         requires table { partition.table ≡ P.table }
         requires history { story ≡ partition.machine.history }
+        requires publisher { MatchOption publisher (P.cell ≡ None) (λ history. history ≡ partition.machine.history) }
         ensures { result ≡ partition.machine.history }
     {
-        Closed { partition, story }
+        Closed {
+            partition,
+            story,
+            publisher,
+        }
     }
 
     /// The table that the partition was opened with.
@@ -52,8 +68,8 @@ impl<P: Naming> Closed<P> {
         self.partition.entries()
     }
 
-    /// The entry of this receipt, as the history has it: it stands there at its number, and it is the
-    /// so-manieth of its core or of the ticker as the receipt's place says.
+    /// The entry of this receipt, as the history has it: it is there at its number, and the
+    /// receipt's place is its number among the entries of its core or of the ticker.
     pub fn confirm(&self, receipt: &Receipt<P>) -> LentEntry<'_>
         ensures entry { result ≡ receipt.now.entry }
         ensures stands { Stands self.now receipt.now.entry receipt.now.place }
@@ -62,8 +78,23 @@ impl<P: Naming> Closed<P> {
         self.partition.entry(receipt.entry().number as usize - 1)
     }
 
-    /// The history is within the table's limit, and the ids that its entries name are the table's: so
-    /// each of them can be printed.
+    /// Tells a reader of the whole history: the front after it, and the reader, which has seen it. What the
+    /// reader had seen is a prefix of it. It promises only if it returns.
+    pub fn tell<R: Wait>(&mut self, rt: &R, reader: Reader<P>) -> (Front, Reader<P>)
+        ensures same { self.new ≡ self.old }
+        ensures saw { IsPrefix reader self.old }
+        ensures front { IsFrontAfter P.table self.old result.0 }
+        ensures told { result.1 ≡ self.old }
+    {
+        reader.is_of_a_cell();
+        match &mut self.publisher {
+            Some(publisher) => publisher.tell(rt, reader),
+            None => unreachable!(),
+        }
+    }
+
+    /// The history is within the table's limit, and the ids that its entries name are the table's:
+    /// so each of them can be printed.
     pub fn holds(&self)
         ensures within { length self.now ≤ P.table.limit }
         ensures printable { All (IsPrintable P.table) self.now }

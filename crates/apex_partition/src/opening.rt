@@ -1,14 +1,15 @@
 //! The opening of a partition that threads will share.
-ghost use Rattle.std.specs.Prelude.{◌≡◌, ◌≤◌, IfOk, length, vec_len};
+ghost use Rattle.std.specs.Prelude.{◌≡◌, ◌≤◌, IfOk, None, length, vec_len};
 ghost use Rattle.apex_types.specs.Limits.{most_cores};
 ghost use Rattle.apex_types.specs.declared.entries.Who.TheVariants.{Ticker as ToTicker};
 ghost use Rattle.apex_receipts.specs.Receipts.{unspoken, unspoken_cores, voice_of};
 ghost use Rattle.apex_partition.specs.Seats.{IsSeated};
 
-use crate::locked::Locked;
 use crate::partitions::Partition;
+use crate::published::Published;
 use crate::seats::{Seat, Ticker};
 use crate::shared::Shared;
+use apex_board::{Board, NewBoard};
 use apex_receipts::{Naming, Opened, Voice};
 use apex_table::Table;
 use apex_types::CoreId;
@@ -28,9 +29,41 @@ fn seated<P: Naming>(alloc: Global, voices: Vec<Voice<P>>) -> Result<Vec<Seat<P>
     Ok(seats)
 }
 
-/// A partition before any event, a seat for each core, in the order of their numbers, and the ticker.
-/// It takes all the memory that events will fill, and fails only for want of memory, which leaves
-/// nothing behind. `P` is named after the book that was opened for it, and after the table.
+/// A partition before any event, a seat for each core, in the order of their numbers, the ticker, and the
+/// board with the partition's readers.
+///
+/// It takes all the memory that events will fill, and fails only for want of memory, which leaves nothing
+/// behind. `P` is named after the book that was opened for it, after the table, and after the cell of the
+/// board.
+pub fn open_read<P: Naming>(
+    alloc: Global,
+    table: Table,
+    opened: Opened,
+    board: NewBoard,
+) -> Result<(Shared<P>, Vec<Seat<P>>, Ticker<P>, Board<P>), AllocError>
+    requires table { P.table ≡ table }
+    requires book { P.book ≡ opened.book }
+    requires scribe { P.scribe ≡ opened.scribe }
+    requires voice { P.voice ≡ voice_of opened.cores opened.ticker }
+    requires cores { length opened.cores ≡ table.cores }
+    requires cell { P.cell ≡ board.cell }
+    ensures seated { IfOk result (λ all. IsSeated all.1.items) }
+    ensures each { IfOk result (λ all. vec_len all.1 ≡ P.table.cores) }
+    ensures seats { IfOk result (λ all. all.1.items ≡ unspoken_cores P.table.cores) }
+    ensures ticker { IfOk result (λ all. all.2 ≡ unspoken ToTicker) }
+    ensures board { IfOk result (λ all. all.3 ≡ board.readers) }
+{
+    table.lawful();
+    let cores = usize::from(table.cores());
+    let partition = Partition::boot(alloc, table)?;
+    let (scribe, voices, voice) = opened.into_parts::<P>(alloc)?;
+    let (publisher, board) = board.into_parts::<P>(alloc, cores)?;
+    let seats = seated(alloc, voices)?;
+    let shared = Shared::new(Published::new(partition, scribe, publisher));
+    Ok((shared, seats, Ticker::new(voice), board))
+}
+
+/// A partition as `open_read` opens it, without readers: it publishes nothing.
 pub fn open<P: Naming>(
     alloc: Global,
     table: Table,
@@ -41,15 +74,17 @@ pub fn open<P: Naming>(
     requires scribe { P.scribe ≡ opened.scribe }
     requires voice { P.voice ≡ voice_of opened.cores opened.ticker }
     requires cores { length opened.cores ≡ table.cores }
+    requires cell { P.cell ≡ None }
     ensures seated { IfOk result (λ all. IsSeated all.1.items) }
     ensures each { IfOk result (λ all. vec_len all.1 ≡ P.table.cores) }
     ensures seats { IfOk result (λ all. all.1.items ≡ unspoken_cores P.table.cores) }
     ensures ticker { IfOk result (λ all. all.2 ≡ unspoken ToTicker) }
 {
-    table.lawful();
-    let partition = Partition::boot(alloc, table)?;
-    let (scribe, voices, voice) = opened.into_parts::<P>(alloc)?;
-    let seats = seated(alloc, voices)?;
-    let shared = Shared::new(Locked::new(partition, scribe));
-    Ok((shared, seats, Ticker::new(voice)))
+    let (shared, seats, ticker, _board) = open_read(
+        alloc,
+        table,
+        opened,
+        NewBoard::without_readers(),
+    )?;
+    Ok((shared, seats, ticker))
 }

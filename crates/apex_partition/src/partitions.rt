@@ -2,25 +2,28 @@
 ghost use Rattle.std.specs.Prelude.{◌≡◌, ◌<◌, ◌≤◌, ◌↔◌, length, All, IfOk, IfErr, IfSome, OnOk, OnErr, IsOk, None, Some, slice_get};
 ghost use Rattle.std.specs.List.{last_or};
 ghost use Rattle.apex_types.specs.Limits.{most_entries, most_ticks};
-ghost use Rattle.apex_types.specs.Lines.{IsPrintable};
+ghost use Rattle.apex_calls.specs.Lines.{IsPrintable};
 ghost use Rattle.apex_types.specs.Machine.{events_of, opening, tick, turn};
 ghost use Rattle.apex_types.specs.Running.{chosen, process_state};
 ghost use Rattle.apex_dispatch.specs.Events.{IsWithin};
 ghost use Rattle.apex_dispatch.specs.Kernel.{kernel_in};
 ghost use Rattle.apex_store.specs.Laws.{RunsMostUrgent};
+ghost use Rattle.apex_board.specs.Fronts.{FitsWords, IsFrontAfter, front_of};
 ghost use Rattle.apex_partition.specs.Headline.{HasHeadline, Headline};
 
+use apex_board::Front;
 use apex_dispatch::{Kernel, values_and_dues_are_in_range};
 use apex_history::Entries;
 use apex_process::QueueStore;
 use apex_store::Store;
 use apex_table::Table;
 use apex_types::{CoreId, Entry, Full, LentEntry, ProcessId, State};
+use arrayvec::ArrayVec;
 use std::alloc::{AllocError, Global};
 use std::marker::Model;
 
-/// A partition over linked lists. The headline holds of every value of this type, so of what each holder
-/// of the lock gets and of what each holder leaves.
+/// A partition over linked lists. The headline holds of every value of this type, so of the value
+/// that each holder of the lock gets, and of the one that it leaves.
 #[derive(Drop)]
 pub struct Partition {
     kernel: Kernel<QueueStore>,
@@ -28,6 +31,7 @@ pub struct Partition {
 
 impl Model for Partition {
     ghost use Rattle.apex_dispatch.specs.Kernel.{KernelState};
+    ghost use Rattle.apex_board.specs.Fronts.{FitsWords, IsFrontAfter, front_of};
     ghost use Rattle.apex_partition.specs.Headline.{HasHeadline};
 
     ghost Value = { KernelState };
@@ -67,7 +71,8 @@ impl Partition {
         Ok(Partition { kernel })
     }
 
-    /// One turn of the core, whole.
+    /// One turn of the core, whole. `Full` if the history has no room for its entry, and then
+    /// nothing changes.
     pub fn turn(&mut self, core: CoreId) -> Result<(), Full>
         requires { core < self.old.table.cores }
         ensures accepted { IsOk result ↔ (length self.old.machine.history < self.old.table.limit) }
@@ -80,8 +85,9 @@ impl Partition {
         result
     }
 
-    /// One tick, whole: time goes on by `n` ticks, but not past the next instant at which a wait ends
-    /// by itself.
+    /// One tick, whole: time goes on by `n` ticks, but not past the next instant at which a wait
+    /// ends by itself or a deadline passes. `Full` if the history has no room for its entry, and
+    /// then nothing changes.
     pub fn tick(&mut self, n: u32) -> Result<(), Full>
         requires range { (1 ≤ n) × (n ≤ most_ticks) }
         ensures accepted { IsOk result ↔ (length self.old.machine.history < self.old.table.limit) }
@@ -94,8 +100,8 @@ impl Partition {
         result
     }
 
-    /// The process that the core runs: its highest-priority, longest-ready one, which is the first of its
-    /// highest ready list that is not empty.
+    /// The process that the core runs: its highest-priority, longest-ready one, which is the first
+    /// of its highest ready list that is not empty.
     pub fn chosen(&self, core: CoreId) -> Option<ProcessId>
         ensures value { result ≡ chosen self.now.machine.roster core }
         ensures known { IfSome result (λ p. p < length self.now.machine.roster.records) }
@@ -112,8 +118,27 @@ impl Partition {
         self.store().state(process)
     }
 
-    /// The store in which the partition keeps its processes. The headline holds of the partition and of
-    /// this store.
+    /// The front of the partition: how many entries its history has, the time, and which process each core
+    /// runs.
+    pub fn front(&self) -> Front
+        ensures shown { result ≡ front_of self.now.table self.now.machine }
+        ensures after { IsFrontAfter self.now.table self.now.machine.history result }
+        ensures fits { FitsWords result }
+    {
+        self.kernel.holds();
+        let mut chosen = ArrayVec::new();
+        for core in 0..self.table().cores() {
+            chosen.push(self.chosen(CoreId::new(core)));
+        }
+        Front {
+            entries: self.entries().len() as u32,
+            now: self.kernel.now(),
+            chosen,
+        }
+    }
+
+    /// The store in which the partition keeps its processes. The headline holds of the partition
+    /// and of this store.
     pub fn store(&self) -> &QueueStore
         ensures roster { result.now.roster ≡ self.now.machine.roster }
         ensures headline { Headline self.now result.now }
@@ -147,8 +172,8 @@ impl Partition {
         }
     }
 
-    /// The history is within its limit, which is few enough to be counted, tells of events of the
-    /// table's cores and of the ticker, and can be printed.
+    /// The history is within its limit, which is small enough to be counted; its events are of the
+    /// table's cores and of the ticker; and it can be printed.
     pub(crate) fn stays_within(&self)
         ensures room { length self.now.machine.history ≤ self.now.table.limit }
         ensures few { self.now.table.limit ≤ most_entries }
@@ -165,7 +190,7 @@ impl Partition {
         self.kernel.table()
     }
 
-    /// Each entry of the history can be printed: what it names is the table's.
+    /// Each entry of the history can be printed: the things that it names are the table's.
     pub fn printable(&self)
         ensures { All (IsPrintable self.now.table) self.now.machine.history }
     {
@@ -173,10 +198,10 @@ impl Partition {
     }
 
     /// The headline: whenever the partition's lock is free, each core's running process is the
-    /// highest-priority, longest-ready one bound to it, every process is in exactly one state and at
-    /// most one queue, each semaphore's value is its start plus accepted signals less satisfied waits,
-    /// and the stored history replays on the one-thread machine with the same return codes and
-    /// releases. It speaks of the lists that the partition keeps in its store, which
+    /// highest-priority, longest-ready one bound to it, every process is in exactly one state and
+    /// at most one queue, each semaphore's value is its start plus accepted signals less satisfied
+    /// waits, and the stored history replays on the one-thread machine with the same return codes
+    /// and releases. It speaks of the lists that the partition keeps in its store, which
     /// [`Partition::store`] lends.
     pub fn holds(&self)
         ensures { HasHeadline self.now }

@@ -8,8 +8,8 @@ use apex_receipts::{Naming, Voice};
 use apex_types::CoreId;
 use std::marker::Model;
 
-/// The seat of one core, which alone takes the core's turns. Contracts see it as the entries that it
-/// made. None can be made but by opening a partition, and none can be copied.
+/// The seat of one core, which alone takes the core's turns. Contracts see it as the entries that
+/// it made. None can be made but by opening a partition, and none can be copied.
 #[derive(Drop)]
 pub struct Seat<P: Naming> {
     pub(crate) core: CoreId,
@@ -38,21 +38,21 @@ impl<P: Naming> Seat<P> {
         Seat { core, voice }
     }
 
-    /// Whose turns it takes.
+    /// The core whose turns it takes.
     pub fn core(&self) -> CoreId
         ensures { self.now.who ≡ Core result }
     {
         self.core
     }
 
-    /// How many entries it made, which is also the place of its last receipt.
+    /// The number of entries that it made, which is also the place of its last receipt.
     pub fn count(&self) -> u32
         ensures { result ≡ length self.now.own }
     {
         self.voice.count()
     }
 
-    /// Whether it was told that the history is full.
+    /// Whether it knows that the history is full.
     pub fn told_full(&self) -> bool
         ensures { result ≡ self.now.told }
     {
@@ -60,8 +60,8 @@ impl<P: Naming> Seat<P> {
     }
 }
 
-/// Who alone makes the ticks of a partition. Contracts see it as the entries that it made. None can be
-/// made but by opening a partition, and none can be copied.
+/// The ticker, which alone makes the ticks of a partition. Contracts see it as the entries that it
+/// made. None can be made but by opening a partition, and none can be copied.
 #[derive(Drop)]
 pub struct Ticker<P: Naming> {
     pub(crate) voice: Voice<P>,
@@ -85,7 +85,7 @@ impl<P: Naming> Model for Ticker<P> {
 }
 
 impl<P: Naming> Ticker<P> {
-    /// The ticker, which speaks with this voice, that has said nothing.
+    /// The ticker that speaks with this voice, which has said nothing.
     pub(crate) fn new(voice: Voice<P>) -> Ticker<P>
         requires { voice ≡ unspoken ToTicker }
         ensures { result ≡ voice }
@@ -93,7 +93,7 @@ impl<P: Naming> Ticker<P> {
         Ticker { voice, sum: 0 }
     }
 
-    /// How many entries it made, which is also the place of its last receipt.
+    /// The number of entries that it made, which is also the place of its last receipt.
     pub fn count(&self) -> u32
         ensures { result ≡ length self.now.own }
     {
@@ -107,7 +107,7 @@ impl<P: Naming> Ticker<P> {
         self.sum
     }
 
-    /// Whether it was told that the history is full.
+    /// Whether it knows that the history is full.
     pub fn told_full(&self) -> bool
         ensures { result ≡ self.now.told }
     {

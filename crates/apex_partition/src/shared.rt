@@ -10,8 +10,8 @@ ghost use Rattle.apex_partition.specs.Headline.{HasHeadline};
 ghost use Rattle.apex_partition.specs.Seats.{IsOneOf, IsRun, IsSeated, IsSettled, asked_ticks, told_full, with_entry};
 
 use crate::closed::Closed;
-use crate::locked::Locked;
 use crate::partitions::Partition;
+use crate::published::Published;
 use crate::seats::{Seat, Ticker};
 use apex_receipts::{Naming, Receipt};
 use apex_types::Full;
@@ -20,13 +20,13 @@ use std::sync::{Mutex, Wait};
 /// A partition behind its lock. Each call holds the lock for one whole event, and takes no memory.
 #[derive(Drop)]
 pub struct Shared<P: Naming> {
-    lock: Mutex<Locked<P>>,
+    lock: Mutex<Published<P>>,
 }
 
 impl<P: Naming> Shared<P> {
-    pub(crate) fn new(locked: Locked<P>) -> Shared<P> {
+    pub(crate) fn new(published: Published<P>) -> Shared<P> {
         Shared {
-            lock: Mutex::new(locked),
+            lock: Mutex::new(published),
         }
     }
 
@@ -36,22 +36,22 @@ impl<P: Naming> Shared<P> {
             × (r.entry.who ≡ seat.old.who) × (r.place ≡ length seat.old.own + 1)) }
         ensures full { IfErr result (λ e. (seat.new ≡ told_full seat.old) × (e.entries ≡ P.table.limit)) }
     {
-        self.lock.lock(rt).turn(seat)
+        self.lock.lock(rt).turn(rt, seat)
     }
 
-    /// One tick, whole: time goes on by `n` ticks, but not past the next instant at which a wait ends
-    /// by itself. A full history answers [`Full`], and stays as it is.
+    /// One tick, whole: time goes on by `n` ticks, but not past the next instant at which a wait
+    /// ends by itself or a deadline passes. A full history answers [`Full`], and stays as it is.
     pub fn tick<R: Wait>(&self, rt: &R, ticker: &mut Ticker<P>, n: u32) -> Result<Receipt<P>, Full>
         requires range { (1 ≤ n) × (n ≤ most_ticks) }
         ensures ok { IfOk result (λ r. (ticker.new ≡ with_entry ticker.old r.entry)
             × (r.entry.who ≡ ticker.old.who) × (r.place ≡ length ticker.old.own + 1) × (asked_ticks r.entry ≡ n)) }
         ensures full { IfErr result (λ e. (ticker.new ≡ told_full ticker.old) × (e.entries ≡ P.table.limit)) }
     {
-        self.lock.lock(rt).tick(ticker, n)
+        self.lock.lock(rt).tick(rt, ticker, n)
     }
 
-    /// The answer of `f` to the partition, which is lent to it under the lock. Where a receipt is
-    /// given, its entry stands in the history.
+    /// The answer of `f` to the partition, which is lent to it under the lock. If a receipt is
+    /// given, its entry is in the history.
     pub fn look<R: Wait, T, F: FnOnce(&Partition) -> T>(
         &self,
         rt: &R,
@@ -67,7 +67,8 @@ impl<P: Naming> Shared<P> {
         f(locked.shown(seen))
     }
 
-    /// Ends the partition: what its seats and its ticker made is its history. Takes no lock.
+    /// Ends the partition: the entries that its seats and its ticker made are its history. Takes no
+    /// lock.
     pub fn close(self, seats: Vec<Seat<P>>, ticker: Ticker<P>) -> Closed<P>
         requires seated { IsSeated seats.items }
         requires each { vec_len seats ≡ P.table.cores }

@@ -133,7 +133,7 @@ pub pictured_machine : (table : Table) (machine : Machine) → replay table mach
 pictured_machine table machine again =
     subst (IsPictured table) again (pictured_run table (events_of machine.history) (opening table) (pictured_opening table))
 
--- what holds of all entries holds of the one that an event adds
+-- a property of all entries holds of the one that an event adds
 pub latest_holds : (table : Table) (machine new : Machine) (event : Event) (P : Entry → Type 0) (found : Entry)
     → length machine.history < table.limit → new ≡ accept table machine event
     → last_or None new.history ≡ Some found → All P new.history → P found

@@ -1,7 +1,7 @@
--- The call and the reply of an entry are in the line of an entry of nobody.
+-- The call and the reply of an entry are in the line of an entry without a caller.
 use Rattle.std.proofs.Common.{◌≡◌, ◌∙◌, ℕ, ◌≤◌, List, [], ◌++◌, ap, arith, length, drop, append-nil, append_assoc, codes, decimal}
 use Rattle.std.proofs.lemmas.Fmt.{decimal_digit}
-use Rattle.apex_types.specs.Lines.{asked_text, line_of, reply_text}
+use Rattle.apex_calls.specs.Lines.{asked_text, line_of, reply_text}
 use Rattle.apex_types.specs.Table.{Table}
 use Rattle.apex_pictures.specs.Svg.{bare, said_line}
 use Rattle.apex_pictures.specs.Terms.{Entry}
@@ -21,7 +21,7 @@ bare_line table e =
     ∙ ap (λ (l : List ℕ). l ++ codes "\n") (append_assoc front (asked ++ codes " -> ") reply)
     ∙ append_assoc front (asked ++ codes " -> " ++ reply) (codes "\n")
 
--- the line is long enough, and behind its front comes what was said
+-- the line is long enough, and behind its front are the call and the reply
 pub bare_long : (table : Table) (e : Entry) (line : List ℕ) → line ≡ line_of table (bare e) → 13 ≤ length line
 bare_long table e line is = omega (arith, ap length (is ∙ bare_line table e))
 

@@ -1,4 +1,4 @@
--- How the text of a picture grows, and how its drawing ends.
+-- The text of a picture, as it grows, and the ends of its drawing.
 use Rattle.std.specs.Prelude.{◌≡◌, ℕ, List, [], ◌∷◌, ◌++◌, length, Result, MatchResult, flat_map}
 use Rattle.apex_types.specs.Machine.{Machine}
 use Rattle.apex_types.specs.Roster.{Roster, opening_roster}
@@ -16,7 +16,7 @@ Grows style table old new before after =
     (columns : List Column) × (picture table new ≡ picture table old ++ columns)
     × (after ≡ before ++ flat_map (column_text style table) columns)
 
--- what is shown after the last roster, or before all
+-- the moment after the last roster, or this one if there is none
 abbrev pub last_shown : Shown → List Roster → Shown
 last_shown before [] = before
 last_shown before (roster ∷ rosters) = last_shown (moment_of roster) rosters

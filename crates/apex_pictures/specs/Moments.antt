@@ -1,4 +1,4 @@
--- What a picture shows of the processes after an entry, and the columns of a picture.
+-- The processes after an entry, as a picture shows them, and the columns of a picture.
 use Rattle.std.specs.Prelude.{ℕ, zero, suc, List, [], ◌∷◌, ◌++◌, length, Option, None}
 use Rattle.apex_pictures.specs.Terms.{Cell, Entry}
 use Rattle.apex_types.specs.declared.State.TheVariants.{Dormant}
@@ -13,7 +13,7 @@ abbrev pub of_places : {A : Type 0} → (ℕ → A) → ℕ → List A
 of_places f zero = []
 of_places f (suc n) = of_places f n ++ f n ∷ []
 
--- the cell of process p: its state, what it waits for and the mutex that it owns
+-- the cell of process p: its state, what it waits for and the mutexes that it owns
 abbrev pub cell_of : Roster → ℕ → Cell
 cell_of roster p = record {
   state = process_state roster p;
@@ -23,7 +23,7 @@ cell_of roster p = record {
 
 -- the cell of no process
 abbrev pub no_cell : Cell
-no_cell = record { state = Dormant; wait = None; owned = None }
+no_cell = record { state = Dormant; wait = None; owned = [] }
 
 -- the process that each core runs: its chosen one
 abbrev pub running_in : Roster → List (Option ℕ)
@@ -34,24 +34,24 @@ pub record Shown : Type 0 where
   pub cells : List Cell
   pub running : List (Option ℕ)
 
--- nobody is shown
+-- no process is shown
 abbrev pub none_shown : Shown
 none_shown = record { cells = []; running = [] }
 
--- what is shown of the processes
+-- the moment of the processes
 abbrev pub moment_of : Roster → Shown
 moment_of roster = record {
   cells = of_places (cell_of roster) (length roster.records);
   running = running_in roster;
 }
 
--- a column of a picture: an entry, and what is shown before and after it
+-- a column of a picture: an entry, and the moments before and after it
 pub record Column : Type 0 where
   pub before : Shown
   pub entry : Entry
   pub after : Shown
 
--- the columns of entries, by what is shown before the first and the roster after each
+-- the columns of entries, by the moment before the first and the roster after each
 abbrev pub columns_from : Shown → List Entry → List Roster → List Column
 columns_from before [] rosters = []
 columns_from before (entry ∷ entries) [] = []

@@ -1,6 +1,8 @@
--- A picture as SVG. Where rows and columns lie is the frame's; what is drawn is the columns'.
+-- A picture as SVG. The places of rows and columns are the frame's; their contents are the
+-- columns'.
 use Rattle.std.specs.Prelude.{ℕ, ◌+◌, ◌-◌, ◌*◌, Bool, false, List, [], ◌∷◌, ◌++◌, ◌==◌, ◌&&◌, ◌||◌, nat_le, nat_lt, length, Option, None, Some, codes, decimal, flat_map, slice_index_or, if◌then◌else◌}
-use Rattle.apex_types.specs.Lines.{asked_text, id_text, line_of, process_name, reply_text}
+use Rattle.apex_types.specs.Texts.{id_text, process_name}
+use Rattle.apex_calls.specs.Lines.{asked_text, line_of, reply_text}
 use Rattle.apex_types.specs.Listing.{texts_of}
 use Rattle.apex_types.specs.Status.{state_text, wait_text}
 use Rattle.apex_types.specs.Table.{Table}
@@ -18,11 +20,11 @@ use Rattle.apex_pictures.specs.declared.frames.Frame.{Frame}
 abbrev pub texts : List (List ℕ) → List ℕ
 texts parts = flat_map (λ part. part) parts
 
--- where the row of a process lies
+-- the place of the row of a process
 abbrev pub row_of : Frame → ℕ → ℕ
 row_of frame p = slice_index_or frame.rows.items p 0
 
--- where the heading of a core lies
+-- the place of the heading of a core
 abbrev pub heading_of : Frame → ℕ → ℕ
 heading_of frame core = slice_index_or frame.headings.items core 0
 
@@ -42,7 +44,7 @@ label_text table frame p = texts (
     codes "<text x='20' y='" ∷ decimal (row_of frame p + 13) ∷ codes "'>"
     ∷ id_text p ∷ codes " " ∷ xml_text (process_name table p) ∷ codes "</text>\n" ∷ [])
 
--- the beginning of the file
+-- the head of the file
 unfoldable pub opening_text : Frame → List ℕ
 opening_text frame = texts (
     codes "<svg xmlns='http://www.w3.org/2000/svg' width='" ∷ decimal frame.width
@@ -75,7 +77,7 @@ instant_text frame now = texts (
 abbrev pub time_text : Frame → Entry → List ℕ
 time_text frame entry = if is_timed frame entry then instant_text frame entry.now else []
 
--- an entry of nobody with this call and this reply
+-- an entry without a caller, with this call and this reply
 abbrev pub bare : Entry → Entry
 bare e = record {
   number = 0;
@@ -96,7 +98,7 @@ said_line table entry =
 abbrev pub said_text : Table → Entry → List ℕ
 said_text table entry = xml_text (said_line table entry)
 
--- the beginning of the text above a column, with its tooltip
+-- the head of the text above a column, with its tooltip
 unfoldable pub title_text : Frame → List ℕ → List ℕ
 title_text frame line = texts (
     codes "<text class='call' transform='translate(15," ∷ decimal frame.top
@@ -117,7 +119,7 @@ abbrev pub call_text : Table → Frame → Entry → List ℕ
 call_text table frame entry =
     title_text frame (line_of table entry) ++ said_text table entry ++ call_end
 
--- what a process waits for
+-- the wait of a process
 abbrev pub waits_part : Option Wait → List ℕ
 waits_part None = []
 waits_part (Some wait) = codes " wait " ++ wait_text wait
@@ -129,12 +131,11 @@ bar_text frame p mutex = texts (
     ∷ codes "' width='24' height='3'><title>owns mutex:" ∷ id_text mutex
     ∷ codes "</title></rect>\n" ∷ [])
 
--- the bar of a process, if it owns a mutex
-abbrev pub owns_part : Frame → ℕ → Option Holding → List ℕ
-owns_part frame p None = []
-owns_part frame p (Some holding) = bar_text frame p holding.mutex
+-- a bar for each mutex that a process owns
+abbrev pub owns_part : Frame → ℕ → List Holding → List ℕ
+owns_part frame p held = flat_map (λ (h : Holding). bar_text frame p h.mutex) held
 
--- a cell, up to what its process waits for: its class is the state, and its tooltip has id, name and
+-- a cell, up to the wait of its process: its class is the state, and its tooltip has id, name and
 -- state
 unfoldable pub cell_part : Table → Frame → ℕ → Cell → List ℕ
 cell_part table frame p cell = texts (
@@ -209,7 +210,7 @@ marks_text table frame entry shown =
     ++ flat_map (dash_to frame entry.process) entry.notices
     ++ ring_text table frame entry ++ flat_map (wedge_text frame) entry.notices
 
--- the beginning of the column of the entry of this number
+-- the head of the column of the entry of this number
 unfoldable pub start_text : Frame → ℕ → List ℕ
 start_text frame number = texts (
     codes "<g class='column' data-entry='" ∷ decimal number ∷ codes "' transform='translate("

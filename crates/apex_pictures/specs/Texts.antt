@@ -1,4 +1,4 @@
--- The parts of a picture's text, and how bytes are escaped and read back.
+-- The parts of a picture's text: bytes are escaped, and read back.
 use Rattle.std.specs.Prelude.{◌≡◌, ℕ, Bool, true, false, List, [], ◌∷◌, ◌++◌, ◌==◌, ◌||◌, Option, None, Some, codes, decimal, flat_map, if◌then◌else◌}
 use Rattle.std.specs.Str.{bytes_eq}
 use Rattle.apex_pictures.specs.declared.texts.Part.{Part}
@@ -32,15 +32,16 @@ xml_named name =
     else if bytes_eq name (codes "gt") then 62
     else 34
 
--- What a reader of XML takes from character data: a byte as it is, and from `&` (38) to `;` (59) the
--- byte of that name. The name so far is none outside of one.
+-- The bytes that a reader of XML takes from character data: a byte as it is, and from `&` (38) to
+-- `;` (59) the byte of that name. The name so far is none outside of one.
 abbrev pub xml_read : Option (List ℕ) → List ℕ → List ℕ
 xml_read name [] = []
 xml_read None (byte ∷ rest) = if byte == 38 then xml_read (Some []) rest else byte ∷ xml_read None rest
 xml_read (Some name) (byte ∷ rest) =
     if byte == 59 then xml_named name ∷ xml_read None rest else xml_read (Some (name ++ byte ∷ [])) rest
 
--- What a reader of JSON takes from a string's text: a byte as it is, and what comes behind a `\` (92).
+-- The bytes that a reader of JSON takes from a string's text: a byte as it is, and the byte behind
+-- a `\` (92).
 abbrev pub json_read : Bool → List ℕ → List ℕ
 json_read escaped [] = []
 json_read true (byte ∷ rest) = byte ∷ json_read false rest
@@ -53,7 +54,7 @@ part_text (Number number) = decimal number
 part_text (Xml bytes) = xml_text bytes.now
 part_text (Json bytes) = json_text bytes.now
 
--- what a reader takes from each text is that text
+-- each text is read back as it is
 pub record AreReadBack : Type 0 where
   pub xml : (bytes : List ℕ) → xml_read None (xml_text bytes) ≡ bytes
   pub json : (bytes : List ℕ) → json_read false (json_text bytes) ≡ bytes

@@ -1,7 +1,8 @@
 -- A picture as a trace in the Trace Event Format, which is JSON. The groups of tracks are the cores (1) and
 -- the processes (2); an entry's number is its time, and the partition's time is an argument.
 use Rattle.std.specs.Prelude.{ℕ, ◌+◌, Bool, true, false, List, [], ◌∷◌, ◌++◌, Option, None, Some, is_some, codes, decimal, flat_map, length, slice_index_or, if◌then◌else◌, ◌==◌}
-use Rattle.apex_types.specs.Lines.{deadline_text, id_text, process_name}
+use Rattle.apex_types.specs.Texts.{id_text, process_name}
+use Rattle.apex_calls.specs.Lines.{deadline_text}
 use Rattle.apex_types.specs.Listing.{texts_of}
 use Rattle.apex_types.specs.Status.{state_text}
 use Rattle.apex_types.specs.Table.{Table}
@@ -98,12 +99,12 @@ abbrev pub is_begun : State → Bool
 is_begun Dormant = false
 is_begun state = true
 
--- what changes on the track of a core
+-- the changes on the track of a core
 abbrev pub core_text : Table → Spot → ℕ → Option ℕ → Option ℕ → List ℕ
 core_text table spot now before after =
     if same_process before after then [] else ended (is_some before) spot ++ run_of table spot now after
 
--- what changes on the track of a process
+-- the changes on the track of a process
 abbrev pub process_text : Spot → ℕ → State → State → List ℕ
 process_text spot now before after =
     if same_state before after then [] else ended (is_begun before) spot ++ being_text spot now after
@@ -116,7 +117,7 @@ core_spot core time = record { group = 1; track = core; time = time }
 abbrev pub process_spot : ℕ → ℕ → Spot
 process_spot p time = record { group = 2; track = p + 1; time = time }
 
--- what changes on the track of this core
+-- the changes on the track of this core
 abbrev pub core_at : Table → ℕ → ℕ → Shown → Shown → ℕ → List ℕ
 core_at table time now before after core =
     core_text table (core_spot core time) now
@@ -126,7 +127,7 @@ core_at table time now before after core =
 abbrev pub state_at : Shown → ℕ → State
 state_at shown p = (slice_index_or shown.cells p no_cell).state
 
--- what changes on the track of process p
+-- the changes on the track of process p
 abbrev pub process_at : ℕ → ℕ → Shown → Shown → ℕ → List ℕ
 process_at time now before after p =
     process_text (process_spot p time) now (state_at before p) (state_at after p)
@@ -144,13 +145,13 @@ missed_text time now (Missed p kind) = miss_text time now p kind
 missed_text time now (Woken p code) = []
 missed_text time now (Released p) = []
 
--- what changes on all tracks
+-- the changes on all tracks
 abbrev pub changes_text : Table → ℕ → ℕ → Shown → Shown → List ℕ
 changes_text table time now before after =
     texts_of (core_at table time now before after) table.cores
     ++ texts_of (process_at time now before after) (length table.processes)
 
--- what an entry changes on the tracks, and the marks of the deadlines that it missed
+-- the changes by an entry on the tracks, and the marks of the deadlines that were missed
 abbrev pub column_text : Table → Shown → Entry → Shown → List ℕ
 column_text table before entry after =
     changes_text table entry.number entry.now before after

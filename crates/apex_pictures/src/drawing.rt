@@ -1,7 +1,7 @@
 //! The drawing of a picture, column by column, while the partition runs.
 ghost use Rattle.std.specs.Prelude.{◌≡◌, ◌++◌, ◌↔◌, ◌+◌, ◌<◌, [], All, IsOk, length, OnErr, OnOk};
 ghost use Rattle.std.specs.Io.KnownBytes.{Appends};
-ghost use Rattle.apex_types.specs.Lines.{IsPrintable};
+ghost use Rattle.apex_calls.specs.Lines.{IsPrintable};
 ghost use Rattle.apex_types.specs.Machine.{accept, opening, run};
 ghost use Rattle.apex_dispatch.specs.Events.{IsWithin};
 ghost use Rattle.apex_dispatch.specs.Kernel.{kernel_in};
@@ -24,10 +24,10 @@ use std::alloc::{AllocError, Global};
 use std::io::Write;
 use thiserror::Error;
 
-/// How many bytes are gathered at the least before they are written.
+/// The least number of bytes that are gathered before they are written.
 const GATHERED: usize = 32_768;
 
-/// Why a picture was not drawn to its end.
+/// The reason why a picture was not drawn to its end.
 #[derive(Clone, Copy, Debug, PartialEq, Eq, Error)]
 pub enum DrawFault {
     #[error("out of memory")]
@@ -103,7 +103,7 @@ fn make<S: Store>(kernel: &mut Kernel<S>, event: Event) -> Result<(), Full>
     kernel.run(&[event])
 }
 
-/// What is shown of the processes of a kernel.
+/// The moment of the processes of a kernel.
 fn moment_in<S: Store>(kernel: &Kernel<S>) -> Moment
     ensures { result ≡ moment_of kernel.now.machine.roster }
 {
@@ -111,7 +111,8 @@ fn moment_in<S: Store>(kernel: &Kernel<S>) -> Moment
     moment_of(kernel.store())
 }
 
-/// Makes the event, and puts its column; `shown` is what was shown before it, and then after it.
+/// Makes the event, and puts its column; `shown` is the moment before it, and then the one after
+/// it.
 fn draw_event<S: Store>(
     text: &mut Vec<u8>,
     style: &Style,

@@ -1,38 +1,41 @@
-//! Where the columns and the rows of a picture lie.
+//! The places of the columns and of the rows of a picture.
 ghost use Rattle.std.specs.Prelude.{◌≡◌, ◌+◌, ◌<◌, ◌≤◌, ◌^◌, length, min};
-ghost use Rattle.apex_types.specs.Limits.{most_cores, most_entries};
+ghost use Rattle.apex_types.specs.Limits.{most_cores, most_entries, most_processes};
 ghost use Rattle.arrayvec.specs.ArrayVec.{array_vec_len};
 ghost use Rattle.apex_pictures.specs.Svg.{heading_of, row_of, shows};
 
+use crate::moments::CORES;
 use crate::svg::bare_line;
 use crate::words::name_of;
 use apex_dispatch::Kernel;
 use apex_store::Store;
 use apex_table::Table;
-use apex_types::{Call, CoreId, ObjectCall, ProcessId, ProcessService};
+use apex_types::{
+    Call, CoreId, MOST_INIT_STEPS, MOST_PROCESSES, ObjectCall, ProcessId, ProcessService,
+};
 use arrayvec::ArrayVec;
 use itoa::Buffer;
 
-/// How far one column lies from the next, and one row from the next.
+/// The distance from one column to the next, and from one row to the next.
 const STEP: u32 = 24;
 
-/// How wide a letter is.
+/// The width of a letter.
 const LETTER: u32 = 7;
 
-/// How far a letter of a slanted call goes up and to the right.
+/// The steps of a letter of a slanted call, up and to the right.
 const RISE: u32 = 6;
 
 const ADVANCE: u32 = 4;
 
-/// How the marks look, and the white behind them.
+/// The look of the marks, and the white behind them.
 const STYLE: &str =
     "<style>text{fill:#222}.core{font-weight:bold;fill:#555}.now{fill:#333}.number{fill:#888;font-size:8px;text-anchor:middle}.time{stroke:#999}.RUNNING{fill:#2f7d32}.READY{fill:#8fce92}.WAITING{fill:#dfe3e6}.DORMANT{fill:#fff;stroke:#eee}.owns{fill:#c62828}.ring{fill:#fff;stroke:#111;stroke-width:1.5}path{stroke:#fff}line{stroke-width:1.5;stroke-dasharray:3,2}line.time{stroke-width:1;stroke-dasharray:none}.woken{fill:#1e88e5}line.woken{stroke:#1e88e5}.released{fill:#8e24aa}line.released{stroke:#8e24aa}.missed{fill:#e53935}line.missed{stroke:#e53935}</style>\n<rect width='100%' height='100%' fill='#fff'/>\n";
 
-/// What each mark means.
+/// The meaning of each mark.
 const KEY: &str =
     "<rect class='RUNNING' x='20' y='0' width='16' height='10'/><text x='40' y='9'>running</text><rect class='READY' x='110' y='0' width='16' height='10'/><text x='130' y='9'>ready</text><rect class='WAITING' x='185' y='0' width='16' height='10'/><text x='205' y='9'>waiting</text><rect class='owns' x='270' y='4' width='16' height='3'/><text x='290' y='9'>owns a mutex</text><circle class='ring' cx='395' cy='5' r='4'/><text x='405' y='9'>caller</text><path class='woken' d='M460,0 h10 l-5,9 z'/><text x='474' y='9'>woken</text><path class='released' d='M530,0 h10 l-5,9 z'/><text x='544' y='9'>released</text><path class='missed' d='M610,0 h10 l-5,9 z'/><text x='624' y='9'>missed</text></g>\n</svg>\n";
 
-/// Which entries of a history are drawn as SVG, and where their columns and the rows lie.
+/// The entries of a history that are drawn as SVG, and the places of their columns and of the rows.
 #[derive(Drop)]
 pub struct Frame {
     /// The number of the first entry that is drawn.
@@ -40,21 +43,21 @@ pub struct Frame {
     /// The number of the last one.
     pub last: u32,
     pub(crate) width: u32,
-    /// Where the calls end and the rows begin.
+    /// The height at which the calls end and the rows begin.
     pub(crate) top: u32,
-    /// Where the rows end.
+    /// The height at which the rows end.
     pub(crate) bottom: u32,
     /// Where the key begins, below the instants.
     pub(crate) foot: u32,
-    /// Where the first column begins.
+    /// The place at which the first column begins.
     pub(crate) left: u32,
-    /// Where each process's row lies.
-    rows: ArrayVec<u32, 32>,
-    /// Where each core's heading lies.
-    headings: ArrayVec<u32, 8>,
-    /// How the marks look.
+    /// The place of each process's row.
+    rows: ArrayVec<u32, MOST_PROCESSES>,
+    /// The place of each core's heading.
+    headings: ArrayVec<u32, CORES>,
+    /// The look of the marks.
     pub(crate) style: &'static str,
-    /// What each mark means.
+    /// The meaning of each mark.
     pub(crate) key: &'static str,
 }
 
@@ -70,7 +73,7 @@ fn core_bound(call: &Call, process: ProcessId) -> Option<u8> {
 /// The core to which the init list binds the process: the last one named for it, or core 0.
 fn core_of(table: &Table, process: ProcessId) -> u8 {
     let mut core = 0;
-    for place in 0..512 {
+    for place in 0..MOST_INIT_STEPS {
         if let Some(call) = table.init_call(place) {
             core = core_bound(&call, process)
                 .filter(|bound| *bound < table.cores())
@@ -81,8 +84,8 @@ fn core_of(table: &Table, process: ProcessId) -> u8 {
 }
 
 /// The cores to which the init list binds the processes.
-fn cores_of(table: &Table) -> ArrayVec<u8, 32>
-    ensures { array_vec_len result ≤ 32 }
+fn cores_of(table: &Table) -> ArrayVec<u8, MOST_PROCESSES>
+    ensures { array_vec_len result ≤ most_processes }
 {
     let mut cores = ArrayVec::new();
     for place in 0..table.process_count() {
@@ -91,26 +94,26 @@ fn cores_of(table: &Table) -> ArrayVec<u8, 32>
     cores
 }
 
-/// How many of these are below a core.
+/// The number of these that are below a core.
 fn count_below(cores: &[u8], core: u8) -> u32
-    requires { length cores.now ≤ 32 }
-    ensures { result ≤ 32 }
+    requires { length cores.now ≤ most_processes }
+    ensures { result ≤ most_processes }
 {
     cores.iter().filter(|other| **other < core).count() as u32
 }
 
-/// How many of these are this core.
+/// The number of these that are this core.
 fn count_of(cores: &[u8], core: u8) -> u32
-    requires { length cores.now ≤ 32 }
-    ensures { result ≤ 32 }
+    requires { length cores.now ≤ most_processes }
+    ensures { result ≤ most_processes }
 {
     cores.iter().filter(|other| **other == core).count() as u32
 }
 
-/// Where the rows of processes that are bound to these cores lie: below the headings of their cores,
-/// in the order of their numbers.
-fn rows_of(cores: &[u8], top: u32) -> ArrayVec<u32, 32>
-    requires few { length cores.now ≤ 32 }
+/// The places of the rows of processes that are bound to these cores: below the headings of their
+/// cores, in the order of their numbers.
+fn rows_of(cores: &[u8], top: u32) -> ArrayVec<u32, MOST_PROCESSES>
+    requires few { length cores.now ≤ most_processes }
     requires range { top ≤ 30000 }
 {
     let mut rows = ArrayVec::new();
@@ -122,9 +125,9 @@ fn rows_of(cores: &[u8], top: u32) -> ArrayVec<u32, 32>
     rows
 }
 
-/// Where the headings of `count` cores lie.
-fn headings_of(cores: &[u8], count: u8, top: u32) -> ArrayVec<u32, 8>
-    requires few { length cores.now ≤ 32 }
+/// The places of the headings of `count` cores.
+fn headings_of(cores: &[u8], count: u8, top: u32) -> ArrayVec<u32, CORES>
+    requires few { length cores.now ≤ most_processes }
     requires cores { count ≤ most_cores }
     requires range { top ≤ 30000 }
 {
@@ -135,7 +138,7 @@ fn headings_of(cores: &[u8], count: u8, top: u32) -> ArrayVec<u32, 8>
     headings
 }
 
-/// How many letters the longest name of a process has.
+/// The number of letters of the longest name of a process.
 fn longest_name(table: &Table) -> u32
     ensures { result ≤ 32 }
 {
@@ -147,7 +150,7 @@ fn longest_name(table: &Table) -> u32
     longest.min(32) as u32
 }
 
-/// How many letters the call and the reply at this place of the history have.
+/// The number of letters of the call and the reply at this place of the history.
 fn call_letters<S: Store>(kernel: &Kernel<S>, place: usize) -> usize
     requires { place < length kernel.now.machine.history }
 {
@@ -156,7 +159,7 @@ fn call_letters<S: Store>(kernel: &Kernel<S>, place: usize) -> usize
     bare_line(kernel.table(), &entry).len().saturating_sub(14)
 }
 
-/// How many letters the longest call and reply at these places of the history have.
+/// The number of letters of the longest call and reply at these places of the history.
 fn longest_call<S: Store>(kernel: &Kernel<S>, first: usize, end: usize) -> u32
     requires { end ≤ length kernel.now.machine.history }
     ensures { result ≤ 4096 }
@@ -168,7 +171,7 @@ fn longest_call<S: Store>(kernel: &Kernel<S>, first: usize, end: usize) -> u32
     longest.min(4096) as u32
 }
 
-/// How many letters an instant has.
+/// The number of letters of an instant.
 fn instant_letters(now: u64) -> u32
     ensures { result ≤ 32 }
 {
@@ -215,7 +218,7 @@ impl Frame {
         self.first <= number && number <= self.last
     }
 
-    /// Where the row of a process lies.
+    /// The place of the row of a process.
     pub(crate) fn row(&self, process: ProcessId) -> u64
         ensures value { result ≡ row_of self.now process }
         ensures range { result < 2 ^ 32 }
@@ -226,7 +229,7 @@ impl Frame {
         }
     }
 
-    /// Where the heading of a core lies.
+    /// The place of the heading of a core.
     pub(crate) fn heading(&self, core: CoreId) -> u64
         ensures value { result ≡ heading_of self.now core }
         ensures range { result < 2 ^ 32 }

@@ -1,5 +1,5 @@
-//! Pictures of a partition's history: what each process did after each entry, drawn as SVG, or written
-//! as a trace in the Trace Event Format.
+//! Pictures of a partition's history: the state of each process after each entry, drawn as SVG, or
+//! written as a trace in the Trace Event Format.
 #![tactic(auto)]
 
 mod drawing;

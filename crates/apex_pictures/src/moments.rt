@@ -1,4 +1,4 @@
-//! What a picture shows of the processes after an entry.
+//! The processes after an entry, as a picture shows them.
 ghost use Rattle.std.specs.Prelude.{◌≡◌, ◌<◌, ◌≤◌, length, not, if◌then◌else◌, slice_index_or, None};
 ghost use Rattle.apex_types.specs.Limits.{most_cores, most_processes};
 ghost use Rattle.apex_types.specs.Running.{chosen, is_eligible, is_process};
@@ -6,21 +6,23 @@ ghost use Rattle.apex_types.specs.declared.State.TheVariants.{Dormant, Ready, Ru
 ghost use Rattle.apex_pictures.specs.Moments.{cell_of, moment_of, no_cell, none_shown, running_in};
 
 use apex_store::Store;
-use apex_types::{CoreId, Holding, Mode, ProcessId, Record, State, Wait};
+use apex_types::{
+    CoreId, Holdings, MOST_CORES, MOST_PROCESSES, Mode, ProcessId, Record, State, Wait,
+};
 use arrayvec::ArrayVec;
 use std::marker::Model;
 
-/// How many cores a partition has at the most.
-const CORES: u8 = 8;
+/// The most cores of a partition.
+pub(crate) const CORES: usize = MOST_CORES as usize;
 
-/// What a picture shows of a process after an entry.
+/// A process after an entry, as a picture shows it.
 #[derive(Clone, Copy)]
 pub struct Cell {
     pub state: State,
-    /// What it waits for, if it waits.
+    /// Its wait, if it waits.
     pub wait: Option<Wait>,
-    /// The mutex that it owns, if it owns one.
-    pub owned: Option<Holding>,
+    /// The mutexes that it owns.
+    pub owned: Holdings,
 }
 
 impl Default for Cell {
@@ -30,17 +32,17 @@ impl Default for Cell {
         Cell {
             state: State::Dormant,
             wait: None,
-            owned: None,
+            owned: Holdings::none(),
         }
     }
 }
 
-/// What a picture shows of all processes after an entry: a cell for each of them, and the process that
-/// each core runs.
+/// All processes after an entry, as a picture shows them: a cell for each of them, and the process
+/// that each core runs.
 #[derive(Drop)]
 pub struct Moment {
-    cells: ArrayVec<Cell, 32>,
-    running: ArrayVec<Option<ProcessId>, 8>,
+    cells: ArrayVec<Cell, MOST_PROCESSES>,
+    running: ArrayVec<Option<ProcessId>, CORES>,
 }
 
 impl Model for Moment {
@@ -78,11 +80,11 @@ fn state_of(process: ProcessId, row: &Record, mode: Mode, chosen: Option<Process
 }
 
 /// The process that each core runs.
-fn running_of<S: Store>(store: &S) -> ArrayVec<Option<ProcessId>, 8>
+fn running_of<S: Store>(store: &S) -> ArrayVec<Option<ProcessId>, CORES>
     ensures { result.items ≡ running_in (S.roster store.now) }
 {
     let mut running = ArrayVec::new();
-    for core in 0..CORES {
+    for core in 0..CORES as u8 {
         running.push(store.chosen(CoreId::new(core)));
     }
     running
@@ -114,7 +116,7 @@ fn cell_of<S: Store>(store: &S, process: ProcessId, running: &[Option<ProcessId>
     }
 }
 
-/// What is shown of the processes of a store.
+/// The moment of the processes of a store.
 pub(crate) fn moment_of<S: Store>(store: &S) -> Moment
     requires { length (S.roster store.now).records ≤ most_processes }
     ensures { result ≡ moment_of (S.roster store.now) }
@@ -128,7 +130,7 @@ pub(crate) fn moment_of<S: Store>(store: &S) -> Moment
 }
 
 impl Moment {
-    /// The moment that shows nobody.
+    /// The moment that shows no process.
     pub(crate) fn none() -> Moment
         ensures { result ≡ none_shown }
     {
@@ -138,7 +140,7 @@ impl Moment {
         }
     }
 
-    /// How many processes are shown.
+    /// The number of processes that are shown.
     pub fn count(&self) -> usize
         ensures { result ≡ length self.now.cells }
     {

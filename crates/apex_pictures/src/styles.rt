@@ -1,8 +1,8 @@
-//! How a history is drawn.
+//! The styles in which a history is drawn.
 
 use crate::frames::Frame;
 
-/// How a history is drawn.
+/// A style in which a history is drawn.
 #[derive(Drop)]
 pub enum Style {
     /// As SVG, the columns of a frame.

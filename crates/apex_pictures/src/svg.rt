@@ -1,6 +1,6 @@
 //! A picture as SVG: its head, its columns and its key.
 ghost use Rattle.std.specs.Prelude.{◌≡◌, ◌≤◌, ◌++◌, drop, flat_map, length, OnOk};
-ghost use Rattle.apex_types.specs.Lines.{IsPrintable, line_of};
+ghost use Rattle.apex_calls.specs.Lines.{IsPrintable, line_of};
 ghost use Rattle.apex_types.specs.Listing.{texts_of};
 ghost use Rattle.apex_pictures.specs.Svg.{bare, bar_text, call_end, call_text, cell_at, cell_end, cell_part, cell_text, circle_text, column_end, column_text, dash_text, dash_to, heading_text, head_text, instant_text, is_timed, key_text, label_text, marks_text, notice_process, opening_text, owns_part, ring_text, said_text, start_text, time_text, title_text, waits_part, wedge_text};
 
@@ -52,7 +52,7 @@ fn put_label(
     )
 }
 
-/// Puts the beginning of the file.
+/// Puts the head of the file.
 fn put_opening(text: &mut Vec<u8>, frame: &Frame) -> Result<(), AllocError>
     ensures { OnOk result (text.new.items ≡ text.old.items ++ opening_text frame.now) }
 {
@@ -148,7 +148,7 @@ fn line_of(table: &Table, entry: &LentEntry<'_>) -> Lines
     line
 }
 
-/// What a line has behind `0 0 ticker - `.
+/// The part of a line behind `0 0 ticker - `.
 fn behind_nobody(line: &[u8]) -> &[u8]
     requires { 13 ≤ length line.now }
     ensures { result.now ≡ drop 13 line.now }
@@ -182,7 +182,7 @@ fn put_said(text: &mut Vec<u8>, table: &Table, entry: &LentEntry<'_>) -> Result<
     put_xml(text, behind_nobody(line.as_slice()))
 }
 
-/// Puts the beginning of the text above a column, with its tooltip.
+/// Puts the head of the text above a column, with its tooltip.
 fn put_title(text: &mut Vec<u8>, frame: &Frame, line: &[u8]) -> Result<(), AllocError>
     ensures { OnOk result (text.new.items ≡ text.old.items ++ title_text frame.now line.now) }
 {
@@ -236,7 +236,7 @@ fn put_call(
     put_call_end(text)
 }
 
-/// Puts what a process waits for.
+/// Puts the wait of a process.
 #[tactic(auto, using(std::proofs::Common::append_assoc))]
 fn put_waits(text: &mut Vec<u8>, cell: &Cell) -> Result<(), AllocError>
     ensures { OnOk result (text.new.items ≡ text.old.items ++ waits_part cell.now.wait) }
@@ -271,7 +271,7 @@ fn put_bar(
     )
 }
 
-/// Puts the bar of a process, if it owns a mutex.
+/// Puts a bar for each mutex that a process owns.
 fn put_owns(
     text: &mut Vec<u8>,
     frame: &Frame,
@@ -280,13 +280,13 @@ fn put_owns(
 ) -> Result<(), AllocError>
     ensures { OnOk result (text.new.items ≡ text.old.items ++ owns_part frame.now process cell.now.owned) }
 {
-    match &cell.owned {
-        Some(holding) => put_bar(text, frame, process, holding.mutex),
-        None => Ok(()),
+    for holding in cell.owned.as_slice() {
+        put_bar(text, frame, process, holding.mutex)?;
     }
+    Ok(())
 }
 
-/// Puts the cell of a process, up to what it waits for.
+/// Puts the cell of a process, up to its wait.
 fn put_state(
     text: &mut Vec<u8>,
     table: &Table,
@@ -502,7 +502,7 @@ fn put_marks(
     put_wedges(text, frame, entry)
 }
 
-/// Puts the beginning of the column of the entry of this number.
+/// Puts the head of the column of the entry of this number.
 fn put_start(text: &mut Vec<u8>, frame: &Frame, number: u32) -> Result<(), AllocError>
     requires { frame.now.first ≤ number }
     ensures { OnOk result (text.new.items ≡ text.old.items ++ start_text frame.now number) }

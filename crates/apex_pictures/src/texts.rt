@@ -1,4 +1,4 @@
-//! The parts of a picture's text, and how bytes are escaped in it.
+//! The parts of a picture's text, and the bytes that are escaped in it.
 ghost use Rattle.std.specs.Prelude.{◌≡◌, [], ◌∷◌, ◌++◌, flat_map, decimal, OnOk};
 ghost use Rattle.apex_pictures.specs.Texts.{json_byte, json_text, part_text, xml_byte, xml_text};
 

@@ -71,7 +71,7 @@ fn put_process_names(text: &mut Vec<u8>, table: &Table) -> Result<(), AllocError
     Ok(())
 }
 
-/// Puts the beginning of the file.
+/// Puts the head of the file.
 #[tactic(auto, unfolding(crate::specs::Trace::opening_text))]
 fn put_opening(text: &mut Vec<u8>) -> Result<(), AllocError>
     ensures { OnOk result (text.new.items ≡ text.old.items ++ trace.opening_text) }
@@ -160,7 +160,7 @@ fn put_run(
     put_run_name(text, table, process)
 }
 
-/// Puts the slice of what a core runs, if it runs a process.
+/// Puts the slice of the process that a core runs, if it runs one.
 fn put_running(
     text: &mut Vec<u8>,
     table: &Table,
@@ -217,7 +217,7 @@ fn is_same_process(before: &Option<ProcessId>, after: &Option<ProcessId>) -> boo
     }
 }
 
-/// Puts what changes on the track of a core.
+/// Puts the changes on the track of a core.
 #[tactic(auto, using(std::proofs::Common::append_assoc))]
 fn put_core(
     text: &mut Vec<u8>,
@@ -256,7 +256,7 @@ fn is_begun(state: State) -> bool
     }
 }
 
-/// Puts what changes on the track of a process.
+/// Puts the changes on the track of a process.
 #[tactic(auto, using(std::proofs::Common::append_assoc))]
 fn put_process(
     text: &mut Vec<u8>,
@@ -296,7 +296,7 @@ fn process_spot(process: ProcessId, time: u64) -> Spot
     }
 }
 
-/// Puts what changes on the tracks of the cores.
+/// Puts the changes on the tracks of the cores.
 fn put_cores(
     text: &mut Vec<u8>,
     table: &Table,
@@ -322,7 +322,7 @@ fn put_cores(
     Ok(())
 }
 
-/// Puts what changes on the tracks of the processes.
+/// Puts the changes on the tracks of the processes.
 fn put_processes(
     text: &mut Vec<u8>,
     table: &Table,
@@ -388,7 +388,7 @@ fn put_misses(text: &mut Vec<u8>, time: u64, now: u64, notices: &[Notice]) -> Re
     Ok(())
 }
 
-/// Puts what an entry changes on the tracks, and the marks of the deadlines that it missed.
+/// Puts the changes by an entry on the tracks, and the marks of the deadlines that were missed.
 #[tactic(auto, using(std::proofs::Common::append_assoc))]
 pub(crate) fn put_column(
     text: &mut Vec<u8>,

@@ -1,8 +1,8 @@
 //! The words for states, waits and notices.
 ghost use Rattle.std.specs.Prelude.{◌≡◌, ◌++◌, OnOk};
-ghost use Rattle.apex_types.specs.Lines.{id_text, process_name};
+ghost use Rattle.apex_types.specs.Texts.{id_text, process_name};
 ghost use Rattle.apex_pictures.specs.Texts.{part_text};
-ghost use Rattle.apex_types.specs.Lines.{deadline_text};
+ghost use Rattle.apex_calls.specs.Lines.{deadline_text};
 ghost use Rattle.apex_types.specs.Status.{state_text, wait_text};
 ghost use Rattle.apex_pictures.specs.Svg.{notice_word};
 
@@ -31,7 +31,7 @@ pub(crate) fn deadline_word(deadline: DeadlineType) -> &'static str
     }
 }
 
-/// The word for what a notice says.
+/// The word for a notice.
 pub(crate) fn notice_word(notice: &Notice) -> &'static str
     ensures { result.now ≡ notice_word notice.now }
 {
@@ -76,7 +76,7 @@ fn put_object<K: Copy>(text: &mut Vec<u8>, kind: &str, id: Id<K>) -> Result<(), 
     put_id(text, id)
 }
 
-/// Puts what a process waits for.
+/// Puts the wait of a process.
 pub(crate) fn put_wait(text: &mut Vec<u8>, wait: &Wait) -> Result<(), AllocError>
     ensures { OnOk result (text.new.items ≡ text.old.items ++ wait_text wait.now) }
 {

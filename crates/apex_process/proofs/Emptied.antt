@@ -1,4 +1,5 @@
--- The ready lists are empty where nobody is eligible: at the opening, and in a mode other than NORMAL.
+-- The ready lists are empty if no process is eligible: at the opening, and in a mode other than
+-- NORMAL.
 use Rattle.std.proofs.Common.{◌≡◌, ◌≢◌, ℕ, zero, suc, ◌+◌, ◌<◌, ◌≤◌, Bool, true, false, List, [], ◌∷◌, length, get_or, replicate, Option, None, Some, inl, inr, refl, ap, sym, ◌∙◌, arith}
 use Rattle.std.specs.Prelude.{nat_lt}
 use Rattle.std.proofs.lemmas.Bool.{cases_Bool, cases_eq, cases_lt, false≢true, ltb-true, ltb-false}
@@ -10,7 +11,7 @@ use Rattle.apex_types.specs.Table.{ProcessConfig, Table}
 use Rattle.apex_types.specs.declared.Mode.{Mode}
 use Rattle.apex_types.specs.declared.records.Queue.{Queue}
 use Rattle.apex_types.specs.declared.Record.{Record}
-use Rattle.apex_types.specs.Owners.{is_held}
+use Rattle.apex_types.specs.Held.{holds}
 use Rattle.apex_types.specs.Roster.{Roster, nobody, opening_record, opening_roster, record_at, is_normal}
 use Rattle.apex_types.specs.Running.{current_priority, is_eligible}
 use Rattle.apex_types.specs.Stamps as stamps
@@ -45,7 +46,7 @@ module _ (marks counts : List ℕ) (links : Links) (p : ℕ) where
   pub with_counted : (l : ℕ) (xs : List ℕ) → l < first_list → AreCounted counts links → AreCounted counts (with_list links l xs)
   with_counted l xs below counted n low = rw (at_with_other links l (first_list + n) xs (λ e. omega (arith, e, below))) (counted n low)
 
--- lists in which nobody stands, and marks and counts of none
+-- empty lists, and their marks and counts
 pub opened_kept : (links : Links) (marks counts priorities : List ℕ) (processes : ℕ) → links ≡ record { processes = processes; lists = replicate all_lists [] }
     → ((l : ℕ) → is_marked marks l ≡ false) → counts ≡ replicate most_queues 0 → priorities ≡ replicate processes 0 → processes ≤ most_processes
     → AreKept (record { links = links; marks = marks; counts = counts; priorities = priorities })
@@ -57,12 +58,12 @@ opened_kept links marks counts priorities processes is unmarked none zeros few =
   few = rw is few;
 }
 
--- a list in which nobody stands is empty
+-- a list without a process is empty
 no_member : (ps : List ℕ) → ((p : ℕ) → stands_in p ps ≡ false) → ps ≡ []
 no_member [] out = refl
 no_member (x ∷ xs) out = absurd (grind (arith, out x))
 
--- who stands in no list is out of the ready lists, and so is who stands in another one
+-- a process that is in no ready list is out of the ready lists as it is
 pub unreadied_not : (links : Links) (p : ℕ) → ((l : ℕ) → l < ready_lists → stands_in p (list_at links l) ≡ false) → IsUnreadied links links p
 unreadied_not links p out = record { gone = out; stood = λ q l stands. stands; queues = λ l _. refl; processes = refl; many = refl }
 
@@ -101,7 +102,7 @@ all_out old links place are whole sound = record {
   many = are.many;
 }
 
--- in a mode other than NORMAL nobody is ready, and who waits waits on
+-- in a mode other than NORMAL no process is ready, and waiters wait on
 pub cleared : (old : Roster) (s t : Standings) (mode : Mode) → IsQueued old s → is_normal mode ≡ false → AreEmptied s.links t.links → t.priorities ≡ s.priorities → IsQueued (stamps.set_mode old mode) t
 cleared old s t mode was other emptied priorities = record {
   lists = record {
@@ -149,7 +150,7 @@ cleared old s t mode was other emptied priorities = record {
   goes_as : (p : ℕ) (o : Option Queue) → goes_by_priority (stamps.set_mode old mode) o ≡ true → goes_by_priority old o ≡ true
   goes_as p o goes = sym (goes_same old (stamps.set_mode old mode) refl o) ∙ goes
 
--- before any event nobody waits, is eligible, or owns anything
+-- before any event no process waits, is eligible, or owns anything
 opening_field : {A : Type 0} (f : Record → A) (a : A) → ((q : ℕ) (e : ProcessConfig) → f (opening_record q e) ≡ a) → f nobody ≡ a
     → (entries : List ProcessConfig) (q p : ℕ) → f (get_or (map_places opening_record q entries) p nobody) ≡ a
 opening_field f a each none [] q p = none
@@ -180,7 +181,7 @@ module _ (table : Table) where
     count = length-map_places opening_record 0 table.processes
 
   pub opens_owners : (words : List ℕ) → ((m p : ℕ) → is_owner words m p ≡ false) → AreOwners (opening_roster table) words
-  opens_owners words none m p known low = none m p ∙ sym (ap (is_held m) (opening_field (λ (r : Record). r.owned) None (λ q e. refl) refl table.processes 0 p))
+  opens_owners words none m p known low = none m p ∙ sym (ap (holds m) (opening_field (λ (r : Record). r.owned) [] (λ q e. refl) refl table.processes 0 p))
 
 pub cleared_by : (old new : Roster) (s t : Standings) (mode : Mode) → IsQueued old s → new ≡ stamps.set_mode old mode → is_normal mode ≡ false
     → AreEmptied s.links t.links → t.priorities ≡ s.priorities → IsQueued new t
@@ -193,7 +194,7 @@ opens_by table roster s processes is many few links rows = rw is (opens table s 
 pub opens_owners_by : (table : Table) (roster : Roster) (words : List ℕ) → roster ≡ opening_roster table → ((m p : ℕ) → is_owner words m p ≡ false) → AreOwners roster words
 opens_owners_by table roster words is none = rw is (opens_owners table words none)
 
--- who stands in a ready list
+-- whether the list of a process is a ready list
 pub ready_in : (links : Links) (p l : ℕ) (is : Bool) → IsOnlyIn links p l → is ≡ nat_lt l ready_lists → StandsReady links p is
 ready_in links p l is only e = record {
   ready = λ yes m above. only_there links p l m only (λ f. omega (arith, f, above, ltb-true l ready_lists (sym e ∙ yes)));

@@ -1,4 +1,5 @@
--- The front of a line is who is due first, and the sooner front of the two lines the next instant.
+-- The first process of a line is the first that is due, and the sooner first of the two lines has
+-- the next instant.
 use Rattle.std.proofs.Common.{◌≡◌, ◌≢◌, ℕ, ◌<◌, ◌≤◌, length, Option, None, Some, inl, inr, min, refl, ap, sym, ◌∙◌, arith}
 use Rattle.apex_types.specs.Dues.{earliest, first_due, first_missed, sooner}
 use Rattle.apex_types.specs.Roster.{Roster, record_at}
@@ -44,7 +45,7 @@ module _ (roster : Roster) (dues deadlines : Times) (timers : AreTimers roster d
   deadline_among_all : (t : ℕ) → next_of deadlines ≡ Some t → (p : ℕ) × ((record_at roster p).deadline ≡ Some t)
   deadline_among_all t e = let found = next_among deadlines timed'.ordered t e in (found.0, sym (timers.deadlines.each found.0) ∙ found.1)
 
-  -- what the earliest of all is to each of the two
+  -- the earliest of all is no later than each of the two
   not_before_dues : (s t : ℕ) → next_of dues ≡ Some s → earliest roster.records ≡ Some t → t ≤ s
   not_before_dues s t e f = let found = due_among_all s e in earliest_below roster.records t f found.0 s (inl found.1)
 
@@ -99,10 +100,10 @@ module _ (roster : Roster) (dues deadlines : Times) (timers : AreTimers roster d
   pub next_is : sooner (next_of dues) (next_of deadlines) ≡ earliest roster.records
   next_is = next_cases _ _ _ refl refl refl
 
--- who was due has left the line
+-- a process that was due has left the line
 pub taken_reset : (times news : Times) (p t : ℕ) → IsTimed times → p < length times.instants → due_at times t ≡ Some p → news ≡ without_due_at times t → IsReset times news p None
 taken_reset times news p t timed known is line = rw (line, is) (reset_none times p known timed.distinct)
 
--- nobody is taken off a line at whose front nobody is due
+-- no process is taken off a line whose first one is not due
 pub none_taken : (times news : Times) (t : ℕ) → due_at times t ≡ None → news ≡ without_due_at times t → news ≡ times
 none_taken times news t none line = rw none at line

@@ -1,5 +1,5 @@
--- A store stays queued as one process goes to its place by its record, or leaves its list, or as nobody's place
--- changes.
+-- A store stays queued as one process goes to its place by its record, or leaves its list, or as no
+-- process's place changes.
 use Rattle.std.proofs.Common.{◌≡◌, ◌≢◌, ℕ, ◌<◌, ◌≤◌, ◌<ℤ◌, true, false, List, ◌∷◌, [], ◌++◌, length, Option, None, Some, inl, inr, refl, ap, sym, ◌∙◌, arith}
 use Rattle.std.proofs.lemmas.Bool.{cases_eq, cases_Bool, cond_both, false≢true}
 use Rattle.std.proofs.lemmas.Bool.Decides.{nat_tests}
@@ -28,7 +28,7 @@ use Rattle.apex_process.proofs.Standing.{leave_keeps, rest_keeps, enter_keeps, s
 use Rattle.apex_process.proofs.Places.{discipline_same, listed_known, listed_ready, listed_waiting, no_queue, one_queue, place_below}
 use Rattle.apex_process.proofs.Renewals.{Renews, Ages, Keeps, AreAlike}
 
--- nobody goes before itself
+-- no record goes before itself
 pub waits_itself : (d : Discipline) (r : Record) → waits_before d r r ≡ false
 waits_itself Fifo r = grind (arith, ints)
 waits_itself Priority r = grind (arith, ints, nat_tests)
@@ -44,7 +44,8 @@ goes_is roster (Some queue) = refl
 pub goes_same : (old new : Roster) → new.disciplines ≡ old.disciplines → (o : Option Queue) → goes_by_priority new o ≡ goes_by_priority old o
 goes_same old new e o = goes_is new o ∙ ap is_by_priority (discipline_same old new e o) ∙ sym (goes_is old o)
 
--- a process that goes behind those of its list has the latest stamp, and one with a higher priority goes before
+-- a process that goes behind those of its list has the latest stamp, and one with a higher priority
+-- goes before
 older_first : (r s : Record) → r.since <ℤ s.since → is_older r s ≡ true
 older_first r s less = grind (arith, ints, less)
 
@@ -154,7 +155,7 @@ module _ (old new : Roster) (s : Standings) (p : ℕ) (was : IsQueued old s) (di
           (omega (arith, place.core e, place.priority e, as_many_removed s.links p, was.room)))
           (λ e. waiting_then e (queue_in row) refl)
 
--- a process's place changes neither how many processes there are nor how many lists
+-- a process's place changes neither the number of processes nor that of lists
 same_processes : (new : Roster) (priorities : List ℕ) (links : Links) (p : ℕ) (r : Record) → (placed_newest new priorities links p r).processes ≡ links.processes
 same_processes new priorities links p r = cond_both {A = Links} (is_eligible new.mode r) _ _ (λ it. it.processes ≡ links.processes) (λ _. refl) (λ _. waits (queue_in r)) where
   waits : (o : Option Queue) → (waits_then new priorities links p r o).processes ≡ links.processes
@@ -211,7 +212,7 @@ pub renewed_by : (old new target : Roster) (s t : Standings) (p : ℕ) → p < l
     → HasPlace new.mode (record_at new p) → IsQueued new t
 renewed_by old new target s t p known was is renews links priorities place = renewed old new s t p known was (rw is renews) links priorities place
 
--- who has no list waits in no queue
+-- a process without a list waits in no queue
 nowhere : (roster : Roster) (o : Option Queue) → queue_list o ≡ None → goes_by_priority roster o ≡ false
 nowhere roster None e = refl
 nowhere roster (Some q) e = absurd (none-some _ (sym e))
@@ -291,7 +292,7 @@ pub aged_by : (old new target : Roster) (s t : Standings) (p : ℕ) → IsQueued
     → (record_at new p).core < most_cores → current_priority (record_at new p) < 256 → IsQueued new t
 aged_by old new target s t p was is ages links priorities core priority = aged old new s t p was (rw is ages) links priorities core priority
 
--- nobody's place changes
+-- no process's place changes
 pub kept : (old new : Roster) (s : Standings) → IsQueued old s → Keeps old new → IsQueued new s
 kept old new s was keeps = record {
   lists = stay_keeps (list_of old) (list_of new) (goes_before old) (goes_before new) s.links was.lists (λ q. listed_alike q (keeps.alike q)) order;
@@ -338,7 +339,7 @@ kept old new s was keeps = record {
 pub kept_by : (old new target : Roster) (s : Standings) → IsQueued old s → new ≡ target → Keeps old target → IsQueued new s
 kept_by old new target s was is keeps = kept old new s was (rw is keeps)
 
--- the same, where the record of process p was read
+-- the same, if the record of process p was read
 pub renewed_row : (old new target : Roster) (s t : Standings) (p : ℕ) (row : Record) → p < length old.records → IsQueued old s → new ≡ target → Renews old target p
     → row ≡ record_at new p → t.links ≡ placed_newest new s.priorities (removed s.links p) p row → t.priorities ≡ noted_newest new s.priorities p row
     → HasPlace new.mode row → IsQueued new t

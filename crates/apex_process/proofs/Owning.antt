@@ -1,11 +1,11 @@
--- Who owns each mutex: the bits of the words, and how they follow the records.
-use Rattle.std.proofs.Common.{◌≡◌, ◌≢◌, ℕ, zero, suc, ◌+◌, ◌-◌, ◌*◌, ◌/◌, ◌%◌, ◌^◌, ◌<◌, ◌≤◌, true, false, List, length, get_or, set, replicate, Option, None, Some, IfSome, inl, inr, refl, ap, sym, ◌∙◌, arith}
+-- The owner of each mutex: the bits of the words, and how they follow the records.
+use Rattle.std.proofs.Common.{◌≡◌, ◌≢◌, ◌||◌, ◌++◌, drop, Bool, ℕ, zero, suc, ◌+◌, ◌-◌, ◌*◌, ◌/◌, ◌%◌, ◌^◌, ◌<◌, ◌≤◌, true, false, List, [], ◌∷◌, length, get_or, set, replicate, Option, None, Some, IfSome, inl, inr, refl, ap, sym, ◌∙◌, arith}
 use Rattle.std.specs.Prelude.{◌==◌, if◌then◌else◌, bit_and, bit_or}
 use Rattle.std.specs.Int.{bit_at, bit_not, w64}
 use Rattle.std.specs.Option.{MatchOption}
 use lib.Count.{count_leading_zeros}
-use Rattle.std.proofs.lemmas.Bool.{cases_eq, cases_lt, cond_both, false≢true, le-ltb, lt-ltb}
-use Rattle.std.proofs.lemmas.List.{get_or_default, get_or_past, get_or-set_other, get_or-set_same, length-set}
+use Rattle.std.proofs.lemmas.Bool.{cases_eq, cases_lt, cond_both, eq-eqb, false_from_ne_true, false≢true, ne_eqb, or_from, or_left, or_right, le-ltb, lt-ltb}
+use Rattle.std.proofs.lemmas.List.{drop_all, get_or_default, get_or_past, get_or-set_other, get_or-set_same, length-set}
 use Rattle.std.proofs.lemmas.List.Sums.{position_or_len_is}
 use Rattle.std.proofs.lemmas.Nat.{leading_top}
 use Rattle.std.proofs.Math.Nat.{div-eq_of_lt-le, pow-suc}
@@ -14,10 +14,12 @@ use Rattle.apex_types.specs.Limits.{most_processes}
 use Rattle.apex_types.specs.declared.Holding.{Holding}
 use Rattle.apex_types.specs.declared.Record.{Record}
 use Rattle.apex_types.specs.declared.records.Wait.TheVariants.{Normal, Start}
-use Rattle.apex_types.specs.Owners.{is_held, owner, owns}
+use Rattle.apex_types.specs.Held.{holds, is_of}
+use Rattle.apex_types.specs.Owners.{owner, owns}
 use Rattle.apex_types.specs.Roster.{Roster, nobody, record_at, with_record, is_normal}
 use Rattle.apex_types.specs.Running.{is_eligible}
 use Rattle.apex_types.specs.Stamps as stamps
+use Rattle.apex_types.proofs.Held.{holds_more, or_false}
 use Rattle.apex_types.proofs.Rosters.{changes_record, changes_newest, changes_oldest, at_record, at_newest}
 use Rattle.apex_process.specs.Owners.{is_among, is_owner, most_mutexes, most_owners, AreOwners, IsFirstAmong, IsFirstOwner, IsUnowned}
 
@@ -65,7 +67,7 @@ none_owned many m p = rw (zeros many m, bit_at-zero (63 - p)) refl where
   zeros (suc many) zero = refl
   zeros (suc many) (suc i) = zeros many i
 
--- the first owner is where the zeros of the word end
+-- the first owner is at the end of the word's zeros
 top_bit : (word j : ℕ) → 2 ^ j ≤ word → word < 2 ^ suc j → bit_at word j ≡ 1
 top_bit word j least most =
     let e : word / 2 ^ j ≡ 1 = div-eq_of_lt-le (2 ^ j) (omega (arith, least)) (omega (arith, most, pow-suc 2 j)) in
@@ -86,6 +88,56 @@ read_word words m value known read = sym (read ∙ get_or_default words m value 
 
 pub none_among : (words : List ℕ) (m : ℕ) → get_or words m 0 ≡ 0 → IsUnowned words m
 none_among words m none p low = rw (none, bit_at-zero (63 - p)) refl
+
+-- process p, which owns none but these, no longer owns the first of them
+pub leaves_one : (olds news : List ℕ) (p : ℕ) (holding : Holding) (rest : List Holding) → p < most_owners
+    → ((m : ℕ) → m < most_mutexes → is_owner olds m p ≡ true → holds m (holding ∷ rest) ≡ true)
+    → ((q : ℕ) → q < most_owners → is_owner news holding.mutex q ≡ (if q == p then false else is_owner olds holding.mutex q))
+    → ((m q : ℕ) → m ≢ holding.mutex → is_owner news m q ≡ is_owner olds m q)
+    → (m : ℕ) → m < most_mutexes → is_owner news m p ≡ true → holds m rest ≡ true
+leaves_one olds news p holding rest low before same others m known e = elim (cases_eq m holding.mutex) [
+  | inl it ↦ absurd (false≢true (sym (gone it) ∙ e))
+  | inr apart ↦
+      sym (ap (λ b. b || holds m rest) (ne_eqb holding.mutex m (λ s. apart (sym s))))
+      ∙ before m known (sym (others m p apart) ∙ e)
+] where
+  gone : m ≡ holding.mutex → is_owner news m p ≡ false
+  gone it = rw (it, same p low) (grind arith)
+
+-- process p, which owns none but those that are left, owns none if none are left
+pub none_left : (words : List ℕ) (p i : ℕ) (held : List Holding) → length held ≤ i
+    → ((m : ℕ) → m < most_mutexes → is_owner words m p ≡ true → holds m (drop i held) ≡ true)
+    → (m : ℕ) → m < most_mutexes → is_owner words m p ≡ false
+none_left words p i held past owned m known =
+    false_from_ne_true (is_owner words m p) (λ is. false≢true (ap (holds m) (sym (drop_all i held past)) ∙ owned m known is))
+
+-- process p, which owns these, owns another one too
+pub enters_one : (olds news : List ℕ) (p : ℕ) (held : List Holding) (holding : Holding) → p < most_owners
+    → ((m : ℕ) → m < most_mutexes → is_owner olds m p ≡ holds m held)
+    → ((q : ℕ) → q < most_owners → is_owner news holding.mutex q ≡ (if q == p then true else is_owner olds holding.mutex q))
+    → ((m q : ℕ) → m ≢ holding.mutex → is_owner news m q ≡ is_owner olds m q)
+    → (m : ℕ) → m < most_mutexes → is_owner news m p ≡ holds m (held ++ holding ∷ [])
+enters_one olds news p held holding low before same others m known = elim (cases_eq m holding.mutex) [
+  | inl it ↦
+      owned it
+      ∙ sym (holds_more holding m held ∙ or_right (holds m held) (is_of m holding) (eq-eqb holding.mutex m (sym it)))
+  | inr apart ↦
+      others m p apart ∙ before m known
+      ∙ sym (holds_more holding m held ∙ ap (λ b. holds m held || b) (ne_eqb holding.mutex m (λ s. apart (sym s))) ∙ or_false (holds m held))
+] where
+  owned : m ≡ holding.mutex → is_owner news m p ≡ true
+  owned it = rw (it, same p low) (grind arith)
+
+-- what the change of one mutex leaves of another process
+pub owns_as : (olds news : List ℕ) (p : ℕ) (n q : ℕ) (value : Bool) → q ≢ p
+    → ((r : ℕ) → r < most_owners → is_owner news n r ≡ (if r == p then value else is_owner olds n r))
+    → ((m r : ℕ) → m ≢ n → is_owner news m r ≡ is_owner olds m r) → q < most_owners → (m : ℕ) → is_owner news m q ≡ is_owner olds m q
+owns_as olds news p n q value apart same others low m = elim (cases_eq m n) [
+  | inl it ↦ owned it
+  | inr other ↦ others m q other
+] where
+  owned : m ≡ n → is_owner news m q ≡ is_owner olds m q
+  owned it = rw (it, same q low) (grind (arith, apart))
 
 -- the owner of a mutex
 module _ (roster : Roster) (words : List ℕ) (are : AreOwners roster words) (few : length roster.records ≤ most_processes) (m : ℕ) (known : m < most_mutexes) where
@@ -111,12 +163,12 @@ module _ (roster : Roster) (words : List ℕ) (are : AreOwners roster words) (fe
   owner_known None none = tt
   owner_known (Some p) first = owning_known p (sym (are m p known first.known) ∙ first.set)
 
--- the two rosters agree on what each process owns
+-- each process owns the same in the two rosters
 abbrev pub OwnAlike : Roster → Roster → Type 0
 OwnAlike old new = (q : ℕ) → (record_at new q).owned ≡ (record_at old q).owned
 
 pub owners_kept : (old new target : Roster) (words : List ℕ) → AreOwners old words → new ≡ target → OwnAlike old target → AreOwners new words
-owners_kept old new target words are is alike m p known low = rw is (are m p known low ∙ sym (ap (is_held m) (alike p)))
+owners_kept old new target words are is alike m p known low = rw is (are m p known low ∙ sym (ap (holds m) (alike p)))
 
 module _ (old : Roster) (p : ℕ) (known : p < length old.records) where
   alike_to : (new : Roster) → ((q : ℕ) → q ≢ p → record_at new q ≡ record_at old q) → (record_at new p).owned ≡ (record_at old p).owned → OwnAlike old new
@@ -160,16 +212,16 @@ own_start old p delay known = cond_both {A = Roster} (is_normal old.mode) _ _ (�
       reset_first : OwnAlike old fresh
       reset_first = own_record old p known (stamps.reset (record_at old p)) refl
 
--- process p owns something else from now on, and the others what they did
-pub record Disowns (old new : Roster) (p : ℕ) (held : Option Holding) : Type 0 where
+-- process p has this holding from now on, or none, and the others keep their records
+pub record Disowns (old new : Roster) (p : ℕ) (held : List Holding) : Type 0 where
   pub here : (record_at new p).owned ≡ held
   pub others : (q : ℕ) → q ≢ p → record_at new q ≡ record_at old q
 
-pub owners_changed : (old new target : Roster) (words news : List ℕ) (p : ℕ) (held : Option Holding) → AreOwners old words → new ≡ target → Disowns old target p held
-    → ((m : ℕ) → m < most_mutexes → is_owner news m p ≡ is_held m held)
+pub owners_changed : (old new target : Roster) (words news : List ℕ) (p : ℕ) (held : List Holding) → AreOwners old words → new ≡ target → Disowns old target p held
+    → ((m : ℕ) → m < most_mutexes → is_owner news m p ≡ holds m held)
     → ((m q : ℕ) → m < most_mutexes → q < most_owners → q ≢ p → is_owner news m q ≡ is_owner words m q) → AreOwners new news
 owners_changed old new target words news p held are is disowns here others m q known low = rw is (elim (cases_eq q p) as (λ _. is_owner news m q ≡ owns m (record_at target q)) [
-  | inl e ↦ rw e (here m known ∙ sym (ap (is_held m) disowns.here))
+  | inl e ↦ rw e (here m known ∙ sym (ap (holds m) disowns.here))
   | inr apart ↦ others m q known low apart ∙ are m q known low ∙ sym (ap (λ (r : Record). owns m r) (disowns.others q apart))
 ])
 
@@ -188,17 +240,22 @@ module _ (old : Roster) (p : ℕ) (known : p < length old.records) where
       (λ _. record { here = ap (λ (s : Record). s.owned) (at_record old p known (record r { since = old.old })); others = (changes_oldest old p r).others })
 
 -- process p, which owned this or nothing, owns the mutex that it holds
-pub owners_inherited : (old new target : Roster) (words mids news : List ℕ) (p : ℕ) (holding : Holding) → AreOwners old words → new ≡ target → Disowns old target p (Some holding)
+pub owners_inherited : (old new target : Roster) (words mids news : List ℕ) (p : ℕ) (holding : Holding) → AreOwners old words → new ≡ target → Disowns old target p (holding ∷ [])
     → ((m : ℕ) → m < most_mutexes → is_owner mids m p ≡ false)
     → ((m q : ℕ) → q < most_owners → q ≢ p → is_owner mids m q ≡ is_owner words m q)
     → ((q : ℕ) → q < most_owners → is_owner news holding.mutex q ≡ (if q == p then true else is_owner mids holding.mutex q))
     → ((m q : ℕ) → m ≢ holding.mutex → is_owner news m q ≡ is_owner mids m q) → p < most_owners → AreOwners new news
 owners_inherited old new target words mids news p holding are is disowns gone stay same others low =
-    owners_changed old new target words news p (Some holding) are is disowns here elsewhere where
-      here : (m : ℕ) → m < most_mutexes → is_owner news m p ≡ (holding.mutex == m)
-      here m known = elim (cases_eq m holding.mutex) as (λ _. is_owner news m p ≡ (holding.mutex == m)) [
-        | inl e ↦ rw (e, same p low) (grind arith)
-        | inr apart ↦ rw (others m p apart, gone m known) (grind (arith, apart))
+    owners_changed old new target words news p (holding ∷ []) are is disowns here elsewhere where
+      owner_now : (m : ℕ) → m ≡ holding.mutex → is_owner news m p ≡ true
+      owner_now m e = rw (e, same p low) (grind arith)
+
+      here : (m : ℕ) → m < most_mutexes → is_owner news m p ≡ holds m (holding ∷ [])
+      here m known = elim (cases_eq m holding.mutex) as (λ _. is_owner news m p ≡ holds m (holding ∷ [])) [
+        | inl e ↦ owner_now m e ∙ sym (or_left (is_of m holding) false (eq-eqb holding.mutex m (sym e)))
+        | inr apart ↦
+            others m p apart ∙ gone m known
+            ∙ sym (or_from (is_of m holding) false (ne_eqb holding.mutex m (λ same. apart (sym same))) refl)
       ]
 
       elsewhere : (m q : ℕ) → m < most_mutexes → q < most_owners → q ≢ p → is_owner news m q ≡ is_owner words m q

@@ -28,7 +28,7 @@ shifted k s t = elim (cases_eq s t) as (λ _. (k + s == k + t) ≡ (s == t)) [
   | inr apart ↦ differ (k + s) (k + t) (λ e. apart (omega (arith, e))) ∙ sym (differ s t apart)
 ]
 
--- two queues have one list exactly where they are the same
+-- two queues have one list exactly if they are the same
 pub same_wait_list : (a b : Queue) → IsNumbered a → IsNumbered b → (wait_list a == wait_list b) ≡ is_same_queue a b
 same_wait_list queues.Normal queues.Normal i j = refl
 same_wait_list queues.Normal (queues.Semaphore t) i j = differ _ _ (λ e. omega (arith, e, i, j))
@@ -75,7 +75,7 @@ place_below (queues.Blackboard s) i = omega (arith, i)
 place_below (queues.Event s) i = omega (arith, i)
 place_below (queues.Mutex s) i = omega (arith, i)
 
--- who is eligible waits in no queue
+-- an eligible process waits in no queue
 pub none_waits : (mode : Mode) (r : Record) → is_eligible mode r ≡ true → r.wait ≡ None
 none_waits mode r e = none_from r.wait (and_parts _ _ e).1 where
   none_from : (o : Option Wait) → is_none o ≡ true → o ≡ None
@@ -94,7 +94,7 @@ listed_waiting mode r e = rw e refl
 nobody_waits : (mode : Mode) → is_eligible mode nobody ≡ true → false ≡ true
 nobody_waits mode e = (and_parts (is_normal mode) false (and_parts (is_normal mode && false) true (and_parts ((is_normal mode && false) && true) true e).0).0).1
 
--- who is eligible is a process of the roster, and so is who stands in a list
+-- an eligible process is one of the roster, and so is a process in a list
 pub eligible_known : (roster : Roster) (p : ℕ) → IsEligible roster p → p < length roster.records
 eligible_known roster p e = elim (cases_lt p (length roster.records)) [
   | inl within ↦ within
@@ -158,7 +158,7 @@ one_queue mode r s l place place' e f = elim (cases_Bool (is_eligible mode r)) [
   ]
 ]
 
--- who stands in the ready list of a core and a priority
+-- the processes of the ready list of a core and a priority
 two_numbers : (core priority c k : ℕ) → priority < 256 → k < 256 → (ready_list core priority == ready_list c k) ≡ (c == core && k == priority)
 two_numbers core priority c k low low' = elim (cases_eq c core) as (λ _. (ready_list core priority == ready_list c k) ≡ (c == core && k == priority)) [
   | inl e ↦ elim (cases_eq k priority) as (λ _. (ready_list core priority == ready_list c k) ≡ (c == core && k == priority)) [
@@ -179,7 +179,7 @@ in_ready_list mode r core priority place c k = elim (cases_Bool (is_eligible mod
   | inr e ↦ rw e (in_no_ready (queue_in r) (ready_list core priority) (omega (arith, c, k)))
 ]
 
--- who stands in the list of a queue
+-- the processes of the list of a queue
 in_queue : (o : Option Queue) (queue : Queue) → ((q : Queue) → o ≡ Some q → IsNumbered q) → IsNumbered queue → is_list (wait_list queue) (queue_list o) ≡ is_queue queue o
 in_queue None queue i j = refl
 in_queue (Some q) queue i j = same_wait_list queue q j (i q refl)

@@ -1,6 +1,6 @@
--- How each change of a process stands to the lists: the process goes to its place as the newest there, or as the
--- oldest, or keeps its place.
-use Rattle.std.proofs.Common.{◌≡◌, ◌≢◌, ℕ, ◌<◌, Bool, true, false, not, is_some, is_none, ◌&&◌, ◌||◌, Option, None, Some, length, inl, inr, refl, ap, sym, ◌∙◌, arith}
+-- Each change of a process, and the lists: the process goes to its place as the newest there, or as
+-- the oldest, or keeps its place.
+use Rattle.std.proofs.Common.{◌≡◌, ◌≢◌, ℕ, ◌<◌, Bool, true, false, not, is_some, is_none, ◌&&◌, ◌||◌, List, [], ◌∷◌, Option, None, Some, length, inl, inr, refl, ap, sym, ◌∙◌, arith}
 use Rattle.std.specs.Prelude.{◌==◌}
 use Rattle.std.proofs.lemmas.Bool.{and_parts, cases_eq, cases_Bool, cond_both, eqb-true, false≢true}
 use Rattle.std.proofs.lemmas.List.{length-set}
@@ -13,6 +13,7 @@ use Rattle.apex_types.specs.declared.Wait.{Wait}
 use Rattle.apex_types.specs.declared.records.Suspender.TheVariants.{Other}
 use Rattle.apex_types.specs.declared.records.Wait.TheVariants.{Normal}
 use Rattle.apex_types.specs.Distinct.{IsStamped}
+use Rattle.apex_types.specs.Owners.{owns_some}
 use Rattle.apex_types.specs.Roster.{Roster, record_at, with_record, is_normal}
 use Rattle.apex_types.specs.Running.{current_priority, is_eligible, IsEligible, IsIneligible}
 use Rattle.apex_types.specs.Stamps as stamps
@@ -22,7 +23,7 @@ use Rattle.apex_types.proofs.DistinctStamps.{stamped_record, stamped_newest, sta
 use Rattle.apex_process.specs.Lists.{list_for, list_of}
 use Rattle.apex_process.proofs.Places.{listed_waiting, no_queue}
 
--- process p alone has another record, and where it has a list it has the next stamp upwards
+-- process p alone has another record, and the next stamp upwards if it has a list
 pub record Renews (old new : Roster) (p : ℕ) : Type 0 where
   pub mode : new.mode ≡ old.mode
   pub disciplines : new.disciplines ≡ old.disciplines
@@ -50,14 +51,14 @@ pub record AreAlike (old new : Roster) (q : ℕ) : Type 0 where
   pub priority : IsEligible old q → current_priority (record_at new q) ≡ current_priority (record_at old q)
   pub rank : goes_by_priority old (queue_in (record_at old q)) ≡ true → current_priority (record_at new q) ≡ current_priority (record_at old q)
 
--- nobody's place changes
+-- no process's place changes
 pub record Keeps (old new : Roster) : Type 0 where
   pub disciplines : new.disciplines ≡ old.disciplines
   pub many : length new.records ≡ length old.records
   pub stamped : IsStamped new
   pub alike : (q : ℕ) → AreAlike old new q
 
--- who is not eligible and waits for nothing has no list
+-- a process that is not eligible and waits for nothing has no list
 pub listed_none : (mode : Mode) (r : Record) → is_eligible mode r ≡ false → r.wait ≡ None → list_for mode r ≡ None
 listed_none mode r out e = rw (listed_waiting mode r out, e) refl
 
@@ -70,7 +71,7 @@ suspended_out mode r = grind arith
 self_suspended_out : (mode : Mode) (r : Record) (due : Option ℕ) → is_eligible mode (stamps.self_suspended r due) ≡ false
 self_suspended_out mode r due = grind arith
 
--- a record that another one replaces, and who keeps the place so
+-- a record with which the process keeps the place that it had with the other one
 pub record IsLike (old : Roster) (r s : Record) : Type 0 where
   pub eligible : is_eligible old.mode r ≡ is_eligible old.mode s
   pub queue : queue_in r ≡ queue_in s
@@ -211,12 +212,13 @@ module _ (old : Roster) (p : ℕ) (known : p < length old.records) (stamped : Is
   renews_begin delay = cond_both {A = Roster} (delay == 0) _ _ (λ new. Renews old new p) (λ _. renews_release) (λ _. renews_block _ _)
 
   pub renews_inherit : (holding : Holding) → Renews old (stamps.inherit old p holding) p
-  renews_inherit holding = renews_readied (stamps.awake (record (record_at old p) { owned = Some holding })) refl refl
+  renews_inherit holding = renews_readied (stamps.awake (record (record_at old p) { owned = holding ∷ [] })) refl refl
 
   pub renews_place_newest : Renews old (stamps.place_newest old p) p
   renews_place_newest = renews_newest (record_at old p)
 
-  -- a process whose suspension ends: one that waits for nothing then goes to its place, and a waiter keeps its own
+  -- a process whose suspension ends: one that waits for nothing then goes to its place, and a
+  -- waiter keeps its own
   abbrev free : Record
   free = stamps.unsuspended (record_at old p)
 
@@ -273,7 +275,7 @@ renews_start old p delay known stamped =
         newest = renews.newest;
       }
 
--- nobody's place changes with the time
+-- no process's place changes with the time
 pub keeps_time : (old : Roster) (t : ℕ) → IsStamped old → Keeps old (stamps.advance_to old t)
 keeps_time old t stamped = record {
   disciplines = refl;
@@ -282,14 +284,14 @@ keeps_time old t stamped = record {
   alike = λ q. record { eligible = refl; queue = refl; since = refl; core = λ _. refl; priority = λ _. refl; rank = λ _. refl };
 }
 
--- a new base priority: who is eligible or waits by priority goes to its place, but for an owner of a mutex whose
--- current priority stays
+-- a new base priority: a process that is eligible or waits by priority goes to its place, but for
+-- an owner of a mutex whose current priority stays
 module _ (old : Roster) (p base : ℕ) (known : p < length old.records) (stamped : IsStamped old) where
   abbrev changed : Record
   changed = record (record_at old p) { base = base }
 
   abbrev moves : Bool
-  moves = (is_eligible old.mode (record_at old p) && not (is_some (record_at old p).owned && stamps.is_level changed (record_at old p)))
+  moves = (is_eligible old.mode (record_at old p) && not (owns_some (record_at old p) && stamps.is_level changed (record_at old p)))
       || goes_by_priority old (queue_in (record_at old p))
 
   pub renews_priority : moves ≡ true → Renews old (stamps.set_priority old p base) p
@@ -301,15 +303,16 @@ module _ (old : Roster) (p base : ℕ) (known : p < length old.records) (stamped
     queue = refl;
     since = refl;
     core = λ _. refl;
-    priority = λ eligible. level (is_eligible old.mode (record_at old p)) (is_some (record_at old p).owned) (goes_by_priority old (queue_in (record_at old p))) eligible e;
+    priority = λ eligible. level (is_eligible old.mode (record_at old p)) (owns_some (record_at old p)) (goes_by_priority old (queue_in (record_at old p))) eligible e;
     rank = λ goes. absurd (false≢true (sym e ∙ rw goes (grind arith)));
   })) where
     level : (ready owner goes : Bool) → ready ≡ true → ((ready && not (owner && stamps.is_level changed (record_at old p))) || goes) ≡ false
         → current_priority changed ≡ current_priority (record_at old p)
     level ready owner goes is f = eqb-true _ _ (grind (arith, is, f))
 
--- a mutex that leaves the current priority keeps the process's place, else the process goes before all others
-module _ (old : Roster) (p : ℕ) (owned : Option Holding) (known : p < length old.records) (stamped : IsStamped old) where
+-- a holding that does not change the current priority keeps the process's place; with any other the
+-- process goes before all others
+module _ (old : Roster) (p : ℕ) (owned : List Holding) (known : p < length old.records) (stamped : IsStamped old) where
   abbrev owner : Record
   owner = record (record_at old p) { owned = owned }
 
@@ -320,7 +323,7 @@ module _ (old : Roster) (p : ℕ) (owned : Option Holding) (known : p < length o
   keeps_own still = rw still (keeps_record old p known stamped owner
       (record { eligible = refl; queue = refl; since = refl; core = λ _. refl; priority = λ _. eqb-true _ _ still; rank = λ _. eqb-true _ _ still }))
 
--- nobody's place changes where nobody becomes eligible, and nobody is eligible no longer
+-- no process's place changes if none becomes eligible, and none stops being so
 pub keeps_mode : (old : Roster) (mode : Mode) → IsStamped old → stamps.ReadiesNobody old mode → is_normal mode ≡ true → Keeps old (stamps.set_mode old mode)
 keeps_mode old mode stamped nobody normal = record {
   disciplines = refl;

@@ -15,7 +15,7 @@ pub record AreListsBut (place : ℕ → Option ℕ) (before : ℕ → ℕ → Bo
   pub members : (q l : ℕ) → q ≢ p → stands_in q (list_at links l) ≡ is_list l (place q)
   pub sorted : (l : ℕ) → IsSorted before (list_at links l)
 
--- nobody stands twice in an order in which nobody comes before itself
+-- no process is twice in an order in which none comes before itself
 pub sorted_distinct : (before : ℕ → ℕ → Bool) → ((q : ℕ) → before q q ≡ false) → (ps : List ℕ) → IsSorted before ps → IsDistinct ps
 sorted_distinct before apart [] sorted = tt
 sorted_distinct before apart (x ∷ xs) sorted = (
@@ -26,7 +26,7 @@ sorted_distinct before apart (x ∷ xs) sorted = (
   sorted_distinct before apart xs sorted.1,
 )
 
--- who is somewhere has this place
+-- a place in this list is this one
 pub place_of : (l : ℕ) (o : Option ℕ) → is_list l o ≡ true → o ≡ Some l
 place_of l None e = absurd (false≢true e)
 place_of l (Some m) e = let same = eqb-true l m e in rw same refl
@@ -60,7 +60,7 @@ module _ (place then : ℕ → Option ℕ) (before after : ℕ → ℕ → Bool)
     apart_from : (l q : ℕ) → stands_in q (without p (list_at links l)) ≡ true → q ≢ p
     apart_from l q stands e = false≢true (sym (taken_out l) ∙ rw e at stands)
 
-  -- nobody's place changes
+  -- no process's place changes
   pub stay_keeps : ((q : ℕ) → then q ≡ place q) → ((l q r : ℕ) → place q ≡ Some l → place r ≡ Some l → after q r ≡ before q r) → AreLists then after links
   stay_keeps others order = record {
     members = λ q l. rw (others q) (are.members q l);
@@ -78,7 +78,7 @@ module _ (place : ℕ → Option ℕ) (before : ℕ → ℕ → Bool) (links : L
     sorted = but.sorted;
   }
 
-  -- who stands in a list is another one than p, and has its place there
+  -- a process in a list is another one than p, and has its place there
   pub other_there : (q l : ℕ) → stands_in q (list_at links l) ≡ true → (q ≢ p) × (place q ≡ Some l)
   other_there q l stands =
       let apart : q ≢ p = λ e. false≢true (sym (but.gone l) ∙ rw e at stands) in

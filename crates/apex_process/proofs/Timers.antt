@@ -27,14 +27,15 @@ pub record IsTimely (now : ℕ) (r : Record) : Type 0 where
   pub due : IsFrom now r.due
   pub deadline : IsFrom now r.deadline
 
--- process p alone has another record, of which no due and no deadline is past where those of its old one were not
+-- process p alone has another record, of which no due and no deadline is past if those of its old
+-- one were not
 pub record Retimes (old new : Roster) (p : ℕ) : Type 0 where
   pub now : new.now ≡ old.now
   pub many : length new.records ≡ length old.records
   pub others : (q : ℕ) → q ≢ p → record_at new q ≡ record_at old q
   pub timely : IsTimely old.now (record_at old p) → IsTimely old.now (record_at new p)
 
--- nobody has another due or another deadline
+-- no process has another due or another deadline
 pub record KeepsTimers (old new : Roster) : Type 0 where
   pub now : new.now ≡ old.now
   pub many : length new.records ≡ length old.records
@@ -91,7 +92,7 @@ module _ (old : Roster) (p : ℕ) (known : p < length old.records) where
       (λ _. retimes_unblock) (λ _. retimes_readied (stamps.unsuspended (record_at old p)) (λ before. record { due = before.due; deadline = before.deadline }))
 
   pub retimes_inherit : (holding : Holding) → Retimes old (stamps.inherit old p holding) p
-  retimes_inherit holding = retimes_readied (stamps.awake (record (record_at old p) { owned = Some holding })) (λ before. record { due = no_due old.now; deadline = before.deadline })
+  retimes_inherit holding = retimes_readied (stamps.awake (record (record_at old p) { owned = holding ∷ [] })) (λ before. record { due = no_due old.now; deadline = before.deadline })
 
   pub retimes_deadline : (deadline : Option ℕ) → IsFrom old.now deadline → Retimes old (stamps.set_deadline old p deadline) p
   retimes_deadline deadline later = retimes_record (record (record_at old p) { deadline = deadline }) (λ before. record { due = before.due; deadline = later })
@@ -128,7 +129,7 @@ module _ (old : Roster) (p : ℕ) (known : p < length old.records) where
   timers_priority base = cond_both {A = Roster} _ _ _ (λ new. KeepsTimers old new)
       (λ _. timers_newest (record (record_at old p) { base = base }) refl refl) (λ _. timers_record (record (record_at old p) { base = base }) refl refl)
 
-  pub timers_own : (owned : Option Holding) → KeepsTimers old (stamps.own old p owned)
+  pub timers_own : (owned : List Holding) → KeepsTimers old (stamps.own old p owned)
   timers_own owned = cond_both {A = Roster} _ _ _ (λ new. KeepsTimers old new)
       (λ _. timers_record (record (record_at old p) { owned = owned }) refl refl) (λ _. timers_oldest (record (record_at old p) { owned = owned }) refl refl)
 
@@ -210,7 +211,7 @@ timers_later old new t dues deadlines timers is due deadline = rw is (record {
   deadlines = record { each = timers.deadlines.each; count = timers.deadlines.count; later = deadline };
 })
 
--- nobody has a due or a deadline before any event
+-- no process has a due or a deadline before any event
 opening_due : (entries : List ProcessConfig) (q p : ℕ) → (get_or (map_places opening_record q entries) p nobody).due ≡ None
 opening_due [] q p = refl
 opening_due (e ∷ entries) q zero = refl
@@ -293,7 +294,7 @@ due_taken_by old new dues deadlines news newers p known timers is reset stays =
     due_by old new (stamps.without_due old p) dues deadlines news newers p timers is (retimes_without_due old p known)
     (ap (λ (r : Record). r.deadline) here) (subst (λ (i : Option ℕ). IsReset dues news p i) (sym none) reset) stays
 
--- the same, where the record of process p was read
+-- the same, if the record of process p was read
 module _ (old new target : Roster) (dues deadlines news newers : Times) (p : ℕ) (row : Record) (timers : AreTimers old dues deadlines) (is : new ≡ target)
     (retimes : Retimes old target p) (read : row ≡ record_at new p) where
   pub retimed_row : (mids mides : Times) → IsReset dues mids p row.due → mides ≡ deadlines → news ≡ mids → IsReset mides newers p row.deadline → AreTimers new news newers
@@ -307,7 +308,7 @@ module _ (old new target : Roster) (dues deadlines news newers : Times) (p : ℕ
       let due' : IsReset dues news p (due_of new p) = subst (λ (i : Option ℕ). IsReset dues news p i) (ap (λ (r : Record). r.due) read) due in
       due_by old new target dues deadlines news newers p timers is retimes same due' stays
 
--- the same, where the due of the new record is known
+-- the same, if the due of the new record is known
 pub due_known : (old new target : Roster) (dues deadlines news newers : Times) (p : ℕ) (due : Option ℕ) → AreTimers old dues deadlines → new ≡ target → Retimes old target p
     → due_of target p ≡ due → deadline_of target p ≡ deadline_of old p → IsReset dues news p due → newers ≡ deadlines → AreTimers new news newers
 due_known old new target dues deadlines news newers p due timers is retimes here same reset stays =

@@ -22,7 +22,7 @@ use Rattle.apex_process.proofs.Places.{eligible_known}
 use Rattle.apex_store.proofs.Urgency.{runs_parts, runs_from}
 
 module _ (roster : Roster) (links : Links) (core : ℕ) (are : AreReadyLists roster links) (places : HavePlaces roster) (inside : core < most_cores) where
-  -- who may run on the core stands in the list of its priority
+  -- a process that may run on the core is in the list of its priority
   in_its_list : (q : ℕ) → IsEligible roster q → (record_at roster q).core ≡ core
       → stands_in q (list_at links (ready_list core (current_priority (record_at roster q)))) ≡ true
   in_its_list q eligible on = are.members core _ q inside ((places q).priority eligible) ∙ and_from _ _ eligible (and_from _ _ (eq-eqb _ _ on) (eq-eqb _ _ refl))
@@ -79,7 +79,7 @@ module _ (roster : Roster) (links : Links) (core : ℕ) (are : AreReadyLists ros
     ];
   })
 
-  -- what the lists give is the chosen process, or none
+  -- the lists give the chosen process, or none
   pub found_chosen : (found : Option ℕ) → MatchOption found (IsIdle links core) (λ n. IsTop links core n) → found ≡ chosen roster core
   found_chosen None idle = sym (idle_chosen idle)
   found_chosen (Some n) top = sym (top_chosen n top)

@@ -1,5 +1,5 @@
--- The first of a queue's list is its first waiter, who comes behind a process there is the next one, and as many
--- stand there as wait.
+-- The first of a queue's list is its first waiter, the one behind a process there is the next
+-- waiter, and the list is as long as the number of waiters.
 use Rattle.std.proofs.Common.{◌≡◌, ℕ, ◌<◌, Bool, true, false, List, length, Option, None, Some, IfSome, inl, inr, refl, sym, subst, ◌∙◌}
 use Rattle.std.proofs.lemmas.Bool.{and_from, and_parts, cases_Bool, false≢true}
 use Rattle.std.proofs.lemmas.Option.{get_or_from_slice_get, none-some, slice_get-get_or}

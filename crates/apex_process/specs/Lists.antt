@@ -1,4 +1,4 @@
--- In which list each process stands, and where: the ready lists, and the lists of the wait queues.
+-- The list of each process, and its place there: the ready lists, and the lists of the wait queues.
 use Rattle.std.specs.Prelude.{◌≡◌, ℕ, ◌<◌, Bool, true, false, ◌==◌, if◌then◌else◌, List, slice_set, Option, None, Some}
 use Rattle.apex_types.specs.Limits.{most_cores}
 use Rattle.apex_types.specs.declared.records.Discipline.{Discipline}
@@ -15,18 +15,18 @@ use Rattle.apex_ready.specs.ReadyOrders.{ready_list}
 use Rattle.apex_waitq.specs.WaitQueues.{joined, wait_list, IsNumbered}
 use Rattle.apex_links.specs.Sorted.{IsSorted}
 
--- the list of a queue, where there is one
+-- the list of a queue, if there is one
 abbrev pub queue_list : Option Queue → Option ℕ
 queue_list None = None
 queue_list (Some queue) = Some (wait_list queue)
 
--- the list in which a process with this record stands: the ready list of its core and current priority where
--- it is eligible, else that of the queue in which it waits, and none where it waits in no queue
+-- the list of a process with this record: the ready list of its core and current priority if it is
+-- eligible, else that of the queue in which it waits; none if it waits in no queue
 abbrev pub list_for : Mode → Record → Option ℕ
 list_for mode r =
     if is_eligible mode r then Some (ready_list r.core (current_priority r)) else queue_list (queue_in r)
 
--- the list in which process p stands
+-- the list of process p
 abbrev pub list_of : Roster → ℕ → Option ℕ
 list_of roster p = list_for roster.mode (record_at roster p)
 
@@ -35,24 +35,24 @@ abbrev pub is_list : ℕ → Option ℕ → Bool
 is_list l None = false
 is_list l (Some m) = l == m
 
--- the discipline by which a process stands in its list: that of the queue in which it waits, and first in,
--- first out where it is ready
+-- the discipline of the list of a process: that of the queue in which it waits, and first in, first
+-- out if it waits in none
 abbrev pub discipline_in : Roster → Option Queue → Discipline
 discipline_in roster None = Fifo
 discipline_in roster (Some queue) = discipline_of roster queue
 
--- process p goes before process q, by the discipline by which p stands in its list
+-- process p goes before process q, by the discipline of the list of p
 abbrev pub goes_before : Roster → ℕ → ℕ → Bool
 goes_before roster p q =
     waits_before (discipline_in roster (queue_in (record_at roster p))) (record_at roster p) (record_at roster q)
 
--- each process stands in its place's list alone, and each list is in this order
+-- each process is in its place's list alone, and each list is in this order
 pub record AreLists (place : ℕ → Option ℕ) (before : ℕ → ℕ → Bool) (links : Links) : Type 0 where
   pub members : (p l : ℕ) → stands_in p (list_at links l) ≡ is_list l (place p)
   pub sorted : (l : ℕ) → IsSorted before (list_at links l)
 
--- there is a list for the record: one for its core and current priority where it is eligible, else one for the
--- queue in which it waits
+-- there is a list for the record: one for its core and current priority if it is eligible, else one
+-- for the queue in which it waits
 pub record HasPlace (mode : Mode) (r : Record) : Type 0 where
   pub core : is_eligible mode r ≡ true → r.core < most_cores
   pub priority : is_eligible mode r ≡ true → current_priority r < 256
@@ -62,7 +62,7 @@ pub record HasPlace (mode : Mode) (r : Record) : Type 0 where
 abbrev pub HavePlaces : Roster → Type 0
 HavePlaces roster = (p : ℕ) → HasPlace roster.mode (record_at roster p)
 
--- process p waits in the queue from now on where there is one
+-- process p waits in the queue from now on, if there is one
 abbrev pub waits_then : Roster → List ℕ → Links → ℕ → Record → Option Queue → Links
 waits_then roster priorities links p r None = links
 waits_then roster priorities links p r (Some queue) =
@@ -74,12 +74,12 @@ placed_newest roster priorities links p r =
     if is_eligible roster.mode r then pushed_back links (ready_list r.core (current_priority r)) p
     else waits_then roster priorities links p r (queue_in r)
 
--- process p has this priority in its queue where it waits in one
+-- process p has this priority in its queue, if it waits in one
 abbrev pub noted : List ℕ → ℕ → ℕ → Option Queue → List ℕ
 noted priorities p priority None = priorities
 noted priorities p priority (Some queue) = slice_set priorities p priority
 
--- process p, which has this record, notes its priority where it waits in a queue
+-- process p, which has this record, notes its priority if it waits in a queue
 abbrev pub noted_newest : Roster → List ℕ → ℕ → Record → List ℕ
 noted_newest roster priorities p r =
     if is_eligible roster.mode r then priorities else noted priorities p (current_priority r) (queue_in r)

@@ -1,14 +1,14 @@
--- Who owns each mutex, as a word of bits for each: bit 63 - p is that of process p.
+-- The owner of each mutex, as a word of bits for each: bit 63 - p is that of process p.
 use Rattle.std.specs.Prelude.{◌≡◌, ℕ, ◌-◌, ◌<◌, Bool, true, false, ◌==◌, List, slice_index_or}
 use Rattle.std.specs.Int.{bit_at}
 use Rattle.apex_types.specs.Owners.{owns}
 use Rattle.apex_types.specs.Roster.{Roster, record_at}
 
--- how many mutexes there may be
+-- the most mutexes
 abbrev pub most_mutexes : ℕ
 most_mutexes = 256
 
--- how many processes may own one
+-- the most processes that may own one
 abbrev pub most_owners : ℕ
 most_owners = 64
 
@@ -24,7 +24,7 @@ is_owner words m p = is_among (slice_index_or words m 0) p
 abbrev pub AreOwners : Roster → List ℕ → Type 0
 AreOwners roster words = (m p : ℕ) → m < most_mutexes → p < most_owners → is_owner words m p ≡ owns m (record_at roster p)
 
--- nobody owns mutex m
+-- no process owns mutex m
 abbrev pub IsUnowned : List ℕ → ℕ → Type 0
 IsUnowned words m = (p : ℕ) → p < most_owners → is_owner words m p ≡ false
 

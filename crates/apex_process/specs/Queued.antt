@@ -1,4 +1,5 @@
--- What a contract sees of a store over linked lists: the processes, and all that it keeps of them beside.
+-- A store over linked lists as a contract sees it: the processes, and all that it keeps of them
+-- besides.
 use Rattle.std.specs.Prelude.{◌≡◌, ℕ, ◌<◌, ◌≤◌, Bool, true, false, List, [], length}
 use Rattle.apex_types.specs.Limits.{most_processes}
 use Rattle.apex_types.specs.Distinct.{IsStamped}
@@ -12,12 +13,12 @@ use Rattle.apex_timeouts.specs.Timeline.{Times}
 use Rattle.apex_waitq.specs.WaitQueues.{priority_of, AreCounted}
 use Rattle.apex_process.specs.Lists.{goes_before, list_of, AreLists, HavePlaces}
 
--- how many lists there are: the ready lists, and one for each queue
+-- the number of lists: the ready lists, and one for each queue
 abbrev pub all_lists : ℕ
 all_lists = 3584
 
--- who stands in which list: the lists themselves, the marks of the ready lists in which anybody stands, how
--- many stand in that of each queue, and the priority with which each process waits
+-- the processes of each list: the lists themselves, the marks of the ready lists that are not
+-- empty, the length of each queue's list, and the priority with which each process waits
 pub record Standings : Type 0 where
   pub links : Links
   pub marks : List ℕ
@@ -32,7 +33,7 @@ pub record AreKept (standings : Standings) : Type 0 where
   pub noted : length standings.priorities ≡ standings.links.processes
   pub few : standings.links.processes ≤ most_processes
 
--- the processes, the lists in which they stand, the line of dues and that of deadlines, and who owns each mutex
+-- the processes, their lists, the line of dues and that of deadlines, and the owner of each mutex
 pub record Queued : Type 0 where
   pub roster : Roster
   pub standings : Standings
@@ -40,12 +41,13 @@ pub record Queued : Type 0 where
   pub deadlines : Times
   pub owners : List ℕ
 
--- who waits in a queue in which the more urgent comes first waits there with its current priority
+-- a process that waits in a queue in which the more urgent comes first waits there with its current
+-- priority
 abbrev pub AreNoted : Roster → List ℕ → Type 0
 AreNoted roster priorities = (p : ℕ) → goes_by_priority roster (queue_in (record_at roster p)) ≡ true
     → priority_of priorities p ≡ current_priority (record_at roster p)
 
--- each process, whose stamp is no other one's, stands at its place in its list
+-- each process, whose stamp is no other one's, is at its place in its list
 pub record IsQueued (roster : Roster) (standings : Standings) : Type 0 where
   pub lists : AreLists (list_of roster) (goes_before roster) standings.links
   pub places : HavePlaces roster
@@ -56,7 +58,8 @@ pub record IsQueued (roster : Roster) (standings : Standings) : Type 0 where
   pub rows : length standings.priorities ≡ length roster.records
   pub few : length roster.records ≤ most_processes
 
--- process p stands in no ready list from now on; nobody comes to stand in one, and the lists of the queues stay
+-- process p is in no ready list from now on; no process comes into one, and the lists of the queues
+-- stay
 pub record IsUnreadied (old new : Links) (p : ℕ) : Type 0 where
   pub gone : (l : ℕ) → l < ready_lists → stands_in p (list_at new l) ≡ false
   pub stood : (q l : ℕ) → stands_in q (list_at new l) ≡ true → stands_in q (list_at old l) ≡ true
@@ -64,14 +67,14 @@ pub record IsUnreadied (old new : Links) (p : ℕ) : Type 0 where
   pub processes : new.processes ≡ old.processes
   pub many : length new.lists ≡ length old.lists
 
--- nobody stands in a ready list from now on, and the lists of the queues stay
+-- the ready lists are empty from now on, and the lists of the queues stay
 pub record AreEmptied (old new : Links) : Type 0 where
   pub ready : (l : ℕ) → l < ready_lists → list_at new l ≡ []
   pub queues : (l : ℕ) → ready_lists ≤ l → list_at new l ≡ list_at old l
   pub processes : new.processes ≡ old.processes
   pub many : length new.lists ≡ length old.lists
 
--- whether process p stands in a ready list: if so it stands in no other list, and else in no ready list
+-- whether process p is in a ready list: if so it is in no queue's list, and else in no ready list
 pub record StandsReady (links : Links) (p : ℕ) (is : Bool) : Type 0 where
   pub ready : is ≡ true → (l : ℕ) → ready_lists ≤ l → stands_in p (list_at links l) ≡ false
   pub other : is ≡ false → (l : ℕ) → l < ready_lists → stands_in p (list_at links l) ≡ false

@@ -1,4 +1,5 @@
--- The lists of a state: who stands in each list that a store keeps, in which order, and what it counts of them.
+-- The lists of a state: the processes of each list that a store keeps, their order, and the counts
+-- of them.
 use Rattle.std.specs.Prelude.{◌≡◌, ℕ, ◌<◌, Bool, true, ◌==◌, ◌&&◌, None}
 use Rattle.apex_types.specs.Limits.{most_cores}
 use Rattle.apex_types.specs.declared.records.Queue.{Queue}
@@ -28,7 +29,7 @@ pub record AreReadyLists (roster : Roster) (links : Links) : Type 0 where
   pub sorted : (core priority : ℕ) → core < most_cores → priority < 256
       → IsSorted (λ p q. is_older (record_at roster p) (record_at roster q)) (list_at links (ready_list core priority))
 
--- the list of each queue: who waits there, in the order of the queue's discipline
+-- the list of each queue: its waiters, in the order of the queue's discipline
 pub record AreWaitLists (roster : Roster) (links : Links) : Type 0 where
   pub members : (queue : Queue) (p : ℕ) → IsNumbered queue
       → stands_in p (list_at links (wait_list queue)) ≡ waits_in queue (record_at roster p)
@@ -37,15 +38,16 @@ pub record AreWaitLists (roster : Roster) (links : Links) : Type 0 where
 
 -- the lists that a store keeps are those of its state
 pub record AreListsOfState (store : Queued) : Type 0 where
-  -- there is a list for whoever is eligible, and for whoever waits in a queue
+  -- there is a list for each eligible process, and for each one that waits in a queue
   pub places : HavePlaces store.roster
   -- the ready lists, and those of the queues
   pub ready : AreReadyLists store.roster store.standings.links
   pub waiting : AreWaitLists store.roster store.standings.links
-  -- who is neither eligible nor waits in a queue stands in no list, and nobody stands in two
+  -- a process that is neither eligible nor waits in a queue is in no list, and no process is in two
   pub outside : (p : ℕ) → IsIneligible store.roster p → queue_in (record_at store.roster p) ≡ None → IsFree store.standings.links p
   pub apart : (p l m : ℕ) → stands_in p (list_at store.standings.links l) ≡ true → stands_in p (list_at store.standings.links m) ≡ true → l ≡ m
-  -- a ready list is marked exactly where anybody stands in it, and each queue's count is the length of its list
+  -- a ready list is marked exactly if it is not empty, and each queue's count is the length of its
+  -- list
   pub marks : AreMarked store.standings.marks store.standings.links
   pub counts : AreCounted store.standings.counts store.standings.links
   -- the lines have the dues and the deadlines, each by instant and then process

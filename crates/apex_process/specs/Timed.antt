@@ -1,10 +1,11 @@
--- The timers of a state: when each process's wait ends by itself, and when its deadline passes.
+-- The timers of a state: the instant at which each process's wait ends by itself, and the one at
+-- which its deadline passes.
 use Rattle.std.specs.Prelude.{◌≡◌, ℕ, Option, length}
 use Rattle.apex_types.specs.Dues.{IsFrom}
 use Rattle.apex_types.specs.Roster.{Roster, record_at}
 use Rattle.apex_timeouts.specs.Timeline.{Times, instant_on}
 
--- the line has these instants, for so many processes, and none of them is past
+-- the line has these instants, for `many` processes, and none of them is past
 pub record IsLineOf (now many : ℕ) (instants : ℕ → Option ℕ) (times : Times) : Type 0 where
   pub each : (p : ℕ) → instant_on times p ≡ instants p
   pub count : length times.instants ≡ many

@@ -17,13 +17,13 @@ use apex_waitq::WaitQueues;
 use std::alloc::{AllocError, Global};
 use std::marker::Model;
 
-/// How many ready lists there are: they are the first of the link set.
+/// The number of ready lists, which are the first of the link set.
 const READY_LISTS: usize = 2048;
 
-/// How many lists there are: the ready lists, and one for each queue.
+/// The number of lists: the ready lists, and one for each queue.
 const ALL_LISTS: u16 = 3584;
 
-/// Who stands in which ready list, and who in which wait queue.
+/// The ready lists and the lists of the wait queues, with the processes in them.
 #[derive(Drop)]
 pub(crate) struct Lists {
     links: LinkSet,
@@ -42,8 +42,7 @@ impl Model for Lists {
 }
 
 impl Lists {
-    /// The lists of so many processes, of whom none is ready and none waits. Fails only for want of
-    /// memory.
+    /// The lists of n processes, none of which is ready or waits. Fails only for want of memory.
     pub(crate) fn new(alloc: Global, processes: u16) -> Result<Lists, AllocError>
         requires { processes ≤ most_processes }
         ensures links { IfOk result (λ lists. lists.links ≡ record { processes = processes; lists = replicate all_lists [] }) }
@@ -56,7 +55,7 @@ impl Lists {
         })
     }
 
-    /// A process stands in one place of one list at most, and marks and counts are those of the lists.
+    /// A process is in one place of one list at most, and marks and counts are those of the lists.
     pub(crate) fn holds(&self)
         ensures sound { IsSound self.now.links }
         ensures kept { AreKept self.now }
@@ -64,12 +63,13 @@ impl Lists {
         self.links.holds();
     }
 
-    /// How many nodes the calls, reading ones too, have read or written since the lists were made.
+    /// The number of nodes that the calls, reading ones too, have read or written since the lists
+    /// were made.
     pub(crate) fn visits(&self) -> u64 {
         self.links.visits()
     }
 
-    /// The process stands in a ready list; else it waits in a queue, or stands in no list.
+    /// The process is in a ready list; else it waits in a queue, or is in no list.
     fn is_ready(&self, process: ProcessId) -> bool
         requires { process < self.now.links.processes }
         ensures { StandsReady self.now.links process result }
@@ -80,7 +80,7 @@ impl Lists {
         }
     }
 
-    /// The process stands in no list from now on.
+    /// The process is in no list from now on.
     pub(crate) fn leave(&mut self, process: ProcessId)
         requires { process < self.old.links.processes }
         ensures links { self.new.links ≡ removed self.old.links process }
@@ -94,8 +94,9 @@ impl Lists {
         }
     }
 
-    /// The process, which has this record, leaves its list and goes to that of the record, as the newest
-    /// there.
+    /// The process, which has this record, leaves its list and goes to that of the record, as the
+    /// newest there.
+    #[inline(always)]
     pub(crate) fn put_newest(&mut self, records: &PlainStore, process: ProcessId, row: &Record)
         requires known { process < self.old.links.processes }
         ensures links { self.new.links ≡ placed_newest records.now self.old.priorities (removed self.old.links process) process row.now }
@@ -114,8 +115,8 @@ impl Lists {
         }
     }
 
-    /// The process, which is eligible and has this record, leaves its list and goes to that of the record,
-    /// as the oldest there.
+    /// The process, which is eligible and has this record, leaves its list and goes to that of the
+    /// record, as the oldest there.
     pub(crate) fn put_oldest(&mut self, process: ProcessId, row: &Record)
         requires known { process < self.old.links.processes }
         ensures links { self.new.links ≡ placed_oldest (removed self.old.links process) process row.now }
@@ -128,7 +129,7 @@ impl Lists {
             .enter_oldest(&mut self.links, row.core, row.current_priority(), process);
     }
 
-    /// The process is ready no longer. One that waits in a queue stays there.
+    /// The process is no longer ready. One that waits in a queue stays there.
     fn unready(&mut self, process: ProcessId)
         requires { process < self.old.links.processes }
         ensures links { IsUnreadied self.old.links self.new.links process }
@@ -139,7 +140,7 @@ impl Lists {
         }
     }
 
-    /// None of the processes is ready from now on. Those that wait stay where they are.
+    /// None of the processes is ready from now on. Those that wait stay in their queues.
     pub(crate) fn clear(&mut self, processes: u8)
         requires { processes ≡ self.old.links.processes }
         ensures links { AreEmptied self.old.links self.new.links }
@@ -151,7 +152,7 @@ impl Lists {
         self.links.holds();
     }
 
-    /// The longest ready process of the highest priority of which anybody is ready on the core.
+    /// The longest ready process of the highest priority that has a ready process on the core.
     pub(crate) fn top(&self, core: CoreId) -> Option<ProcessId>
         ensures value { MatchOption result (IsIdle self.now.links core) (λ p. IsTop self.now.links core p) }
         ensures known { core < most_cores }
@@ -159,7 +160,7 @@ impl Lists {
         self.orders.top(&self.links, core)
     }
 
-    /// Who is first in the queue.
+    /// The first waiter of the queue.
     pub(crate) fn first(&self, queue: Queue) -> Option<ProcessId>
         ensures value { result ≡ first_of (list_at self.now.links (wait_list queue)) }
         ensures numbered { IsNumbered queue }
@@ -167,7 +168,7 @@ impl Lists {
         self.queues.first(&self.links, queue)
     }
 
-    /// Who comes behind the process in its list.
+    /// The process behind this one in its list.
     pub(crate) fn next(&self, process: ProcessId) -> Option<ProcessId>
         requires { process < self.now.links.processes }
         ensures { (l : ℕ) → stands_in process (list_at self.now.links l) ≡ true → result ≡ after_in process (list_at self.now.links l) }
@@ -175,7 +176,7 @@ impl Lists {
         self.links.next(process)
     }
 
-    /// How many wait in the queue.
+    /// The number of waiters of the queue.
     pub(crate) fn count(&self, queue: Queue) -> u32
         ensures value { result ≡ length (list_at self.now.links (wait_list queue)) }
         ensures sound { IsSound self.now.links }

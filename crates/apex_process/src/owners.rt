@@ -1,17 +1,17 @@
 //! The owner of each mutex.
 ghost use Rattle.std.specs.Prelude.{◌≡◌, ◌≢◌, ◌<◌, ℕ, true, false, ◌==◌, if◌then◌else◌, IfOk, MatchOption};
-ghost use Rattle.apex_types.specs.Owners.{is_held};
+ghost use Rattle.apex_types.specs.Held.{holds};
 ghost use Rattle.apex_process.specs.Owners.{is_owner, most_mutexes, most_owners, IsFirstAmong, IsFirstOwner, IsUnowned};
 
 use apex_types::{Holding, MutexId, ProcessId};
 use std::alloc::{AllocError, Global};
 use std::marker::Model;
 
-/// How many mutexes there may be.
+/// The most mutexes.
 const MOST_MUTEXES: usize = 256;
 
-/// The owners of each mutex, as a word of bits: bit 63 - p is that of process p, so that the first owner
-/// is where the word's zeros end.
+/// The owner of each mutex, as a word of bits: bit 63 - p is that of process p, so that the first
+/// owner is at the end of the word's zeros.
 #[derive(Drop)]
 pub(crate) struct Owners {
     words: Vec<u64>,
@@ -37,7 +37,7 @@ fn first_among(word: u64) -> ProcessId
 }
 
 impl Owners {
-    /// The owners of mutexes that nobody owns. Fails only for want of memory.
+    /// The owners of mutexes that no process owns. Fails only for want of memory.
     pub(crate) fn new(alloc: Global) -> Result<Owners, AllocError>
         ensures { IfOk result (λ owners. (m p : ℕ) → is_owner owners m p ≡ false) }
     {
@@ -55,7 +55,7 @@ impl Owners {
         self.words[mutex.place()] |= 1 << (63 - process.place());
     }
 
-    /// The process owns the mutex no longer.
+    /// The process no longer owns the mutex.
     fn remove(&mut self, mutex: MutexId, process: ProcessId)
         requires { process < most_owners }
         ensures same { (p : ℕ) → p < most_owners → is_owner self.new mutex p ≡ (if p == process then false else is_owner self.old mutex p) }
@@ -64,34 +64,39 @@ impl Owners {
         self.words[mutex.place()] &= !(1 << (63 - process.place()));
     }
 
-    /// The process, which holds this, owns no mutex from now on.
-    pub(crate) fn leave(&mut self, process: ProcessId, held: &Option<Holding>)
+    /// The process, which holds these, owns no mutex from now on.
+    pub(crate) fn leave(&mut self, process: ProcessId, held: &[Holding])
         requires process { process < most_owners }
-        requires held { (m : ℕ) → m < most_mutexes → is_owner self.old m process ≡ is_held m held.now }
+        requires held { (m : ℕ) → m < most_mutexes → is_owner self.old m process ≡ holds m held.now }
         ensures here { (m : ℕ) → m < most_mutexes → is_owner self.new m process ≡ false }
         ensures others { (m p : ℕ) → p < most_owners → p ≢ process → is_owner self.new m p ≡ is_owner self.old m p }
     {
-        if let Some(holding) = held {
+        for holding in held {
             self.remove(holding.mutex, process);
         }
     }
 
-    /// The process, which holds the first of these, holds the other from now on.
-    pub(crate) fn change(
-        &mut self,
-        process: ProcessId,
-        before: &Option<Holding>,
-        after: &Option<Holding>,
-    )
+    /// The process, which owns no mutex, holds these from now on.
+    fn enter(&mut self, process: ProcessId, held: &[Holding])
         requires process { process < most_owners }
-        requires held { (m : ℕ) → m < most_mutexes → is_owner self.old m process ≡ is_held m before.now }
-        ensures here { (m : ℕ) → m < most_mutexes → is_owner self.new m process ≡ is_held m after.now }
+        requires none { (m : ℕ) → m < most_mutexes → is_owner self.old m process ≡ false }
+        ensures here { (m : ℕ) → m < most_mutexes → is_owner self.new m process ≡ holds m held.now }
+        ensures others { (m p : ℕ) → p < most_owners → p ≢ process → is_owner self.new m p ≡ is_owner self.old m p }
+    {
+        for holding in held {
+            self.add(holding.mutex, process);
+        }
+    }
+
+    /// The process, which holds the first of these, holds the other from now on.
+    pub(crate) fn change(&mut self, process: ProcessId, before: &[Holding], after: &[Holding])
+        requires process { process < most_owners }
+        requires held { (m : ℕ) → m < most_mutexes → is_owner self.old m process ≡ holds m before.now }
+        ensures here { (m : ℕ) → m < most_mutexes → is_owner self.new m process ≡ holds m after.now }
         ensures others { (m p : ℕ) → p < most_owners → p ≢ process → is_owner self.new m p ≡ is_owner self.old m p }
     {
         self.leave(process, before);
-        if let Some(holding) = after {
-            self.add(holding.mutex, process);
-        }
+        self.enter(process, after);
     }
 
     /// The process of the lowest number that owns the mutex.

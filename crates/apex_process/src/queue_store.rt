@@ -1,5 +1,6 @@
 //! A store that keeps the ready processes, the waiters and the timers in linked lists.
-ghost use Rattle.std.specs.Prelude.{◌≡◌, ◌<◌, ◌&&◌, ◌||◌, not, is_some, length, IfOk};
+ghost use Rattle.std.specs.Prelude.{◌≡◌, ◌<◌, ◌&&◌, ◌||◌, not, length, IfOk};
+ghost use Rattle.apex_types.specs.Owners.{owns_some};
 ghost use Rattle.apex_types.specs.Roster.{opening_roster, record_at};
 ghost use Rattle.apex_types.specs.Running.{is_eligible};
 ghost use Rattle.apex_types.specs.Stamps.{is_level};
@@ -13,18 +14,20 @@ use apex_store::{PlainStore, Store};
 use apex_table::Table;
 use apex_timeouts::Timers;
 use apex_types::{
-    CoreId, Discipline, Holding, Message, Mode, MutexId, ProcessId, Queue, Record, State, Wait,
+    CoreId, Discipline, Holding, Holdings, Message, Mode, MutexId, ProcessId, Queue, Record, State,
+    Wait,
 };
 use std::alloc::{AllocError, Global};
 use std::marker::Model;
 
-/// A store that keeps the eligible processes of each core and priority, and those that wait in each queue,
-/// in a linked list, the dues and the deadlines in the order of their instants, and the owner of each
-/// mutex, and so answers each question in a few steps, however many processes there are.
+/// A store that answers each question in a few steps, however many processes there are. It keeps
+/// the eligible processes of each core and priority, and those that wait in each queue, in a linked
+/// list, the dues and the deadlines in the order of their instants, and the owner of each mutex.
 ///
-/// A running process stays in its ready list, at the front of the highest that is not empty. No call
-/// compares two stamps. A process that begins to wait in a queue of discipline PRIORITY walks that queue,
-/// and one with a due or a deadline walks their line; only a mode other than NORMAL walks all processes.
+/// A running process stays in its ready list, at the front of the highest that is not empty. No
+/// call compares two stamps. A process that begins to wait in a queue of discipline PRIORITY walks
+/// that queue, and one with a due or a deadline walks their line; only a mode other than NORMAL
+/// walks all processes.
 #[derive(Drop)]
 pub struct QueueStore {
     records: PlainStore,
@@ -47,23 +50,23 @@ impl Model for QueueStore {
 }
 
 /// The record of the process, at which the store looks.
-fn read(records: &PlainStore, reads: &Visits, process: ProcessId) -> Record
+fn read<'a>(records: &'a PlainStore, reads: &Visits, process: ProcessId) -> &'a Record
     requires { process < length records.now.records }
-    ensures { result ≡ record_at records.now process }
+    ensures { result.now ≡ record_at records.now process }
 {
     reads.note();
-    records.record(process)
+    records.row(process)
 }
 
 /// The process of this record owns a mutex, and its current priority stays with this base priority.
 fn stays_at(row: &Record, base: u8) -> bool
-    ensures { result ≡ (is_some row.now.owned && is_level (record row.now { base = base }) row.now) }
+    ensures { result ≡ (owns_some row.now && is_level (record row.now { base = base }) row.now) }
 {
-    row.owned.is_some() && Record { base, ..*row }.current_priority() == row.current_priority()
+    row.owns_some() && Record { base, ..*row }.current_priority() == row.current_priority()
 }
 
-/// The current priority of this record stays with this mutex.
-fn is_level_with(row: &Record, owned: &Option<Holding>) -> bool
+/// The current priority of this record stays with these mutexes.
+fn is_level_with(row: &Record, owned: &Holdings) -> bool
     ensures { result ≡ is_level (record row.now { owned = owned.now }) row.now }
 {
     Record {
@@ -93,7 +96,7 @@ fn goes_by_priority(records: &PlainStore, row: &Record) -> bool
 
 /// The process of this record goes to another place as it gets this base priority.
 fn moves_at(records: &PlainStore, row: &Record, base: u8) -> bool
-    ensures { result ≡ ((is_eligible records.now.mode row.now && not (is_some row.now.owned && is_level (record row.now { base = base }) row.now))
+    ensures { result ≡ ((is_eligible records.now.mode row.now && not (owns_some row.now && is_level (record row.now { base = base }) row.now))
         || goes_by_priority records.now (queue_in row.now)) }
 {
     row.is_eligible(records.mode()) && !stays_at(row, base) || goes_by_priority(records, row)
@@ -126,8 +129,8 @@ impl QueueStore {
         self.timers.holds();
     }
 
-    /// How many records, and nodes of lists, the calls have looked at since the store was made, reading
-    /// ones too. The number stays at the greatest `u64`.
+    /// The number of records, and of nodes of lists, at which the calls, reading ones too, have
+    /// looked since the store was made. It stays at the greatest `u64`.
     pub fn visits(&self) -> u64 {
         self.reads
             .count()
@@ -156,7 +159,7 @@ impl Store for QueueStore {
     }
 
     fn record(&self, process: ProcessId) -> Record {
-        read(&self.records, &self.reads, process)
+        *read(&self.records, &self.reads, process)
     }
 
     fn chosen(&self, core: CoreId) -> Option<ProcessId> {
@@ -193,6 +196,10 @@ impl Store for QueueStore {
         self.records.ceiling(mutex)
     }
 
+    fn most_owned(&self) -> usize {
+        self.records.most_owned()
+    }
+
     fn owner(&self, mutex: MutexId) -> Option<ProcessId> {
         self.owners.first(mutex)
     }
@@ -205,7 +212,7 @@ impl Store for QueueStore {
     fn start(&mut self, process: ProcessId, delay: u32) {
         self.records.start(process, delay);
         let row = read(&self.records, &self.reads, process);
-        self.lists.put_newest(&self.records, process, &row);
+        self.lists.put_newest(&self.records, process, row);
         self.timers.set_due(process, row.due);
         self.timers.set_deadline(process, row.deadline);
     }
@@ -216,34 +223,34 @@ impl Store for QueueStore {
         self.lists.leave(process);
         self.timers.set_due(process, None);
         self.timers.set_deadline(process, None);
-        self.owners.leave(process, &held);
+        self.owners.leave(process, held.as_slice());
     }
 
     fn block(&mut self, process: ProcessId, wait: Wait, due: Option<u64>) {
         self.records.block(process, wait, due);
         let row = read(&self.records, &self.reads, process);
-        self.lists.put_newest(&self.records, process, &row);
+        self.lists.put_newest(&self.records, process, row);
         self.timers.set_due(process, row.due);
     }
 
     fn unblock(&mut self, process: ProcessId) {
         self.records.unblock(process);
         let woken = read(&self.records, &self.reads, process);
-        self.lists.put_newest(&self.records, process, &woken);
+        self.lists.put_newest(&self.records, process, woken);
         self.timers.set_due(process, woken.due);
     }
 
     fn release(&mut self, process: ProcessId) {
         self.records.release(process);
         let row = read(&self.records, &self.reads, process);
-        self.lists.put_newest(&self.records, process, &row);
+        self.lists.put_newest(&self.records, process, row);
         self.timers.set_due(process, row.due);
         self.timers.set_deadline(process, row.deadline);
     }
 
     fn suspend(&mut self, process: ProcessId) {
         let row = read(&self.records, &self.reads, process);
-        let is_ready = is_ready(&self.records, &row);
+        let is_ready = is_ready(&self.records, row);
         self.records.suspend(process);
         if is_ready {
             self.lists.leave(process);
@@ -261,28 +268,29 @@ impl Store for QueueStore {
         self.records.resume(process);
         let row = read(&self.records, &self.reads, process);
         if row.wait.is_none() {
-            self.lists.put_newest(&self.records, process, &row);
+            self.lists.put_newest(&self.records, process, row);
             self.timers.set_due(process, row.due);
         }
     }
 
     fn set_priority(&mut self, process: ProcessId, base: u8) {
         let row = read(&self.records, &self.reads, process);
-        let moves = moves_at(&self.records, &row, base);
+        let moves = moves_at(&self.records, row, base);
         self.records.set_priority(process, base);
         if moves {
             let row = read(&self.records, &self.reads, process);
-            self.lists.put_newest(&self.records, process, &row);
+            self.lists.put_newest(&self.records, process, row);
         }
     }
 
-    fn own(&mut self, process: ProcessId, owned: Option<Holding>) {
-        let row = read(&self.records, &self.reads, process);
+    fn own(&mut self, process: ProcessId, owned: Holdings) {
+        let row = *read(&self.records, &self.reads, process);
         self.records.own(process, owned);
-        self.owners.change(process, &row.owned, &owned);
+        self.owners
+            .change(process, row.owned.as_slice(), owned.as_slice());
         if !is_level_with(&row, &owned) {
             let row = read(&self.records, &self.reads, process);
-            self.lists.put_oldest(process, &row);
+            self.lists.put_oldest(process, row);
         }
     }
 
@@ -290,17 +298,17 @@ impl Store for QueueStore {
         let owned = read(&self.records, &self.reads, process).owned;
         let mutex = holding.mutex;
         self.records.inherit(process, holding);
-        self.owners.leave(process, &owned);
+        self.owners.leave(process, owned.as_slice());
         self.owners.add(mutex, process);
         let row = read(&self.records, &self.reads, process);
-        self.lists.put_newest(&self.records, process, &row);
+        self.lists.put_newest(&self.records, process, row);
         self.timers.set_due(process, row.due);
     }
 
     fn place_newest(&mut self, process: ProcessId) {
         self.records.place_newest(process);
         let row = read(&self.records, &self.reads, process);
-        self.lists.put_newest(&self.records, process, &row);
+        self.lists.put_newest(&self.records, process, row);
     }
 
     fn advance_to(&mut self, instant: u64) {

@@ -1,4 +1,4 @@
--- What a change of one bit does to the marks, and which bit of a word is its highest.
+-- The marks as one bit changes, and the highest bit of a word.
 use Rattle.std.proofs.Common.{◌≡◌, ◌≢◌, ℕ, zero, suc, ◌+◌, ◌-◌, ◌*◌, ◌/◌, ◌%◌, ◌^◌, ◌<◌, ◌≤◌, Bool, true, false, List, length, get_or, set, replicate, inl, inr, refl, ap, arith}
 use Rattle.std.specs.Prelude.{◌==◌, if◌then◌else◌, bit_and, bit_or}
 use Rattle.std.specs.Int.{bit_at, bit_not, w64}
@@ -76,7 +76,8 @@ highest_bit word some fits =
       above = λ i higher. bit_at_above word (suc top.0) i top.3 (omega (arith, higher));
     })
 
--- the highest list of a core that is marked: its bit is the highest of its word, and no bit of a higher word is set
+-- the highest list of a core that is marked: its bit is the highest of its word, and no bit of a
+-- higher word is set
 pub highest_list : (words : List ℕ) (core turn j : ℕ) → turn < 4 → IsHighestBit (get_or words (4 * core + (3 - turn)) 0) j
     → ((p : ℕ) → p < 256 → 256 ≤ p + 64 * turn → is_marked words (ready_list core p) ≡ false)
     → IsHighest words core (64 * (3 - turn) + j)

@@ -1,10 +1,10 @@
--- The ready orders: a list for each core and priority, and a mark for each list that anybody stands in.
+-- The ready orders: a list for each core and priority, and a mark for each list that is not empty.
 use Rattle.std.specs.Prelude.{◌≡◌, ℕ, ◌+◌, ◌*◌, ◌/◌, ◌%◌, ◌<◌, Bool, true, false, ◌==◌, List, slice_index_or, Option, None, Some, is_some}
 use Rattle.std.specs.Int.{bit_at}
 use Rattle.apex_links.specs.Neighbours.{first_of}
 use Rattle.apex_links.specs.Links.{Links, list_at}
 
--- how many ready lists there are: eight cores of 256 priorities
+-- the number of ready lists: eight cores of 256 priorities
 abbrev pub ready_lists : ℕ
 ready_lists = 2048
 
@@ -22,7 +22,7 @@ pub record IsHighestBit (word j : ℕ) : Type 0 where
   pub set : bit_at word j ≡ 1
   pub above : (i : ℕ) → j < i → bit_at word i ≡ 0
 
--- the lists are marked that anybody stands in
+-- the lists that are not empty are marked, and no others
 abbrev pub AreMarked : List ℕ → Links → Type 0
 AreMarked words links = (l : ℕ) → l < ready_lists → is_marked words l ≡ is_some (first_of (list_at links l))
 
@@ -36,11 +36,11 @@ pub record IsHighest (words : List ℕ) (core p : ℕ) : Type 0 where
   pub marked : is_marked words (ready_list core p) ≡ true
   pub highest : (q : ℕ) → p < q → q < 256 → is_marked words (ready_list core q) ≡ false
 
--- nobody is ready on the core
+-- no process is ready on the core
 abbrev pub IsIdle : Links → ℕ → Type 0
 IsIdle links core = (p : ℕ) → p < 256 → first_of (list_at links (ready_list core p)) ≡ None
 
--- process n is the first of a priority of the core, and nobody of a higher one is ready there
+-- process n is the first of a priority of the core, and no process of a higher one is ready there
 pub record IsTop (links : Links) (core n : ℕ) : Type 0 where
   pub priority : ℕ
   pub known : priority < 256

@@ -1,5 +1,5 @@
-//! The ready orders of a partition's cores: for each core and each priority the ready processes, the
-//! longest ready first, and for each core the priorities that have a ready process.
+//! The ready orders of a partition's cores: for each core and each priority the ready processes,
+//! the longest ready first, and for each core the priorities that have a ready process.
 #![tactic(auto)]
 
 mod lists;

@@ -9,14 +9,14 @@ use apex_links::{LinkSet, ListId};
 use apex_types::{CoreId, ProcessId};
 use std::marker::Model;
 
-/// How many ready lists there are: one for each of eight cores and of 256 priorities. They are the first
+/// The number of ready lists: one for each of eight cores and of 256 priorities. They are the first
 /// of a link set.
 const READY_LISTS: usize = 2048;
 
-/// The marks of the ready lists that anybody stands in, four words for each core: bit b of a core's word w
-/// is that of priority 64 * w + b.
+/// The marks of the ready lists that are not empty, four words for each core: bit b of a core's
+/// word w is that of priority 64 * w + b.
 ///
-/// The lists themselves stand in a link set, which is lent to each call.
+/// The lists themselves are in a link set, which is lent to each call.
 #[derive(Drop)]
 pub struct ReadyOrders {
     words: [u64; 32],
@@ -39,14 +39,14 @@ fn highest_bit(marks: u64) -> u8
 }
 
 impl ReadyOrders {
-    /// The orders in which nobody is ready.
+    /// The orders in which no process is ready.
     pub fn new() -> ReadyOrders
         ensures { (l : ℕ) → is_marked result l ≡ false }
     {
         ReadyOrders { words: [0; 32] }
     }
 
-    /// Somebody stands in the list from now on.
+    /// Marks the list, which has a process from now on.
     fn mark(&mut self, list: ListId)
         requires { list < ready_lists }
         ensures { (l : ℕ) → l < ready_lists → is_marked self.new l ≡ (if l == list then true else is_marked self.old l) }
@@ -55,7 +55,7 @@ impl ReadyOrders {
         self.words[place / 64] |= 1 << (place % 64);
     }
 
-    /// Nobody stands in the list from now on.
+    /// Takes the mark from the list, which has no process from now on.
     fn clear(&mut self, list: ListId)
         requires { list < ready_lists }
         ensures { (l : ℕ) → l < ready_lists → is_marked self.new l ≡ (if l == list then false else is_marked self.old l) }
@@ -64,8 +64,8 @@ impl ReadyOrders {
         self.words[place / 64] &= !(1 << (place % 64));
     }
 
-    /// The process, which stands in no list, is ready on the core from now on, behind all others of this
-    /// priority.
+    /// The process, which is in no list, is ready on the core from now on, behind all others of
+    /// this priority.
     pub fn enter_newest(
         &mut self,
         links: &mut LinkSet,
@@ -86,8 +86,8 @@ impl ReadyOrders {
         self.mark(list);
     }
 
-    /// The process, which stands in no list, is ready on the core from now on, before all others of this
-    /// priority.
+    /// The process, which is in no list, is ready on the core from now on, before all others of
+    /// this priority.
     pub fn enter_oldest(
         &mut self,
         links: &mut LinkSet,
@@ -108,7 +108,7 @@ impl ReadyOrders {
         self.mark(list);
     }
 
-    /// The process stands in no list from now on.
+    /// The process is in no list from now on.
     pub fn leave(&mut self, links: &mut LinkSet, process: ProcessId)
         requires process { process < links.old.processes }
         requires marked { AreMarked self.old links.old }
@@ -116,9 +116,7 @@ impl ReadyOrders {
         ensures free { IsFree links.new process }
         ensures marked { AreMarked self.new links.new }
     {
-        let list = links.list_of(process);
-        links.remove(process);
-        if let Some(list) = list {
+        if let Some(list) = links.take(process) {
             if list.place() < READY_LISTS && links.front(list).is_none() {
                 self.clear(list);
             }
@@ -141,7 +139,7 @@ impl ReadyOrders {
         None
     }
 
-    /// The first process of the highest priority of which anybody is ready on the core.
+    /// The first process of the highest priority that has a ready process on the core.
     pub fn top(&self, links: &LinkSet, core: CoreId) -> Option<ProcessId>
         requires lists { ready_lists ≤ length links.now.lists }
         requires marked { AreMarked self.now links.now }

@@ -1,4 +1,4 @@
--- Who holds the pen that is its next one knows all its notes.
+-- A speaker that holds its next pen knows all its notes.
 use Rattle.std.proofs.Common.{◌≡◌, ℕ, ◌==◌, Bool, true, false, List, [], ◌∷◌, ◌++◌, refl, ap, sym, ◌∙◌, subst, arith}
 use Rattle.std.proofs.lemmas.Bool.Decides.{nat_tests}
 use Rattle.std.proofs.lemmas.List.{append-nil}
@@ -39,7 +39,7 @@ pub keys_append : (keys : ℕ → ℕ) (xs ys : List Note) → keys_after keys (
 keys_append keys [] ys = refl
 keys_append keys (n ∷ xs) ys = keys_append (next_keys keys n) xs ys
 
--- what a speaker knows of its own notes stays so
+-- a speaker's knowledge of its own notes stays right
 pub alone_key : (o : ℕ) (own log : List Note) → IsAlone o own log → key_of o log ≡ key_of o own
 alone_key o own log a =
     ap (λ (l : List Note). key_of o l) (sym a.parts)

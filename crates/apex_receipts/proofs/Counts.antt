@@ -1,4 +1,4 @@
--- How the numbers of notes grow.
+-- The numbers of notes, which grow.
 use Rattle.std.proofs.Common.{◌≡◌, ℕ, ◌+◌, ◌<◌, ◌≤◌, ◌⊎◌, ◌==◌, ◌&&◌, Bool, true, false, List, [], ◌∷◌, ◌++◌, refl, ap, sym, ◌∙◌, inl, inr, arith, if◌then◌else◌, is_none}
 use Rattle.std.proofs.lemmas.Bool.Decides.{nat_tests}
 use mathlib.Core.List.{IsPrefix}
@@ -7,7 +7,7 @@ use Rattle.std.specs.List.{count_by}
 use Rattle.apex_receipts.specs.declared.law.Note.{Note}
 use Rattle.apex_receipts.specs.Notes.{IsFair, entries_of, ends, is_by, is_end, is_for, keys_after, next_keys, said, written}
 
--- one where the test passes
+-- 1 if the test passes, else 0
 abbrev pub one_if : Bool → ℕ
 one_if b = if b then 1 else 0
 
@@ -27,7 +27,7 @@ said_yes o n notes is = omega (arith, count_cons (is_by o) n notes, ap one_if is
 pub said_no : (o : ℕ) (n : Note) (notes : List Note) → (n.by == o) ≡ false → said o (n ∷ notes) ≡ said o notes
 said_no o n notes is = omega (arith, count_cons (is_by o) n notes, ap one_if is)
 
--- who writes nothing keeps its next pen
+-- a speaker that writes nothing keeps its next pen
 pub silent_keys : (o : ℕ) (keys : ℕ → ℕ) (notes : List Note) → said o notes ≡ 0 → keys_after keys notes o ≡ keys o
 silent_keys o keys [] silent = refl
 silent_keys o keys (n ∷ notes) silent = at (silent_keys o (next_keys keys n) notes) (n.by == o) refl where
@@ -38,7 +38,7 @@ silent_keys o keys (n ∷ notes) silent = at (silent_keys o (next_keys keys n) n
       let same : next_keys keys n o ≡ keys o = ap (λ (b : Bool). if b then n.key else keys o) is in
       more (omega (arith, silent, said_no o n notes is)) ∙ same
 
--- who writes nothing writes nothing for anybody
+-- a speaker that writes nothing writes nothing for any speaker
 pub silent_written : (l o : ℕ) (notes : List Note) → said l notes ≡ 0 → written l o notes ≡ 0
 silent_written l o [] silent = refl
 silent_written l o (n ∷ notes) silent = at (silent_written l o notes) (n.by == l) refl where
@@ -75,7 +75,7 @@ pub written_snoc : (l o : ℕ) (log : List Note) (n : Note)
     → written l o (log ++ n ∷ []) ≡ written l o log + one_if (n.by == l && n.of == o)
 written_snoc l o log n = omega (arith, count_append (is_for l o) log (n ∷ []), count_cons (is_for l o) n [])
 
--- a note that is for its own speaker, or for one who has said more, leaves the notes fair
+-- a note that is for its own speaker, or for one that has said more, leaves the notes fair
 pub fair_snoc : (log : List Note) (n : Note) → IsFair log → (n.of ≡ n.by) ⊎ (written n.by n.of log < said n.of log)
     → IsFair (log ++ n ∷ [])
 fair_snoc log n fair may l o = at (n.by == l) refl (n.of == o) refl may where
@@ -99,7 +99,7 @@ fair_snoc log n fair may l o = at (n.by == l) refl (n.of == o) refl may where
       let added : one_if (n.by == l && n.of == o) ≡ 0 = rw is refl in
       omega (arith, fair l o, written_snoc l o log n, added, said_snoc o log n)
 
--- who has said so many notes has said no fewer in a longer log
+-- a speaker that has said n notes has said no fewer in a longer log
 pub said_grows : (o : ℕ) (first log : List Note) → IsPrefix first log → said o first ≤ said o log
 said_grows o first log begins =
     omega (arith, ap (λ (l : List Note). said o l) begins.1, count_append (is_by o) first begins.0)

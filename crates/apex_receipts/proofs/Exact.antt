@@ -1,4 +1,4 @@
--- What the scribe and a voice know of each other once they have met.
+-- The scribe and a voice that have met know each other's notes.
 use Rattle.std.proofs.Common.{◌≡◌, ℕ, ◌+◌, ◌≤◌, List, [], ◌∷◌, ◌++◌, length, refl, ap, sym, ◌∙◌, subst, arith, length-append}
 use mathlib.Core.List.{IsPrefix}
 use Rattle.apex_types.specs.declared.entries.Entry.{Entry}
@@ -12,7 +12,7 @@ use Rattle.apex_receipts.proofs.Own.{own_same, own_snoc}
 use Rattle.apex_receipts.proofs.Written.{entries_begin, labelled_alone, entries_snoc, ends_snoc, labelled_snoc}
 
 module _ (l o : ℕ) (own mine heard log : List Note) (met : HasMet l o own mine heard log) where
-  -- what the voice had heard of the history is a beginning of it
+  -- the history that the voice had heard is a prefix of the scribe's
   pub met_begins : IsPrefix (entries_of l heard) (entries_of l own)
   met_begins =
       subst (λ (es : List Entry). IsPrefix (entries_of l heard) es) (alone_entries l own log met.alone) (entries_begin l heard log met.knew)
@@ -49,7 +49,7 @@ module _ (l : ℕ) (voice : Who → ℕ) (own mine heard : List Note) (e : Entry
   written_ends =
       ap (λ (m : List Note). ends l m) w.added ∙ (ends_snoc l w.before w.note e w.entry ∙ alone_ends l own w.before w.met.alone)
 
-  -- what the voice had heard of the history is a beginning of it
+  -- the history that the voice had heard is a prefix of the scribe's
   pub written_begins_with : IsPrefix (entries_of l heard) (entries_of l own)
   written_begins_with = met_begins l (voice e.who) own mine heard w.before w.met
 
@@ -68,7 +68,7 @@ module _ (l : ℕ) (voice : Who → ℕ) (own mine heard : List Note) (e : Entry
     written_count =
         omega (arith, ap length written_own, length-append (own_entries e.who (entries_of l heard)) (e ∷ []), heard_all)
 
-    -- and the new entry stands where the receipt says
+    -- and the new entry is in the history at the receipt's place
     pub written_stands : e.number ≡ length (entries_of l own) + 1 → Stands (entries_of l log) e (count + 1)
     written_stands number =
         record {

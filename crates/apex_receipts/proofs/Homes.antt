@@ -4,7 +4,7 @@ use Rattle.logbook.specs.Pages.{Cell}
 use Rattle.apex_receipts.specs.declared.law.Note.{Note}
 use Rattle.apex_receipts.specs.Notes.{AllUsed, IsHome, keys_after, next_keys}
 
--- what was home in these cells is home in those
+-- the cells that are home here are home there
 abbrev pub Keeps : List Cell → List Cell → Type 0
 Keeps cells later = (k : ℕ) → IsHome cells k → IsHome later k
 
@@ -45,7 +45,7 @@ pub used_snoc : (cells : List Cell) (keys : ℕ → ℕ) (log : List Note) (n : 
 used_snoc cells keys [] n used home = (home, tt)
 used_snoc cells keys (m ∷ log) n used home = (used.0, used_snoc cells (next_keys keys m) log n used.1 home)
 
--- the notes behind a beginning
+-- the notes behind a prefix
 pub used_rest : (cells : List Cell) (keys : ℕ → ℕ) (first rest : List Note)
     → AllUsed cells keys (first ++ rest) → AllUsed cells (keys_after keys first) rest
 used_rest cells keys [] rest used = used

@@ -28,7 +28,7 @@ own_same who first es begins most =
       none [] few = refl
       none (e ∷ w) few = absurd (omega (arith, few))
 
--- whose test passes is the same core, or the ticker too
+-- a maker that passes the test is the same core, or the ticker too
 pub is_who_same : (v w : Who) → is_who v w ≡ true → v ≡ w
 is_who_same (Core c) (Core d) is = let same : c ≡ d = grind (arith, nat_tests) in ap Core same
 is_who_same (Core c) Ticker is = absurd (cc is)
@@ -46,7 +46,7 @@ own_snoc who es e same =
     let one : own_entries who (e ∷ []) ≡ e ∷ [] = rw is refl in
     own_append who es (e ∷ []) ∙ ap (λ (w : List Entry). own_entries who es ++ w) one
 
--- what stands in a beginning of the history stands in the history
+-- an entry in a prefix of the history is in the history
 pub stands_begin : (first es : List Entry) (e : Entry) (place : ℕ) → IsPrefix first es → Stands first e place → Stands es e place
 stands_begin first es e place begins stands =
     record {

@@ -1,11 +1,11 @@
--- Beginnings of one list.
+-- Prefixes of one list.
 use Rattle.std.proofs.Common.{◌≡◌, ◌⊎◌, List, [], ◌∷◌, ◌++◌, refl, ap, sym, ◌∙◌, inl, inr, append_assoc}
 use mathlib.Core.List.{IsPrefix}
 
 pub prefix_trans : {A : Type 0} (xs ys zs : List A) → IsPrefix xs ys → IsPrefix ys zs → IsPrefix xs zs
 prefix_trans xs ys zs p q = (p.0 ++ q.0, sym (append_assoc xs p.0 q.0) ∙ (ap (λ w. w ++ q.0) p.1 ∙ q.1))
 
--- of two beginnings of one list one begins the other
+-- of two prefixes of one list one is a prefix of the other
 pub prefix_either : {A : Type 0} (xs ys zs : List A) → IsPrefix xs zs → IsPrefix ys zs → IsPrefix xs ys ⊎ IsPrefix ys xs
 prefix_either [] ys zs p q = inl (ys, refl)
 prefix_either (x ∷ xs) [] zs p q = inr (x ∷ xs, refl)

@@ -19,7 +19,7 @@ shown log = []
 abbrev pub moved : List Note → List Note → ℕ → Type 0
 moved xs ys n = Unit {0}
 
--- the word stays 0 where it was
+-- the word stays 0 if it was 0
 abbrev pub found : ℕ → ℕ
 found n = either (n == 0) 0 n
 
@@ -48,7 +48,7 @@ takes_moves v ask cells log kept begins away =
       ),
     )
 
--- the note may still be added to the log as it stands
+-- the note may still be added to the log as it is
 pub may_still : (own known log : List Note) (n : Note) → IsAlone n.by own log → IsPrefix known log → MaySay own known n
     → (n.of ≡ n.by) ⊎ (written n.by n.of log < said n.of log)
 may_still own known log n a begins (inl own_note) = inl own_note
@@ -95,7 +95,7 @@ key_snoc o before n by =
     let last : next_keys old n o ≡ n.key = ap (λ (b : Bool). if b then n.key else old o) is in
     ap (λ (keys : ℕ → ℕ). keys o) (keys_append (λ (k : ℕ). k) before (n ∷ [])) ∙ last
 
--- what a step told says what was added
+-- a step that adds the note has said it
 pub has_said : (own known : List Note) (p : Nib) (t : Option ℕ) (s : Step Note) (n : Note) (k : ℕ) (w : View Note ℕ) → s.ask ≡ n
     → p.key ≡ key_of n.by own → IsPrefix own known → Says s (known, (p, t)) k w → HasSaid own known n w.0
 has_said own known p t s n k w ask key first told =

@@ -14,7 +14,7 @@ use Rattle.apex_receipts.proofs.Prefixes.{prefix_either}
 use Rattle.apex_receipts.proofs.Counts.{count_append, count_cons, one_if, written_snoc}
 use Rattle.apex_receipts.proofs.Own.{who_append, is_who_same, own_snoc}
 
--- the entries of a beginning are a beginning of the entries
+-- the entries of a prefix are a prefix of the entries
 pub entries_begin : (l : ℕ) (first log : List Note) → IsPrefix first log → IsPrefix (entries_of l first) (entries_of l log)
 entries_begin l first log begins =
     (entries_of l begins.0, sym (filter_map-append (entry_by l) first begins.0) ∙ ap (λ (m : List Note). entries_of l m) begins.1)
@@ -58,7 +58,7 @@ ends_snoc l log n e entry =
       at true is = rw (is, entry) refl
       at false is = rw is refl
 
--- a note with an entry for the speaker of who made it keeps the notes labelled
+-- a note with an entry for the speaker of the entry's maker keeps the notes labelled
 pub labelled_snoc : (l : ℕ) (voice : Who → ℕ) (log : List Note) (n : Note) (e : Entry) → n.by ≡ l → n.of ≡ voice e.who
     → n.entry ≡ Some e → IsLabelled l voice log → IsLabelled l voice (log ++ n ∷ [])
 labelled_snoc l voice log n e by of entry labelled who = at (is_who who e.who) refl where
@@ -89,7 +89,7 @@ labelled_snoc l voice log n e by of entry labelled who = at (is_who who e.who) r
         written_snoc l (voice who) log n,
       )
 
--- of two logs of the scribe, the one without an end is a beginning of the other one
+-- of two logs of the scribe, the one without an end is a prefix of the other one
 pub unended_begins : (l : ℕ) (first log all : List Note) → IsPrefix first all → IsPrefix log all → ends l first ≡ 0 → 1 ≤ ends l log
     → IsPrefix (entries_of l first) (entries_of l log)
 unended_begins l first log all begins log_begins unended ended = at (prefix_either first log all begins log_begins) where

@@ -1,4 +1,4 @@
--- What a receipt says of a history, and what a voice knows of it.
+-- A receipt of a history, and a voice's knowledge of it.
 use Rattle.std.specs.Prelude.{◌≡◌, ℕ, ◌+◌, ◌≤◌, Bool, true, false, List, [], ◌∷◌, ◌++◌, length, filter, map, slice_index_or}
 use Rattle.std.specs.List.{range_with_len}
 use Rattle.logbook.specs.Pages.{Book}
@@ -20,11 +20,12 @@ is_who Ticker (Core core) = false
 abbrev pub own_entries : Who → List Entry → List Entry
 own_entries who history = filter (λ (e : Entry). is_who who e.who) history
 
--- how many they are
+-- the number of these entries
 abbrev pub count_who : Who → List Entry → ℕ
 count_who who history = length (own_entries who history)
 
--- the entry stands in the history at its number, as the so-manieth of its core or of the ticker
+-- the entry is in the history at its number, and the place is its number among those of its core or
+-- of the ticker
 pub record Stands (history : List Entry) (e : Entry) (place : ℕ) : Type 0 where
   pub before : List Entry
   pub after : List Entry
@@ -32,13 +33,13 @@ pub record Stands (history : List Entry) (e : Entry) (place : ℕ) : Type 0 wher
   pub at_number : e.number ≡ length before + 1
   pub at_place : place ≡ count_who e.who before + 1
 
--- what contracts see of a receipt
+-- a receipt as contracts see it
 pub record Confirmed : Type 0 where
   pub entry : Entry
   pub place : ℕ
 
--- what contracts see of a voice: whose it is, the entries that were written down for it, and whether it was
--- told that the history is full
+-- a voice as contracts see it: its core or the ticker, the entries that were written down for it,
+-- and whether it knows that the history is full
 pub record Spoken : Type 0 where
   pub who : Who
   pub own : List Entry
@@ -48,12 +49,12 @@ pub record Spoken : Type 0 where
 abbrev pub unspoken : Who → Spoken
 unspoken who = record { who = who; own = []; told = false }
 
--- such voices of so many cores, in the order of their numbers
+-- such voices of n cores, in the order of their numbers
 abbrev pub unspoken_cores : ℕ → List Spoken
 unspoken_cores cores = map (λ (core : ℕ). unspoken (Core core)) (range_with_len 0 cores)
 
--- what contracts see of a book that was opened: the book, and who its speakers are: the scribe, one for each
--- core, and one for the ticker
+-- an opened book as contracts see it: the book, and its speakers: the scribe, one for each core,
+-- and one for the ticker
 pub record Opening : Type 0 where
   pub book : Book
   pub scribe : ℕ
@@ -64,7 +65,7 @@ pub record Opening : Type 0 where
 abbrev pub IsSilent : Book → Speech → Type 0
 IsSilent book speaker = (speaker.book ≡ book) × (speaker.log ≡ [])
 
--- who these speakers are
+-- the ids of these speakers
 abbrev pub speaker_ids : List Speech → List ℕ
 speaker_ids speakers = map (λ (s : Speech). s.id) speakers
 
@@ -73,6 +74,6 @@ abbrev pub voice_of : List ℕ → ℕ → Who → ℕ
 voice_of cores ticker (Core core) = slice_index_or cores core 0
 voice_of cores ticker Ticker = ticker
 
--- no core and not the ticker has more entries than were written down for its speaker
+-- neither a core nor the ticker has more entries than were written down for its speaker
 abbrev pub IsLabelled : ℕ → (Who → ℕ) → List Note → Type 0
 IsLabelled l voice log = (who : Who) → count_who who (entries_of l log) ≤ written l (voice who) log

@@ -4,17 +4,17 @@ use apex_types::Entry;
 use logbook::{Gain, Pen, Plain, Play, Rule, Seen, Word};
 use std::snapshot::Snapshot;
 
-/// One note. It stands in proofs alone: no code makes one.
+/// One note. It is in proofs alone: no code makes one.
 ///
 /// A speaker is named by the key of its first pen.
 pub struct Note {
-    /// Whose note it is.
+    /// The speaker of the note.
     pub by: u64,
     /// The speaker for whom it was written.
     pub of: u64,
     /// The entry that was written down, if one was.
     pub entry: Option<Entry>,
-    /// The next pen of who wrote it.
+    /// The next pen of its speaker.
     pub key: u64,
 }
 
@@ -39,7 +39,7 @@ impl Rule<Note, u64> for Law {
     ghost moves = { λ ask before after answer. Unit {0} };
 }
 
-/// A beginning of the notes.
+/// A prefix of the notes.
 pub type Known = Seen<Note, u64, Law>;
 
 /// The word that each step is made on.
@@ -90,7 +90,7 @@ impl Plain<(), Note, u64> for Take {
     ghost state = { λ _. None };
 }
 
-/// A note without an entry, and who says it.
+/// A note without an entry, and its speaker.
 #[derive(Drop)]
 pub struct Call<'a> {
     pub by: &'a Snapshot<Pen>,
@@ -105,7 +105,7 @@ impl<'a> Plain<Call<'a>, Note, u64> for Say {
     ghost state = { λ _. None };
 }
 
-/// A note with an entry, who says it, and for whom.
+/// A note with an entry, its speaker, and the speaker for which it is.
 #[derive(Drop)]
 pub struct Draft<'a> {
     pub by: &'a Snapshot<Pen>,

@@ -7,7 +7,8 @@ use crate::law::{Head, Known};
 use crate::speakers::Speaker;
 use apex_types::Entry;
 
-/// The scribe hears what the voice had heard, and then the voice what the scribe has seen.
+/// The scribe hears the notes that the voice had heard, and then the voice those that the scribe
+/// has seen.
 pub fn meet(head: &Head, scribe: &mut Speaker, voice: &mut Speaker, heard: &Known)
     requires head { head.now ≡ head_of scribe.old.book }
     requires books { (voice.old.book ≡ scribe.old.book) × (heard.now.book ≡ scribe.old.book) }

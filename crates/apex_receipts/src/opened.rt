@@ -55,7 +55,7 @@ fn speaker(head: &Head, seen: &Known) -> Speaker
     Speaker::new(take_pen(head, seen), seen.again())
 }
 
-/// So many speakers of the book.
+/// As many speakers of the book as there are cores.
 fn speakers(
     alloc: Global,
     head: &Head,
@@ -97,7 +97,7 @@ fn voices<P: Naming>(
 }
 
 impl Opened {
-    /// A new book with speakers for so many cores, 8 at the most. It fails only for want of memory.
+    /// A new book with speakers for `cores` cores, 8 at the most. It fails only for want of memory.
     pub fn new(alloc: Global, cores: u32) -> Result<Opened, AllocError>
         requires { cores ≤ most_cores }
         ensures { IfOk result (λ opened. length opened.cores ≡ cores) }
@@ -116,8 +116,8 @@ impl Opened {
         })
     }
 
-    /// The scribe, the voices of the cores in the order of their numbers, and the ticker's voice, of
-    /// the partition that is named after this book. It fails only for want of memory.
+    /// The scribe, the voices of the cores in the order of their numbers, and the ticker's voice,
+    /// of the partition that is named after this book. It fails only for want of memory.
     pub fn into_parts<P: Naming>(
         self,
         alloc: Global,

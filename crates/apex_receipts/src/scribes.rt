@@ -13,8 +13,8 @@ use crate::voices::Voice;
 use apex_types::Entry;
 use std::marker::{Model, PhantomData};
 
-/// Who writes the history down (this profile). Contracts see it as the entries that it wrote, the
-/// oldest first; the entries themselves stand elsewhere.
+/// The scribe, which writes the history down (this profile). Contracts see it as the entries that
+/// it wrote, the oldest first; the entries themselves are kept elsewhere.
 #[derive(Drop)]
 pub struct Scribe<P: Naming> {
     speaker: Speaker,
@@ -38,7 +38,7 @@ impl<P: Naming> Model for Scribe<P> {
 }
 
 impl<P: Naming> Scribe<P> {
-    /// The scribe of a book, who has written nothing.
+    /// The scribe of a book, which has written nothing.
     pub(crate) fn new(head: Head, speaker: Speaker) -> Scribe<P>
         requires head { head ≡ head_of P.book }
         requires speaker { speaker ≡ record { book = P.book; id = P.scribe; log = [] } }
@@ -74,7 +74,7 @@ impl<P: Naming> Scribe<P> {
         }
     }
 
-    /// Tells the voice that the history is full.
+    /// Lets the voice know that the history is full.
     pub fn refuse(&mut self, voice: &mut Voice<P>)
         requires full { length self.old ≡ P.table.limit }
         ensures history { self.new ≡ self.old }
@@ -85,7 +85,7 @@ impl<P: Naming> Scribe<P> {
         voice.told = true;
     }
 
-    /// The receipt's entry stands in the history, at its number and its place.
+    /// The receipt's entry is in the history, at its number and its place.
     pub fn shows(&mut self, receipt: &Receipt<P>)
         ensures same { self.new ≡ self.old }
         ensures stands { Stands self.old receipt.now.entry receipt.now.place }
@@ -93,8 +93,8 @@ impl<P: Naming> Scribe<P> {
         self.speaker.hear(&self.head, &receipt.seen);
     }
 
-    /// The entries of the voice's core or ticker in the history are those that were written down for
-    /// it; where it was told that the history is full, it is.
+    /// The entries of the voice's core or ticker in the history are those that were written down
+    /// for it; if the voice knows that the history is full, it is.
     pub fn settle(&mut self, voice: &mut Voice<P>)
         requires room { length self.old ≤ P.table.limit }
         ensures same { self.new ≡ self.old }

@@ -14,7 +14,7 @@ use std::snapshot::Snapshot;
 /// An offer that trades nothing.
 type Free = Offer<Note, u64, Law, Nothing>;
 
-/// One speaker of the book. Nobody else can write a note of it, so it knows all its own.
+/// One speaker of the book. No other one can write a note of it, so it knows all its own.
 #[derive(Drop)]
 pub struct Speaker {
     first: Snapshot<Pen>,
@@ -72,7 +72,7 @@ impl Speaker {
         &self.seen
     }
 
-    /// Hears the log as it stands.
+    /// Hears the log as it is.
     pub fn hear(&mut self, head: &Head, known: &Known)
         requires head { head.now ≡ head_of self.old.book }
         requires book { known.now.book ≡ self.old.book }

@@ -8,7 +8,7 @@ use crate::receipts::Receipt;
 use std::marker::{Model, PhantomData};
 
 /// A history that is finished. Contracts see it as its entries, the oldest first; the entries
-/// themselves stand elsewhere.
+/// themselves are kept elsewhere.
 #[derive(Drop)]
 pub struct Story<P: Naming> {
     pub(crate) seen: Known,
@@ -28,7 +28,7 @@ impl<P: Naming> Model for Story<P> {
 }
 
 impl<P: Naming> Story<P> {
-    /// The receipt's entry stands in the history, at its number and its place.
+    /// The receipt's entry is in the history, at its number and its place.
     pub fn confirm(&self, receipt: &Receipt<P>)
         ensures { Stands self.now receipt.now.entry receipt.now.place }
     {

@@ -16,7 +16,8 @@ pub struct Voice<P: Naming> {
     pub(crate) count: u32,
     pub(crate) told: bool,
     pub(crate) speaker: Speaker,
-    /// The history as it was after the last entry of its own, or when it was told that it is full.
+    /// The history as it was after the last entry of its own, or when the voice learned that it is
+    /// full.
     pub(crate) heard: Known,
     of: PhantomData<P>,
 }
@@ -54,21 +55,21 @@ impl<P: Naming> Voice<P> {
         }
     }
 
-    /// Whose voice it is.
+    /// The core or the ticker whose voice it is.
     pub fn who(&self) -> Who
         ensures { result ≡ self.now.who }
     {
         self.who
     }
 
-    /// How many entries were written down for it.
+    /// The number of entries that were written down for it.
     pub fn count(&self) -> u32
         ensures { result ≡ length self.now.own }
     {
         self.count
     }
 
-    /// Whether it was told that the history is full.
+    /// Whether it knows that the history is full.
     pub fn told(&self) -> bool
         ensures { result ≡ self.now.told }
     {

@@ -52,9 +52,10 @@ impl Semaphore {
         self.value
     }
 
-    /// WAIT_SEMAPHORE: takes one of the value, else the caller waits for the time in ticks that it
-    /// may. INVALID_PARAM where the semaphore isn't created, INVALID_MODE where the caller owns a
-    /// mutex and would wait, or no process calls, NOT_AVAILABLE where the caller may not wait.
+    /// WAIT_SEMAPHORE: takes one of the value, else the caller waits until the timeout, in ticks,
+    /// is over. INVALID_PARAM if the semaphore isn't created; INVALID_MODE if the caller owns a
+    /// mutex and the timeout isn't 0, or no process calls; NOT_AVAILABLE in place of a wait if the
+    /// timeout is 0.
     pub fn wait<S: Store>(
         &mut self,
         store: &mut S,
@@ -86,8 +87,8 @@ impl Semaphore {
         }
     }
 
-    /// SIGNAL_SEMAPHORE: wakes the first waiter, else raises the value. INVALID_PARAM where the
-    /// semaphore isn't created, NO_ACTION where nobody waits and the value is the maximum.
+    /// SIGNAL_SEMAPHORE: wakes the first waiter, else raises the value. INVALID_PARAM if the
+    /// semaphore isn't created, NO_ACTION if no process waits and the value is the maximum.
     pub fn signal<S: Store>(
         &mut self,
         store: &mut S,

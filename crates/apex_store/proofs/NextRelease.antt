@@ -1,4 +1,4 @@
--- The next release of a periodic process, as its law says it and as code computes it.
+-- The next release of a periodic process, as its law says it and as the code computes it.
 use Rattle.std.proofs.Common.{◌≡◌, ℕ, ◌≤◌, subst}
 use Rattle.std.proofs.lemmas.Option.{same_Some}
 use Rattle.apex_types.specs.Periods.{next_release}

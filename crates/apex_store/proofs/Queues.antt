@@ -1,4 +1,5 @@
--- A record waits in one queue at the most, and no more wait in a queue than there are.
+-- A record waits in one queue at the most, and a queue has no more waiters than there are
+-- processes.
 use Rattle.std.proofs.Common.{◌≤◌, Bool, List, count_by, length}
 use Rattle.std.proofs.lemmas.List.Sums.{count_by-le-length}
 use Rattle.apex_store.specs.Terms.{Record}

@@ -1,5 +1,5 @@
--- Whatever is asked of a store, no two of its processes come to have the same stamp.
-use Rattle.std.proofs.Common.{Some, refl}
+-- No call of a store gives two of its processes the same stamp.
+use Rattle.std.proofs.Common.{[], ◌∷◌, refl}
 use Rattle.apex_types.specs.Roster.{Roster, record_at}
 use Rattle.apex_types.proofs.Handovers.{moves_own}
 use Rattle.apex_types.specs.Distinct.{IsStamped}
@@ -20,7 +20,7 @@ stay_distinct roster stamped = record {
   resume = λ p known. stamped_resume roster p known stamped;
   set_priority = λ p base known. (reaches_set_priority roster p known base).stamped stamped;
   own = λ p owned known. (moves_own roster p known owned).stamped stamped;
-  inherit = λ p holding known. stamped_readied roster p known stamped (awake (record (record_at roster p) { owned = Some holding })) refl;
+  inherit = λ p holding known. stamped_readied roster p known stamped (awake (record (record_at roster p) { owned = holding ∷ [] })) refl;
   place_newest = λ p known. (reaches_place_newest roster p known).stamped stamped;
   advance_to = λ t. stamped_advance_to roster stamped t;
   set_deadline = λ p deadline known. stamped_record roster p known stamped (record (record_at roster p) { deadline = deadline }) refl;

@@ -1,4 +1,4 @@
--- A process is running exactly where it is the chosen one of its core.
+-- A process is running exactly if it is the chosen one of its core.
 use Rattle.std.proofs.Common.{◌≡◌, ℕ, Bool, true, false, not, ◌&&◌, if◌then◌else◌, Option, None, Some, is_none, ◌==◌, refl, sym, ap}
 use Rattle.std.proofs.lemmas.Bool.{and_parts, eqb-true, eq-eqb}
 use Rattle.apex_store.specs.Terms.{Mode, Record, State}
@@ -8,7 +8,7 @@ use Rattle.apex_types.specs.Running.{chosen, is_before, is_eligible, is_process,
 use Rattle.apex_types.proofs.Choice.{place_passes}
 use Rattle.apex_store.specs.Laws.{RunningIsChosen}
 
--- the state by what is asked in turn: started, eligible, chosen
+-- the state by three questions in turn: started, eligible, chosen
 abbrev pub state_by : Bool → Bool → Bool → State
 state_by started eligible runs = if not started then Dormant else if not eligible then Waiting else if runs then Running else Ready
 
@@ -41,7 +41,7 @@ running_parts mode core r e =
     let both = and_parts (is_eligible mode r) (r.core == core) e in
     (eligible_started mode r both.0, both.0, eqb-true r.core core both.1)
 
--- who is chosen is started, eligible, and bound to the core
+-- a chosen process is started, eligible, and bound to the core
 pub chosen_parts : (roster : Roster) (core p : ℕ) → chosen roster core ≡ Some p → ((record_at roster p).started ≡ true) × (is_eligible roster.mode (record_at roster p) ≡ true) × ((record_at roster p).core ≡ core)
 chosen_parts roster core p e =
     running_parts roster.mode core (record_at roster p) (place_passes (runs_on roster.mode core) is_before roster.records p nobody e)

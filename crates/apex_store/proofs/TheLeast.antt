@@ -1,4 +1,4 @@
--- What the laws of a store's choices share: the place of the least, under distinct stamps.
+-- Shared laws of a store's choices: the place of the least, under distinct stamps.
 use Rattle.std.proofs.Common.{◌≡◌, ℕ, Bool, List, Some, slice_get}
 use Rattle.std.specs.Cmp.{IsStrictWeakOrder}
 use Rattle.std.proofs.lemmas.Option.{get_or_from_slice_get, slice_get_within}

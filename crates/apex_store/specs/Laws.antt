@@ -1,4 +1,4 @@
--- What the choices of a store mean, in the standard's own words.
+-- The choices of a store, in the standard's own words.
 use Rattle.std.specs.Prelude.{◌≡◌, ◌≢◌, ℕ, ◌+◌, ◌*◌, ◌<◌, ◌≤◌, ◌<ℤ◌, ◌⊎◌, Bool, true, false, List, length, Option, None, Some, slice_get}
 use Rattle.apex_store.specs.Terms.{Holding, Message, Mode, Queue, Record, Wait}
 use Rattle.apex_types.specs.declared.records.State.TheVariants.{Running}
@@ -11,8 +11,8 @@ use Rattle.apex_types.specs.Running.{chosen, current_priority, is_before, is_eli
 use Rattle.apex_types.specs.Stamps as stamps
 use Rattle.apex_types.specs.Waiters.{discipline_of, first_waiter, next_waiter, queue_in, waits_before, waits_behind, waits_in}
 
--- who is found passes and is before every other that does; no second one is; and none is found only
--- where none passes
+-- the record that is found passes and is before every other one that passes, and no other record is
+-- so; if none is found, none passes
 pub record IsTheLeast (passes : Record → Bool) (before : Record → Record → Bool) (rs : List Record) (found : Option ℕ) : Type 0 where
   pub least : (p : ℕ) → found ≡ Some p → (r : Record) × IsLeast passes before rs p r
   pub only : (p : ℕ) (r : Record) → IsLeast passes before rs p r → found ≡ Some p
@@ -28,7 +28,7 @@ abbrev pub FirstWaiterIsFirst : Roster → Queue → Type 0
 FirstWaiterIsFirst roster queue =
     IsTheLeast (waits_in queue) (waits_before (discipline_of roster queue)) roster.records (first_waiter roster queue)
 
--- the next waiter is behind process p in the queue, and in front of every other one who is
+-- the next waiter is behind process p in the queue, and in front of every other process behind p
 abbrev pub NextWaiterIsNext : Roster → Queue → ℕ → Type 0
 NextWaiterIsNext roster queue p =
     let discipline = discipline_of roster queue in
@@ -51,7 +51,7 @@ pub record RunsMostUrgent (roster : Roster) (core : ℕ) : Type 0 where
   pub first : (p q : ℕ) → chosen roster core ≡ Some p → MayRun roster core q → q ≢ p → IsMoreUrgent (record_at roster p) (record_at roster q)
   pub idle : chosen roster core ≡ None → (p : ℕ) → ¬ (MayRun roster core p)
 
--- a process is in the queue of what it waits for, and in no other
+-- a process is in the queue of its wait, and in no other
 pub record WaitsInOneQueue (r : Record) : Type 0 where
   pub own : (queue : Queue) → queue_in r ≡ Some queue → waits_in queue r ≡ true
   pub only : (queue : Queue) → waits_in queue r ≡ true → queue_in r ≡ Some queue
@@ -63,45 +63,46 @@ RunsOneProcess roster =
     process_state roster p ≡ Running →
     process_state roster q ≡ Running → (record_at roster p).core ≡ (record_at roster q).core → p ≡ q
 
--- a process is running exactly where it is the chosen one of its core
+-- a process is running exactly if it is the chosen one of its core
 pub record RunningIsChosen (roster : Roster) (p : ℕ) : Type 0 where
   pub found : process_state roster p ≡ Running → chosen roster (record_at roster p).core ≡ Some p
   pub running : (core : ℕ) → chosen roster core ≡ Some p → process_state roster p ≡ Running
   pub bound : (core : ℕ) → chosen roster core ≡ Some p → (record_at roster p).core ≡ core
 
--- the next instant is the due or the deadline of a process and no later than any other one, and there is
--- none only where no process has a due or a deadline
+-- the next instant is the due or the deadline of a process and no later than any other one; if
+-- there is none, no process has a due or a deadline
 pub record NextInstantIsLeast (roster : Roster) : Type 0 where
   pub awaited : (t : ℕ) → next_instant roster ≡ Some t → (p : ℕ) × (p < length roster.records) × IsAwaited (record_at roster p) t
   pub least : (t : ℕ) → next_instant roster ≡ Some t → (q u : ℕ) → IsAwaited (record_at roster q) u → t ≤ u
   pub none : next_instant roster ≡ None → (q u : ℕ) → ¬ (IsAwaited (record_at roster q) u)
 
--- who is due first is due now and has the lowest number of those who are, and nobody is only where no
--- process is due now
+-- the first process that is due is due now and has the lowest number of those that are; if there is
+-- none, no process is due now
 pub record FirstDueIsLowest (roster : Roster) : Type 0 where
   pub now : (p : ℕ) → first_due roster ≡ Some p → (record_at roster p).due ≡ Some roster.now
   pub lowest : (p q : ℕ) → first_due roster ≡ Some p → (record_at roster q).due ≡ Some roster.now → p ≤ q
   pub none : first_due roster ≡ None → (q : ℕ) → (record_at roster q).due ≢ Some roster.now
 
--- who misses a deadline first misses it now and has the lowest number of those who do, and nobody does
--- only where no deadline is now
+-- the first process that misses a deadline misses it now and has the lowest number of those that
+-- do; if there is none, no deadline is now
 pub record FirstMissedIsLowest (roster : Roster) : Type 0 where
   pub now : (p : ℕ) → first_missed roster ≡ Some p → (record_at roster p).deadline ≡ Some roster.now
   pub lowest : (p q : ℕ) → first_missed roster ≡ Some p → (record_at roster q).deadline ≡ Some roster.now → p ≤ q
   pub none : first_missed roster ≡ None → (q : ℕ) → (record_at roster q).deadline ≢ Some roster.now
 
--- this instant is above now and so many periods after the release, at least one, and none such is sooner
+-- this instant is above now and n periods after the release, n at least 1, and no such instant is
+-- sooner
 pub record IsNextRelease (now release period t : ℕ) : Type 0 where
   pub later : now < t
   pub whole : (k : ℕ) × (1 ≤ k) × (t ≡ release + k * period)
   pub least : (k : ℕ) → 1 ≤ k → now < release + k * period → t ≤ release + k * period
 
--- the next release of process p, where it has a period
+-- if process p has a period, its next release is the next instant of its releases
 abbrev pub NextReleaseIsLeast : Roster → ℕ → Type 0
 NextReleaseIsLeast roster p = (period t : ℕ) → 1 ≤ period → (record_at roster p).attributes.period ≡ Some period
     → release_after roster.now (record_at roster p) ≡ Some t → IsNextRelease roster.now (record_at roster p).release period t
 
--- whatever is asked of a store, no two of its processes come to have the same stamp
+-- no call of a store gives two of its processes the same stamp
 pub record StampsStayDistinct (roster : Roster) : Type 0 where
   pub start : (p delay : ℕ) → p < length roster.records → IsStamped (stamps.start roster p delay)
   pub stop : (p : ℕ) → p < length roster.records → IsStamped (stamps.stop roster p)
@@ -112,7 +113,7 @@ pub record StampsStayDistinct (roster : Roster) : Type 0 where
   pub suspend_self : (p : ℕ) (due : Option ℕ) → p < length roster.records → IsStamped (stamps.suspend_self roster p due)
   pub resume : (p : ℕ) → p < length roster.records → IsStamped (stamps.resume roster p)
   pub set_priority : (p base : ℕ) → p < length roster.records → IsStamped (stamps.set_priority roster p base)
-  pub own : (p : ℕ) (owned : Option Holding) → p < length roster.records → IsStamped (stamps.own roster p owned)
+  pub own : (p : ℕ) (owned : List Holding) → p < length roster.records → IsStamped (stamps.own roster p owned)
   pub inherit : (p : ℕ) (holding : Holding) → p < length roster.records → IsStamped (stamps.inherit roster p holding)
   pub place_newest : (p : ℕ) → p < length roster.records → IsStamped (stamps.place_newest roster p)
   pub advance_to : (t : ℕ) → IsStamped (stamps.advance_to roster t)

@@ -1,20 +1,20 @@
-//! The hand-over of a mutex that its owner has left to its first waiter.
+//! The hand-over of the mutexes that their owner has left to their first waiters.
 
-ghost use Rattle.std.specs.Prelude.{◌≡◌, ◌<◌, length};
-ghost use Rattle.apex_types.specs.Handovers.{halted, hand_over};
+ghost use Rattle.std.specs.Prelude.{◌≡◌, ◌+◌, ◌<◌, ◌≤◌, length};
+ghost use Rattle.apex_types.specs.Handovers.{halted, hand_on, hand_over};
 ghost use Rattle.apex_types.specs.InTurn.{Makes};
-ghost use Rattle.apex_types.specs.Limits.{most_notices};
-ghost use Rattle.apex_types.specs.Stamps.{HasStamps};
+ghost use Rattle.apex_types.specs.Limits.{most_notices, most_owned};
+ghost use Rattle.apex_types.specs.Stamps.{HasStamps, HasStampsFor};
 
 use crate::store::Store;
 use apex_types::{Holding, Notice, Notices, ProcessId, Queue, ReturnCode};
 
-/// A mutex that was held so goes to its first waiter, which owns it at depth 1 and is woken with
+/// The mutex of this holding goes to its first waiter, which owns it at depth 1 and is woken with
 /// NO_ERROR.
 #[tactic(auto, using(apex_types::proofs::Starts::first_waits))]
 pub fn hand_over<S: Store>(store: &mut S, holding: &Holding, notices: &mut Notices)
     requires stamps { HasStamps (S.roster store.old) }
-    requires room { length notices.old < most_notices }
+    requires room { length notices.old + length (hand_over (S.roster store.old) holding.now).notices ≤ most_notices }
     ensures { Makes (hand_over (S.roster store.old) holding.now)
         (S.roster store.new) notices.old notices.new }
 {
@@ -30,17 +30,28 @@ pub fn hand_over<S: Store>(store: &mut S, holding: &Holding, notices: &mut Notic
     }
 }
 
-/// Stops the process; a mutex that it owned goes to the first who waits for it.
+/// Mutexes that were held so go on, one after the other, each to its first waiter.
+fn hand_on<S: Store>(store: &mut S, held: &[Holding], notices: &mut Notices)
+    requires stamps { HasStampsFor (length held.now) (S.roster store.old) }
+    requires room { length notices.old + length (hand_on held.now (S.roster store.old)).notices ≤ most_notices }
+    ensures { Makes (hand_on held.now (S.roster store.old))
+        (S.roster store.new) notices.old notices.new }
+{
+    if let [holding, others @ ..] = held {
+        hand_over(store, holding, notices);
+        hand_on(store, others, notices);
+    }
+}
+
+/// Stops the process; the mutexes that it owned go on in order of their numbers.
 pub fn halt<S: Store>(store: &mut S, process: ProcessId, notices: &mut Notices)
     requires known { process < length (S.roster store.old).records }
-    requires stamps { HasStamps (S.roster store.old) }
-    requires room { length notices.old < most_notices }
+    requires stamps { HasStampsFor most_owned (S.roster store.old) }
+    requires room { length notices.old + length (halted (S.roster store.old) process).notices ≤ most_notices }
     ensures { Makes (halted (S.roster store.old) process)
         (S.roster store.new) notices.old notices.new }
 {
-    let owned = store.record(process).owned;
+    let owned = store.record(process).owned.in_order();
     store.stop(process);
-    if let Some(holding) = owned {
-        hand_over(store, &holding, notices);
-    }
+    hand_on(store, owned.as_slice(), notices);
 }

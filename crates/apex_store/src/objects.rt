@@ -17,18 +17,18 @@ use apex_types::{Caller, Id, Notices, ObjectCall, Reply, ReturnCode};
 
 /// An object as its services see it.
 pub trait Object: Drop {
-    /// What its ids stand for.
+    /// The kind of its ids.
     type Kind: Copy;
 
     /// The services that this kind alone has.
     type Own: Copy;
 
-    /// What the table says of an object of the kind.
+    /// The entry of an object of the kind in the table.
     ghost Config: { Type 0 };
 
     ghost kind: { KindOf Config Self Self.Own };
 
-    /// What the kind's services need of the store, for the object at a place.
+    /// The premise of the kind's services about the store, for the object at a place.
     ghost Stands: { Roster → ℕ → Type 0 };
 
     fn is_created(&self) -> bool
@@ -62,7 +62,7 @@ pub trait Object: Drop {
             (S.roster store.new) self.new result notices.old notices.new };
 }
 
-/// CREATE: INVALID_MODE in NORMAL, NO_ACTION where the object is created.
+/// CREATE: INVALID_MODE in NORMAL, NO_ACTION if the object is created.
 fn create<S: Store, O: Object>(store: &S, object: &mut O) -> Reply
     ensures { Leaves (objects.create O.kind (S.roster store.now) object.old)
         (S.roster store.now) object.new result [] [] }
@@ -77,7 +77,7 @@ fn create<S: Store, O: Object>(store: &S, object: &mut O) -> Reply
     Reply::Code(ReturnCode::NoError)
 }
 
-/// GET_ID. INVALID_CONFIG where the object isn't created.
+/// GET_ID: INVALID_CONFIG if the object is not created.
 fn get_id<O: Object>(object: &O, id: Id<O::Kind>) -> Reply
     ensures { (roster : Roster) → Leaves (objects.get_id O.kind roster object.now id)
         roster object.now result [] [] }
@@ -89,7 +89,7 @@ fn get_id<O: Object>(object: &O, id: Id<O::Kind>) -> Reply
     }
 }
 
-/// GET_STATUS. INVALID_PARAM where the object isn't created.
+/// GET_STATUS: INVALID_PARAM if the object is not created.
 fn get_status<S: Store, O: Object>(store: &S, object: &O, id: Id<O::Kind>) -> Reply
     requires stands { O.Stands (S.roster store.now) id }
     ensures { Leaves (objects.get_status O.kind (S.roster store.now) object.now id)
@@ -128,7 +128,7 @@ fn serve_one<S: Store, O: Object>(
     }
 }
 
-/// What a call is answered whose name no entry has: CREATE tests the mode first.
+/// The answer to a call whose name no entry has: CREATE tests the mode first.
 fn no_entry<S: Store, O: Object>(
     store: &S,
     all: &[O],
@@ -143,7 +143,8 @@ fn no_entry<S: Store, O: Object>(
     }
 }
 
-/// Carries out a call on the objects of one kind. What it names is one of them, or no entry.
+/// Carries out a call on the objects of one kind. The object that it names is one of these, or its
+/// name is no entry's.
 pub fn serve_object<S: Store, O: Object>(
     store: &mut S,
     all: &mut [O],

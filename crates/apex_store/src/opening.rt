@@ -6,10 +6,10 @@ ghost use Rattle.apex_types.specs.Roster.{ceilings_of, opening_record};
 ghost use Rattle.apex_types.specs.Table.{BufferConfig, MutexConfig, SemaphoreConfig};
 
 use apex_table::{ProcessConfig, Table};
-use apex_types::{BufferId, CoreId, Discipline, MutexId, ProcessId, Record, SemaphoreId};
+use apex_types::{BufferId, CoreId, Discipline, Holdings, MutexId, ProcessId, Record, SemaphoreId};
 use std::alloc::{AllocError, Global};
 
-/// Adds the record of a process before any event: dormant on core 0, and as old as its place says.
+/// Adds the record of a process before any event: dormant on core 0, with the stamp of its place.
 fn push_opening(records: &mut Vec<Record>, place: usize, process: &ProcessConfig)
     requires few { place < most_processes }
     requires room { vec_len records.old < vec_capacity records.old }
@@ -18,7 +18,7 @@ fn push_opening(records: &mut Vec<Record>, place: usize, process: &ProcessConfig
     ensures room { vec_capacity records.new ≡ vec_capacity records.old }
 {
     let base = process.attributes().priority;
-    records.push_reserved(Record {
+    let row = Record {
         attributes: process.attributes(),
         core: CoreId::new(0),
         base,
@@ -29,10 +29,18 @@ fn push_opening(records: &mut Vec<Record>, place: usize, process: &ProcessConfig
         due: None,
         deadline: None,
         release: 0,
-        owned: None,
+        owned: Holdings::none(),
         step: 0,
         inbox: None,
-    });
+    };
+    // The push copies the record, and the types of its fields are wanted by name here.
+    let _period = &row.attributes.period;
+    let _suspended = &row.suspended;
+    let _wait = &row.wait;
+    if let Some(message) = &row.inbox {
+        let _origin = &message.origin;
+    }
+    records.push_reserved(row);
 }
 
 /// The records before any event.

@@ -33,7 +33,7 @@ pub fn is_owner<S: Store>(store: &S, caller: &Caller) -> bool
     ensures { result ≡ is_owner (S.roster store.now) caller.now }
 {
     match caller {
-        Caller::Process(process) => store.record(*process).owned.is_some(),
+        Caller::Process(process) => store.record(*process).owns_some(),
         Caller::Init | Caller::Nobody => false,
     }
 }

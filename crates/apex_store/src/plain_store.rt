@@ -1,7 +1,7 @@
 //! A store of one list of records, which answers each question by a scan.
 ghost use Rattle.std.specs.Prelude.{◌≡◌, ◌<◌, ◌≤◌, count_by, length, slice_index_or, IfOk};
 ghost use Rattle.apex_types.specs.Limits.{latest, most_processes};
-ghost use Rattle.apex_types.specs.Roster.{opening_roster, with_record};
+ghost use Rattle.apex_types.specs.Roster.{opening_roster, record_at, with_record};
 ghost use Rattle.apex_types.specs.Dues.{HasTime};
 ghost use Rattle.apex_types.specs.Periods.{deadline_from};
 ghost use Rattle.apex_types.specs.declared.records.Discipline.TheVariants.{Fifo};
@@ -19,7 +19,7 @@ use crate::scan::{Behind, Runnable, Waiting, first_of};
 use crate::store::Store;
 use apex_table::Table;
 use apex_types::{
-    CoreId, Discipline, Holding, Message, Mode, MutexId, ProcessId, Queue, Record, State,
+    CoreId, Discipline, Holding, Holdings, Message, Mode, MutexId, ProcessId, Queue, Record, State,
     Suspender, Wait,
 };
 use std::alloc::{AllocError, Global};
@@ -39,18 +39,20 @@ pub struct PlainStore {
     buffers: Vec<Discipline>,
     mutexes: Vec<Discipline>,
     ceilings: Vec<u8>,
+    /// How many mutexes a process may own at once.
+    may_own: usize,
 }
 
 impl Model for PlainStore {
     ghost use Rattle.std.specs.Prelude.{◌≤◌, length};
-    ghost use Rattle.apex_types.specs.Limits.{most_cores, most_processes};
+    ghost use Rattle.apex_types.specs.Limits.{most_cores, most_owned, most_processes};
     ghost use Rattle.apex_types.specs.Roster.{Roster};
 
     ghost Value = { Roster };
 
-    ghost view = { λ a. record { cores = a.cores; mode = a.mode; now = a.time; records = a.records.items; young = a.next_young; old = a.next_old; disciplines = record { semaphores = a.semaphores.items; buffers = a.buffers.items; mutexes = a.mutexes.items }; ceilings = a.ceilings.items } };
+    ghost view = { λ a. record { cores = a.cores; mode = a.mode; now = a.time; records = a.records.items; young = a.next_young; old = a.next_old; disciplines = record { semaphores = a.semaphores.items; buffers = a.buffers.items; mutexes = a.mutexes.items }; rules = record { ceilings = a.ceilings.items; most_owned = a.may_own } } };
 
-    ghost invariant = { λ a. (a.cores ≤ most_cores) × (length a.records.items ≤ most_processes) };
+    ghost invariant = { λ a. (a.cores ≤ most_cores) × (length a.records.items ≤ most_processes) × (a.may_own ≤ most_owned) };
 }
 
 /// The process is this one.
@@ -85,8 +87,8 @@ fn awake(row: Record) -> Record
     }
 }
 
-/// The instant at which the process's deadline passes where it begins to run at this one, in ticks.
-/// None where its capacity is infinite.
+/// The instant, in ticks, at which the process's deadline passes if it begins to run at this one.
+/// None if its capacity is infinite.
 fn deadline_from(instant: u64, row: &Record) -> Option<u64>
     requires { instant ≤ latest }
     ensures { result ≡ deadline_from instant row.now }
@@ -97,8 +99,8 @@ fn deadline_from(instant: u64, row: &Record) -> Option<u64>
     }
 }
 
-/// The record of a process that is released at this instant, in ticks: it waits for nothing, and its
-/// deadline begins to run.
+/// The record of a process that is released at this instant, in ticks: it waits for nothing, and
+/// its deadline begins to run.
 fn released_at(instant: u64, row: Record) -> Record
     requires { instant ≤ latest }
     ensures { result ≡ stamps.released_at instant row }
@@ -111,8 +113,8 @@ fn released_at(instant: u64, row: Record) -> Record
     }
 }
 
-/// The record of a process at its start: not suspended, at the table's priority and first step, with
-/// an empty inbox.
+/// The record of a process at its start: not suspended, at the table's priority and first step,
+/// with an empty inbox.
 fn reset(row: Record) -> Record
     ensures { result ≡ stamps.reset row }
 {
@@ -143,7 +145,7 @@ fn discipline_at(disciplines: &[Discipline], place: usize) -> Discipline
     }
 }
 
-/// How many of the records wait in the queue.
+/// The number of records that wait in the queue.
 #[tactic(auto, using(crate::proofs::Queues::few_wait))]
 fn waiter_count(queue: Queue, records: &[Record]) -> u32
     requires { length records.now ≤ most_processes }
@@ -174,11 +176,12 @@ impl PlainStore {
             buffers,
             mutexes,
             ceilings,
+            may_own: table.profile().owned(),
         })
     }
 
-    /// The discipline of the queue: a semaphore's, a buffer's and a mutex's is the table's, and all others
-    /// are first in, first out.
+    /// The discipline of the queue: a semaphore's, a buffer's and a mutex's is the table's, and all
+    /// others are first in, first out.
     pub fn discipline(&self, queue: &Queue) -> Discipline
         ensures { result ≡ discipline_of self.now queue.now }
     {
@@ -188,6 +191,14 @@ impl PlainStore {
             Queue::Mutex(mutex) => discipline_at(&self.mutexes, mutex.place()),
             Queue::Normal | Queue::Blackboard(_) | Queue::Event(_) => Discipline::Fifo,
         }
+    }
+
+    /// The record of the process, in its place.
+    pub fn row(&self, process: ProcessId) -> &Record
+        requires { process < length self.now.records }
+        ensures { result.now ≡ record_at self.now process }
+    {
+        &self.records[process.place()]
     }
 
     /// The process has no due from now on.
@@ -244,8 +255,8 @@ impl PlainStore {
         };
     }
 
-    /// The process has this record, and is the newest where that makes it eligible.
-    // Inlined, so that the record is put together where it goes.
+    /// The process has this record, and is the newest if the record is eligible.
+    // Inlined, so that the record is built in its place.
     #[inline(always)]
     fn put_readied(&mut self, process: ProcessId, row: Record)
         requires known { process < length self.old.records }
@@ -259,20 +270,19 @@ impl PlainStore {
         }
     }
 
-    /// The process begins to wait, until the instant that is due where there is one.
+    /// The process begins to wait, until the due, an instant in ticks, if there is one.
     fn put_waiting(&mut self, process: ProcessId, wait: Wait, due: Option<u64>)
         requires known { process < length self.old.records }
         requires stamps { stamps.HasStamps self.old }
         ensures { self.new ≡ stamps.block self.old process wait due }
     {
-        let row = self.record(process);
-        let blocked = Record {
-            suspended: suspension_awake(row.suspended),
-            wait: Some(wait),
-            due,
-            ..row
-        };
-        self.put_newest(process, blocked);
+        let stamp = self.next_young;
+        self.next_young += 1;
+        let row = &mut self.records[process.place()];
+        row.suspended = suspension_awake(row.suspended);
+        row.wait = Some(wait);
+        row.due = due;
+        row.since = stamp;
     }
 
     /// The start of the process begins after a delay in ticks.
@@ -359,6 +369,10 @@ impl Store for PlainStore {
         }
     }
 
+    fn most_owned(&self) -> usize {
+        self.may_own
+    }
+
     fn owner(&self, mutex: MutexId) -> Option<ProcessId> {
         first_owner(mutex, &self.records)
     }
@@ -389,7 +403,7 @@ impl Store for PlainStore {
             wait: None,
             due: None,
             deadline: None,
-            owned: None,
+            owned: Holdings::none(),
             step: 0,
             inbox: None,
             ..row
@@ -402,8 +416,15 @@ impl Store for PlainStore {
     }
 
     fn unblock(&mut self, process: ProcessId) {
-        let row = self.record(process);
-        self.put_readied(process, awake(row));
+        let row = &mut self.records[process.place()];
+        row.suspended = suspension_awake(row.suspended);
+        row.wait = None;
+        row.due = None;
+        let is_ready = row.is_eligible(self.mode);
+        if is_ready {
+            row.since = self.next_young;
+            self.next_young += 1;
+        }
     }
 
     fn release(&mut self, process: ProcessId) {
@@ -447,7 +468,7 @@ impl Store for PlainStore {
     fn set_priority(&mut self, process: ProcessId, base: u8) {
         let row = self.record(process);
         let changed = Record { base, ..row };
-        let stays = row.owned.is_some() && is_level(&changed, &row);
+        let stays = row.owns_some() && is_level(&changed, &row);
         if (row.is_eligible(self.mode) && !stays) || self.goes_by_priority(row.queue()) {
             self.put_newest(process, changed);
         } else {
@@ -455,7 +476,7 @@ impl Store for PlainStore {
         }
     }
 
-    fn own(&mut self, process: ProcessId, owned: Option<Holding>) {
+    fn own(&mut self, process: ProcessId, owned: Holdings) {
         let row = self.record(process);
         let changed = Record { owned, ..row };
         if is_level(&changed, &row) {
@@ -468,7 +489,7 @@ impl Store for PlainStore {
     fn inherit(&mut self, process: ProcessId, holding: Holding) {
         let row = self.record(process);
         let owner = Record {
-            owned: Some(holding),
+            owned: Holdings::one(holding),
             ..row
         };
         self.put_readied(process, awake(owner));

@@ -11,7 +11,7 @@ ghost use Rattle.apex_types.proofs.Orders.{before_strict, waits_strict};
 use crate::orders;
 use apex_types::{CoreId, Discipline, Mode, ProcessId, Queue, Record};
 
-/// Which processes a scan looks at, and which of two comes first.
+/// The processes that a scan looks at, and the order of any two of them.
 pub trait Order {
     ghost passes: { Self → Record → Bool };
 
@@ -26,7 +26,7 @@ pub trait Order {
     ghost ranks: { (s : Self) → IsStrictWeakOrder (precedes s) };
 }
 
-/// Those that a core may run, the most urgent first.
+/// The processes that a core may run, the most urgent first.
 #[derive(Drop)]
 pub struct Runnable {
     pub mode: Mode,
@@ -49,7 +49,7 @@ impl Order for Runnable {
     }
 }
 
-/// Those that wait in a queue of this discipline, who comes first there first.
+/// The processes that wait in a queue of this discipline, in the queue's order.
 #[derive(Drop)]
 pub struct Waiting {
     pub discipline: Discipline,
@@ -72,7 +72,7 @@ impl Order for Waiting {
     }
 }
 
-/// Those that wait in a queue of this discipline behind one process, who comes first there first.
+/// The processes that wait in a queue of this discipline behind one process, in the queue's order.
 #[derive(Drop)]
 pub struct Behind {
     pub discipline: Discipline,

@@ -1,6 +1,6 @@
 //! The trait `Store`: the processes of a partition, their mode and their time.
 ghost use Rattle.std.specs.Prelude.{◌≡◌, ◌<◌, ◌≤◌, ◌^◌, true, length, IfSome};
-ghost use Rattle.apex_types.specs.Limits.{latest, most_cores};
+ghost use Rattle.apex_types.specs.Limits.{latest, most_cores, most_owned};
 ghost use Rattle.apex_types.specs.Roster.{Roster, record_at};
 ghost use Rattle.apex_types.specs.Running.{chosen, process_state, IsEligible, IsIneligible};
 ghost use Rattle.apex_types.specs.Waiters.{first_waiter, next_waiter, waiter_count, waits_in};
@@ -9,7 +9,9 @@ ghost use Rattle.apex_types.specs.Dues.{next_instant, first_due, first_missed, H
 ghost use Rattle.apex_types.specs.Stamps as stamps;
 ghost use Rattle.apex_types.specs.declared.records.Queue.TheVariants as queues;
 
-use apex_types::{CoreId, Holding, Message, Mode, MutexId, ProcessId, Queue, Record, State, Wait};
+use apex_types::{
+    CoreId, Holding, Holdings, Message, Mode, MutexId, ProcessId, Queue, Record, State, Wait,
+};
 
 /// The processes of a partition: their records, the mode and the time.
 ///
@@ -20,7 +22,7 @@ use apex_types::{CoreId, Holding, Message, Mode, MutexId, ProcessId, Queue, Reco
 pub trait Store: Drop {
     ghost roster: { Self → Roster };
 
-    /// How many cores the partition has.
+    /// The number of cores that the partition has.
     fn cores(&self) -> u8
         ensures value { result ≡ (roster self.now).cores }
         ensures range { result ≤ most_cores };
@@ -48,19 +50,19 @@ pub trait Store: Drop {
         requires known { process < length (roster self.now).records }
         ensures { result ≡ process_state (roster self.now) process };
 
-    /// Who is first in the queue, by its discipline.
+    /// The first waiter of the queue, by its discipline.
     fn first(&self, queue: Queue) -> Option<ProcessId>
         ensures value { result ≡ first_waiter (roster self.now) queue }
         ensures known { IfSome result (λ p. p < length (roster self.now).records) };
 
-    /// Who is next in the queue behind this process, which stands there.
+    /// The next waiter of the queue behind this process, which waits there.
     fn next_after(&self, queue: Queue, process: ProcessId) -> Option<ProcessId>
         requires known { process < length (roster self.now).records }
         requires waits { waits_in queue (record_at (roster self.now) process) ≡ true }
         ensures value { result ≡ next_waiter (roster self.now) queue process }
         ensures known { IfSome result (λ p. p < length (roster self.now).records) };
 
-    /// How many wait in the queue.
+    /// The number of processes that wait in the queue.
     fn waiting(&self, queue: Queue) -> u32
         ensures { result ≡ waiter_count (roster self.now) queue };
 
@@ -68,13 +70,18 @@ pub trait Store: Drop {
     fn ceiling(&self, mutex: MutexId) -> u8
         ensures { result ≡ ceiling_of (roster self.now) mutex };
 
+    /// How many mutexes a process may own at once.
+    fn most_owned(&self) -> usize
+        ensures value { result ≡ (roster self.now).rules.most_owned }
+        ensures range { result ≤ most_owned };
+
     /// The process that owns the mutex.
     fn owner(&self, mutex: MutexId) -> Option<ProcessId>
         ensures value { result ≡ owner (roster self.now) mutex }
         ensures known { IfSome result (λ p. p < length (roster self.now).records) };
 
-    /// The next instant at which a wait ends by itself or a deadline passes: the least due or deadline
-    /// of all processes.
+    /// The next instant at which a wait ends by itself or a deadline passes: the least due or
+    /// deadline of all processes.
     fn next_instant(&self) -> Option<u64>
         ensures { result ≡ next_instant (roster self.now) };
 
@@ -91,7 +98,7 @@ pub trait Store: Drop {
         ensures { roster self.new ≡ stamps.stop (roster self.old) process };
 
     /// The process, which is started and waits for nothing or for NORMAL, begins to wait, until the
-    /// instant that is due where there is one.
+    /// due, an instant in ticks, if there is one.
     fn block(&mut self, process: ProcessId, wait: Wait, due: Option<u64>)
         requires known { process < length (roster self.old).records }
         requires free { stamps.may_wait (record_at (roster self.old) process) ≡ true }
@@ -105,8 +112,8 @@ pub trait Store: Drop {
         requires stamps { stamps.HasStamps (roster self.old) }
         ensures { roster self.new ≡ stamps.unblock (roster self.old) process };
 
-    /// Releases a process that waits for its start, for NORMAL or for its next release. Its deadline
-    /// begins to run.
+    /// Releases a process that waits for its start, for NORMAL or for its next release. Its
+    /// deadline begins to run.
     fn release(&mut self, process: ProcessId)
         requires known { process < length (roster self.old).records }
         requires stamps { stamps.HasStamps (roster self.old) }
@@ -118,8 +125,8 @@ pub trait Store: Drop {
         requires known { process < length (roster self.old).records }
         ensures { roster self.new ≡ stamps.suspend (roster self.old) process };
 
-    /// The process, which is eligible, suspends itself, until the instant that is due where there
-    /// is one.
+    /// The process, which is eligible, suspends itself, until the due, an instant in ticks, if
+    /// there is one.
     fn suspend_self(&mut self, process: ProcessId, due: Option<u64>)
         requires known { process < length (roster self.old).records }
         requires eligible { IsEligible (roster self.old) process }
@@ -127,29 +134,29 @@ pub trait Store: Drop {
         requires stamps { stamps.HasStamps (roster self.old) }
         ensures { roster self.new ≡ stamps.suspend_self (roster self.old) process due };
 
-    /// The process is no longer suspended: one that suspended itself wakes, another one's wait goes on.
+    /// The process is no longer suspended: if it suspended itself it wakes, else its wait goes on.
     fn resume(&mut self, process: ProcessId)
         requires known { process < length (roster self.old).records }
         requires stamps { stamps.HasStamps (roster self.old) }
         ensures { roster self.new ≡ stamps.resume (roster self.old) process };
 
-    /// Sets the base priority. The process becomes the newest where it is eligible or waits in a
-    /// queue in which the more urgent comes first. An owner of a mutex whose current priority stays
-    /// keeps its place.
+    /// Sets the base priority. The process becomes the newest if it is eligible or waits in a queue
+    /// in which the more urgent comes first. An eligible owner of a mutex keeps its place if its
+    /// current priority stays.
     fn set_priority(&mut self, process: ProcessId, base: u8)
         requires known { process < length (roster self.old).records }
         requires stamps { stamps.HasStamps (roster self.old) }
         ensures { roster self.new ≡ stamps.set_priority (roster self.old) process base };
 
-    /// The process, which is eligible, owns this mutex at this depth from now on, or none. It goes
-    /// before all others of its priority where its current priority changes.
-    fn own(&mut self, process: ProcessId, owned: Option<Holding>)
+    /// The process, which is eligible, owns these mutexes from now on. It goes before all others of
+    /// its priority where its current priority changes.
+    fn own(&mut self, process: ProcessId, owned: Holdings)
         requires known { process < length (roster self.old).records }
         requires eligible { IsEligible (roster self.old) process }
         requires stamps { stamps.HasStamps (roster self.old) }
         ensures { roster self.new ≡ stamps.own (roster self.old) process owned };
 
-    /// The process, which waits for the mutex, owns it so and wakes.
+    /// The process, which owns no mutex and waits for this one, owns it so and wakes.
     fn inherit(&mut self, process: ProcessId, holding: Holding)
         requires known { process < length (roster self.old).records }
         requires waits { waits_in (queues.Mutex holding.mutex) (record_at (roster self.old) process) ≡ true }
@@ -188,7 +195,7 @@ pub trait Store: Drop {
         ensures known { IfSome result (λ p. p < length (roster self.old).records) }
         ensures taken { roster self.new ≡ stamps.take_due (roster self.old) };
 
-    /// Sets the mode, by which nobody becomes eligible.
+    /// Sets the mode. No process becomes eligible by it.
     fn set_mode(&mut self, mode: Mode)
         requires { stamps.ReadiesNobody (roster self.old) mode }
         ensures { roster self.new ≡ stamps.set_mode (roster self.old) mode };

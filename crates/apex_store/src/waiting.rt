@@ -10,8 +10,8 @@ use crate::dues::due_after;
 use crate::store::Store;
 use apex_types::{ProcessId, Reply, ReturnCode, Timeout, Wait};
 
-/// The process, which calls, waits for the object, for the time in ticks that it may.
-/// NOT_AVAILABLE where it may not wait.
+/// The process, which calls, waits for the object until the timeout, in ticks, is over.
+/// NOT_AVAILABLE if the timeout is 0.
 #[tactic(auto, using(apex_types::proofs::Starts::eligible_may_wait))]
 pub fn wait_for<S: Store, O>(
     store: &mut S,

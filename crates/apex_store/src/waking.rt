@@ -17,7 +17,7 @@ pub fn is_unfit(longest: u8, message: &Message) -> bool
     message.length == 0 || message.length > longest
 }
 
-/// The process has what it waited for: it gets the message, where there is one, and is woken with
+/// The process has what it waited for: it gets the message, if there is one, and is woken with
 /// NO_ERROR.
 pub fn grant<S: Store>(
     store: &mut S,
@@ -38,7 +38,7 @@ pub fn grant<S: Store>(
     notices.push(Notice::Woken(process, ReturnCode::NoError));
 }
 
-/// All who wait in the queue have what they waited for, in the queue's order.
+/// All processes that wait in the queue have what they waited for, in the queue's order.
 #[tactic(auto, unfolding(apex_types::specs::Waking::grant_all))]
 pub fn grant_all<S: Store>(
     store: &mut S,

@@ -2,6 +2,7 @@
 use Rattle.std.proofs.Common.{◌≤◌, refl}
 use Rattle.std.specs.Prelude.{codes}
 use Rattle.std.proofs.lemmas.Result.{IfOk-at_ok}
+use Rattle.apex_types.specs.Limits.{most_message}
 use Rattle.apex_types.specs.Table.{IsLawfulBlackboard}
 use Rattle.apex_table.specs.Keys.{number_at}
 use Rattle.apex_table.specs.Blackboards.{blackboard, blackboards}
@@ -12,11 +13,11 @@ use Rattle.apex_table.proofs.SectionLaws.{IsRead, ReadsSound}
 pub blackboard_law : ReadsSound blackboards IsLawfulBlackboard
 unfolding blackboard
 blackboard_law at name ms good =
-    ok_then (number_at at 1 64 (codes "length") ms) _ (IsRead blackboards IsLawfulBlackboard name) (λ length el.
+    ok_then (number_at at 1 most_message (codes "length") ms) _ (IsRead blackboards IsLawfulBlackboard name) (λ length el.
     record {
       sound = record {
         name = good;
-        length = IfOk-at_ok (λ n. (1 ≤ n) × (n ≤ 64)) el (number_at_law at 1 64 (codes "length") ms);
+        length = IfOk-at_ok (λ n. (1 ≤ n) × (n ≤ most_message)) el (number_at_law at 1 most_message (codes "length") ms);
       };
       named = refl;
     })

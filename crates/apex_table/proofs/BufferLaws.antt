@@ -2,6 +2,7 @@
 use Rattle.std.proofs.Common.{◌≤◌, refl}
 use Rattle.std.specs.Prelude.{codes}
 use Rattle.std.proofs.lemmas.Result.{IfOk-at_ok}
+use Rattle.apex_types.specs.Limits.{most_message, most_messages}
 use Rattle.apex_types.specs.Table.{IsLawfulBuffer}
 use Rattle.apex_table.specs.Keys.{number_at, discipline_at}
 use Rattle.apex_table.specs.Buffers.{buffer, buffers}
@@ -12,14 +13,14 @@ use Rattle.apex_table.proofs.SectionLaws.{IsRead, ReadsSound}
 pub buffer_law : ReadsSound buffers IsLawfulBuffer
 unfolding buffer
 buffer_law at name ms good =
-    ok_then (number_at at 1 64 (codes "length") ms) _ (IsRead buffers IsLawfulBuffer name) (λ length el.
-    ok_then (number_at at 1 16 (codes "capacity") ms) _ (IsRead buffers IsLawfulBuffer name) (λ capacity ec.
+    ok_then (number_at at 1 most_message (codes "length") ms) _ (IsRead buffers IsLawfulBuffer name) (λ length el.
+    ok_then (number_at at 1 most_messages (codes "capacity") ms) _ (IsRead buffers IsLawfulBuffer name) (λ capacity ec.
     ok_then (discipline_at at ms) _ (IsRead buffers IsLawfulBuffer name) (λ discipline _.
     record {
       sound = record {
         name = good;
-        length = IfOk-at_ok (λ n. (1 ≤ n) × (n ≤ 64)) el (number_at_law at 1 64 (codes "length") ms);
-        capacity = IfOk-at_ok (λ n. (1 ≤ n) × (n ≤ 16)) ec (number_at_law at 1 16 (codes "capacity") ms);
+        length = IfOk-at_ok (λ n. (1 ≤ n) × (n ≤ most_message)) el (number_at_law at 1 most_message (codes "length") ms);
+        capacity = IfOk-at_ok (λ n. (1 ≤ n) × (n ≤ most_messages)) ec (number_at_law at 1 most_messages (codes "capacity") ms);
       };
       named = refl;
     })))

@@ -2,10 +2,11 @@
 use Rattle.std.proofs.Common.{ℕ, ◌+◌, ◌≤◌, List, [], length, Option, Some, None, IfSome, IfOk, arith}
 use Rattle.std.proofs.lemmas.Result.{IfOk-at_ok, IfOk-weaker}
 use Rattle.toml.specs.Data.{Data}
+use Rattle.apex_types.specs.Limits.{most_init_steps, most_objects, most_processes}
 use Rattle.apex_types.specs.Table.{ProcessConfig, Step, Table, IsLawfulStep}
 use Rattle.apex_types.specs.declared.calls.Origin.TheVariants as origin
 use Rattle.apex_table.specs.declared.fault.Section.TheVariants.{Init}
-use Rattle.apex_table.specs.Terms.{Place}
+use Rattle.apex_table.specs.Terms.{Place, Profile}
 use Rattle.apex_table.specs.declared.fault.TableFault.TheVariants.{BadInitStep}
 use Rattle.apex_table.specs.Outcome.{place}
 use Rattle.apex_table.specs.Keys.{array, at_most}
@@ -22,24 +23,24 @@ use Rattle.apex_table.proofs.ObjectLaws.{AreLawful}
 
 -- an init list that is given has at most 512 texts
 abbrev pub AreFew : Option (List (List ℕ)) → Type 0
-AreFew o = IfSome o (λ ts. length ts ≤ 512)
+AreFew o = IfSome o (λ ts. length ts ≤ most_init_steps)
 
-given_texts_law : (d : Data) → IfOk (given_texts d) (λ ts. length ts ≤ 512)
+given_texts_law : (d : Data) → IfOk (given_texts d) (λ ts. length ts ≤ most_init_steps)
 unfolding given_texts
 given_texts_law d =
-    ok_then (array (place Init 0) d) _ (λ ts. length ts ≤ 512) (λ ds _.
-    ok_then (at_most (place Init 0) 512 ds) _ (λ ts. length ts ≤ 512) (λ few e.
-    let bound : length few ≤ 512 = IfOk-at_ok (λ xs. length xs ≤ 512) e (at_most_law (place Init 0) 512 ds) in
+    ok_then (array (place Init 0) d) _ (λ ts. length ts ≤ most_init_steps) (λ ds _.
+    ok_then (at_most (place Init 0) most_init_steps ds) _ (λ ts. length ts ≤ most_init_steps) (λ few e.
+    let bound : length few ≤ most_init_steps = IfOk-at_ok (λ xs. length xs ≤ most_init_steps) e (at_most_law (place Init 0) most_init_steps ds) in
     IfOk-weaker (texts few) _ _ (λ ts h. omega arith) (each_length next_text [] few)))
 
 pub init_texts_law : (o : Option Data) → IfOk (init_texts o) AreFew
 init_texts_law None = tt
 init_texts_law (Some d) =
-    ok_then (given_texts d) _ AreFew (λ ts e. IfOk-at_ok (λ ts. length ts ≤ 512) e (given_texts_law d))
+    ok_then (given_texts d) _ AreFew (λ ts e. IfOk-at_ok (λ ts. length ts ≤ most_init_steps) e (given_texts_law d))
 
--- what holds of an init list of the table
+-- the facts about an init list of the table
 pub record IsInitList (table : Table) (steps : List Step) : Type 0 where
-  pub few : length steps ≤ 512
+  pub few : length steps ≤ most_init_steps
   pub lawful : AllFrom (λ k step. IsLawfulStep table (origin.Init k) step) 0 steps
 
 module _ (table : Table) (names : Names) (same : AreNamesOf table names) where
@@ -50,27 +51,27 @@ module _ (table : Table) (names : Names) (same : AreNamesOf table names) where
   unfolding init_step
   init_step_law at k text =
       ok_then (step at (origin.Init k) names text) _ (Lawful k) (λ s e.
-      ok_if (is_init_call s.call) (BadInitStep at) s (Lawful k) (λ _. IfOk-at_ok (Lawful k) e (step_law table names same at (origin.Init k) text)))
+      ok_if (is_init_call s.call) (BadInitStep at) s (Lawful k) (λ _. IfOk-at_ok (Lawful k) e (step_law at (origin.Init k) names table same text)))
 
   steps_lawful : (ts : List (List ℕ)) → IfOk (init_steps names ts) (AllFrom Lawful 0)
   steps_lawful ts =
       each_from (next_init_step names) Lawful (λ t. Unit {0})
       (λ done t _. init_step_law (place Init (length done + 1)) (length done) t) [] ts tt (all_any ts)
 
-  steps_length : (ts : List (List ℕ)) → length ts ≤ 512 → IfOk (init_steps names ts) (λ steps. length steps ≤ 512)
+  steps_length : (ts : List (List ℕ)) → length ts ≤ most_init_steps → IfOk (init_steps names ts) (λ steps. length steps ≤ most_init_steps)
   steps_length ts few =
       IfOk-weaker (init_steps names ts) _ _ (λ steps h. omega arith) (each_length (next_init_step names) [] ts)
 
-  init_steps_law : (ts : List (List ℕ)) → length ts ≤ 512 → IfOk (init_steps names ts) (IsInitList table)
+  init_steps_law : (ts : List (List ℕ)) → length ts ≤ most_init_steps → IfOk (init_steps names ts) (IsInitList table)
   init_steps_law ts few = both_ok (init_steps names ts) _ _ (λ steps short lawful. record { few = short; lawful = lawful }) (steps_length ts few) (steps_lawful ts)
 
-pub init_list_law : (cores limit : ℕ) (procs : List ProcessConfig) (objects : Objects) (init : List Step) (names : Names) → AreNamesOf (table_with cores limit procs objects init) names → length procs ≤ 32 → AreLawful objects → (o : Option (List (List ℕ))) → AreFew o → IfOk (init_list names procs objects o) (IsInitList (table_with cores limit procs objects init))
-init_list_law cores limit procs objects init names same some lawful (Some ts) few =
-    init_steps_law (table_with cores limit procs objects init) names same ts few
-init_list_law cores limit procs objects init names same some lawful None few =
-    let semaphores : length objects.semaphores ≤ 16 = lawful.semaphores.few in
-    let buffers : length objects.buffers ≤ 16 = lawful.buffers.few in
-    let blackboards : length objects.blackboards ≤ 16 = lawful.blackboards.few in
-    let events : length objects.events ≤ 16 = lawful.events.few in
-    let mutexes : length objects.mutexes ≤ 16 = lawful.mutexes.few in
-    record { few = omega (arith, default_init_length procs objects); lawful = default_init_law cores limit procs objects init }
+pub init_list_law : (profile : Profile) (cores limit : ℕ) (procs : List ProcessConfig) (objects : Objects) (init : List Step) (names : Names) → AreNamesOf (table_with profile cores limit procs objects init) names → length procs ≤ most_processes → AreLawful objects → (o : Option (List (List ℕ))) → AreFew o → IfOk (init_list names procs objects o) (IsInitList (table_with profile cores limit procs objects init))
+init_list_law profile cores limit procs objects init names same some lawful (Some ts) few =
+    init_steps_law (table_with profile cores limit procs objects init) names same ts few
+init_list_law profile cores limit procs objects init names same some lawful None few =
+    let semaphores : length objects.semaphores ≤ most_objects = lawful.semaphores.few in
+    let buffers : length objects.buffers ≤ most_objects = lawful.buffers.few in
+    let blackboards : length objects.blackboards ≤ most_objects = lawful.blackboards.few in
+    let events : length objects.events ≤ most_objects = lawful.events.few in
+    let mutexes : length objects.mutexes ≤ most_objects = lawful.mutexes.few in
+    record { few = omega (arith, default_init_length procs objects); lawful = default_init_law profile cores limit procs objects init }

@@ -1,4 +1,4 @@
--- What is read at a key is in its range.
+-- The values that are read at a key are in its range.
 use Rattle.std.proofs.Common.{◌≡◌, ℕ, ◌≤◌, ℤ, pos, negsuc, true, false, ◌&&◌, nat_le, List, length, Option, Some, None, Result, IfOk, IsTrue, arith}
 use Rattle.std.proofs.lemmas.Bool.Decides.{nat_tests}
 use Rattle.std.specs.Prelude.{codes}
@@ -7,6 +7,7 @@ use Rattle.std.specs.Str.{bytes_eq}
 use Rattle.std.proofs.lemmas.Option.{none-some, same_Some}
 use Rattle.std.proofs.lemmas.Result.{IfOk-at_ok}
 use Rattle.toml.specs.Data.{Data, Members, get_member, as_integer, as_str}
+use Rattle.apex_types.specs.Limits.{most_span}
 use Rattle.apex_types.specs.Name.{is_name}
 use Rattle.apex_types.specs.Table.{IsSpan}
 use Rattle.apex_table.specs.Terms.{Place, TableFault}
@@ -41,18 +42,18 @@ number_or_law at default low high key ms here =
 no_span : IsSpan None
 no_span ticks e = absurd (none-some ticks e)
 
-some_span : (n : ℕ) → (1 ≤ n) × (n ≤ 4294967295) → IsSpan (Some n)
+some_span : (n : ℕ) → (1 ≤ n) × (n ≤ most_span) → IsSpan (Some n)
 some_span n bounds ticks e =
     let same : n ≡ ticks = same_Some n ticks e in
     let low : 1 ≤ n = bounds.0 in
-    let high : n ≤ 4294967295 = bounds.1 in
+    let high : n ≤ most_span = bounds.1 in
     (omega arith, omega arith)
 
 span_of_law : (at : Place) (d : Data) (o : Option (List ℕ)) → IfOk (span_of at d o) IsSpan
 span_of_law at d (Some t) = ok_if (bytes_eq t (codes "infinite")) (OutOfRange at) None IsSpan (λ _. no_span)
 span_of_law at d None =
-    ok_then (number at 1 4294967295 d) _ IsSpan (λ n e.
-    some_span n (IfOk-at_ok (λ n. (1 ≤ n) × (n ≤ 4294967295)) e (number_law at 1 4294967295 d)))
+    ok_then (number at 1 most_span d) _ IsSpan (λ n e.
+    some_span n (IfOk-at_ok (λ n. (1 ≤ n) × (n ≤ most_span)) e (number_law at 1 most_span d)))
 
 pub span_or_infinite_law : (at : Place) (key : List ℕ) (ms : Members) → IfOk (span_or_infinite at key ms) IsSpan
 span_or_infinite_law at key ms = optional_law None _ IsSpan no_span (λ d. span_of_law at d (as_str d)) (get_member key ms)

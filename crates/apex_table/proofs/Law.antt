@@ -1,4 +1,4 @@
--- What is read is lawful.
+-- A table that is read is lawful.
 use Rattle.std.proofs.Common.{◌≡◌, ℕ, ◌≤◌, List, length, Ok, IfOk, sym, ap, subst, arith}
 use Rattle.std.specs.Prelude.{codes}
 use Rattle.std.specs.List.{IsDistinct}
@@ -7,8 +7,12 @@ use Rattle.std.proofs.lemmas.List.{length-map}
 use Rattle.std.proofs.lemmas.List.Elements.{All-from_recursion}
 use Rattle.std.proofs.lemmas.Result.{IfOk-at_ok}
 use Rattle.toml.specs.Data.{Members, get_member}
+use Rattle.apex_types.specs.Profiles.{processes_of, profile_of}
+use Rattle.apex_types.proofs.BothProfiles.{few_processes}
+use Rattle.apex_types.specs.Limits.{most_cores, most_entries, most_profile, usual_entries}
 use Rattle.apex_types.specs.Table.{Table, ProcessConfig, SemaphoreConfig, BufferConfig, BlackboardConfig, EventConfig, MutexConfig, no_process, no_semaphore, no_buffer, no_blackboard, no_event, no_mutex, Step, no_step, IsLawfulStep, IsLawfulProcess, IsLawfulSemaphore, IsLawfulBuffer, IsLawfulBlackboard, IsLawfulEvent, IsLawfulMutex, IsLawful}
 use Rattle.apex_types.specs.declared.calls.Origin.TheVariants.{Init}
+use Rattle.apex_table.specs.Terms.{Profile}
 use Rattle.apex_table.specs.declared.fault.Section.TheVariants.{Top}
 use Rattle.apex_table.specs.Outcome.{place}
 use Rattle.apex_table.specs.Keys.{known, number_at, number_or}
@@ -29,9 +33,9 @@ use Rattle.apex_table.proofs.ScriptLaws.{entry_names, with_scripts_law, with_scr
 use Rattle.apex_table.proofs.InitLaws.{AreFew, init_texts_law, IsInitList, init_list_law}
 
 -- the parts of a table that were read
-module _ (cores limit : ℕ) (drafts : List ProcessDraft) (procs : List ProcessConfig) (things : Objects) (steps : List Step) where
+module _ (profile : Profile) (cores limit : ℕ) (drafts : List ProcessDraft) (procs : List ProcessConfig) (things : Objects) (steps : List Step) where
   abbrev Whole : Table
-  Whole = table_with cores limit procs things steps
+  Whole = table_with profile cores limit procs things steps
 
   names_law : entry_names procs ≡ process_names drafts → AreNamesOf Whole (names_of drafts things)
   names_law same =
@@ -46,7 +50,7 @@ module _ (cores limit : ℕ) (drafts : List ProcessDraft) (procs : List ProcessC
         mutexes = length-map things.mutexes (λ (m : MutexConfig). m.name);
       }
 
-  lawful : (1 ≤ cores) × (cores ≤ 8) → (1 ≤ limit) × (limit ≤ 65536) → (1 ≤ length procs) × (length procs ≤ 32) → IsDistinct bytes_eq (entry_names procs) → AllFrom (IsLawfulProcess Whole) 0 procs → AreLawful things → IsInitList Whole steps → IsLawful Whole
+  lawful : (1 ≤ cores) × (cores ≤ most_cores) → (1 ≤ limit) × (limit ≤ most_entries) → (1 ≤ length procs) × (length procs ≤ processes_of profile) → IsDistinct bytes_eq (entry_names procs) → AllFrom (IsLawfulProcess Whole) 0 procs → AreLawful things → IsInitList Whole steps → IsLawful Whole
   lawful in_cores in_limit count distinct each sound init = record {
     cores = in_cores;
     limit = in_limit;
@@ -76,33 +80,36 @@ pub reading_law : (tree : Members) → IfOk (reading tree) IsLawful
 unfolding reading
 reading_law tree =
     ok_then (known (place Top 0) top_keys tree) _ IsLawful (λ ms _.
-    ok_then (number_at (place Top 0) 1 8 (codes "cores") ms) _ IsLawful (λ cores ec.
-    ok_then (number_or (place Top 0) 4096 1 65536 (codes "history") ms) _ IsLawful (λ limit el.
-    ok_then (section (processes cores) ms) _ IsLawful (λ read ep.
+    ok_then (number_or (place Top 0) 1 1 most_profile (codes "profile") ms) _ IsLawful (λ number _.
+    ok_then (number_at (place Top 0) 1 most_cores (codes "cores") ms) _ IsLawful (λ cores ec.
+    ok_then (number_or (place Top 0) usual_entries 1 most_entries (codes "history") ms) _ IsLawful (λ limit el.
+    ok_then (section (processes (profile_of number) cores) ms) _ IsLawful (λ read ep.
     ok_then (some_process read) _ IsLawful (λ drafts es.
     ok_then (objects ms) _ IsLawful (λ things eo.
     ok_then (init_texts (get_member (codes "init") ms)) _ IsLawful (λ texts et.
     ok_then (with_scripts (names_of drafts things) drafts) _ IsLawful (λ procs ew.
     ok_then (init_list (names_of drafts things) procs things texts) _ IsLawful (λ steps ei.
-    let whole : Table = table_with cores limit procs things steps in
-    let in_cores : (1 ≤ cores) × (cores ≤ 8) = IfOk-at_ok (λ n. (1 ≤ n) × (n ≤ 8)) ec (number_at_law (place Top 0) 1 8 (codes "cores") ms) in
-    let in_limit : (1 ≤ limit) × (limit ≤ 65536) = IfOk-at_ok (λ n. (1 ≤ n) × (n ≤ 65536)) el (number_or_law (place Top 0) 4096 1 65536 (codes "history") ms (omega arith, omega arith)) in
+    let profile = profile_of number in
+    let whole : Table = table_with profile cores limit procs things steps in
+    let in_cores : (1 ≤ cores) × (cores ≤ most_cores) = IfOk-at_ok (λ n. (1 ≤ n) × (n ≤ most_cores)) ec (number_at_law (place Top 0) 1 most_cores (codes "cores") ms) in
+    let in_limit : (1 ≤ limit) × (limit ≤ most_entries) = IfOk-at_ok (λ n. (1 ≤ n) × (n ≤ most_entries)) el (number_or_law (place Top 0) usual_entries 1 most_entries (codes "history") ms (omega arith, omega arith)) in
     let some : (read ≡ drafts) × (1 ≤ length drafts) = IfOk-at_ok (λ (xs : List ProcessDraft). (read ≡ xs) × (1 ≤ length xs)) es (some_process_law read) in
-    let sound : IsSection (processes cores) (IsSoundDraft cores) drafts =
-    subst (IsSection (processes cores) (IsSoundDraft cores)) some.0
-    (IfOk-at_ok (IsSection (processes cores) (IsSoundDraft cores)) ep (section_law (processes cores) (IsSoundDraft cores) (process_law cores in_cores.0) ms)) in
-    let few : length drafts ≤ 32 = sound.few in
+    let sound : IsSection (processes profile cores) (IsSoundDraft cores) drafts =
+    subst (IsSection (processes profile cores) (IsSoundDraft cores)) some.0
+    (IfOk-at_ok (IsSection (processes profile cores) (IsSoundDraft cores)) ep (section_law (processes profile cores) (IsSoundDraft cores) (process_law profile cores in_cores.0) ms)) in
+    let few : length drafts ≤ processes_of profile = sound.few in
+    let fewer = few_processes profile in
     let objects_sound : AreLawful things = IfOk-at_ok AreLawful eo (objects_law ms) in
     let same : entry_names procs ≡ process_names drafts = IfOk-at_ok (λ ps. entry_names ps ≡ process_names drafts) ew (with_scripts_names (names_of drafts things) drafts) in
-    let names : AreNamesOf whole (names_of drafts things) = names_law cores limit drafts procs things steps same in
+    let names : AreNamesOf whole (names_of drafts things) = names_law profile cores limit drafts procs things steps same in
     let kept : length (entry_names procs) ≡ length (process_names drafts) = ap length same in
     let procs_count : length (entry_names procs) ≡ length procs = length-map procs (λ (e : ProcessConfig). e.name) in
     let drafts_count : length (process_names drafts) ≡ length drafts = length-map drafts (λ (p : ProcessDraft). p.name) in
     let each : AllFrom (IsLawfulProcess whole) 0 procs = IfOk-at_ok (AllFrom (IsLawfulProcess whole) 0) ew (with_scripts_law whole (names_of drafts things) names drafts sound.all.each) in
     let given : AreFew texts = IfOk-at_ok AreFew et (init_texts_law (get_member (codes "init") ms)) in
-    let init : IsInitList whole steps = IfOk-at_ok (IsInitList whole) ei (init_list_law cores limit procs things steps (names_of drafts things) names (omega arith) objects_sound texts given) in
-    lawful cores limit drafts procs things steps in_cores in_limit (omega arith, omega arith)
-    (subst (λ (ns : List (List ℕ)). IsDistinct bytes_eq ns) (sym same) sound.all.distinct) each objects_sound init)))))))))
+    let init : IsInitList whole steps = IfOk-at_ok (IsInitList whole) ei (init_list_law profile cores limit procs things steps (names_of drafts things) names (omega arith) objects_sound texts given) in
+    lawful profile cores limit drafts procs things steps in_cores in_limit (omega arith, omega arith)
+    (subst (λ (ns : List (List ℕ)). IsDistinct bytes_eq ns) (sym same) sound.all.distinct) each objects_sound init))))))))))
 
 -- the table that was read is lawful
 pub lawful_of : (tree : Members) (t : Table) → reading tree ≡ Ok t → IsLawful t

@@ -2,15 +2,12 @@ pub mod Lists
 pub mod Document
 pub mod Results
 pub mod KeyLaws
-pub mod ServiceNames
 pub mod SectionLaws
 pub mod Messages
-pub mod WordLaws
-pub mod LiteralLaws
-pub mod ObjectStepLaws
-pub mod BufferStepLaws
-pub mod BlackboardStepLaws
+pub mod Spelling
+pub mod Slots
 pub mod StepLaws
+pub mod Returns
 pub mod DefaultInitLaws
 pub mod InitLaws
 pub mod ProcessLaws
@@ -22,3 +19,4 @@ pub mod MutexLaws
 pub mod ObjectLaws
 pub mod ScriptLaws
 pub mod Law
+pub mod TextLaws

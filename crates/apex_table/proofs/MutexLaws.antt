@@ -2,6 +2,7 @@
 use Rattle.std.proofs.Common.{◌≤◌, refl}
 use Rattle.std.specs.Prelude.{codes}
 use Rattle.std.proofs.lemmas.Result.{IfOk-at_ok}
+use Rattle.apex_types.specs.Limits.{most_priority}
 use Rattle.apex_types.specs.Table.{IsLawfulMutex}
 use Rattle.apex_table.specs.Keys.{number_at, discipline_at}
 use Rattle.apex_table.specs.Mutexes.{mutex, mutexes}
@@ -12,12 +13,12 @@ use Rattle.apex_table.proofs.SectionLaws.{IsRead, ReadsSound}
 pub mutex_law : ReadsSound mutexes IsLawfulMutex
 unfolding mutex
 mutex_law at name ms good =
-    ok_then (number_at at 1 239 (codes "ceiling") ms) _ (IsRead mutexes IsLawfulMutex name) (λ ceiling ec.
+    ok_then (number_at at 1 most_priority (codes "ceiling") ms) _ (IsRead mutexes IsLawfulMutex name) (λ ceiling ec.
     ok_then (discipline_at at ms) _ (IsRead mutexes IsLawfulMutex name) (λ discipline _.
     record {
       sound = record {
         name = good;
-        ceiling = IfOk-at_ok (λ n. (1 ≤ n) × (n ≤ 239)) ec (number_at_law at 1 239 (codes "ceiling") ms);
+        ceiling = IfOk-at_ok (λ n. (1 ≤ n) × (n ≤ most_priority)) ec (number_at_law at 1 most_priority (codes "ceiling") ms);
       };
       named = refl;
     }))

@@ -18,7 +18,7 @@ use Rattle.apex_table.proofs.BlackboardLaws.{blackboard_law}
 use Rattle.apex_table.proofs.EventLaws.{event_law}
 use Rattle.apex_table.proofs.MutexLaws.{mutex_law}
 
--- what holds of the objects that are read
+-- the facts about the objects that are read
 pub record AreLawful (things : Objects) : Type 0 where
   pub semaphores : IsSection semaphores IsLawfulSemaphore things.semaphores
   pub buffers : IsSection buffers IsLawfulBuffer things.buffers

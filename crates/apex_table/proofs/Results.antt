@@ -1,10 +1,10 @@
--- What holds of the value of a reading that gives one.
+-- Facts about the value of a reading that gives one.
 use Rattle.std.proofs.Common.{◌≡◌, ℕ, zero, suc, ◌+◌, ◌<◌, slice_index_or, Bool, true, false, List, [], ◌∷◌, ◌++◌, length, map, Option, Some, None, IfSome, Result, Ok, Err, IfOk, refl, sym, ap, subst, ◌∙◌, if◌then◌else◌, arith, length-append}
 use Rattle.std.specs.List.{AllByRecursion}
 use Rattle.std.proofs.lemmas.List.{append-nil, append_assoc, map-append}
 use Rattle.std.proofs.lemmas.Result.{IfOk-at_ok, IfOk-weaker}
 use Rattle.apex_table.specs.Terms.{TableFault}
-use Rattle.apex_table.specs.Outcome.{◌>>=◌, some_or, called, as_call, or_else, first_of, each}
+use Rattle.apex_table.specs.Outcome.{◌>>=◌, each}
 
 -- after a reading that gave x
 pub ok_then : {A B : Type 0} (r : Result A TableFault) (f : A → Result B TableFault) (P : B → Type 0) → ((x : A) → r ≡ Ok x → IfOk (f x) P) → IfOk (r >>= f) P
@@ -27,42 +27,7 @@ pub both_ok : {A : Type 0} (r : Result A TableFault) (P Q : A → Type 0) {R : A
 both_ok (Ok x) P Q gives left right = gives x left right
 both_ok (Err e) P Q gives left right = tt
 
--- a fact of the call that is read, if there is one
-abbrev pub Reads : {A : Type 0} → (A → Type 0) → Result (Option A) TableFault → Type 0
-Reads P r = IfOk r (λ o. IfSome o P)
-
-pub reads_called : {A C : Type 0} (call : A → C) (r : Result A TableFault) (P : A → Type 0) (Q : C → Type 0) → ((x : A) → P x → Q (call x)) → IfOk r P → Reads Q (called call r)
-reads_called call (Ok x) P Q gives h = gives x h
-reads_called call (Err e) P Q gives h = tt
-
-pub reads_as_call : {A C : Type 0} (kind : A → C) (r : Result (Option A) TableFault) (P : A → Type 0) (Q : C → Type 0) → ((x : A) → P x → Q (kind x)) → Reads P r → Reads Q (as_call kind r)
-reads_as_call kind (Ok None) P Q gives h = tt
-reads_as_call kind (Ok (Some x)) P Q gives h = gives x h
-reads_as_call kind (Err e) P Q gives h = tt
-
-pub reads_or_else : {A : Type 0} (r other : Result (Option A) TableFault) (P : A → Type 0) → Reads P r → Reads P other → Reads P (or_else r other)
-reads_or_else (Ok None) other P here there = there
-reads_or_else (Ok (Some x)) other P here there = here
-reads_or_else (Err e) other P here there = tt
-
-pub reads_first_of : {A : Type 0} (P : A → Type 0) (rs : List (Result (Option A) TableFault)) → AllByRecursion (Reads P) rs → Reads P (first_of rs)
-reads_first_of P [] all = tt
-reads_first_of P (r ∷ rs) all = reads_or_else r (first_of rs) P all.0 (reads_first_of P rs all.1)
-
-pub reads_any : {A : Type 0} (r : Result (Option A) TableFault) → Reads (λ x. Unit {0}) r
-reads_any (Ok None) = tt
-reads_any (Ok (Some x)) = tt
-reads_any (Err e) = tt
-
-pub ok_any : {A : Type 0} (r : Result A TableFault) → IfOk r (λ x. Unit {0})
-ok_any (Ok x) = tt
-ok_any (Err e) = tt
-
-pub some_or_law : {A : Type 0} (fault : TableFault) (o : Option A) (P : A → Type 0) → IfSome o P → IfOk (some_or fault o) P
-some_or_law fault None P h = tt
-some_or_law fault (Some x) P h = h
-
--- what each reading keeps holds of all that was read
+-- a fact that each reading keeps holds of all that was read
 pub each_keeps : {A B : Type 0} (read : List A → B → Result A TableFault) (P : List A → Type 0) → ((done : List A) (y : B) → P done → IfOk (read done y) (λ x. P (done ++ x ∷ []))) → (done : List A) (ys : List B) → P done → IfOk (each read done ys) P
 each_keeps read P keeps done [] h = h
 each_keeps read P keeps done (y ∷ ys) h =
@@ -82,7 +47,7 @@ pub all_append : {A : Type 0} (P : A → Type 0) (xs ys : List A) → AllByRecur
 all_append P [] ys left right = right
 all_append P (x ∷ xs) ys left right = (left.0, all_append P xs ys left.1 right)
 
--- a fact of each element and its place, where the first one is at place k
+-- a fact of each element and its place; the first one is at place k
 abbrev pub AllFrom : {A : Type 0} → (ℕ → A → Type 0) → ℕ → List A → Type 0
 AllFrom P k [] = Unit {0}
 AllFrom P k (x ∷ xs) = P k x × AllFrom P (k + 1) xs
@@ -108,7 +73,7 @@ pub all_any : {A : Type 0} (xs : List A) → AllByRecursion (λ x. Unit {0}) xs
 all_any [] = tt
 all_any (x ∷ xs) = (tt, all_any xs)
 
--- where it holds at each place
+-- if it holds at each place
 pub all_from_any : {A : Type 0} (P : ℕ → A → Type 0) (k : ℕ) (xs : List A) → AllByRecursion (λ x. (i : ℕ) → P i x) xs → AllFrom P k xs
 all_from_any P k [] all = tt
 all_from_any P k (x ∷ xs) all = (all.0 k, all_from_any P (k + 1) xs all.1)

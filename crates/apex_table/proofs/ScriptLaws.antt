@@ -1,4 +1,4 @@
--- Each process keeps what was read of it, and the steps of its script are lawful.
+-- Each process keeps the parts that were read, and the steps of its script are lawful.
 use Rattle.std.proofs.Common.{◌≡◌, ℕ, ◌+◌, List, [], length, map, IfOk, refl}
 use Rattle.std.specs.List.{AllByRecursion}
 use Rattle.std.proofs.lemmas.Result.{IfOk-at_ok}

@@ -34,7 +34,7 @@ pub record IsRead {A : Type 0} (kind : KindOf A) (IsSound : A → Type 0) (name 
   pub sound : IsSound x
   pub named : kind.name_of x ≡ name
 
--- what is read of an entry of a well-formed name is sound
+-- an entry that is read with a well-formed name is sound
 abbrev pub ReadsSound : {A : Type 0} → KindOf A → (A → Type 0) → Type 0
 ReadsSound kind IsSound = (at : Place) (name : List ℕ) (ms : Members) → IsTrue (is_name name) → IfOk (kind.read at name ms) (IsRead kind IsSound name)
 
@@ -43,7 +43,7 @@ pub record AreSound {A : Type 0} (kind : KindOf A) (IsSound : A → Type 0) (xs 
   pub each : AllByRecursion IsSound xs
   pub distinct : IsDistinct bytes_eq (map kind.name_of xs)
 
--- what holds of a section that is read
+-- the facts about a section that is read
 pub record IsSection {A : Type 0} (kind : KindOf A) (IsSound : A → Type 0) (xs : List A) : Type 0 where
   pub few : length xs ≤ kind.head.most
   pub all : AreSound kind IsSound xs

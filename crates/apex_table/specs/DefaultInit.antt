@@ -3,7 +3,8 @@ use Rattle.std.specs.Prelude.{ℕ, if◌then◌else◌, List, [], ◌∷◌, ◌
 use Rattle.std.specs.List.{flat_map}
 use Rattle.apex_types.specs.Places.{map_places}
 use Rattle.apex_types.specs.Table.{ProcessConfig, Step}
-use Rattle.apex_table.specs.Terms.{Call, ObjectCall}
+use Rattle.apex_calls.specs.declared.catalogue.Kind.TheVariants as kinds
+use Rattle.apex_table.specs.Terms.{Call, Kind}
 use Rattle.apex_table.specs.Objects.{Objects}
 use Rattle.apex_types.specs.declared.calls.Call.TheVariants.{Partition, Process, Semaphore, Buffer, Blackboard, Event, Mutex}
 use Rattle.apex_types.specs.declared.calls.RequestedMode.TheVariants.{Normal}
@@ -16,13 +17,22 @@ use Rattle.apex_types.specs.declared.calls.ProcessService.TheVariants.{Initializ
 abbrev pub bare : Call → Step
 bare call = record { call = call; literal = [] }
 
+-- the CREATE of the thing of a kind at place i
+abbrev pub create : Kind → ℕ → Call
+create kinds.Process i = Process (Create (Known i))
+create kinds.Semaphore i = Semaphore (Create (Known i))
+create kinds.Buffer i = Buffer (Create (Known i))
+create kinds.Blackboard i = Blackboard (Create (Known i))
+create kinds.Event i = Event (Create (Known i))
+create kinds.Mutex i = Mutex (Create (Known i))
+
 -- for the thing of a kind at place i its CREATE
-abbrev pub creates : {E W : Type 0} → (ObjectCall ℕ W → Call) → ℕ → E → Step
-creates kind i entry = bare (kind (Create (Known i)))
+abbrev pub creates : {E : Type 0} → Kind → ℕ → E → Step
+creates kind i entry = bare (create kind i)
 
 -- for the process at place p its CREATE_PROCESS and its INITIALIZE_PROCESS_CORE_AFFINITY
 abbrev pub creates_process : ℕ → ProcessConfig → List Step
-creates_process p entry = creates Process p entry ∷ bare (Process (Own p (InitializeCoreAffinity entry.core))) ∷ []
+creates_process p entry = creates kinds.Process p entry ∷ bare (Process (Own p (InitializeCoreAffinity entry.core))) ∷ []
 
 -- for the process at place p, if it starts, its START
 abbrev pub starts_process : ℕ → ProcessConfig → List Step
@@ -35,13 +45,14 @@ joined steps = flat_map (λ ss. ss) steps
 -- for every object its CREATE, kind by kind
 unfoldable pub creates_objects : Objects → List Step
 creates_objects objects =
-    map_places (creates Semaphore) 0 objects.semaphores
-    ++ map_places (creates Buffer) 0 objects.buffers
-    ++ map_places (creates Blackboard) 0 objects.blackboards
-    ++ map_places (creates Event) 0 objects.events
-    ++ map_places (creates Mutex) 0 objects.mutexes
+    map_places (creates kinds.Semaphore) 0 objects.semaphores
+    ++ map_places (creates kinds.Buffer) 0 objects.buffers
+    ++ map_places (creates kinds.Blackboard) 0 objects.blackboards
+    ++ map_places (creates kinds.Event) 0 objects.events
+    ++ map_places (creates kinds.Mutex) 0 objects.mutexes
 
--- creates everything, starts what starts, and enters NORMAL
+-- the default init list: it creates everything, starts the processes that are to start, and enters
+-- NORMAL
 abbrev pub default_init : List ProcessConfig → Objects → List Step
 default_init processes objects =
     creates_objects objects

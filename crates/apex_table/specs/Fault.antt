@@ -1,4 +1,4 @@
--- What is told of a fault.
+-- The text of a fault.
 use Rattle.std.specs.Prelude.{codes, decimal, ℕ, List, [], ◌++◌, Option, Some, None}
 use Rattle.apex_table.specs.declared.fault.Section.{Section}
 use Rattle.apex_table.specs.declared.fault.Section.TheVariants.{Top, Process, Semaphore, Buffer, Blackboard, Event, Mutex, Init}
@@ -20,12 +20,12 @@ section_word Init = codes "init"
 abbrev pub place_text : Place → List ℕ
 place_text place = section_word place.section ++ codes " " ++ decimal place.number
 
--- what stands behind the fault's word
+-- the text behind the fault's word
 abbrev pub place_after : Option Place → List ℕ
 place_after None = []
 place_after (Some place) = codes " in " ++ place_text place
 
--- what is told of a fault: its word, and where it is
+-- the text of a fault: its word, and its place
 abbrev pub fault_text : TableFault → List ℕ
 fault_text Memory = codes "Memory"
 fault_text NotToml = codes "NotToml"

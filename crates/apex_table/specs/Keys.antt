@@ -1,4 +1,5 @@
--- How a key of TOML's tree is read, and the faults where it is absent, of another type or out of range.
+-- The values at the keys of TOML's tree, and the faults if a key is absent, or its value of another
+-- type or out of range.
 use Rattle.std.specs.Prelude.{codes, ℕ, ℤ, pos, negsuc, Bool, true, ◌&&◌, if◌then◌else◌, nat_le, List, [], ◌∷◌, length, Option, Some, None, Result, Ok, Err}
 use Rattle.std.specs.List.{list_any}
 use Rattle.std.specs.Str.{bytes_eq}
@@ -124,7 +125,7 @@ discipline at t =
 abbrev pub discipline_at : Place → Members → Result Discipline TableFault
 discipline_at at ms = text_at at (codes "discipline") ms >>= discipline at
 
--- a text that a name may be
+-- a text that is a name
 abbrev pub well_formed : Place → List ℕ → Result (List ℕ) TableFault
 well_formed at t = if is_name t then Ok t else Err (BadName at)
 

@@ -1,5 +1,7 @@
--- The names that a table gives its things, kind by kind: by them steps name what they are about.
+-- The names that a table gives its things, kind by kind. Steps name things by them.
 use Rattle.std.specs.Prelude.{ℕ, List}
+use Rattle.apex_calls.specs.declared.catalogue.Kind.TheVariants.{Process, Semaphore, Buffer, Blackboard, Event, Mutex}
+use Rattle.apex_table.specs.Terms.{Kind}
 use Rattle.apex_table.specs.Processes.{ProcessDraft, process_names}
 use Rattle.apex_table.specs.Semaphores.{semaphore_names}
 use Rattle.apex_table.specs.Buffers.{buffer_names}
@@ -27,3 +29,12 @@ names_of processes objects = record {
   events = event_names objects.events;
   mutexes = mutex_names objects.mutexes;
 }
+
+-- the names of the things of a kind
+abbrev pub names_in : Names → Kind → List (List ℕ)
+names_in names Process = names.processes
+names_in names Semaphore = names.semaphores
+names_in names Buffer = names.buffers
+names_in names Blackboard = names.blackboards
+names_in names Event = names.events
+names_in names Mutex = names.mutexes

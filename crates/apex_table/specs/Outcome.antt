@@ -1,5 +1,5 @@
--- How readings follow one another, and when a call gives a reading's answer.
-use Rattle.std.specs.Prelude.{◌≡◌, ℕ, Option, Some, None, Result, Ok, Err, List, [], ◌∷◌, ◌++◌, option_map}
+-- Readings one after the other, and the calls that give a reading's answer.
+use Rattle.std.specs.Prelude.{◌≡◌, ℕ, Option, Some, None, Result, Ok, Err, List, [], ◌∷◌, ◌++◌}
 use Rattle.apex_table.specs.declared.fault.Section.{Section}
 use Rattle.apex_table.specs.Terms.{Place, TableFault}
 use Rattle.apex_table.specs.declared.fault.TableFault.TheVariants.{Memory}
@@ -10,33 +10,17 @@ abbrev pub ◌>>=◌ : {A B : Type 0} → Result A TableFault → (A → Result 
 (Ok x) >>= f = f x
 (Err e) >>= f = Err e
 
--- this fault where there is nothing
+-- the value, or this fault if there is none
 abbrev pub some_or : {A : Type 0} → TableFault → Option A → Result A TableFault
 some_or fault None = Err fault
 some_or fault (Some x) = Ok x
 
--- what is read, as the argument of a call
-abbrev pub called : {A C : Type 0} → (A → C) → Result A TableFault → Result (Option C) TableFault
-called call (Ok x) = Ok (Some (call x))
-called call (Err e) = Err e
+-- the value of a reading, changed by f
+abbrev pub made : {A B : Type 0} → (A → B) → Result A TableFault → Result B TableFault
+made f (Ok x) = Ok (f x)
+made f (Err e) = Err e
 
--- the call that is read, if there is one, as a call of any kind
-abbrev pub as_call : {A C : Type 0} → (A → C) → Result (Option A) TableFault → Result (Option C) TableFault
-as_call kind (Ok o) = Ok (option_map kind o)
-as_call kind (Err e) = Err e
-
--- the first that is something; a fault ends the reading
-abbrev pub or_else : {A : Type 0} → Result (Option A) TableFault → Result (Option A) TableFault → Result (Option A) TableFault
-or_else (Ok (Some x)) other = Ok (Some x)
-or_else (Ok None) other = other
-or_else (Err e) other = Err e
-
--- the first of several that is something; a fault ends the reading
-abbrev pub first_of : {A : Type 0} → List (Result (Option A) TableFault) → Result (Option A) TableFault
-first_of [] = Ok None
-first_of (r ∷ rest) = or_else r (first_of rest)
-
--- reads each element, given what was read of those before it
+-- reads each element; a reading gets the values of those before it
 abbrev pub each : {A B : Type 0} → (List A → B → Result A TableFault) → List A → List B → Result (List A) TableFault
 each read done [] = Ok done
 each read done (y ∷ ys) = read done y >>= λ x. each read (done ++ x ∷ []) ys

@@ -1,9 +1,10 @@
 -- The kind of processes, whose scripts are still texts.
 use Rattle.std.specs.Prelude.{codes, ℕ, ◌-◌, Bool, true, false, List, [], ◌∷◌, map, Result, Ok, Err}
 use Rattle.toml.specs.Data.{Data, Members}
-use Rattle.apex_types.specs.Limits.{most_priority, most_processes, most_steps}
+use Rattle.apex_types.specs.Limits.{most_priority, most_steps}
+use Rattle.apex_types.specs.Profiles.{processes_of}
 use Rattle.apex_table.specs.declared.fault.Section.TheVariants.{Process}
-use Rattle.apex_table.specs.Terms.{Attributes, Place, TableFault}
+use Rattle.apex_table.specs.Terms.{Attributes, Place, Profile, TableFault}
 use Rattle.apex_table.specs.declared.fault.TableFault.TheVariants.{MissingKey, OutOfRange}
 use Rattle.apex_table.specs.Outcome.{◌>>=◌, each, place}
 use Rattle.apex_table.specs.Keys.{text, array_at, at_most, number_at, number_or, span_or_infinite, truth_or, deadline_or_soft}
@@ -40,7 +41,7 @@ script_at at loops ms = do
   some ← some_step at loops few
   texts at some
 
--- a process of a name, on so many cores
+-- a process of a name, on `cores` cores
 unfoldable pub process : ℕ → Place → List ℕ → Members → Result ProcessDraft TableFault
 process cores at name ms = do
   priority ← number_at at 1 most_priority (codes "priority") ms
@@ -67,10 +68,10 @@ process_keys =
     ∷ codes "period" ∷ codes "capacity" ∷ codes "deadline"
     ∷ codes "loop" ∷ codes "start" ∷ codes "script" ∷ []
 
--- the kind of processes
-abbrev pub processes : ℕ → KindOf ProcessDraft
-processes cores = record {
-  head = record { section = Process; most = most_processes; keys = process_keys };
+-- the kind of processes, in a profile and on so many cores
+abbrev pub processes : Profile → ℕ → KindOf ProcessDraft
+processes profile cores = record {
+  head = record { section = Process; most = processes_of profile; keys = process_keys };
   name_of = λ p. p.name;
   read = process cores;
 }

@@ -3,10 +3,11 @@ use Rattle.std.specs.Prelude.{codes, ℕ, if◌then◌else◌, List, [], ◌∷�
 use Rattle.std.specs.Str.{is_utf8}
 use Rattle.toml.specs.Data.{Members, get_member}
 use Rattle.toml.specs.Parse.{parse_document}
-use Rattle.apex_types.specs.Limits.{most_cores, most_entries}
+use Rattle.apex_types.specs.Limits.{most_cores, most_entries, most_profile, usual_entries}
+use Rattle.apex_types.specs.Profiles.{profile_of}
 use Rattle.apex_types.specs.Table.{ProcessConfig, Step, Table}
 use Rattle.apex_table.specs.declared.fault.Section.TheVariants.{Top}
-use Rattle.apex_table.specs.Terms.{TableFault}
+use Rattle.apex_table.specs.Terms.{Profile, TableFault}
 use Rattle.apex_table.specs.declared.fault.TableFault.TheVariants.{NotToml}
 use Rattle.apex_table.specs.Outcome.{◌>>=◌, some_or, place}
 use Rattle.apex_table.specs.Keys.{known, number_at, number_or}
@@ -20,13 +21,14 @@ use Rattle.apex_table.specs.Init.{init_texts, init_list}
 -- the keys of the table's top
 abbrev pub top_keys : List (List ℕ)
 top_keys =
-    codes "cores" ∷ codes "history" ∷ codes "process"
+    codes "profile" ∷ codes "cores" ∷ codes "history" ∷ codes "process"
     ∷ codes "semaphore" ∷ codes "buffer" ∷ codes "blackboard" ∷ codes "event"
     ∷ codes "mutex" ∷ codes "init" ∷ []
 
 -- the table of these parts
-abbrev pub table_with : ℕ → ℕ → List ProcessConfig → Objects → List Step → Table
-table_with cores limit processes objects init = record {
+abbrev pub table_with : Profile → ℕ → ℕ → List ProcessConfig → Objects → List Step → Table
+table_with profile cores limit processes objects init = record {
+  profile = profile;
   cores = cores;
   limit = limit;
   processes = processes;
@@ -42,15 +44,16 @@ table_with cores limit processes objects init = record {
 unfoldable pub reading : Members → Result Table TableFault
 reading tree = do
   ms ← known (place Top 0) top_keys tree
+  number ← number_or (place Top 0) 1 1 most_profile (codes "profile") ms
   cores ← number_at (place Top 0) 1 most_cores (codes "cores") ms
-  limit ← number_or (place Top 0) 4096 1 most_entries (codes "history") ms
-  drafts ← section (processes cores) ms
+  limit ← number_or (place Top 0) usual_entries 1 most_entries (codes "history") ms
+  drafts ← section (processes (profile_of number) cores) ms
   some ← some_process drafts
   things ← objects ms
   texts ← init_texts (get_member (codes "init") ms)
   procs ← with_scripts (names_of some things) some
   steps ← init_list (names_of some things) procs things texts
-  Ok (table_with cores limit procs things steps)
+  Ok (table_with (profile_of number) cores limit procs things steps)
 
 -- TOML's tree of a text
 abbrev pub tree_of : List ℕ → Option Members

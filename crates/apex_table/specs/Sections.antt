@@ -8,7 +8,7 @@ use Rattle.apex_table.specs.Fault.{section_word}
 use Rattle.apex_table.specs.Outcome.{◌>>=◌, each, place}
 use Rattle.apex_table.specs.Keys.{optional, known, table, array, at_most, name_at}
 
--- a section, how many entries it may have, and the keys of one
+-- a section, the most entries that it may have, and the keys of one
 pub record SectionHead : Type 0 where
   pub section : Section
   pub most : ℕ
@@ -17,7 +17,7 @@ pub record SectionHead : Type 0 where
 abbrev pub head_of : Head → SectionHead
 head_of head = record { section = head.section; most = head.most; keys = map (λ k. k.now) head.keys.now }
 
--- a kind of entries: its section, the name of an entry, and how the entry of a name is read
+-- a kind of entries: its section, the name of an entry, and the reading of the entry of a name
 pub record KindOf (A : Type 0) : Type 0 where
   pub head : SectionHead
   pub name_of : A → List ℕ
@@ -26,7 +26,7 @@ pub record KindOf (A : Type 0) : Type 0 where
 abbrev pub kind_of : {A : Type 0} → SectionHead → (A → List ℕ) → (Place → List ℕ → Members → Result A TableFault) → KindOf A
 kind_of head name_of read = record { head = head; name_of = name_of; read = read }
 
--- the tables of a section, none where it is absent
+-- the tables of a section; none if it is absent
 abbrev pub tables : SectionHead → Option Data → Result (List Data) TableFault
 tables head o = optional [] (λ d. array (place head.section 0) d >>= at_most (place head.section 0) head.most) o
 

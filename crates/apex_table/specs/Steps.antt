@@ -1,62 +1,102 @@
--- What a step's text means: first the form of the whole step, then its words from left to right.
-use Rattle.std.specs.Prelude.{codes, ℕ, if◌then◌else◌, List, [], ◌∷◌, Option, Some, None, Result, Ok, Err}
-use Rattle.std.specs.List.{list_any}
-use Rattle.apex_types.specs.Calls.{origin_of, message_in}
+-- The step that a text means: the row of its service gives the form of the whole step, and then
+-- each word gives its argument, from left to right.
+use Rattle.std.specs.Prelude.{ℕ, Bool, true, false, ◌&&◌, not, if◌then◌else◌, List, [], ◌∷◌, length, Option, None, Some, is_some, Result, Ok, Err}
+use Rattle.std.specs.List.{position_from}
+use Rattle.std.specs.Str.{bytes_eq}
 use Rattle.apex_types.specs.Table.{Step}
-use Rattle.apex_table.specs.Terms.{Call, Message, Origin, Place, TableFault}
-use Rattle.apex_types.specs.declared.calls.Call.TheVariants.{Partition, Process, Caller, Time, Semaphore, Buffer, Blackboard, Event, Mutex, Work}
+use Rattle.apex_types.specs.declared.calls.Named.TheVariants.{Known, Unknown}
+use Rattle.apex_calls.specs.Catalogue.{Row, rows, row_in}
+use Rattle.apex_calls.specs.Parts.{none, call_of}
+use Rattle.apex_calls.specs.declared.catalogue.Shape.TheVariants.{Entry, Named, Number, Timeout, Message, Mode}
+use Rattle.apex_table.specs.Terms.{Arguments, Named as NameOf, Origin, Place, RequestedMode, Shape, TableFault, Timeout as TimeoutOf}
 use Rattle.apex_table.specs.declared.fault.TableFault.TheVariants.{BadStep}
-use Rattle.apex_table.specs.Outcome.{◌>>=◌, some_or, as_call, first_of}
+use Rattle.apex_table.specs.Outcome.{◌>>=◌, made, some_or}
 use Rattle.apex_table.specs.Keys.{well_formed}
-use Rattle.apex_table.specs.Names.{Names}
-use Rattle.apex_table.specs.Words.{words, is_empty, message_bytes}
-use Rattle.apex_table.specs.ObjectSteps.{object_call}
-use Rattle.apex_table.specs.PartitionSteps.{partition_call}
-use Rattle.apex_table.specs.ProcessSteps.{process_service}
-use Rattle.apex_table.specs.CallerSteps.{caller_call}
-use Rattle.apex_table.specs.TimeSteps.{time_call}
-use Rattle.apex_table.specs.WorkSteps.{work_call}
-use Rattle.apex_table.specs.SemaphoreSteps.{semaphore_service}
-use Rattle.apex_table.specs.BufferSteps.{buffer_service}
-use Rattle.apex_table.specs.BlackboardSteps.{blackboard_service}
-use Rattle.apex_table.specs.EventSteps.{event_service}
-use Rattle.apex_table.specs.MutexSteps.{mutex_service}
+use Rattle.apex_table.specs.Names.{Names, names_in}
+use Rattle.apex_table.specs.Words.{words, is_empty, is_number, is_timeout, is_message, number, timeout, message_bytes, requested_mode, entry_of}
 
--- what each kind of service reads of the words of the step of this origin
-abbrev pub readings : Place → Origin → Names → List (List ℕ) → List (Result (Option Call) TableFault)
-readings at origin names ws =
-    as_call Partition (Ok (partition_call ws))
-    ∷ as_call Process (object_call at origin (codes "PROCESS") names.processes (process_service at) ws)
-    ∷ as_call Caller (caller_call at ws)
-    ∷ as_call Time (time_call at ws)
-    ∷ as_call Work (work_call at ws)
-    ∷ as_call Semaphore (object_call at origin (codes "SEMAPHORE") names.semaphores (semaphore_service at) ws)
-    ∷ as_call Buffer (object_call at origin (codes "BUFFER") names.buffers (buffer_service at origin) ws)
-    ∷ as_call Blackboard (object_call at origin (codes "BLACKBOARD") names.blackboards (blackboard_service at origin) ws)
-    ∷ as_call Event (object_call at origin (codes "EVENT") names.events (event_service at) ws)
-    ∷ as_call Mutex (object_call at origin (codes "MUTEX") names.mutexes (mutex_service at) ws)
-    ∷ []
+-- the form of a word of this shape; a word of no byte has none
+abbrev pub has_form : Shape → List ℕ → Bool
+has_form (Entry kind) word = not (is_empty word)
+has_form (Named kind) word = not (is_empty word)
+has_form (Number low high) word = is_number word
+has_form Timeout word = is_timeout word
+has_form Message word = not (is_empty word) && is_message word
+has_form Mode word = is_some (requested_mode word)
 
--- the call of a step's words, none where they are no service's
-abbrev pub call_of : Place → Origin → Names → List (List ℕ) → Result (Option Call) TableFault
-call_of at origin names ws = first_of (readings at origin names ws)
+-- the words are as many as the shapes, and each has the form of its shape
+abbrev pub have_forms : List Shape → List (List ℕ) → Bool
+have_forms [] [] = true
+have_forms [] (word ∷ ws) = false
+have_forms (shape ∷ shapes) [] = false
+have_forms (shape ∷ shapes) (word ∷ ws) = has_form shape word && have_forms shapes ws
 
--- another spacing than one space between words has an empty word
-abbrev pub spaced_call_of : Place → Origin → Names → List (List ℕ) → Result (Option Call) TableFault
-spaced_call_of at origin names ws = if list_any is_empty ws then Ok None else call_of at origin names ws
+-- the values of the words so far: the arguments of the call, and the literal of the step
+pub record Given : Type 0 where
+  pub arguments : Arguments
+  pub literal : List ℕ
 
--- the literal of a step's words, where its call names one: the name behind the service, where no entry
--- has it, or the bytes of the message behind the name; such a call always has these words
-abbrev pub literal_of : Place → Option Origin → Option Message → List (List ℕ) → Result (List ℕ) TableFault
-literal_of at None None ws = Ok []
-literal_of at (Some named) given (service ∷ name ∷ ws) = well_formed at name
-literal_of at None (Some given) (service ∷ name ∷ text ∷ ws) = message_bytes at text
-literal_of at _ _ _ = Err (BadStep at)
+-- the values of no word
+abbrev pub nothing : Given
+nothing = record { arguments = none; literal = [] }
+
+-- one more argument
+abbrev pub with_entry : Given → ℕ → Given
+with_entry given i = record { arguments = record given.arguments { entry = i }; literal = given.literal }
+
+abbrev pub with_number : Given → ℕ → Given
+with_number given n = record { arguments = record given.arguments { number = n }; literal = given.literal }
+
+abbrev pub with_timeout : Given → TimeoutOf → Given
+with_timeout given t = record { arguments = record given.arguments { timeout = t }; literal = given.literal }
+
+abbrev pub with_mode : Given → RequestedMode → Given
+with_mode given mode = record { arguments = record given.arguments { mode = mode }; literal = given.literal }
+
+-- a name, and the place of its entry; a name that no entry has is the literal of the step of this origin
+abbrev pub with_name : Given → Origin → List ℕ → Option ℕ → Given
+with_name given origin name (Some i) = record { arguments = record given.arguments { named = Known i }; literal = given.literal }
+with_name given origin name None = record { arguments = record given.arguments { named = Unknown origin }; literal = name }
+
+-- the bytes of a message, which are the literal of the step of this origin
+abbrev pub with_message : Given → Origin → List ℕ → Given
+with_message given origin bytes = record {
+  arguments = record given.arguments { message = record { origin = origin; length = length bytes } };
+  literal = bytes;
+}
+
+-- the values with that of a word of this shape, after those before it, in the step of this origin
+unfoldable pub with_word : Place → Origin → Names → Given → Shape → List ℕ → Result Given TableFault
+with_word at origin names given (Entry kind) word = made (with_entry given) (entry_of at (names_in names kind) word)
+with_word at origin names given (Named kind) word =
+    made (λ name. with_name given origin name (position_from (bytes_eq name) 0 (names_in names kind))) (well_formed at word)
+with_word at origin names given (Number low high) word = made (with_number given) (number at low high word)
+with_word at origin names given Timeout word = made (with_timeout given) (timeout at word)
+with_word at origin names given Message word = made (with_message given origin) (message_bytes at word)
+with_word at origin names given Mode word = made (with_mode given) (some_or (BadStep at) (requested_mode word))
+
+-- the values with those of all words, from left to right
+abbrev pub with_words : Place → Origin → Names → Given → List Shape → List (List ℕ) → Result Given TableFault
+with_words at origin names given (shape ∷ shapes) (word ∷ ws) =
+    with_word at origin names given shape word >>= λ more. with_words at origin names more shapes ws
+with_words at origin names given _ _ = Ok given
+
+-- the step of a row's service with these arguments
+abbrev pub step_with : Row → Given → Step
+step_with row given = record { call = call_of row.service given.arguments; literal = given.literal }
+
+-- the step of a row's service, by the words behind the service
+unfoldable pub row_step : Place → Origin → Names → Row → List (List ℕ) → Result Step TableFault
+row_step at origin names row ws =
+    if have_forms row.shapes ws then made (step_with row) (with_words at origin names nothing row.shapes ws)
+    else Err (BadStep at)
+
+-- the step of these words
+abbrev pub step_of : Place → Origin → Names → List (List ℕ) → Result Step TableFault
+step_of at origin names [] = Err (BadStep at)
+step_of at origin names (service ∷ ws) =
+    some_or (BadStep at) (row_in rows service) >>= λ row. row_step at origin names row ws
 
 -- the step of this origin, by its text
 unfoldable pub step : Place → Origin → Names → List ℕ → Result Step TableFault
-step at origin names text = do
-  found ← spaced_call_of at origin names (words text)
-  call ← some_or (BadStep at) found
-  literal ← literal_of at (origin_of call) (message_in call) (words text)
-  Ok (record { call = call; literal = literal })
+step at origin names text = step_of at origin names (words text)

@@ -1,17 +1,18 @@
--- The words of a step's text: what stands between single spaces, the forms that a word may have, and
--- what a word of the right form means.
+-- The words of a step's text, which are the parts between single spaces, their forms, and the
+-- values of words of the right form.
 use Rattle.std.specs.Prelude.{codes, ℕ, ◌+◌, ◌*◌, ◌%◌, ◌==◌, ◌||◌, ◌&&◌, nat_le, Bool, true, false, if◌then◌else◌, List, [], ◌∷◌, length, Option, Some, None, Result, Ok, Err, is_some, option_and_then}
 use Rattle.std.specs.Char.{digit_value, is_ascii_digit}
 use Rattle.std.specs.List.{list_all, slice_split, position_from}
 use Rattle.std.specs.Str.{bytes_eq}
-use Rattle.apex_types.specs.Limits.{most_message}
-use Rattle.apex_table.specs.Terms.{Message, Origin, Place, TableFault, Timeout}
+use Rattle.apex_types.specs.Limits.{most_message, most_span}
+use Rattle.apex_table.specs.Terms.{Place, RequestedMode, TableFault, Timeout}
+use Rattle.apex_types.specs.declared.calls.RequestedMode.TheVariants.{Idle, Normal}
 use Rattle.apex_types.specs.declared.calls.Timeout.TheVariants.{Poll, Ticks, Infinite}
-use Rattle.apex_types.specs.Numbers.{number_of, at_most}
+use Rattle.apex_types.specs.Numbers.{number_of, at_least, at_most}
 use Rattle.apex_table.specs.declared.fault.TableFault.TheVariants.{OutOfRange, UnknownName}
-use Rattle.apex_table.specs.Outcome.{◌>>=◌, some_or}
+use Rattle.apex_table.specs.Outcome.{made, some_or}
 
--- what stands between single spaces, which may be empty
+-- the parts between single spaces, which may be empty
 abbrev pub words : List ℕ → List (List ℕ)
 words text = slice_split (λ c. c == 32) text
 
@@ -28,24 +29,22 @@ is_number word = is_some (number_of word)
 abbrev pub is_timeout : List ℕ → Bool
 is_timeout word = bytes_eq word (codes "infinite") || is_number word
 
--- a number that is this one at the most
-abbrev pub number : Place → ℕ → List ℕ → Result ℕ TableFault
-number at most word = some_or (OutOfRange at) (at_most most (number_of word))
+-- a number from low to high
+abbrev pub number : Place → ℕ → ℕ → List ℕ → Result ℕ TableFault
+number at low high word = some_or (OutOfRange at) (at_least low (at_most high (number_of word)))
 
 -- a timeout: `0`, 1 to 4,294,967,295 ticks, or `infinite`
 abbrev pub timeout : Place → List ℕ → Result Timeout TableFault
 timeout at word =
     if bytes_eq word (codes "0") then Ok Poll else
     if bytes_eq word (codes "infinite") then Ok Infinite else
-    number at 4294967295 word >>= λ n. Ok (Ticks n)
+    made Ticks (number at 1 most_span word)
 
--- this number, where it is not 0
-abbrev pub not_zero : Place → ℕ → Result ℕ TableFault
-not_zero at n = if n == 0 then Err (OutOfRange at) else Ok n
-
--- a span: so many ticks or units, at least one, and this many at the most
-abbrev pub span : Place → ℕ → List ℕ → Result ℕ TableFault
-span at most word = number at most word >>= not_zero at
+-- the mode that a word asks for
+abbrev pub requested_mode : List ℕ → Option RequestedMode
+requested_mode word =
+    if bytes_eq word (codes "NORMAL") then Some Normal else
+    if bytes_eq word (codes "IDLE") then Some Idle else None
 
 -- a digit of a message: 0 to 9, a to f
 abbrev pub is_digit : ℕ → Bool
@@ -56,8 +55,8 @@ abbrev pub pairs_value : List ℕ → List ℕ
 pairs_value (high ∷ low ∷ digits) = (digit_value high * 16 + digit_value low) ∷ pairs_value digits
 pairs_value _ = []
 
--- the bytes that a word writes, by pairs of digits, or by `-` where there are none; none where the word
--- is no message
+-- the bytes that a word writes, by pairs of digits, or by `-` for no bytes; none if the word is no
+-- message
 abbrev pub bytes_of : List ℕ → Option (List ℕ)
 bytes_of word =
     if bytes_eq word (codes "-") then Some [] else
@@ -67,17 +66,13 @@ bytes_of word =
 abbrev pub is_message : List ℕ → Bool
 is_message word = is_some (bytes_of word)
 
--- these bytes, where they are 64 at the most
+-- these bytes, if they are 64 at the most
 abbrev pub few_bytes : List ℕ → Option (List ℕ)
 few_bytes bytes = if nat_le (length bytes) most_message then Some bytes else None
 
 -- the bytes of a message, which are 64 at the most
 abbrev pub message_bytes : Place → List ℕ → Result (List ℕ) TableFault
 message_bytes at word = some_or (OutOfRange at) (option_and_then few_bytes (bytes_of word))
-
--- a message of the step of this origin, whose literal its bytes are
-abbrev pub message : Place → Origin → List ℕ → Result Message TableFault
-message at origin word = message_bytes at word >>= λ bytes. Ok (record { origin = origin; length = length bytes })
 
 -- the place, counted from 0, of the entry of this name
 abbrev pub entry_of : Place → List (List ℕ) → List ℕ → Result ℕ TableFault

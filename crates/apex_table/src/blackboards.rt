@@ -6,7 +6,7 @@ use crate::fault::{Place, Section, TableFault};
 use crate::keys;
 use crate::named::Named;
 use crate::sections::{Head, Kind};
-use apex_types::Name;
+use apex_types::{MOST_MESSAGE, MOST_OBJECTS, Name};
 use std::alloc::Global;
 use toml::Table;
 
@@ -32,7 +32,7 @@ impl<'a> Kind<'a> for Blackboards {
     fn head(&self) -> Head<'static> {
         Head {
             section: Section::Blackboard,
-            most: 16,
+            most: MOST_OBJECTS,
             keys: &["name", "length"],
         }
     }
@@ -45,7 +45,7 @@ impl<'a> Kind<'a> for Blackboards {
         name: Name,
         table: &'a Table,
     ) -> Result<BlackboardConfig, TableFault> {
-        let length = keys::number_at(at, 1, 64, table, "length")?;
+        let length = keys::number_at(at, 1, MOST_MESSAGE as u32, table, "length")?;
         Ok(BlackboardConfig::new(name, length as u8))
     }
 }

@@ -6,7 +6,7 @@ use crate::fault::{Place, Section, TableFault};
 use crate::keys;
 use crate::named::Named;
 use crate::sections::{Head, Kind};
-use apex_types::Name;
+use apex_types::{MOST_MESSAGE, MOST_MESSAGES, MOST_OBJECTS, Name};
 use std::alloc::Global;
 use toml::Table;
 
@@ -32,7 +32,7 @@ impl<'a> Kind<'a> for Buffers {
     fn head(&self) -> Head<'static> {
         Head {
             section: Section::Buffer,
-            most: 16,
+            most: MOST_OBJECTS,
             keys: &["name", "length", "capacity", "discipline"],
         }
     }
@@ -45,8 +45,8 @@ impl<'a> Kind<'a> for Buffers {
         name: Name,
         table: &'a Table,
     ) -> Result<BufferConfig, TableFault> {
-        let length = keys::number_at(at, 1, 64, table, "length")?;
-        let capacity = keys::number_at(at, 1, 16, table, "capacity")?;
+        let length = keys::number_at(at, 1, MOST_MESSAGE as u32, table, "length")?;
+        let capacity = keys::number_at(at, 1, MOST_MESSAGES as u32, table, "capacity")?;
         let discipline = keys::discipline_at(at, table)?;
         Ok(BufferConfig::new(name, length as u8, capacity as u8, discipline))
     }

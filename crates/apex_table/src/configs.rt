@@ -80,7 +80,7 @@ impl ProcessConfig {
         self.starts
     }
 
-    /// How many steps the script has.
+    /// The number of steps that the script has.
     pub fn step_count(&self) -> usize
         ensures { result ≡ length self.now.script }
     {
@@ -158,7 +158,7 @@ impl SemaphoreConfig {
         self.initial
     }
 
-    /// Who comes first among those that wait.
+    /// The order of the processes that wait.
     pub fn discipline(&self) -> Discipline
         ensures { result ≡ self.now.discipline }
     {
@@ -208,14 +208,14 @@ impl BufferConfig {
         self.length
     }
 
-    /// How many messages it holds at the most.
+    /// The most messages that it holds.
     pub fn capacity(&self) -> u8
         ensures { result ≡ self.now.capacity }
     {
         self.capacity
     }
 
-    /// Who comes first among those that wait.
+    /// The order of the processes that wait.
     pub fn discipline(&self) -> Discipline
         ensures { result ≡ self.now.discipline }
     {
@@ -287,7 +287,7 @@ impl EventConfig {
     }
 }
 
-/// A mutex as the table gives it (ARINC 653 Part 1, mutexes).
+/// A mutex as the table gives it (this profile).
 #[derive(Drop)]
 pub struct MutexConfig {
     name: Name,
@@ -327,7 +327,7 @@ impl MutexConfig {
         self.ceiling
     }
 
-    /// Who comes first among those that wait.
+    /// The order of the processes that wait.
     pub fn discipline(&self) -> Discipline
         ensures { result ≡ self.now.discipline }
     {

@@ -2,34 +2,39 @@
 ghost use Rattle.std.specs.Prelude.{◌≡◌, ◌<◌, ◌≤◌, ◌++◌, length, IfOk};
 ghost use Rattle.apex_types.specs.Limits.{most_objects, most_processes};
 ghost use Rattle.apex_types.specs.Places.{map_places};
-ghost use Rattle.apex_types.specs.declared.calls.Named.TheVariants.{Known};
-ghost use Rattle.apex_types.specs.declared.calls.ObjectCall.TheVariants.{Create};
-ghost use Rattle.apex_table.specs.DefaultInit.{creates, creates_objects, default_init};
+ghost use Rattle.apex_table.specs.DefaultInit.{create, creates, creates_objects, default_init};
 
 use crate::configs::ProcessConfig;
 use crate::objects::Objects;
-use crate::steps::object::Services;
+use apex_calls::Kind;
 use apex_types::{
-    BlackboardKind, BufferKind, Call, EventKind, Id, MutexKind, Named, ObjectCall, PartitionCall,
-    ProcessId, ProcessService, RequestedMode, SemaphoreKind, Step,
+    Call, Id, Named, ObjectCall, PartitionCall, ProcessId, ProcessService, RequestedMode, Step,
 };
 use std::alloc::{AllocError, Global};
 
-/// The CREATE of the thing of a kind at this place.
-fn create<K, W>(place: usize) -> ObjectCall<Id<K>, W>
+/// The CREATE of the thing of this kind at this place.
+fn create(kind: Kind, place: usize) -> Call
     requires { place < 256 }
-    ensures { result ≡ Create (Known place) }
+    ensures { result ≡ create kind place }
 {
-    ObjectCall::Create(Named::Known(Id::at(place as u8)))
+    let place = place as u8;
+    match kind {
+        Kind::Process => Call::Process(ObjectCall::Create(Named::Known(Id::at(place)))),
+        Kind::Semaphore => Call::Semaphore(ObjectCall::Create(Named::Known(Id::at(place)))),
+        Kind::Buffer => Call::Buffer(ObjectCall::Create(Named::Known(Id::at(place)))),
+        Kind::Blackboard => Call::Blackboard(ObjectCall::Create(Named::Known(Id::at(place)))),
+        Kind::Event => Call::Event(ObjectCall::Create(Named::Known(Id::at(place)))),
+        Kind::Mutex => Call::Mutex(ObjectCall::Create(Named::Known(Id::at(place)))),
+    }
 }
 
 /// Adds the CREATE of each of these objects, which are of the kind.
-fn create_each<K: Services, E>(init: &mut Vec<Step>, objects: &[E]) -> Result<(), AllocError>
+fn create_each<E>(init: &mut Vec<Step>, kind: Kind, objects: &[E]) -> Result<(), AllocError>
     requires { length objects.now ≤ most_objects }
-    ensures { IfOk result (λ _. init.new.items ≡ init.old.items ++ map_places (creates K.kind) 0 objects.now) }
+    ensures { IfOk result (λ _. init.new.items ≡ init.old.items ++ map_places (creates kind) 0 objects.now) }
 {
     for (place, _) in objects.iter().enumerate() {
-        init.push(Step::of(K::call(create(place))))?;
+        init.push(Step::of(create(kind, place)))?;
     }
     Ok(())
 }
@@ -40,15 +45,16 @@ fn create_objects(alloc: Global, objects: &Objects) -> Result<Vec<Step>, AllocEr
     ensures { IfOk result (λ init. init.items ≡ creates_objects objects.now) }
 {
     let mut init = Vec::new(alloc);
-    create_each::<SemaphoreKind, _>(&mut init, &objects.semaphores)?;
-    create_each::<BufferKind, _>(&mut init, &objects.buffers)?;
-    create_each::<BlackboardKind, _>(&mut init, &objects.blackboards)?;
-    create_each::<EventKind, _>(&mut init, &objects.events)?;
-    create_each::<MutexKind, _>(&mut init, &objects.mutexes)?;
+    create_each(&mut init, Kind::Semaphore, &objects.semaphores)?;
+    create_each(&mut init, Kind::Buffer, &objects.buffers)?;
+    create_each(&mut init, Kind::Blackboard, &objects.blackboards)?;
+    create_each(&mut init, Kind::Event, &objects.events)?;
+    create_each(&mut init, Kind::Mutex, &objects.mutexes)?;
     Ok(init)
 }
 
-/// The init list of a table that gives none: creates everything, starts what starts, and enters NORMAL.
+/// The init list of a table that gives none: it creates everything, starts the processes that are
+/// to start, and enters NORMAL.
 pub fn default_init(
     alloc: Global,
     processes: &[ProcessConfig],
@@ -61,7 +67,7 @@ pub fn default_init(
     for (place, process) in processes.iter().enumerate() {
         let id = ProcessId::at(place as u8);
         let affinity = ProcessService::InitializeCoreAffinity(process.core().number());
-        init.push(Step::of(Call::Process(create(place))))?;
+        init.push(Step::of(create(Kind::Process, place)))?;
         init.push(Step::of(Call::Process(ObjectCall::Own(id, affinity))))?;
     }
     for (place, process) in processes.iter().enumerate() {

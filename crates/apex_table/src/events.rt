@@ -5,7 +5,7 @@ use crate::configs::EventConfig;
 use crate::fault::{Place, Section, TableFault};
 use crate::named::Named;
 use crate::sections::{Head, Kind};
-use apex_types::Name;
+use apex_types::{MOST_OBJECTS, Name};
 use std::alloc::Global;
 use toml::Table;
 
@@ -31,7 +31,7 @@ impl<'a> Kind<'a> for Events {
     fn head(&self) -> Head<'static> {
         Head {
             section: Section::Event,
-            most: 16,
+            most: MOST_OBJECTS,
             keys: &["name"],
         }
     }

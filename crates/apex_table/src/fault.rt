@@ -49,7 +49,7 @@ impl fmt::Display for Section {
     }
 }
 
-/// Where a fault is: an entry of a section, counted from 1, or 0 for the section as a whole.
+/// The place of a fault: an entry of a section, counted from 1, or 0 for the section as a whole.
 #[derive(Clone, Copy, Debug, PartialEq, Eq)]
 pub struct Place {
     pub section: Section,
@@ -74,7 +74,7 @@ impl Place {
         Place { section, number: 0 }
     }
 
-    /// The entry after so many of the section.
+    /// The entry after the first `count` ones of the section.
     pub(crate) fn next(section: Section, count: usize) -> Place
         requires { count < most_init_steps }
         ensures { result ≡ place section (count + 1) }
@@ -86,7 +86,8 @@ impl Place {
     }
 }
 
-/// Why a text is no table: the first of its faults in the order of the checks, or want of memory.
+/// The reason why a text is no table: the first of its faults in the order of the checks, or want
+/// of memory.
 #[derive(Clone, Copy, Debug, PartialEq, Eq)]
 pub enum TableFault {
     /// A growth was refused.
@@ -97,8 +98,8 @@ pub enum TableFault {
     MissingKey(Place),
     /// A value has another type than its key's.
     WrongType(Place),
-    /// A number is out of its range, a text is none of its key's words, or a script that begins anew
-    /// has no step.
+    /// A number is out of its range, a text is none of its key's words, or a script that begins
+    /// anew has no step.
     OutOfRange(Place),
     /// A name has no byte, more than 30, or one that is not visible.
     BadName(Place),
@@ -117,7 +118,8 @@ pub enum TableFault {
 }
 
 impl TableFault {
-    /// The fault's word, and where it is: its text is the one, or both with ` in ` between them.
+    /// The fault's word, and its place. The fault's text is the word, or the word, ` in ` and the
+    /// place.
     pub fn parts(self) -> (&'static str, Option<Place>)
         ensures text { fault_text self ≡ result.0.now ++ place_after result.1 }
         ensures short { length result.0.now ≤ 11 }

@@ -3,7 +3,7 @@ ghost use Rattle.std.specs.Prelude.{◌≡◌, ◌<◌, ◌≤◌, map, length, 
 ghost use Rattle.apex_types.specs.Limits.{most_init_steps, most_processes};
 ghost use Rattle.toml.specs.View.{view};
 ghost use Rattle.apex_table.specs.Outcome.{Gives};
-ghost use Rattle.apex_table.specs.Init.{next_text, texts, given_texts, init_texts, is_init_process_service, is_init_semaphore_service, is_init_blackboard_service, is_init_event_service, is_init_time_call, is_init_call, init_step, next_init_step, init_steps, init_list};
+ghost use Rattle.apex_table.specs.Init.{next_text, texts, given_texts, init_texts, is_init_call, init_step, next_init_step, init_steps, init_list};
 
 use crate::configs::ProcessConfig;
 use crate::default_init::default_init;
@@ -12,10 +12,8 @@ use crate::keys;
 use crate::names::Names;
 use crate::objects::Objects;
 use crate::steps::step;
-use apex_types::{
-    BlackboardService, Call, EventService, ObjectCall, Origin, ProcessService, SemaphoreService,
-    Step, TimeCall,
-};
+use apex_calls::{parts_of, row_of};
+use apex_types::{Call, MOST_INIT_STEPS, Origin, Step};
 use std::alloc::Global;
 use toml::Value;
 
@@ -46,7 +44,7 @@ fn given_texts<'a>(alloc: Global, value: &'a Value) -> Result<Vec<&'a str>, Tabl
 {
     let at = Place::of(Section::Init);
     let items = keys::array(at, value)?;
-    keys::at_most(at, 512, items)?;
+    keys::at_most(at, MOST_INIT_STEPS, items)?;
     texts(alloc, items)
 }
 
@@ -64,76 +62,12 @@ pub fn init_texts<'a>(
     }
 }
 
-fn is_init_process_service(service: &ProcessService) -> bool
-    ensures { result ≡ is_init_process_service service.now }
-{
-    match service {
-        ProcessService::InitializeCoreAffinity(_)
-        | ProcessService::SetPriority(_)
-        | ProcessService::Start
-        | ProcessService::DelayedStart(_)
-        | ProcessService::Stop => true,
-        ProcessService::Suspend | ProcessService::Resume => false,
-    }
-}
-
-fn is_init_semaphore_service(service: &SemaphoreService) -> bool
-    ensures { result ≡ is_init_semaphore_service service.now }
-{
-    match service {
-        SemaphoreService::Wait(_) => false,
-        SemaphoreService::Signal => true,
-    }
-}
-
-fn is_init_blackboard_service(service: &BlackboardService) -> bool
-    ensures { result ≡ is_init_blackboard_service service.now }
-{
-    match service {
-        BlackboardService::Read(_) => false,
-        BlackboardService::Display(_) | BlackboardService::Clear => true,
-    }
-}
-
-fn is_init_event_service(service: &EventService) -> bool
-    ensures { result ≡ is_init_event_service service.now }
-{
-    match service {
-        EventService::Wait(_) => false,
-        EventService::Set | EventService::Reset => true,
-    }
-}
-
-fn is_init_time_call(call: &TimeCall) -> bool
-    ensures { result ≡ is_init_time_call call.now }
-{
-    match call {
-        TimeCall::TimedWait(_) | TimeCall::PeriodicWait | TimeCall::Replenish(_) => false,
-        TimeCall::GetTime => true,
-    }
-}
-
 /// Whether an init list may have the call.
 fn is_init_call(call: &Call) -> bool
     ensures { result ≡ is_init_call call.now }
 {
-    match call {
-        Call::Process(ObjectCall::Own(_, service)) => is_init_process_service(service),
-        Call::Semaphore(ObjectCall::Own(_, service)) => is_init_semaphore_service(service),
-        Call::Buffer(ObjectCall::Own(_, _)) => false,
-        Call::Blackboard(ObjectCall::Own(_, service)) => is_init_blackboard_service(service),
-        Call::Event(ObjectCall::Own(_, service)) => is_init_event_service(service),
-        Call::Mutex(ObjectCall::Own(_, _)) => false,
-        Call::Partition(_)
-        | Call::Process(_)
-        | Call::Semaphore(_)
-        | Call::Buffer(_)
-        | Call::Blackboard(_)
-        | Call::Event(_)
-        | Call::Mutex(_) => true,
-        Call::Caller(_) | Call::Work(_) => false,
-        Call::Time(call) => is_init_time_call(call),
-    }
+    let (service, _arguments) = parts_of(call);
+    row_of(service).3
 }
 
 /// The step of this origin, by its text; last it is tested whether an init list may have it.

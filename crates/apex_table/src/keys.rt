@@ -9,7 +9,7 @@ ghost use Rattle.apex_table.specs.Keys.{has_only, known, required, text, truth, 
 
 use crate::fault::{Place, TableFault};
 use crate::named::{Named, has_name};
-use apex_types::{DeadlineType, Discipline, Name, Span};
+use apex_types::{DeadlineType, Discipline, MOST_SPAN, Name, Span};
 use toml::{Table, Value};
 
 fn is_one_of(names: &[&str], name: &str) -> bool
@@ -40,7 +40,7 @@ pub fn only(at: Place, names: &[&str], table: &Table) -> Result<(), TableFault>
     }
 }
 
-/// The value at a key, or none where the key is absent.
+/// The value at a key, or none if the key is absent.
 pub fn key<'a>(table: &'a Table, name: &str) -> Option<&'a Value>
     ensures { option_map (λ v. view v.now) result ≡ get_member name.now (table_view table.now) }
 {
@@ -152,14 +152,14 @@ pub fn number_or(
     }
 }
 
-/// A span of time, or none where it is infinite.
+/// A span of time, or none if it is infinite.
 fn span(at: Place, value: &Value) -> Result<Option<Span>, TableFault>
     ensures { Gives (λ s. s) result (span at (view value.now)) }
 {
     match value.as_str() {
         Some("infinite") => Ok(None),
         Some(_) => Err(TableFault::OutOfRange(at)),
-        None => Ok(Some(Span::of(number(at, 1, u32::MAX, value)?))),
+        None => Ok(Some(Span::of(number(at, 1, MOST_SPAN, value)?))),
     }
 }
 

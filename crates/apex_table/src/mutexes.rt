@@ -6,7 +6,7 @@ use crate::fault::{Place, Section, TableFault};
 use crate::keys;
 use crate::named::Named;
 use crate::sections::{Head, Kind};
-use apex_types::Name;
+use apex_types::{MOST_OBJECTS, MOST_PRIORITY, Name};
 use std::alloc::Global;
 use toml::Table;
 
@@ -32,7 +32,7 @@ impl<'a> Kind<'a> for Mutexes {
     fn head(&self) -> Head<'static> {
         Head {
             section: Section::Mutex,
-            most: 16,
+            most: MOST_OBJECTS,
             keys: &["name", "ceiling", "discipline"],
         }
     }
@@ -45,7 +45,7 @@ impl<'a> Kind<'a> for Mutexes {
         name: Name,
         table: &'a Table,
     ) -> Result<MutexConfig, TableFault> {
-        let ceiling = keys::number_at(at, 1, 239, table, "ceiling")?;
+        let ceiling = keys::number_at(at, 1, MOST_PRIORITY, table, "ceiling")?;
         let discipline = keys::discipline_at(at, table)?;
         Ok(MutexConfig::new(name, ceiling as u8, discipline))
     }

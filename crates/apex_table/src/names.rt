@@ -1,16 +1,17 @@
 //! The names of a table's things, kind by kind.
 ghost use Rattle.std.specs.Prelude.{◌≡◌, ◌≤◌, map, length, IfOk};
 ghost use Rattle.apex_types.specs.Limits.{most_processes};
-ghost use Rattle.apex_table.specs.Names.{names_of};
+ghost use Rattle.apex_table.specs.Names.{names_in, names_of};
 
 use crate::named::Named;
 use crate::objects::Objects;
 use crate::processes::Draft;
+use apex_calls::Kind;
 use apex_types::Name;
 use std::alloc::{AllocError, Global};
 use std::marker::Model;
 
-/// The names that a table gives its things, kind by kind: by them steps name what they are about.
+/// The names that a table gives its things, kind by kind. Steps name things by them.
 #[derive(Drop)]
 pub struct Names {
     processes: Vec<Name>,
@@ -65,45 +66,18 @@ impl Names {
         })
     }
 
-    pub fn processes(&self) -> &[Name]
-        ensures value { result.now ≡ self.now.processes }
+    /// The names of the things of this kind.
+    pub fn of_kind(&self, kind: &Kind) -> &[Name]
+        ensures value { result.now ≡ names_in self.now kind.now }
         ensures few { length result.now ≤ most_processes }
     {
-        &self.processes
-    }
-
-    pub fn semaphores(&self) -> &[Name]
-        ensures value { result.now ≡ self.now.semaphores }
-        ensures few { length result.now ≤ most_processes }
-    {
-        &self.semaphores
-    }
-
-    pub fn buffers(&self) -> &[Name]
-        ensures value { result.now ≡ self.now.buffers }
-        ensures few { length result.now ≤ most_processes }
-    {
-        &self.buffers
-    }
-
-    pub fn blackboards(&self) -> &[Name]
-        ensures value { result.now ≡ self.now.blackboards }
-        ensures few { length result.now ≤ most_processes }
-    {
-        &self.blackboards
-    }
-
-    pub fn events(&self) -> &[Name]
-        ensures value { result.now ≡ self.now.events }
-        ensures few { length result.now ≤ most_processes }
-    {
-        &self.events
-    }
-
-    pub fn mutexes(&self) -> &[Name]
-        ensures value { result.now ≡ self.now.mutexes }
-        ensures few { length result.now ≤ most_processes }
-    {
-        &self.mutexes
+        match kind {
+            Kind::Process => &self.processes,
+            Kind::Semaphore => &self.semaphores,
+            Kind::Buffer => &self.buffers,
+            Kind::Blackboard => &self.blackboards,
+            Kind::Event => &self.events,
+            Kind::Mutex => &self.mutexes,
+        }
     }
 }

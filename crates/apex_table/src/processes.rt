@@ -10,7 +10,7 @@ use crate::fault::{Place, Section, TableFault};
 use crate::keys;
 use crate::named::Named;
 use crate::sections::{Head, Kind};
-use apex_types::{Attributes, CoreId, Name};
+use apex_types::{Attributes, CoreId, MOST_PRIORITY, MOST_STEPS, Name, Profile};
 use std::alloc::Global;
 use std::marker::Model;
 use toml::{Table, Value};
@@ -79,7 +79,7 @@ fn script_at<'a>(
     ensures few { IfOk result (λ v. length v.items ≤ most_steps) }
 {
     let items = keys::array_at(at, table, "script")?;
-    keys::at_most(at, 64, items)?;
+    keys::at_most(at, MOST_STEPS, items)?;
     some_step(at, loops, items)?;
     texts(alloc, at, items)
 }
@@ -88,9 +88,10 @@ const PROCESS_KEYS: &[&str] = &[
     "name", "priority", "core", "period", "capacity", "deadline", "loop", "start", "script",
 ];
 
-/// The kind of processes, on so many cores.
+/// The kind of processes, in a profile and on so many cores.
 #[derive(Drop)]
 pub struct Processes {
+    pub profile: Profile,
     pub cores: u32,
     ghost in_range: { (1 ≤ cores) × (cores ≤ most_cores) },
 }
@@ -98,17 +99,17 @@ pub struct Processes {
 impl<'a> Kind<'a> for Processes {
     type Entry = Draft<'a>;
 
-    ghost head = { λ k. (processes k.cores).head };
+    ghost head = { λ k. (processes k.profile k.cores).head };
 
-    ghost read = { λ k. (processes k.cores).read };
+    ghost read = { λ k. (processes k.profile k.cores).read };
 
     fn head(&self) -> Head<'static>
-        ensures head { head_of result ≡ (processes self.now.cores).head }
+        ensures head { head_of result ≡ (processes self.now.profile self.now.cores).head }
         ensures few { result.most ≤ most_init_steps }
     {
         Head {
             section: Section::Process,
-            most: 32,
+            most: self.profile.processes(),
             keys: PROCESS_KEYS,
         }
     }
@@ -121,7 +122,7 @@ impl<'a> Kind<'a> for Processes {
         name: Name,
         table: &'a Table,
     ) -> Result<Draft<'a>, TableFault> {
-        let priority = keys::number_at(at, 1, 239, table, "priority")?;
+        let priority = keys::number_at(at, 1, MOST_PRIORITY, table, "priority")?;
         let core = keys::number_or(at, 0, 0, self.cores - 1, table, "core")?;
         let period = keys::span_or_infinite(at, table, "period")?;
         let capacity = keys::span_or_infinite(at, table, "capacity")?;

@@ -13,7 +13,7 @@ use apex_types::Name;
 use std::alloc::Global;
 use toml::{Table, Value};
 
-/// A section, how many entries it may have, and the keys of one.
+/// A section, the most entries that it may have, and the keys of one.
 #[derive(Clone, Copy)]
 pub struct Head<'k> {
     pub section: Section,

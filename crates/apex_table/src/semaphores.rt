@@ -6,7 +6,7 @@ use crate::fault::{Place, Section, TableFault};
 use crate::keys;
 use crate::named::Named;
 use crate::sections::{Head, Kind};
-use apex_types::Name;
+use apex_types::{MOST_OBJECTS, MOST_VALUE, Name};
 use std::alloc::Global;
 use toml::Table;
 
@@ -32,7 +32,7 @@ impl<'a> Kind<'a> for Semaphores {
     fn head(&self) -> Head<'static> {
         Head {
             section: Section::Semaphore,
-            most: 16,
+            most: MOST_OBJECTS,
             keys: &["name", "maximum", "initial", "discipline"],
         }
     }
@@ -45,7 +45,7 @@ impl<'a> Kind<'a> for Semaphores {
         name: Name,
         table: &'a Table,
     ) -> Result<SemaphoreConfig, TableFault> {
-        let maximum = keys::number_at(at, 1, 32767, table, "maximum")?;
+        let maximum = keys::number_at(at, 1, MOST_VALUE, table, "maximum")?;
         let initial = keys::number_at(at, 0, maximum, table, "initial")?;
         let discipline = keys::discipline_at(at, table)?;
         Ok(SemaphoreConfig::new(name, maximum as u16, initial as u16, discipline))

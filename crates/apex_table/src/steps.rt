@@ -1,105 +1,113 @@
 //! A step by its text.
-ghost use Rattle.std.specs.Prelude.{map};
-ghost use Rattle.apex_types.specs.Calls.{origin_of, message_in};
+ghost use Rattle.std.specs.Prelude.{◌≡◌, map};
+ghost use Rattle.apex_calls.specs.Catalogue.{IsRow, view};
 ghost use Rattle.apex_table.specs.Outcome.{Gives};
-ghost use Rattle.apex_table.specs.Steps.{call_of, spaced_call_of, literal_of, step};
+ghost use Rattle.apex_table.specs.Steps.{has_form, have_forms, nothing, row_step, step_of, step, with_words};
 
-mod blackboard;
-mod buffer;
-mod caller;
-mod event;
-mod mutex;
-pub mod object;
-mod partition;
-mod process;
-mod semaphore;
-mod time;
+mod given;
 mod words;
-mod work;
 
 use crate::fault::{Place, TableFault};
-use crate::keys::well_formed;
 use crate::names::Names;
-use apex_types::{
-    BlackboardKind, BufferKind, Call, EventKind, Literal, MutexKind, Origin, ProcessKind,
-    SemaphoreKind, Step,
-};
-use caller::caller_call;
-use object::object_call;
-use partition::partition_call;
+use apex_calls::{Row, Shape, call_of, row_of_word};
+use apex_types::{Origin, Step};
+use given::{Given, with_word};
 use std::alloc::Global;
-use time::time_call;
-use words::{has_empty, message_bytes, words};
-use work::work_call;
+use words::{is_message, is_number, is_timeout, requested_mode, words};
 
-/// The call of a step's words, if they are a step.
-fn call_of(
+/// Whether a word has the form of this shape, which may be out of range.
+fn has_form(shape: &Shape, word: &str) -> bool
+    ensures { result ≡ has_form shape.now word.now }
+{
+    match shape {
+        Shape::Entry(_) | Shape::Named(_) => !word.is_empty(),
+        Shape::Number(_, _) => is_number(word),
+        Shape::Timeout => is_timeout(word),
+        Shape::Message => !word.is_empty() && is_message(word),
+        Shape::Mode => requested_mode(word).is_some(),
+    }
+}
+
+/// Whether the words are as many as the shapes, and each has the form of its shape.
+fn have_forms(shapes: &[Shape], words: &[&str]) -> bool
+    ensures { result ≡ have_forms shapes.now (map (λ w. w.now) words.now) }
+{
+    let mut shapes_left = shapes;
+    let mut words_left = words;
+    while let [shape, shapes @ ..] = shapes_left {
+        let [word, words @ ..] = words_left else {
+            return false;
+        };
+        if !has_form(shape, word) {
+            return false;
+        }
+        shapes_left = shapes;
+        words_left = words;
+    }
+    match words_left {
+        [] => true,
+        [_, ..] => false,
+    }
+}
+
+/// The values with those of all words, from left to right.
+fn with_words(
     at: Place,
     origin: &Origin,
     names: &Names,
+    shapes: &[Shape],
     words: &[&str],
-) -> Result<Option<Call>, TableFault>
-    ensures { Gives (λ c. c) result (call_of at origin.now names.now (map (λ w. w.now) words.now)) }
+) -> Result<Given, TableFault>
+    ensures { Gives (λ g. g) result (with_words at origin.now names.now nothing shapes.now (map (λ w. w.now) words.now)) }
 {
-    if let Some(call) = partition_call(words) {
-        return Ok(Some(Call::Partition(call)));
+    let mut given = Given::nothing();
+    let mut shapes_left = shapes;
+    let mut words_left = words;
+    while let [shape, shapes @ ..] = shapes_left {
+        let [word, words @ ..] = words_left else {
+            return Ok(given);
+        };
+        given = with_word(at, origin, names, given, shape, word)?;
+        shapes_left = shapes;
+        words_left = words;
     }
-    if let Some(call) = object_call::<ProcessKind>(at, origin, names.processes(), words)? {
-        return Ok(Some(call));
-    }
-    if let Some(call) = caller_call(at, words)? {
-        return Ok(Some(Call::Caller(call)));
-    }
-    if let Some(call) = time_call(at, words)? {
-        return Ok(Some(Call::Time(call)));
-    }
-    if let Some(amount) = work_call(at, words)? {
-        return Ok(Some(Call::Work(amount)));
-    }
-    if let Some(call) = object_call::<SemaphoreKind>(at, origin, names.semaphores(), words)? {
-        return Ok(Some(call));
-    }
-    if let Some(call) = object_call::<BufferKind>(at, origin, names.buffers(), words)? {
-        return Ok(Some(call));
-    }
-    if let Some(call) = object_call::<BlackboardKind>(at, origin, names.blackboards(), words)? {
-        return Ok(Some(call));
-    }
-    if let Some(call) = object_call::<EventKind>(at, origin, names.events(), words)? {
-        return Ok(Some(call));
-    }
-    object_call::<MutexKind>(at, origin, names.mutexes(), words)
+    Ok(given)
 }
 
-fn spaced_call_of(
+/// The step of a row's service, by the words behind the service: first their forms are tested, then
+/// they are read from left to right.
+#[tactic(auto, unfolding(crate::specs::Steps::row_step))]
+fn row_step(
     at: Place,
     origin: &Origin,
     names: &Names,
+    row: &'static Row,
     words: &[&str],
-) -> Result<Option<Call>, TableFault>
-    ensures { Gives (λ c. c) result (spaced_call_of at origin.now names.now (map (λ w. w.now) words.now)) }
+) -> Result<Step, TableFault>
+    requires { IsRow (view row.now) }
+    ensures { Gives (λ s. s) result (row_step at origin.now names.now (view row.now) (map (λ w. w.now) words.now)) }
 {
-    if has_empty(words) {
-        return Ok(None);
+    if !have_forms(row.2, words) {
+        return Err(TableFault::BadStep(at));
     }
-    call_of(at, origin, names, words)
+    let given = with_words(at, origin, names, row.2, words)?;
+    Ok(Step::new(call_of(row.0, &given.arguments), given.literal))
 }
 
-/// The literal of a step's words, where its call names one: the name behind the service, or the
-/// message behind the name.
-fn literal(at: Place, call: &Call, words: &[&str]) -> Result<Literal, TableFault>
-    ensures { Gives (λ l. l) result (literal_of at (origin_of call.now) (message_in call.now) (map (λ w. w.now) words.now)) }
+/// The step of these words, of which the first one asks for the service.
+fn step_of(at: Place, origin: &Origin, names: &Names, words: &[&str]) -> Result<Step, TableFault>
+    ensures { Gives (λ s. s) result (step_of at origin.now names.now (map (λ w. w.now) words.now)) }
 {
-    match (call.origin(), call.message(), words) {
-        (None, None, _) => Ok(Literal::new()),
-        (Some(_), _, [_, name, ..]) => Ok(Literal::of(well_formed(at, name)?.as_bytes())),
-        (None, Some(_), [_, _, text, ..]) => message_bytes(at, text),
-        _ => Err(TableFault::BadStep(at)),
+    let [service, words @ ..] = words else {
+        return Err(TableFault::BadStep(at));
+    };
+    match row_of_word(service) {
+        Some(row) => row_step(at, origin, names, row, words),
+        None => Err(TableFault::BadStep(at)),
     }
 }
 
-/// The step of this origin, by its text: first its form is tested, then its words from left to
-/// right.
+/// The step of this origin, by its text.
 #[tactic(auto, unfolding(crate::specs::Steps::step))]
 pub fn step(
     alloc: Global,
@@ -111,8 +119,5 @@ pub fn step(
     ensures { Gives (λ s. s) result (step at origin names.now text.now) }
 {
     let words = words(alloc, text)?;
-    match spaced_call_of(at, &origin, names, &words)? {
-        Some(call) => Ok(Step::new(call, literal(at, &call, &words)?)),
-        None => Err(TableFault::BadStep(at)),
-    }
+    step_of(at, &origin, names, &words)
 }

@@ -10,13 +10,14 @@ use crate::configs::{
 use crate::listed::{call_in, literal_in};
 use crate::objects::Objects;
 use apex_types::{
-    BlackboardId, BufferId, Call, EventId, MutexId, Origin, ProcessId, SemaphoreId, Step,
+    BlackboardId, BufferId, Call, EventId, MutexId, Origin, ProcessId, Profile, SemaphoreId, Step,
 };
 use std::marker::Model;
 
-/// A partition's table. By its type every range and every reference in it holds.
+/// A partition's table. Its type ensures that every range and every reference in it is right.
 #[derive(Drop)]
 pub struct Table {
+    profile: Profile,
     cores: u8,
     limit: u32,
     processes: Vec<ProcessConfig>,
@@ -30,23 +31,25 @@ impl Model for Table {
 
     ghost Value = { Table };
 
-    ghost view = { λ t. table_with t.cores t.limit t.processes.items t.objects t.init.items };
+    ghost view = { λ t. table_with t.profile t.cores t.limit t.processes.items t.objects t.init.items };
 
-    ghost invariant = { λ t. IsLawful (table_with t.cores t.limit t.processes.items t.objects t.init.items) };
+    ghost invariant = { λ t. IsLawful (table_with t.profile t.cores t.limit t.processes.items t.objects t.init.items) };
 }
 
 impl Table {
     pub(crate) fn new(
+        profile: Profile,
         cores: u8,
         limit: u32,
         processes: Vec<ProcessConfig>,
         objects: Objects,
         init: Vec<Step>,
     ) -> Table
-        requires { IsLawful (table_with cores limit processes.items objects init.items) }
-        ensures { result ≡ table_with cores limit processes.items objects init.items }
+        requires { IsLawful (table_with profile cores limit processes.items objects init.items) }
+        ensures { result ≡ table_with profile cores limit processes.items objects init.items }
     {
         Table {
+            profile,
             cores,
             limit,
             processes,
@@ -55,7 +58,14 @@ impl Table {
         }
     }
 
-    /// How many cores the partition has.
+    /// The table's profile.
+    pub fn profile(&self) -> Profile
+        ensures { result ≡ self.now.profile }
+    {
+        self.profile
+    }
+
+    /// The number of cores that the partition has, 1 to 8.
     pub fn cores(&self) -> u8
         ensures value { result ≡ self.now.cores }
         ensures range { (1 ≤ result) × (result ≤ most_cores) }
@@ -63,7 +73,7 @@ impl Table {
         self.cores
     }
 
-    /// How many entries the history may have.
+    /// The most entries that the history may have, 1 to 65,536.
     pub fn limit(&self) -> u32
         ensures value { result ≡ self.now.limit }
         ensures range { (1 ≤ result) × (result ≤ most_entries) }
@@ -71,6 +81,7 @@ impl Table {
         self.limit
     }
 
+    #[tactic(auto, using(apex_types::proofs::BothProfiles::lawful_count))]
     pub fn process_count(&self) -> usize
         ensures value { result ≡ length self.now.processes }
         ensures range { (1 ≤ result) × (result ≤ most_processes) }
@@ -174,7 +185,7 @@ impl Table {
         call_in(&self.init, place)
     }
 
-    /// The literal of the step of this origin, which has no byte where no step stands there.
+    /// The literal of the step of this origin, which has no byte if there is no such step.
     pub fn literal(&self, origin: Origin) -> &[u8]
         ensures value { result.now ≡ literal_text self.now origin }
         ensures range { length result.now ≤ most_literal }
@@ -188,7 +199,7 @@ impl Table {
         }
     }
 
-    /// Hands to the caller what holds of every accepted table.
+    /// Hands the caller the facts about every accepted table.
     pub fn lawful(&self)
         ensures { IsLawful self.now }
     {

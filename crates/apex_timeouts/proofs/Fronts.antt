@@ -9,7 +9,7 @@ use Rattle.apex_links.proofs.Sorted.{first_before}
 use Rattle.apex_timeouts.specs.Timeline.{Times, due_at, instant_of, instant_on, is_after, next_of, IsOrdered}
 use Rattle.apex_timeouts.proofs.Orders.{pair_later}
 
--- who has an instant is on the line
+-- process p is on the line at instant t
 pub record IsOn (times : Times) (p t : ℕ) : Type 0 where
   pub stands : stands_in p times.order ≡ true
   pub instant : instant_of times.instants p ≡ t
@@ -42,7 +42,8 @@ shown : (a t x : ℕ) → a ≡ t → (if a == t then Some x else None) ≡ Some
 shown a t x same = grind (arith, same)
 
 module _ (times : Times) (ordered : IsOrdered times.instants times.order) where
-  -- who is first is no later than anybody else, and of those at its instant it is the lowest
+  -- the first process is no later than any other, and of those at its instant it has the lowest
+  -- number
   pub front_least : (p q u : ℕ) → first_of times.order ≡ Some p → instant_on times q ≡ Some u → instant_of times.instants p ≤ u
   front_least p q u first e =
       let there = is_on times q u e in
@@ -88,7 +89,7 @@ module _ (times : Times) (ordered : IsOrdered times.instants times.order) where
   pub next_none : (q u : ℕ) → next_of times ≡ None → instant_on times q ≡ Some u → ⊥
   next_none q u e = nobody_on q u (next_case (first_of times.order) refl e)
 
-  -- who is due at an instant
+  -- a process that is due at an instant is the first
   due_case : (t : ℕ) (first : Option ℕ) → first_of times.order ≡ first → (p : ℕ) → due_at times t ≡ Some p → (first_of times.order ≡ Some p) × (instant_of times.instants p ≡ t)
   due_case t None is p e = absurd (none-some p (rw is at e))
   due_case t (Some x) is p e = elim (cases_eq (instant_of times.instants x) t) [
@@ -108,7 +109,7 @@ module _ (times : Times) (ordered : IsOrdered times.instants times.order) where
       let found = due_case t (first_of times.order) refl p e in
       front_lowest p q t found.0 on found.1
 
-  -- nobody is due at an instant that all come no sooner than
+  -- if no instant is sooner than t, and one is t, the first process is due at t
   due_here : (t x q : ℕ) → first_of times.order ≡ Some x → ((r u : ℕ) → instant_on times r ≡ Some u → t ≤ u) → instant_on times q ≡ Some t → due_at times t ≡ Some x
   due_here t x q is from on =
       let not_sooner = from x (instant_of times.instants x) (front_on x is) in

@@ -1,4 +1,4 @@
--- What a line tells of each process: its instant, who is first, and what a new instant changes.
+-- The instants of a line's processes, its first process, and the changes by a new instant.
 use Rattle.std.proofs.Common.{◌≡◌, ◌≢◌, ℕ, ◌<◌, true, length, Option, None, Some, refl, ap, ◌∙◌, arith}
 use Rattle.std.proofs.lemmas.Grind.{get_or-set_at}
 use Rattle.std.proofs.lemmas.List.{get_or-set_other, length-set}

@@ -1,11 +1,11 @@
 -- The order of the instants stays as a process comes or goes.
-use Rattle.std.proofs.Common.{◌≡◌, ◌≢◌, ℕ, ◌<◌, Bool, true, false, ◌||◌, ◌&&◌, ◌==◌, List, length, set, Option, None, Some, IfSome, refl, sym, subst, ◌∙◌, arith}
+use Rattle.std.proofs.Common.{◌≡◌, ◌≢◌, ℕ, ◌<◌, Bool, true, false, ◌||◌, ◌&&◌, ◌==◌, List, [], ◌∷◌, length, set, Option, None, Some, IfSome, refl, sym, subst, ◌∙◌, arith}
 use Rattle.std.specs.Prelude.{nat_lt}
 use Rattle.std.proofs.lemmas.Grind.{get_or-set_at}
 use Rattle.std.proofs.lemmas.List.{get_or-set_other, length-set}
 use Rattle.apex_links.specs.Neighbours.{stands_in, first_of}
 use Rattle.apex_links.specs.Links.{Links, list_at, with_list, removed, IsSound}
-use Rattle.apex_links.specs.Placing.{placed}
+use Rattle.apex_links.specs.Placing.{placed, IsRising}
 use Rattle.apex_links.proofs.Places.{at_removed, at_with, as_many_removed, as_many_with, first_stands}
 use Rattle.apex_links.proofs.Sorted.{sorted_placed, sorted_same, sorted_without}
 use Rattle.apex_timeouts.specs.Timeline.{instant_of, is_after, is_later, IsOrdered, AreTimed}
@@ -20,7 +20,7 @@ later_later p i q j r k one two = grind (arith, one, two)
 later_else : (p i q j : ℕ) → p ≢ q → pair_later p i q j ≡ false → pair_later q j p i ≡ true
 later_else p i q j apart isnt = grind (arith, apart, isnt)
 
--- who stands in a list is somebody else than who does not
+-- a process in a list is another one than a process outside it
 apart_from : (p q : ℕ) (xs : List ℕ) → stands_in p xs ≡ false → stands_in q xs ≡ true → q ≢ p
 apart_from p q xs out here same = absurd (grind (arith, subst (λ (x : ℕ). stands_in x xs ≡ true) same here, out))
 
@@ -32,7 +32,7 @@ module _ (instants : List ℕ) (p i : ℕ) where
   other_instant : (q : ℕ) → q ≢ p → instant_of news q ≡ instant_of instants q
   other_instant q apart = get_or-set_other instants p q i 0 apart
 
-  -- those who stand in a list in which p does not keep their order
+  -- the processes of a list without p keep their order
   same_order : (xs : List ℕ) → stands_in p xs ≡ false → (q r : ℕ) → stands_in q xs ≡ true → stands_in r xs ≡ true → is_after news q r ≡ is_after instants q r
   same_order xs out q r here there = rw (other_instant q (apart_from p q xs out here), other_instant r (apart_from p r xs out there)) refl
 
@@ -55,6 +55,14 @@ module _ (instants : List ℕ) (p i : ℕ) where
       over q r here there is later =
           rw (own_instant, other_instant r (apart_from p r xs out there)) (later_later p i q (instant_of instants q) r (instant_of instants r) is
           (rw (other_instant q (apart_from p q xs out here), other_instant r (apart_from p r xs out there)) at later))
+
+-- the processes behind one that comes later than process p at this instant come later too
+pub rising_line : (instants : List ℕ) (p i : ℕ) (xs : List ℕ) → IsOrdered instants xs → IsRising (is_later instants p i) xs
+rising_line instants p i [] o = tt
+rising_line instants p i (x ∷ xs) o = (
+  λ is q here. later_later p i x (instant_of instants x) q (instant_of instants q) is (o.0 q here),
+  rising_line instants p i xs o.1,
+)
 
 -- the processes of the one list, after a call
 pub timed_placed : (links : Links) (instants : List ℕ) (p i : ℕ) → AreTimed links instants → p < length instants → stands_in p (list_at links 0) ≡ false

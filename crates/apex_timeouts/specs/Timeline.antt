@@ -5,12 +5,12 @@ use Rattle.apex_links.specs.Links.{Links, list_at, without}
 use Rattle.apex_links.specs.Placing.{placed}
 use Rattle.apex_links.specs.Sorted.{IsSorted}
 
--- what a contract sees of a line: who is on it, the soonest first, and the instant of each process
+-- a line as a contract sees it: its processes, the soonest first, and the instant of each process
 pub record Times : Type 0 where
   pub order : List ℕ
   pub instants : List ℕ
 
--- a line of so many processes, on which nobody is
+-- an empty line for n processes
 abbrev pub empty_line : ℕ → Times
 empty_line processes = record { order = []; instants = replicate processes 0 }
 
@@ -18,8 +18,8 @@ empty_line processes = record { order = []; instants = replicate processes 0 }
 abbrev pub instant_of : List ℕ → ℕ → ℕ
 instant_of instants p = slice_index_or instants p 0
 
--- process q comes later than process p at this instant: its own is later, or the same, and it has the higher
--- number
+-- process q comes later than process p at this instant: its own is later, or the same, and it has
+-- the higher number
 abbrev pub is_later : List ℕ → ℕ → ℕ → ℕ → Bool
 is_later instants p instant q =
     nat_lt instant (instant_of instants q) || instant == instant_of instants q && nat_lt p q
@@ -41,7 +41,7 @@ armed times p instant =
 abbrev pub disarmed : Times → ℕ → Times
 disarmed times p = record times { order = without p times.order }
 
--- the instant of process p, or none where it is not on the line
+-- the instant of process p, or none if it is not on the line
 abbrev pub instant_on : Times → ℕ → Option ℕ
 instant_on times p = if stands_in p times.order then Some (instant_of times.instants p) else None
 
@@ -55,7 +55,7 @@ pub record IsReset (old new : Times) (p : ℕ) (instant : Option ℕ) : Type 0 w
 abbrev pub next_of : Times → Option ℕ
 next_of times = option_map (instant_of times.instants) (first_of times.order)
 
--- this process, where there is one, if this is its instant
+-- this process, if there is one, and if this is its instant
 abbrev pub only_at : List ℕ → ℕ → Option ℕ → Option ℕ
 only_at instants instant None = None
 only_at instants instant (Some p) = if instant_of instants p == instant then Some p else None
@@ -64,7 +64,7 @@ only_at instants instant (Some p) = if instant_of instants p == instant then Som
 abbrev pub due_at : Times → ℕ → Option ℕ
 due_at times instant = only_at times.instants instant (first_of times.order)
 
--- this process, where there is one, is not on the line from now on
+-- this process, if there is one, is not on the line from now on
 abbrev pub disarmed_one : Times → Option ℕ → Times
 disarmed_one times None = times
 disarmed_one times (Some p) = disarmed times p
@@ -73,7 +73,7 @@ disarmed_one times (Some p) = disarmed times p
 abbrev pub without_due_at : Times → ℕ → Times
 without_due_at times instant = disarmed_one times (due_at times instant)
 
--- the processes stand in the order of their instants, each has one, and none stands there twice
+-- the processes are in the order of their instants, each has one, and none is there twice
 pub record IsTimed (times : Times) : Type 0 where
   pub ordered : IsOrdered times.instants times.order
   pub distinct : IsDistinct times.order

@@ -1,7 +1,7 @@
 -- The timers: one line of dues, and one of deadlines.
 use Rattle.apex_timeouts.specs.Timeline.{Times}
 
--- what a contract sees of the timers
+-- the timers as a contract sees them
 pub record Lines : Type 0 where
   pub dues : Times
   pub deadlines : Times

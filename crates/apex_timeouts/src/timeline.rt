@@ -8,7 +8,7 @@ use apex_types::ProcessId;
 use std::alloc::{AllocError, Global};
 use std::marker::Model;
 
-/// The test that finds those who come later than a process at this instant.
+/// The test for processes that come later than one at this instant.
 #[derive(Drop)]
 struct Later<'a> {
     instants: &'a [u64],
@@ -34,8 +34,8 @@ fn line() -> ListId
     ListId::at(0)
 }
 
-/// Some of the processes, each with an instant of its own, in ticks: the soonest first, and of those at the
-/// same instant that of the lowest number.
+/// Some of the processes, each with an instant of its own, in ticks: the soonest first, and of
+/// those at the same instant the one of the lowest number.
 #[derive(Drop)]
 pub struct Timeline {
     links: LinkSet,
@@ -54,7 +54,7 @@ impl Model for Timeline {
 }
 
 impl Timeline {
-    /// So many processes, none of which is on the line. Fails only for want of memory.
+    /// An empty line for n processes. Fails only for want of memory.
     pub fn new(alloc: Global, processes: u16) -> Result<Timeline, AllocError>
         ensures { IfOk result (λ line. line ≡ empty_line processes) }
     {
@@ -64,14 +64,15 @@ impl Timeline {
         })
     }
 
-    /// The processes stand in the order of their instants, and none of them twice.
+    /// The processes are in the order of their instants, and none of them is there twice.
     pub fn holds(&self)
         ensures { IsTimed self.now }
     {
         self.links.holds();
     }
 
-    /// How many nodes the calls, reading ones too, have read or written since the line was made.
+    /// The number of nodes that the calls, reading ones too, have read or written since the line
+    /// was made.
     pub fn visits(&self) -> u64 {
         self.links.visits()
     }
@@ -87,7 +88,7 @@ impl Timeline {
             process,
             instant,
         };
-        self.links.place(line(), process, &later);
+        self.links.place_sorted(line(), process, &later);
         self.instants[process.place()] = instant;
     }
 
@@ -100,7 +101,7 @@ impl Timeline {
         self.links.remove(process);
     }
 
-    /// The instant of the process, or none where it is not on the line.
+    /// The instant of the process, in ticks, or none if it is not on the line.
     pub fn instant_on(&self, process: ProcessId) -> Option<u64>
         requires { process < length self.now.instants }
         ensures { result ≡ instant_on self.now process }
@@ -109,15 +110,23 @@ impl Timeline {
         Some(self.instant(process))
     }
 
-    /// The process has this instant from now on, or none. Nothing is walked where it has it already.
+    /// The process has this instant from now on, or none. Nothing is walked if it has it already.
     pub fn set(&mut self, process: ProcessId, instant: Option<u64>)
         requires { process < length self.old.instants }
         ensures { IsReset self.old self.new process instant }
     {
-        self.holds();
-        if self.instant_on(process) == instant {
-            return;
+        if self.instant_on(process) != instant {
+            self.reset(process, instant);
         }
+    }
+
+    // In a function of its own, so that `set` is small enough to be inlined.
+    #[inline(never)]
+    fn reset(&mut self, process: ProcessId, instant: Option<u64>)
+        requires { process < length self.old.instants }
+        ensures { IsReset self.old self.new process instant }
+    {
+        self.holds();
         self.disarm(process);
         if let Some(instant) = instant {
             self.arm(process, instant);
@@ -149,7 +158,7 @@ impl Timeline {
         Some(self.instant(process))
     }
 
-    /// Takes the first process off the line where this is its instant.
+    /// Takes the first process off the line if this is its instant.
     pub fn pop_at(&mut self, instant: u64) -> Option<ProcessId>
         ensures value { result ≡ due_at self.old instant }
         ensures known { IfSome result (λ p. p < length self.old.instants) }

@@ -8,7 +8,7 @@ use apex_types::ProcessId;
 use std::alloc::{AllocError, Global};
 use std::marker::Model;
 
-/// Whose wait ends by itself, and whose deadline passes: two lines, each in the order of its instants.
+/// The dues and the deadlines of the processes: two lines, each in the order of its instants.
 #[derive(Drop)]
 pub struct Timers {
     dues: Timeline,
@@ -24,7 +24,8 @@ impl Model for Timers {
 }
 
 impl Timers {
-    /// Timers for so many processes, none of which has a due or a deadline. Fails only for want of memory.
+    /// Timers for n processes, none of which has a due or a deadline. Fails only for want of
+    /// memory.
     pub fn new(alloc: Global, processes: u16) -> Result<Timers, AllocError>
         ensures dues { IfOk result (λ timers. timers.dues ≡ empty_line processes) }
         ensures deadlines { IfOk result (λ timers. timers.deadlines ≡ empty_line processes) }
@@ -35,7 +36,8 @@ impl Timers {
         })
     }
 
-    /// The processes of each line stand in the order of their instants, and none of them twice.
+    /// The processes of each line are in the order of their instants, and none of them is there
+    /// twice.
     pub fn holds(&self)
         ensures dues { IsTimed self.now.dues }
         ensures deadlines { IsTimed self.now.deadlines }
@@ -44,13 +46,14 @@ impl Timers {
         self.deadlines.holds();
     }
 
-    /// How many nodes of the lines the calls, reading ones too, have read or written since they were made.
+    /// The number of nodes of the lines that the calls, reading ones too, have read or written
+    /// since they were made.
     pub fn visits(&self) -> u64 {
         self.dues.visits().saturating_add(self.deadlines.visits())
     }
 
-    /// The wait of the process ends by itself at this instant from now on, or never. Nothing is walked where
-    /// that was so before.
+    /// The wait of the process ends by itself at this instant, in ticks, from now on, or never.
+    /// Nothing is walked if that was so before.
     pub fn set_due(&mut self, process: ProcessId, due: Option<u64>)
         requires { process < length self.old.dues.instants }
         ensures dues { IsReset self.old.dues self.new.dues process due }
@@ -59,8 +62,8 @@ impl Timers {
         self.dues.set(process, due);
     }
 
-    /// The deadline of the process is this instant from now on, or it has none. Nothing is walked where that
-    /// was so before.
+    /// The deadline of the process is this instant, in ticks, from now on, or it has none. Nothing
+    /// is walked if that was so before.
     pub fn set_deadline(&mut self, process: ProcessId, deadline: Option<u64>)
         requires { process < length self.old.deadlines.instants }
         ensures dues { self.new.dues ≡ self.old.dues }
@@ -80,7 +83,7 @@ impl Timers {
         }
     }
 
-    /// Takes the first process off the line of dues where this is its due.
+    /// Takes the first process off the line of dues if this is its due.
     pub fn pop_due_at(&mut self, instant: u64) -> Option<ProcessId>
         ensures value { result ≡ due_at self.old.dues instant }
         ensures known { IfSome result (λ p. p < length self.old.dues.instants) }
@@ -90,7 +93,7 @@ impl Timers {
         self.dues.pop_at(instant)
     }
 
-    /// Takes the first process off the line of deadlines where this is its deadline.
+    /// Takes the first process off the line of deadlines if this is its deadline.
     pub fn pop_deadline_at(&mut self, instant: u64) -> Option<ProcessId>
         ensures value { result ≡ due_at self.old.deadlines instant }
         ensures known { IfSome result (λ p. p < length self.old.deadlines.instants) }

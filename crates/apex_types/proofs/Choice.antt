@@ -1,5 +1,5 @@
--- Laws of the choice: what a scan of the records keeps is at the place of the least, and under an order by
--- which one of any two comes first the least is before every other one.
+-- Laws of the choice: the result of a scan of the records is the place of the least, and under an
+-- order in which one of any two comes first the least is before every other one.
 use Rattle.std.proofs.Common.{◌≡◌, ◌≢◌, ℕ, zero, suc, ◌+◌, ◌<◌, Bool, true, false, not, ◌&&◌, List, length, get_or, slice_get, Option, None, Some, inl, inr, rules, arith}
 use Rattle.std.specs.Cmp.{IsStrictWeakOrder}
 use Rattle.std.specs.Option.{MatchOption}
@@ -24,8 +24,8 @@ at_place rs p = get_or rs p nobody
 pub record NonePasses (passes : Record → Bool) (rs : List Record) (n : ℕ) : Type 0 where
   pub none : (q : ℕ) → q < n → passes (at_place rs q) ≡ false
 
--- the record at place p passes; of the first n that pass none comes before it, and it comes before each
--- one in front of it
+-- the record at place p passes; of the first n that pass none comes before it, and it comes before
+-- each one in front of it
 pub record IsFirst (passes : Record → Bool) (before : Record → Record → Bool) (rs : List Record) (n p : ℕ)
     : Type 0 where
   pub within : p < n
@@ -33,7 +33,8 @@ pub record IsFirst (passes : Record → Bool) (before : Record → Record → Bo
   pub least : (q : ℕ) → q < n → passes (at_place rs q) ≡ true → before (at_place rs q) (at_place rs p) ≡ false
   pub first : (q : ℕ) → q < p → passes (at_place rs q) ≡ true → before (at_place rs p) (at_place rs q) ≡ true
 
--- what stands found after the first n records
+-- the result of a scan of the first n records: if a place is found, its record is the first of the
+-- least; if none is found, none of them passes
 abbrev pub Stands : (Record → Bool) → (Record → Record → Bool) → List Record → ℕ → Option ℕ → Type 0
 Stands passes before rs n found = MatchOption found (NonePasses passes rs n) (IsFirst passes before rs n)
 
@@ -41,7 +42,7 @@ irreflexive : (before : Record → Record → Bool) → IsStrictWeakOrder before
 irreflexive before order r = elim (cases_Bool (before r r)) [ inl e ↦ order.one_way r r e | inr e ↦ e ]
 
 module _ (passes : Record → Bool) (before : Record → Record → Bool) (rs : List Record) where
-  -- something stands found after one record more
+  -- a scan of one record more has a result too
   more : (n : ℕ) → IsStrictWeakOrder before → (found : Option ℕ) → Stands passes before rs n found
       → (next : Option ℕ) × Stands passes before rs (n + 1) next
   more n order None others =
@@ -93,7 +94,7 @@ module _ (passes : Record → Bool) (before : Record → Record → Bool) (rs : 
       let e = position_or_len_is is_least rs (length rs) nobody (omega arith) fails (λ beyond. absurd (omega arith)) in
       rw (e, le-ltb (length rs) (length rs) (omega arith))
 
-  -- what stands found after all records is the place of the least
+  -- the result of a scan of all records is the place of the least
   pub place_found : (found : Option ℕ) → Stands passes before rs (length rs) found
       → place_of_least passes before rs ≡ found
   place_found None others = place_nowhere others
@@ -102,25 +103,25 @@ module _ (passes : Record → Bool) (before : Record → Record → Bool) (rs : 
   place_stands : IsStrictWeakOrder before → Stands passes before rs (length rs) (place_of_least passes before rs)
   place_stands order = let all = stands order (length rs) in rw (place_found all.0 all.1) all.1
 
-  -- none is found only where none passes
+  -- if none is found, none passes
   pub place_none : IsStrictWeakOrder before → place_of_least passes before rs ≡ None → NonePasses passes rs (length rs)
   place_none order e = rw e at (place_stands order)
 
-  -- who is found is the first of the least
+  -- the record that is found is the first of the least
   pub place_first : IsStrictWeakOrder before → (p : ℕ) → place_of_least passes before rs ≡ Some p
       → IsFirst passes before rs (length rs) p
   place_first order p e = rw e at (place_stands order)
 
-  -- who is found is one of the records
+  -- the place that is found is one of a record
   pub place_within : (p : ℕ) → place_of_least passes before rs ≡ Some p → p < length rs
   place_within p e = (position-Some is_least rs p nobody e).0
 
-  -- who is found passes
+  -- the record that is found passes
   pub place_passes : (p : ℕ) (other : Record) → place_of_least passes before rs ≡ Some p
       → passes (get_or rs p other) ≡ true
   place_passes p other e = (and_parts _ _ (position-Some is_least rs p other e).1).0
 
-  -- who is found is before every other one that passes
+  -- the record that is found is before every other one that passes
   pub place_least : IsStrictWeakOrder before → IsTotalOn before rs
       → (p : ℕ) → place_of_least passes before rs ≡ Some p → (r : Record) × IsLeast passes before rs p r
   place_least order all p e =
@@ -137,7 +138,7 @@ module _ (passes : Record → Bool) (before : Record → Record → Bool) (rs : 
         },
       )
 
-  -- who is before every other one that passes is found
+  -- a record that is before every other one that passes is found
   pub place_is : IsStrictWeakOrder before → (p : ℕ) (r : Record) → IsLeast passes before rs p r
       → place_of_least passes before rs ≡ Some p
   place_is order p r is = place_some p (record {

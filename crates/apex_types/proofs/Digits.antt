@@ -5,7 +5,7 @@ use Rattle.std.specs.Char.{is_ascii_digit}
 use Rattle.std.specs.Str.{all_ascii_digits}
 use Rattle.apex_types.specs.Numbers.{digits_value}
 
--- the number that the digits write when they follow those of n; none where a byte is no digit
+-- the number of n's digits and, behind them, these; none if a byte is no digit
 abbrev pub more_digits : ℕ → List ℕ → Option ℕ
 more_digits n [] = Some n
 more_digits n (digit ∷ rest) = if is_ascii_digit digit then more_digits (n * 10 + (digit - 48)) rest else None

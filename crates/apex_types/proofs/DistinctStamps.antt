@@ -14,7 +14,8 @@ use Rattle.apex_types.proofs.Dues.{first_due_within, first_missed_within}
 use Rattle.apex_types.proofs.Places.{length-map_places, get_or-map_places}
 use Rattle.apex_types.proofs.Rosters.{changes_record, changes_newest, changes_oldest, at_record, at_newest}
 
--- a change that gives process p this stamp, which stands between the new counters, and is nobody's
+-- a change that gives process p this stamp: it is between the new counters, and no other process
+-- has it
 record GivesStamp (roster new : Roster) (p : ℕ) (stamp : ℤ) : Type 0 where
   many : length new.records ≡ length roster.records
   others : (q : ℕ) → q ≢ p → record_at new q ≡ record_at roster q
@@ -50,7 +51,7 @@ module _ (roster new : Roster) (p : ℕ) {stamp : ℤ} (stamped : IsStamped rost
             let before = stamped.newer q (within_before q within) in omega (arith, ints, same, before, gives.old)
       ]
 
-  -- who has the stamp is the process
+  -- the process with this stamp is p
   has_it : (q : ℕ) → q < length new.records → (record_at new q).since ≡ stamp → q ≡ p
   has_it q within e =
       elim (cases_eq q p) [

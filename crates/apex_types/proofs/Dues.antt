@@ -1,6 +1,6 @@
--- Laws of dues and deadlines: the next instant is the least of them, who is due first and who misses a
--- deadline first have the lowest number, and none is passed over by time that goes no further than the
--- next instant.
+-- Laws of dues and deadlines: the next instant is the least of them. The first process that is due,
+-- and the first one that misses a deadline, have the lowest number. Time that goes no further than
+-- the next instant passes over none of them.
 use Rattle.std.proofs.Common.{◌≡◌, ◌≢◌, ℕ, zero, suc, ◌+◌, ◌≤◌, ◌<◌, ◌⊎◌, inl, inr, Bool, true, false, not, min, List, [], ◌∷◌, length, get_or, position, Option, None, Some, option_map, refl, sym, ◌∙◌, ap, arith}
 use Rattle.std.specs.List.{position_or_len}
 use Rattle.std.proofs.lemmas.Bool.{eqb-true, eq-eqb, cases_lt, both_ways, lt-ltb, not-true}
@@ -38,7 +38,7 @@ sooner_among (Some s) (Some u) t e =
       | inr above ↦ let here : u ≡ t = omega arith in inr (ap Some here)
     ]
 
--- where an instant is awaited there is an earliest one, and it is no later
+-- if an instant is awaited there is an earliest one, and it is no later
 pub earliest_is_least : (rs : List Record) (p u : ℕ) → IsAwaited (get_or rs p nobody) u → (t : ℕ) × (earliest rs ≡ Some t) × (t ≤ u)
 earliest_is_least [] p u (inl e) = absurd (none-some u e)
 earliest_is_least [] p u (inr e) = absurd (none-some u e)
@@ -71,7 +71,7 @@ earliest_below rs t e p u awaited =
     let least = earliest_is_least rs p u awaited in
     omega (arith, least.2, same_Some t least.0 (sym e ∙ least.1))
 
--- where there is no earliest instant, none is awaited
+-- if there is no earliest instant, none is awaited
 pub earliest_none : (rs : List Record) → earliest rs ≡ None → (p u : ℕ) → IsAwaited (get_or rs p nobody) u → ⊥
 earliest_none rs e p u awaited =
     let least = earliest_is_least rs p u awaited in none-some least.0 (sym e ∙ least.1)
@@ -88,7 +88,8 @@ next_not_past roster dues deadlines t e =
     let found = earliest_among roster.records t e in
     elim found.2 [ inl due ↦ dues found.0 t due | inr deadline ↦ deadlines found.0 t deadline ]
 
--- time that goes no further than the next instant, if there is one, passes over nothing that is awaited
+-- time that goes no further than the next instant, if there is one, passes over nothing that is
+-- awaited
 pub advanced_not_past : (roster : Roster) (t : ℕ) → ((next : ℕ) → next_instant roster ≡ Some next → t ≤ next)
     → (p u : ℕ) → IsAwaited (record_at roster p) u → t ≤ u
 advanced_not_past roster t within p u awaited =
@@ -156,7 +157,7 @@ instant_of_test t (Some u) e = ap Some (sym (eqb-true t u e))
 test_of_instant : (t : ℕ) (instant : Option ℕ) → instant ≡ Some t → is_instant t instant ≡ true
 test_of_instant t instant e = rw e (eq-eqb t t refl)
 
--- where no first place passes, no record does
+-- if there is no first record that passes, no record passes
 pub position_none : (passes : Record → Bool) (rs : List Record) → position passes rs ≡ None
     → (q : ℕ) → q < length rs → passes (get_or rs q nobody) ≡ false
 position_none passes rs e q within =
@@ -184,7 +185,7 @@ module _ (instant_of : Record → Option ℕ) (of_nobody : instant_of nobody ≡
         | inr above ↦ above
       ]
 
-  -- who has such an instant is one of the records
+  -- a process that has such an instant is one of the records
   has_within : (q u : ℕ) → instant_of (get_or rs q nobody) ≡ Some u → q < length rs
   has_within q u here =
       elim (cases_lt q (length rs)) [
@@ -202,28 +203,28 @@ due_of r = r.due
 abbrev deadline_of : Record → Option ℕ
 deadline_of r = r.deadline
 
--- who is due first is due now
+-- the first process that is due is due now
 pub first_due_now : (roster : Roster) (p : ℕ) → first_due roster ≡ Some p → (record_at roster p).due ≡ Some roster.now
 unfolding is_due_at
 first_due_now roster p e = then_now due_of refl roster.now roster.records p e
 
--- who is due first is one of the processes
+-- the first process that is due is one of the processes
 pub first_due_within : (roster : Roster) (p : ℕ) → first_due roster ≡ Some p → p < length roster.records
 unfolding is_due_at
 first_due_within roster p e = then_within due_of refl roster.now roster.records p e
 
--- whoever is due now has no lower number than who is due first
+-- no process that is due now has a lower number than the first one
 pub first_due_lowest : (roster : Roster) (p q : ℕ) → first_due roster ≡ Some p → (record_at roster q).due ≡ Some roster.now → p ≤ q
 unfolding is_due_at
 first_due_lowest roster p q e due = then_lowest due_of refl roster.now roster.records p q e due
 
--- where nobody is due first, nobody is due now
+-- if no process is due first, none is due now
 pub first_due_none : (roster : Roster) → first_due roster ≡ None → (q : ℕ) → (record_at roster q).due ≢ Some roster.now
 unfolding is_due_at
 first_due_none roster e q = then_none due_of refl roster.now roster.records e q
 
--- the same of deadlines: who misses one first misses it now, is one of the processes, and has the lowest
--- number; and where nobody does, no deadline is now
+-- the same of deadlines: the first process that misses one misses it now, is one of the processes,
+-- and has the lowest number; if there is none, no deadline is now
 pub first_missed_now : (roster : Roster) (p : ℕ) → first_missed roster ≡ Some p → (record_at roster p).deadline ≡ Some roster.now
 unfolding is_missed_at
 first_missed_now roster p e = then_now deadline_of refl roster.now roster.records p e

@@ -1,26 +1,30 @@
--- Mutexes that change hands: what the changes of processes keep.
-use Rattle.std.proofs.Common.{◌≡◌, ℕ, ◌<◌, true, false, Option, None, Some, length, refl, sym, ◌∙◌, ap, arith}
+-- Mutexes that change hands: the facts that changes of processes keep.
+use Rattle.std.proofs.Common.{lit≤, ◌≡◌, ◌≢◌, ℕ, ◌+◌, ◌<◌, ◌≤◌, Bool, true, false, ◌||◌, List, [], ◌∷◌, ◌++◌, Option, None, Some, length, refl, sym, ◌∙◌, ap, inl, inr, arith}
 use Rattle.std.specs.Option.{option_and_then}
-use Rattle.std.proofs.lemmas.Bool.{both_ways, cond_both}
+use Rattle.std.proofs.lemmas.Bool.{both_ways, cases_Bool, cond_both, eq-eqb, eqb-true, false_from_ne_true, or_left, or_right}
+use Rattle.std.proofs.lemmas.List.{length-append}
 use Rattle.std.proofs.lemmas.Option.{none-some}
 use Rattle.apex_types.specs.Terms.{Holding, Queue, Record, Wait}
 use Rattle.apex_types.specs.declared.records.Queue.TheVariants as queues
 use Rattle.apex_types.specs.declared.records.Wait.TheVariants.{Normal, Start, Time, Period, Semaphore, Receive, Send, Blackboard, Event, Mutex}
 use Rattle.apex_types.specs.Dues.{IsFrom}
+use Rattle.apex_types.specs.Held.{holding_of, holds, in_order, is_of, with_depth, without}
+use Rattle.apex_types.specs.Limits.{most_depth}
 use Rattle.apex_types.specs.Handovers.{hand_over, hand_to, halted, hand_on}
-use Rattle.apex_types.specs.Owners.{HasOrderlyOwners, IsLawfulHolding, is_held, owns}
+use Rattle.apex_types.specs.Owners.{HasOrderlyOwners, IsLawfulHolding, owns}
 use Rattle.apex_types.specs.Queues.{queue_of}
 use Rattle.apex_types.specs.Roster.{Roster, is_normal, record_at, with_record}
 use Rattle.apex_types.specs.Running.{is_eligible}
 use Rattle.apex_types.specs.Stamps.{HasOrderlyStarts, awake, block, is_level, newest, oldest, own, stop, stopped, waiting}
 use Rattle.apex_types.specs.Waiters.{first_waiter}
-use Rattle.apex_types.proofs.Owners.{AreOwnedBut, HasAnother, but_for, none_waiting, owners_waiting, freed_but, freed_nobody, owners_owning, lawful_still}
-use Rattle.apex_types.proofs.Reaches.{Moves, Reaches, moves_of, moves_then, moves_readied, moves_levelled, moves_stop, moves_block, periods_newest, periods_oldest, periods_record, periods_stop, own_stays, reaches_none, reaches_more, reaches_of, reaches_stop, another_record, another_newest, another_oldest, awake_fits, own_fits}
+use Rattle.apex_types.proofs.Held.{fewer_without, held_before, holds_apart, holds_at_depth, holds_gone, holds_in_order, holds_more, is_held, lawful_at_depth, lawful_in_order, lawful_more, lawful_without, many_at_depth, many_in_order, nothing_held, or_false}
+use Rattle.apex_types.proofs.Owners.{AreOwnedBut, Hands, all_owned, but_none, none_waiting, owned_then, owners_waiting}
+use Rattle.apex_types.proofs.Reaches.{Moves, Reaches, moves_of, moves_more, moves_then, moves_readied, moves_levelled, moves_stop, moves_block, periods_newest, periods_oldest, periods_record, periods_stop, own_stays, reaches_none, reaches_of, another_record, another_newest, another_oldest, awake_fits, own_fits}
 use Rattle.apex_types.proofs.Periods.{KeepsPeriods, stays_same, stays_then}
 use Rattle.apex_types.proofs.Starts.{first_stands, first_within, queued_normal, waits_there}
 use Rattle.apex_types.proofs.Waking.{none_waits}
 
--- who stands in the queue of a mutex waits for it
+-- a process in the queue of a mutex waits for it
 pub mutex_wait : (w : Option Wait) (m : ℕ) → option_and_then queue_of w ≡ Some (queues.Mutex m) → w ≡ Some (Mutex m)
 mutex_wait None m e = cc
 mutex_wait (Some (Normal delay)) m e = cc
@@ -34,7 +38,7 @@ mutex_wait (Some (Blackboard b)) m e = cc
 mutex_wait (Some (Event v)) m e = cc
 mutex_wait (Some (Mutex n)) m e = cc
 
--- a mutex that nobody owns goes to its first waiter
+-- a mutex that no process owns goes to its first waiter
 module _ (roster : Roster) (holding : Holding) where
   abbrev queue : Queue
   queue = queues.Mutex holding.mutex
@@ -42,10 +46,18 @@ module _ (roster : Roster) (holding : Holding) where
   abbrev first : Holding
   first = record holding { depth = 1 }
 
-  moves_to : (found : Option ℕ) → first_waiter roster queue ≡ found → HasOrderlyStarts roster → Moves 1 roster (hand_to roster holding found).roster
-  moves_to None is starts = moves_of (reaches_none 1 roster)
+  few_told : (found : Option ℕ) → length (hand_to roster holding found).notices ≤ 1
+  few_told None = lit≤ tt
+  few_told (Some q) = lit≤ tt
+
+  pub few_handed_over : length (hand_over roster holding).notices ≤ 1
+  few_handed_over = few_told (first_waiter roster queue)
+
+  moves_to : (found : Option ℕ) → first_waiter roster queue ≡ found → HasOrderlyStarts roster
+      → Moves (length (hand_to roster holding found).notices) roster (hand_to roster holding found).roster
+  moves_to None is starts = moves_of (reaches_none 0 roster)
   moves_to (Some q) is starts =
-      let r : Record = record (record_at roster q) { owned = Some first } in
+      let r : Record = record (record_at roster q) { owned = first ∷ [] } in
       let known = first_within roster queue q is in
       moves_readied roster q known (awake r) refl
       (awake_fits roster q known r refl refl (queued_normal roster starts q queue (first_stands roster queue q is) refl))
@@ -53,7 +65,7 @@ module _ (roster : Roster) (holding : Holding) where
   periods_to : (found : Option ℕ) → first_waiter roster queue ≡ found → KeepsPeriods roster (hand_to roster holding found).roster
   periods_to None is = λ p. stays_same (record_at roster p)
   periods_to (Some q) is =
-      let r : Record = awake (record (record_at roster q) { owned = Some first }) in
+      let r : Record = awake (record (record_at roster q) { owned = first ∷ [] }) in
       let known = first_within roster queue q is in
       let stays = own_stays roster q known r refl refl refl refl (λ _. refl) in
       cond_both {A = Roster} (is_eligible roster.mode r) (newest roster q r) (with_record roster q r) (KeepsPeriods roster)
@@ -62,117 +74,237 @@ module _ (roster : Roster) (holding : Holding) where
   pub periods_hand_over : KeepsPeriods roster (hand_over roster holding).roster
   periods_hand_over = periods_to (first_waiter roster queue) refl
 
-  pub moves_hand_over : HasOrderlyStarts roster → Moves 1 roster (hand_over roster holding).roster
+  -- it gives at most one stamp for each notice
+  pub moves_hand_over : HasOrderlyStarts roster
+      → Moves (length (hand_over roster holding).notices) roster (hand_over roster holding).roster
   moves_hand_over = moves_to (first_waiter roster queue) refl
 
-  -- nobody owns it, and it was held at its ceiling
-  module _ (but : AreOwnedBut holding.mutex roster) (nobody_owns : (q : ℕ) → owns holding.mutex (record_at roster q) ≡ true → ⊥)
-      (lawful : IsLawfulHolding roster holding) where
-    owned_to : (found : Option ℕ) → first_waiter roster queue ≡ found → HasOrderlyOwners (hand_to roster holding found).roster
-    owned_to None is = none_waiting holding.mutex roster but (λ p waits.
+  -- it is one of those that no process owns, and were held lawfully
+  module _ (lost : List Holding) (but : AreOwnedBut (holding ∷ lost) roster) where
+    differs : (n : ℕ) → holds n lost ≡ true → is_of n holding ≡ false
+    differs n is = elim (cases_Bool (is_of n holding)) [
+      | inl same ↦
+          absurd (both_ways _ but.lawful.1 (ap (λ (k : ℕ). holds k lost) (eqb-true holding.mutex n same) ∙ is))
+      | inr apart ↦ apart
+    ]
+
+    hands_heir : (q : ℕ) → (record_at roster q).owned ≡ [] → Hands roster q (first ∷ []) (holding ∷ lost) lost
+    hands_heir q unowned = record {
+      lawful = record {
+        lawful = (record { ceiling = but.lawful.0.ceiling; depth = (lit≤ tt, lit≤ tt) }, refl, tt);
+        few = but.most;
+      };
+      others = but.lawful.2;
+      fresh = λ n is.
+          inr (λ s. but.free n s (or_left (is_of n holding) (holds n lost) (sym (or_false (is_of n holding)) ∙ is)));
+      gone = λ n is.
+          (or_false (is_of n holding) ∙ differs n is, λ s _. but.free n s (or_right (is_of n holding) (holds n lost) is));
+      kept = λ n had _. absurd (both_ways _ (nothing_held (record_at roster q).owned unowned n) had);
+      taken = λ n was stays. ap (λ (b : Bool). is_of n holding || b) (sym stays) ∙ was;
+    }
+
+    inherits_to : (found : Option ℕ) → first_waiter roster queue ≡ found → AreOwnedBut lost (hand_to roster holding found).roster
+    inherits_to None is = none_waiting roster holding lost but (λ p waits.
         both_ways _ (none_waits roster queue is p) (waits_there queue (record_at roster p) (ap (option_and_then queue_of) waits)))
-    owned_to (Some q) is =
-        let r : Record = awake (record (record_at roster q) { owned = Some first }) in
+    inherits_to (Some q) is =
+        let r : Record = awake (record (record_at roster q) { owned = first ∷ [] }) in
         let young : Record = record r { since = roster.young } in
         let known = first_within roster queue q is in
         let waits = mutex_wait (record_at roster q).wait holding.mutex (first_stands roster queue q is) in
-        let unowned = but.without q holding.mutex waits in
-        let stays : (n : ℕ) → owns n (record_at roster q) ≡ true → n ≡ holding.mutex = λ n e. absurd (both_ways _ (ap (is_held n) unowned) e) in
-        cond_both {A = Roster} (is_eligible roster.mode r) (newest roster q r) (with_record roster q r) HasOrderlyOwners
-        (λ _. owners_owning roster (newest roster q r) q young (another_newest roster q known r) first but
-        (record { ceiling = lawful.ceiling; depth = (omega arith, omega arith) }) refl (λ n e. none-some (Mutex n) e) (λ s e. absurd (nobody_owns s e)) stays)
-        (λ _. owners_owning roster (with_record roster q r) q r (another_record roster q known r) first but
-        (record { ceiling = lawful.ceiling; depth = (omega arith, omega arith) }) refl (λ n e. none-some (Mutex n) e) (λ s e. absurd (nobody_owns s e)) stays)
+        let hands = hands_heir q (but.without q holding.mutex waits) in
+        cond_both {A = Roster} (is_eligible roster.mode r) (newest roster q r) (with_record roster q r) (AreOwnedBut lost)
+        (λ _. owned_then roster (newest roster q r) q young (another_newest roster q known r) (holding ∷ lost) lost but hands
+        (λ n e. none-some (Mutex n) e))
+        (λ _. owned_then roster (with_record roster q r) q r (another_record roster q known r) (holding ∷ lost) lost but hands
+        (λ n e. none-some (Mutex n) e))
 
-    pub owned_hand_over : HasOrderlyOwners (hand_over roster holding).roster
-    owned_hand_over = owned_to (first_waiter roster queue) refl
+    pub inherits_hand_over : AreOwnedBut lost (hand_over roster holding).roster
+    inherits_hand_over = inherits_to (first_waiter roster queue) refl
+
+-- mutexes that no process owns go on one after the other
+pub few_handed_on : (held : List Holding) (roster : Roster) → length (hand_on held roster).notices ≤ length held
+few_handed_on [] roster = lit≤ tt
+few_handed_on (holding ∷ held) roster =
+    let handed = hand_over roster holding in
+    let others = hand_on held handed.roster in
+    let few = few_handed_over roster holding in
+    let fewer = few_handed_on held handed.roster in
+    omega (arith, length-append handed.notices others.notices, few, fewer)
+
+moves_hand_on : (held : List Holding) (roster : Roster) → HasOrderlyStarts roster
+    → Moves (length (hand_on held roster).notices) roster (hand_on held roster).roster
+moves_hand_on [] roster starts = moves_of (reaches_none 0 roster)
+moves_hand_on (holding ∷ held) roster starts =
+    let handed = hand_over roster holding in
+    let others = hand_on held handed.roster in
+    let moves = moves_hand_over roster holding starts in
+    moves_more (length handed.notices + length others.notices) (length (handed.notices ++ others.notices))
+    (omega (arith, length-append handed.notices others.notices))
+    (moves_then (length handed.notices) (length others.notices) moves (moves_hand_on held handed.roster (moves.starts starts)))
+
+periods_hand_on : (held : List Holding) (roster : Roster) → KeepsPeriods roster (hand_on held roster).roster
+periods_hand_on [] roster q = stays_same (record_at roster q)
+periods_hand_on (holding ∷ held) roster q =
+    stays_then (periods_hand_over roster holding q) (periods_hand_on held (hand_over roster holding).roster q)
+
+owned_hand_on : (held : List Holding) (roster : Roster) → AreOwnedBut held roster → HasOrderlyOwners (hand_on held roster).roster
+owned_hand_on [] roster but = all_owned roster but
+owned_hand_on (holding ∷ held) roster but =
+    owned_hand_on held (hand_over roster holding).roster (inherits_hand_over roster holding held but)
 
 module _ (roster : Roster) (p : ℕ) (known : p < length roster.records) where
-  pub moves_own : (owned : Option Holding) → Moves 1 roster (own roster p owned)
+  abbrev mine : List Holding
+  mine = (record_at roster p).owned
+
+  pub moves_own : (owned : List Holding) → Moves 1 roster (own roster p owned)
   moves_own owned =
       let r : Record = record (record_at roster p) { owned = owned } in
       moves_levelled roster p known r refl (own_fits roster p known r
       (record { attributes = refl; started = refl; wait = refl; due = refl; deadline = refl; release = refl }) (λ h. h))
 
-  periods_own : (owned : Option Holding) → KeepsPeriods roster (own roster p owned)
+  periods_own : (owned : List Holding) → KeepsPeriods roster (own roster p owned)
   periods_own owned =
       let r : Record = record (record_at roster p) { owned = owned } in
       let stays = own_stays roster p known r refl refl refl refl (λ e. e) in
       cond_both {A = Roster} (is_level r (record_at roster p)) (with_record roster p r) (oldest roster p r) (KeepsPeriods roster)
       (λ _. periods_record roster p known r stays) (λ _. periods_oldest roster p known r stays)
 
-  -- process p gives the mutex up that it held so
-  module _ (holding : Holding) (held : (record_at roster p).owned ≡ Some holding) (free : (record_at roster p).wait ≡ None) where
-    idle : (n : ℕ) → (record_at roster p).wait ≡ Some (Mutex n) → ⊥
-    idle n is = none-some (Mutex n) (sym free ∙ is)
-
-    owned_given_up : HasOrderlyOwners roster → HasOrderlyOwners (hand_over (own roster p None) holding).roster
-    owned_given_up orderly =
-        let r : Record = record (record_at roster p) { owned = None } in
-        let aged : Record = record r { since = roster.old } in
-        let lawful = orderly.holdings p holding held in
-        let given_up : (new : Roster) (s : Record) → HasAnother roster new p s → s.owned ≡ None → s.wait ≡ (record_at roster p).wait
-        → HasOrderlyOwners (hand_over new holding).roster =
-        λ new s has unowned same.
-        let idle_so : (n : ℕ) → s.wait ≡ Some (Mutex n) → ⊥ = λ n is. idle n (sym same ∙ is) in
-        owned_hand_over new holding (freed_but roster new p s has orderly holding held unowned idle_so)
-        (freed_nobody roster new p s has orderly holding held unowned idle_so)
-        (lawful_still roster new has.ceilings holding lawful) in
-        cond_both {A = Roster} (is_level r (record_at roster p)) (with_record roster p r) (oldest roster p r)
-        (λ new. HasOrderlyOwners (hand_over new holding).roster)
-        (λ _. given_up (with_record roster p r) r (another_record roster p known r) refl refl)
-        (λ _. given_up (oldest roster p r) aged (another_oldest roster p known r) refl refl)
-
-    pub reaches_give_up : HasOrderlyStarts roster → Reaches 2 roster (hand_over (own roster p None) holding).roster
-    reaches_give_up starts =
-        let given = moves_own None in
-        reaches_of (moves_then 1 1 given (moves_hand_over (own roster p None) holding (given.starts starts))) owned_given_up
-        (λ q. stays_then (periods_own None q) (periods_hand_over (own roster p None) holding q))
-
-  -- process p owns this mutex, which no other one owns
-  pub reaches_own : (holding : Holding) → (record_at roster p).wait ≡ None
-      → (HasOrderlyOwners roster → IsLawfulHolding roster holding)
-      → (HasOrderlyOwners roster → (q : ℕ) → owns holding.mutex (record_at roster q) ≡ true → q ≡ p)
-      → ((n : ℕ) → owns n (record_at roster p) ≡ true → n ≡ holding.mutex) → Reaches 1 roster (own roster p (Some holding))
-  reaches_own holding free lawful alone stays =
-      let r : Record = record (record_at roster p) { owned = Some holding } in
+  -- process p, which waits for none, owns these from now on
+  owned_own : (owned left : List Holding) → (record_at roster p).wait ≡ None → HasOrderlyOwners roster
+      → Hands roster p owned [] left → AreOwnedBut left (own roster p owned)
+  owned_own owned left free orderly hands =
+      let r : Record = record (record_at roster p) { owned = owned } in
       let aged : Record = record r { since = roster.old } in
       let idle : (n : ℕ) → (record_at roster p).wait ≡ Some (Mutex n) → ⊥ = λ n is. none-some (Mutex n) (sym free ∙ is) in
-      reaches_of (moves_own (Some holding)) (λ orderly.
-      let still = lawful orderly in
-      cond_both {A = Roster} (is_level r (record_at roster p)) (with_record roster p r) (oldest roster p r) HasOrderlyOwners
-      (λ _. owners_owning roster (with_record roster p r) p r (another_record roster p known r) holding (but_for holding.mutex roster orderly)
-      (record { ceiling = still.ceiling; depth = still.depth }) refl idle (alone orderly) stays)
-      (λ _. owners_owning roster (oldest roster p r) p aged (another_oldest roster p known r) holding (but_for holding.mutex roster orderly)
-      (record { ceiling = still.ceiling; depth = still.depth }) refl idle (alone orderly) stays))
-      (periods_own (Some holding))
+      cond_both {A = Roster} (is_level r (record_at roster p)) (with_record roster p r) (oldest roster p r) (AreOwnedBut left)
+      (λ _. owned_then roster (with_record roster p r) p r (another_record roster p known r) [] left (but_none roster orderly) hands idle)
+      (λ _. owned_then roster (oldest roster p r) p aged (another_oldest roster p known r) [] left (but_none roster orderly) hands idle)
 
-  -- process p is stopped, and a mutex that it owned goes on
-  owned_stopped : (holding : Holding) → (record_at roster p).owned ≡ Some holding → HasOrderlyOwners roster
-      → HasOrderlyOwners (hand_over (stop roster p) holding).roster
-  owned_stopped holding held orderly =
-      let new = stop roster p in
+  pub reaches_own : (owned : List Holding) → (record_at roster p).wait ≡ None
+      → (HasOrderlyOwners roster → Hands roster p owned [] []) → Reaches 1 roster (own roster p owned)
+  reaches_own owned free hands =
+      reaches_of (moves_own owned) (λ orderly. all_owned (own roster p owned) (owned_own owned [] free orderly (hands orderly)))
+      (periods_own owned)
+
+  none_lost : {A : Type 0} (n : ℕ) → holds n [] ≡ true → A
+  none_lost n is = absurd (both_ways false refl is)
+
+  -- a mutex more, which no process owned
+  pub hands_more : (holding : Holding) → IsLawfulHolding roster holding → length mine < roster.rules.most_owned
+      → ((q : ℕ) → owns holding.mutex (record_at roster q) ≡ false) → HasOrderlyOwners roster
+      → Hands roster p (mine ++ holding ∷ []) [] []
+  hands_more holding lawful few nobody_did orderly = record {
+    lawful = record {
+      lawful = lawful_more holding roster lawful mine (nobody_did p) (orderly.owned p).lawful;
+      few = omega (arith, length-append mine (holding ∷ []), few);
+    };
+    others = tt;
+    fresh = λ n is. elim (cases_Bool (holds n mine)) [
+      | inl had ↦ inl had
+      | inr not_had ↦
+          let same : is_of n holding ≡ true = sym (ap (λ (b : Bool). b || is_of n holding) not_had) ∙ sym (holds_more holding n mine) ∙ is in
+          inr (λ q. ap (λ (k : ℕ). owns k (record_at roster q)) (sym (eqb-true holding.mutex n same)) ∙ nobody_did q)
+    ];
+    gone = λ n is. none_lost n is;
+    kept = λ n had _. holds_more holding n mine ∙ or_left (holds n mine) (is_of n holding) had;
+    taken = λ n is _. none_lost n is;
+  }
+
+  -- a mutex at another depth
+  pub hands_at_depth : (m depth : ℕ) → (1 ≤ depth) × (depth ≤ most_depth) → HasOrderlyOwners roster
+      → Hands roster p (with_depth m depth mine) [] []
+  hands_at_depth m depth range orderly = record {
+    lawful = record {
+      lawful = lawful_at_depth m depth roster range mine (orderly.owned p).lawful;
+      few = omega (arith, many_at_depth m depth mine, (orderly.owned p).few);
+    };
+    others = tt;
+    fresh = λ n is. inl (sym (holds_at_depth m depth n mine) ∙ is);
+    gone = λ n is. none_lost n is;
+    kept = λ n had _. holds_at_depth m depth n mine ∙ had;
+    taken = λ n is _. none_lost n is;
+  }
+
+  -- the other processes own none of the mutexes that process p owned
+  not_others : (n : ℕ) → HasOrderlyOwners roster → owns n (record_at roster p) ≡ true → (q : ℕ) → q ≢ p
+      → owns n (record_at roster q) ≡ false
+  not_others n orderly had q apart = false_from_ne_true _ (λ its. apart (orderly.one n q p its had))
+
+  -- process p gives up mutex m, of this holding
+  module _ (m : ℕ) (holding : Holding) (held : holding_of m mine ≡ Some holding) (free : (record_at roster p).wait ≡ None) where
+    hands_without : HasOrderlyOwners roster → Hands roster p (without m mine) [] (holding ∷ [])
+    hands_without orderly =
+        let is = is_held m holding mine held in
+        let lawful = orderly.owned p in
+        let the_one : (n : ℕ) → holds n (holding ∷ []) ≡ true → m ≡ n =
+        λ n same. sym is.mutex ∙ eqb-true holding.mutex n (sym (or_false (is_of n holding)) ∙ same) in
+        record {
+          lawful = record {
+            lawful = lawful_without m roster mine lawful.lawful;
+            few = omega (arith, fewer_without m mine, lawful.few);
+          };
+          others = (is.lawful roster lawful.lawful, refl, tt);
+          fresh = λ n its. inl (held_before m n mine its);
+          gone = λ n same. (
+            ap (λ (k : ℕ). holds k (without m mine)) (sym (the_one n same)) ∙ holds_gone m mine,
+            not_others n orderly (ap (λ (k : ℕ). holds k mine) (sym (the_one n same)) ∙ is.held),
+          );
+          kept = λ n had apart.
+              holds_apart m n (λ same. both_ways _ apart (or_left (is_of n holding) false (eq-eqb holding.mutex n (is.mutex ∙ sym same)))) mine
+              ∙ had;
+          taken = λ n is _. none_lost n is;
+        }
+
+    pub reaches_give_up : HasOrderlyStarts roster → Reaches 2 roster (hand_over (own roster p (without m mine)) holding).roster
+    reaches_give_up starts =
+        let given = own roster p (without m mine) in
+        let handed = hand_over given holding in
+        let moves = moves_own (without m mine) in
+        reaches_of
+        (moves_more (1 + length handed.notices) 2 (omega (arith, few_handed_over given holding))
+        (moves_then 1 (length handed.notices) moves (moves_hand_over given holding (moves.starts starts))))
+        (λ orderly.
+        all_owned handed.roster (inherits_hand_over given holding []
+        (owned_own (without m mine) (holding ∷ []) free orderly (hands_without orderly))))
+        (λ q. stays_then (periods_own (without m mine) q) (periods_hand_over given holding q))
+
+  -- process p is stopped, and the mutexes that it owned go on
+  hands_all : HasOrderlyOwners roster → Hands roster p [] [] (in_order mine)
+  hands_all orderly = record {
+    lawful = record { lawful = tt; few = omega arith };
+    others = lawful_in_order roster mine (orderly.owned p).lawful;
+    fresh = λ n is. none_lost n is;
+    gone = λ n is. (refl, not_others n orderly (sym (holds_in_order n mine) ∙ is));
+    kept = λ n had stays. absurd (both_ways _ stays (holds_in_order n mine ∙ had));
+    taken = λ n is _. none_lost n is;
+  }
+
+  owned_stopped : HasOrderlyOwners roster → HasOrderlyOwners (halted roster p).roster
+  owned_stopped orderly =
       let r = stopped (record_at roster p) in
-      let has = another_record roster p known r in
-      let idle : (n : ℕ) → r.wait ≡ Some (Mutex n) → ⊥ = λ n is. none-some (Mutex n) is in
-      owned_hand_over new holding (freed_but roster new p r has orderly holding held refl idle)
-      (freed_nobody roster new p r has orderly holding held refl idle)
-      (lawful_still roster new refl holding (orderly.holdings p holding held))
+      owned_hand_on (in_order mine) (stop roster p)
+      (owned_then roster (stop roster p) p r (another_record roster p known r) [] (in_order mine) (but_none roster orderly)
+      (hands_all orderly) (λ n is. none-some (Mutex n) is))
 
-  halted_from : (owned : Option Holding) → (record_at roster p).owned ≡ owned → HasOrderlyStarts roster
-      → Reaches 1 roster (hand_on (stop roster p) owned).roster
-  halted_from None free starts = reaches_more 0 1 (omega arith) (reaches_stop roster p known free)
-  halted_from (Some holding) held starts =
+  -- a stop gives at most one notice for each mutex that the process owned, and at most one stamp
+  -- for each notice
+  pub few_halted : length (halted roster p).notices ≤ length mine
+  few_halted =
+      let few = few_handed_on (in_order mine) (stop roster p) in
+      omega (arith, few, many_in_order mine)
+
+  pub reaches_halted : HasOrderlyStarts roster → Reaches (length (halted roster p).notices) roster (halted roster p).roster
+  reaches_halted starts =
       let stops = moves_stop roster p known in
-      reaches_of (moves_then 0 1 stops (moves_hand_over (stop roster p) holding (stops.starts starts))) (owned_stopped holding held)
-      (λ q. stays_then (periods_stop roster p known q) (periods_hand_over (stop roster p) holding q))
-
-  pub reaches_halted : HasOrderlyStarts roster → Reaches 1 roster (halted roster p).roster
-  reaches_halted = halted_from (record_at roster p).owned refl
+      let told = length (halted roster p).notices in
+      reaches_of
+      (moves_more (0 + told) told (omega arith)
+      (moves_then 0 told stops (moves_hand_on (in_order mine) (stop roster p) (stops.starts starts))))
+      owned_stopped (λ q. stays_then (periods_stop roster p known q) (periods_hand_on (in_order mine) (stop roster p) q))
 
   -- process p, which owns no mutex, waits for one that another owns
   pub reaches_await : (m : ℕ) (due : Option ℕ) → IsFrom roster.now due → (record_at roster p).started ≡ true → (is_normal roster.mode ≡ false → ⊥)
-      → (record_at roster p).owned ≡ None → (other : ℕ) → owns m (record_at roster other) ≡ true
+      → (record_at roster p).owned ≡ [] → (other : ℕ) → owns m (record_at roster other) ≡ true
       → Reaches 1 roster (block roster p (Mutex m) due)
   reaches_await m due later begun normal without other owning =
       let r : Record = record (waiting (record_at roster p) (Mutex m) due) { since = roster.young } in

@@ -5,7 +5,7 @@ use Rattle.apex_types.specs.Roster.{Roster}
 use Rattle.apex_types.specs.InTurn.{Changed, unchanged, behind, next_and, in_turn}
 
 module _ (next : Roster → Option ℕ) (change : Roster → ℕ → Changed) where
-  -- nobody is next
+  -- no process is next
   pub in_turn-none : (left : ℕ) (roster : Roster) → next roster ≡ None
       → in_turn next change left roster ≡ unchanged roster
   in_turn-none zero roster e = refl
@@ -20,7 +20,7 @@ module _ (next : Roster → Option ℕ) (change : Roster → ℕ → Changed) wh
       let rest = in_turn next change left changed.roster in
       rw (e, append_assoc before changed.notices rest.notices) refl
 
-  -- what holds at the start and stays at each change holds at the end
+  -- a property that holds at the start and stays at each change holds at the end
   module _ (Holds : Roster → List Notice → Type 0)
       (stays : (roster : Roster) (before : List Notice) (p : ℕ) → next roster ≡ Some p → Holds roster before
       → Holds (change roster p).roster (before ++ (change roster p).notices)) where

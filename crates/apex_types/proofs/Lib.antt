@@ -5,6 +5,8 @@ pub mod Choice
 pub mod Orders
 pub mod DistinctStamps
 pub mod Starts
+pub mod BothProfiles
+pub mod Held
 pub mod Owners
 pub mod Periods
 pub mod Reaches

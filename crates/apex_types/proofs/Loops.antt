@@ -18,7 +18,7 @@ module _ (next : Roster → Option ℕ) (change : Roster → ℕ → Changed) wh
       notices = sym (append-nil notices) ∙ ap (λ (c : Changed). c.notices) e;
     }
 
-    -- nobody is next
+    -- no process is next
     pub made_by_none : LeadsTo (behind before changed) turn end roster notices → turn ≤ end → next roster ≡ None
         → Makes changed roster before notices
     made_by_none leads within none = none_left (end - turn) (omega (arith, within)) where

@@ -1,4 +1,5 @@
--- What a change of the mode keeps: a start leaves the mode, and NORMAL and IDLE are entered.
+-- Changes of the mode: the entries into NORMAL and IDLE keep the facts that other changes keep, and
+-- a start leaves the mode as it is.
 use Rattle.std.proofs.Common.{◌≡◌, ℕ, zero, suc, ◌+◌, ◌==◌, true, false, List, [], ◌∷◌, map, get_or, length, None, Some, refl, sym, ◌∙◌, ap, subst, arith}
 use Rattle.std.proofs.lemmas.Bool.{both_ways, cond_both}
 use Rattle.std.proofs.lemmas.Int.{ints}
@@ -8,7 +9,8 @@ use Rattle.apex_types.specs.Terms.{Mode, Record}
 use Rattle.apex_types.specs.declared.records.Mode.TheVariants as mode
 use Rattle.apex_types.specs.declared.records.Wait.TheVariants.{Start, Period, Mutex}
 use Rattle.apex_types.specs.Roster.{Roster, nobody, record_at, is_cold_start, is_normal}
-use Rattle.apex_types.specs.Owners.{is_held}
+use Rattle.apex_types.specs.Held.{holds}
+use Rattle.apex_types.specs.Owners.{AreLawfullyOwned}
 use Rattle.apex_types.specs.Running.{is_eligible}
 use Rattle.apex_types.specs.Periods.{IsInTime}
 use Rattle.apex_types.specs.Stamps.{readied, begin, released_at, release, block, stopped, set_mode}
@@ -18,7 +20,7 @@ use Rattle.apex_types.proofs.Periods.{StaysInPeriod, no_period, stays_same}
 use Rattle.apex_types.proofs.Owners.{owners_kept}
 use Rattle.apex_types.proofs.Reaches.{Reaches}
 
--- a start that begins leaves the mode
+-- a start that begins leaves the mode as it is
 mode_readied : (roster : Roster) (p : ℕ) (r : Record) → (readied roster p r).mode ≡ roster.mode
 mode_readied roster p r =
     cond_both {A = Roster} (is_eligible roster.mode r) _ _ (λ (after : Roster). after.mode ≡ roster.mode) (λ _. refl) (λ _. refl)
@@ -39,7 +41,7 @@ pub reaches_set_mode : (roster : Roster) (mode : Mode) → is_normal mode ≡ tr
 reaches_set_mode roster mode normal = record {
   many = refl;
   time = refl;
-  ceilings = refl;
+  rules = refl;
   stamps = omega (arith, ints);
   older = omega (arith, ints);
   stamped = λ stamped. stamped_set_mode roster stamped mode;
@@ -47,7 +49,7 @@ reaches_set_mode roster mode normal = record {
   one = λ before p h. before p h;
   starts = λ before. record { dormant = before.dormant; early = λ e. absurd (both_ways _ e normal); undue = λ e. absurd (both_ways _ e normal) };
   late = λ _. normal_late mode normal;
-  owners = owners_kept roster (set_mode roster mode) (record { ceilings = refl; owned = λ q. refl; mutex = λ q m is. is });
+  owners = owners_kept roster (set_mode roster mode) (record { rules = refl; owned = λ q. refl; mutex = λ q m is. is });
   periods = λ p. stays_same (record_at roster p);
 }
 
@@ -63,12 +65,12 @@ reaches_enter_idle roster =
     let at = stopped_at roster.records in
     let same : (p : ℕ) → (record_at (enter_idle roster) p).since ≡ (record_at roster p).since = λ p. ap (λ (r : Record). r.since) (at p) in
     let free : (p : ℕ) → (record_at (enter_idle roster) p).wait ≡ None = λ p. ap (λ (r : Record). r.wait) (at p) in
-    let unowned : (p : ℕ) → (record_at (enter_idle roster) p).owned ≡ None = λ p. ap (λ (r : Record). r.owned) (at p) in
+    let unowned : (p : ℕ) → (record_at (enter_idle roster) p).owned ≡ [] = λ p. ap (λ (r : Record). r.owned) (at p) in
     let undue : (p : ℕ) → (record_at (enter_idle roster) p).due ≡ None = λ p. ap (λ (r : Record). r.due) (at p) in
     record {
       many = many;
       time = refl;
-      ceilings = refl;
+      rules = refl;
       stamps = omega (arith, ints);
       older = omega (arith, ints);
       stamped = λ stamped. record {
@@ -92,8 +94,9 @@ reaches_enter_idle roster =
       };
       late = λ _. refl;
       owners = λ before. record {
-        holdings = λ p holding is. absurd (none-some holding (sym (unowned p) ∙ is));
-        one = λ m p q first second. absurd (both_ways false refl (sym (ap (is_held m) (unowned p)) ∙ first));
+        most = before.most;
+        owned = λ p. subst (AreLawfullyOwned (enter_idle roster)) (sym (unowned p)) (record { lawful = tt; few = omega arith });
+        one = λ m p q first second. absurd (both_ways false refl (sym (ap (holds m) (unowned p)) ∙ first));
         waiters = λ p m is. absurd (none-some (Mutex m) (sym (free p) ∙ is));
       };
       periods = λ p. subst (StaysInPeriod (record_at roster p)) (sym (at p)) (record {

@@ -1,5 +1,5 @@
--- The orders of records are strict weak ones: they rank records. Where no two stamps are the same, the two
--- by stamps are total.
+-- The orders of records are strict weak orders: they rank records. If no two stamps are the same,
+-- the two orders by stamps are total.
 use Rattle.std.proofs.Common.{◌≡◌, ◌≢◌, true, false, arith}
 use Rattle.std.specs.Cmp.{IsStrictWeakOrder}
 use Rattle.std.proofs.lemmas.Bool.Decides.{nat_tests}

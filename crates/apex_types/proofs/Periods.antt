@@ -1,4 +1,4 @@
--- Releases that follow each other by whole periods: what changes of processes keep of them.
+-- Releases that follow each other by whole periods: the facts that changes of processes keep.
 use Rattle.std.proofs.Common.{◌≡◌, ℕ, ◌+◌, ◌-◌, ◌*◌, ◌/◌, ◌≤◌, ◌<◌, false, Option, None, Some, option_map, inl, inr, refl, sym, ◌∙◌, subst, arith}
 use Rattle.std.proofs.Math.Nat.{add-mul, div-mul-le_self, mod-eq-sub-div-mul, mod-lt, mul-le-mul_right}
 use Rattle.std.proofs.lemmas.Bool.{cases_lt}
@@ -21,8 +21,9 @@ periods_then (Some n) t u v first second =
     let split : (first.0 + second.0) * n ≡ first.0 * n + second.0 * n = add-mul first.0 second.0 n in
     (first.0 + second.0, omega (arith, split, first.1, second.1))
 
--- a process keeps its attributes and its core; where it doesn't wait for its first release it won't, and its release
--- is the same or whole periods later; and who is dormant stays so
+-- a process keeps its attributes and its core; one that does not wait for its first release does
+-- not do so afterwards either, and its release is the same or whole periods later; a dormant one
+-- stays dormant
 pub record StaysInPeriod (r s : Record) : Type 0 where
   pub attributes : s.attributes ≡ r.attributes
   pub core : s.core ≡ r.core
@@ -47,8 +48,8 @@ stays_then {r} {s} {t} first second = record {
   dormant = λ e. second.dormant (first.dormant e);
 }
 
--- the next release of who was released by now is above now, a period on at the most, whole periods later,
--- and no other such instant is sooner
+-- the next release of a process that was released by now is above now, a period on at the most, and
+-- whole periods later, and no other such instant is sooner
 module _ (now release period : ℕ) (some : 1 ≤ period) where
   abbrev passed : ℕ
   passed = (now - release) / period
@@ -85,7 +86,8 @@ module _ (now release period : ℕ) (some : 1 ≤ period) where
 abbrev pub HasSomeTicks : Option ℕ → Type 0
 HasSomeTicks period = (n : ℕ) → period ≡ Some n → 1 ≤ n
 
--- the next release of a process, where it has one, is not below now, and whole periods after the last one
+-- the next release of a process, if it has one, is not below now, and whole periods after the last
+-- one
 pub release_later : (now : ℕ) (r : Record) → HasSomeTicks r.attributes.period → IsFrom now (release_after now r)
 release_later now r = later r.attributes.period where
   later : (period : Option ℕ) → HasSomeTicks period → IsFrom now (option_map (next_release now r.release) period)

@@ -53,7 +53,7 @@ set-map_places f g xs i y d e here is_y agree = ext_get_or e _ _
     ])
 
 module _ {A B : Type 0} (f : ℕ → A → B) where
-  -- one element more, where the first one is at place q
+  -- one element more, if the first one is at place q
   places_more : (q p : ℕ) (xs : List A) (x : A) → slice_get xs p ≡ Some x → map_places f q (take (suc p) xs) ≡ map_places f q (take p xs) ++ f (q + p) x ∷ []
   places_more q p [] x here = cc
   places_more q zero (y ∷ xs) x here = rw (add-zero q, same_Some y x here)

@@ -1,14 +1,15 @@
--- From one roster to another by changes of single processes at one instant: what such changes keep.
-use Rattle.std.proofs.Common.{◌≡◌, ◌≢◌, ℕ, zero, suc, ◌+◌, ◌<◌, ◌≤◌, ◌≤ℤ◌, ℤ, pos, ◌+ℤ◌, ◌==◌, ◌||◌, true, false, ◌&&◌, not, is_some, length, Option, None, Some, refl, sym, ◌∙◌, ap, subst, inl, inr, arith}
+-- From one roster to another by changes of single processes at one instant: the facts that such
+-- changes keep.
+use Rattle.std.proofs.Common.{◌≡◌, ◌≢◌, ℕ, zero, suc, ◌+◌, ◌<◌, ◌≤◌, ◌≤ℤ◌, ℤ, pos, ◌+ℤ◌, ◌==◌, ◌||◌, true, false, ◌&&◌, not, ◌++◌, length, Option, None, Some, refl, sym, ◌∙◌, ap, subst, inl, inr, arith}
 use Rattle.std.proofs.lemmas.Bool.{both_ways, cases_eq, cond_both}
 use Rattle.std.proofs.lemmas.Int.{ints}
-use Rattle.std.proofs.lemmas.List.{set-set}
+use Rattle.std.proofs.lemmas.List.{length-append, set-set}
 use Rattle.std.proofs.lemmas.Option.{none-some}
 use Rattle.apex_types.specs.Terms.{Message, Record, Suspender, Wait}
 use Rattle.apex_types.specs.declared.records.Suspender.TheVariants.{Itself, Other}
 use Rattle.apex_types.specs.declared.records.Wait.TheVariants.{Normal, Start, Period, Mutex}
 use Rattle.apex_types.specs.Roster.{Roster, record_at, with_record, is_cold_start, is_normal}
-use Rattle.apex_types.specs.Owners.{HasOrderlyOwners}
+use Rattle.apex_types.specs.Owners.{HasOrderlyOwners, owns_some}
 use Rattle.apex_types.specs.Running.{is_eligible}
 use Rattle.apex_types.specs.Dues.{HasNoDeadlineBelow, HasNoDueBelow, IsFrom}
 use Rattle.apex_types.specs.Periods.{AreInTime, IsInTime, IsReleased, IsWholePeriodsAfter, awaits_first, release_after}
@@ -23,12 +24,13 @@ use Rattle.apex_types.proofs.Periods.{KeepsPeriods, StaysInPeriod, no_period, pe
 use Rattle.apex_types.proofs.Owners.{IsSameOwner, HasAnother, owners_kept, same_owner}
 use Rattle.apex_types.proofs.Starts.{IsOrderlyIn, orderly_at, orderly_all}
 
--- as many records, the same time, the same ceilings, at most so many stamps given; and stamps that differ, processes
--- that are in time and wait for one thing at the most, and the order of starts stay so
+-- as many records, the same time, the same rules of mutexes, and at most `most` new stamps; stamps
+-- that differ, processes that are in time and wait for one thing at the most, and the order of
+-- starts stay so
 pub record Moves (most : ℕ) (old new : Roster) : Type 0 where
   pub many : length new.records ≡ length old.records
   pub time : new.now ≡ old.now
-  pub ceilings : new.ceilings ≡ old.ceilings
+  pub rules : new.rules ≡ old.rules
   pub stamps : new.young ≤ℤ (old.young +ℤ pos most)
   pub older : old.old ≤ℤ (new.old +ℤ pos most)
   pub stamped : IsStamped old → IsStamped new
@@ -37,11 +39,12 @@ pub record Moves (most : ℕ) (old new : Roster) : Type 0 where
   pub starts : HasOrderlyStarts old → HasOrderlyStarts new
   pub late : is_cold_start old.mode ≡ false → is_cold_start new.mode ≡ false
 
--- and mutexes that are owned in order are so afterwards, and releases follow each other by whole periods
+-- the same, and mutexes that are owned in order are so afterwards, and releases follow each other
+-- by whole periods
 pub record Reaches (most : ℕ) (old new : Roster) : Type 0 where
   pub many : length new.records ≡ length old.records
   pub time : new.now ≡ old.now
-  pub ceilings : new.ceilings ≡ old.ceilings
+  pub rules : new.rules ≡ old.rules
   pub stamps : new.young ≤ℤ (old.young +ℤ pos most)
   pub older : old.old ≤ℤ (new.old +ℤ pos most)
   pub stamped : IsStamped old → IsStamped new
@@ -57,7 +60,7 @@ pub reaches_of : {most : ℕ} {old new : Roster} → Moves most old new
 reaches_of moves owners periods = record {
   many = moves.many;
   time = moves.time;
-  ceilings = moves.ceilings;
+  rules = moves.rules;
   stamps = moves.stamps;
   older = moves.older;
   stamped = moves.stamped;
@@ -73,7 +76,7 @@ pub moves_of : {most : ℕ} {old new : Roster} → Reaches most old new → Move
 moves_of reaches = record {
   many = reaches.many;
   time = reaches.time;
-  ceilings = reaches.ceilings;
+  rules = reaches.rules;
   stamps = reaches.stamps;
   older = reaches.older;
   stamped = reaches.stamped;
@@ -87,7 +90,7 @@ pub moves_then : {first second third : Roster} (n m : ℕ) → Moves n first sec
 moves_then n m g h = record {
   many = h.many ∙ g.many;
   time = h.time ∙ g.time;
-  ceilings = h.ceilings ∙ g.ceilings;
+  rules = h.rules ∙ g.rules;
   stamps = omega (arith, ints, g.stamps, h.stamps);
   older = omega (arith, ints, g.older, h.older);
   stamped = λ s. h.stamped (g.stamped s);
@@ -101,7 +104,7 @@ pub moves_more : {old new : Roster} (n m : ℕ) → n ≤ m → Moves n old new 
 moves_more n m few g = record {
   many = g.many;
   time = g.time;
-  ceilings = g.ceilings;
+  rules = g.rules;
   stamps = omega (arith, ints, g.stamps, few);
   older = omega (arith, ints, g.older, few);
   stamped = g.stamped;
@@ -115,7 +118,7 @@ pub reaches_none : (most : ℕ) (roster : Roster) → Reaches most roster roster
 reaches_none most roster = record {
   many = refl;
   time = refl;
-  ceilings = refl;
+  rules = refl;
   stamps = omega (arith, ints);
   older = omega (arith, ints);
   stamped = λ h. h;
@@ -134,8 +137,8 @@ reaches_then n m g h =
 pub reaches_more : {old new : Roster} (n m : ℕ) → n ≤ m → Reaches n old new → Reaches m old new
 reaches_more n m few g = reaches_of (moves_more n m few (moves_of g)) g.owners g.periods
 
--- what an event reaches: the same, but that it may start a process that was dormant, and in COLD_START bind one
--- to another core
+-- an event reaches the same, but it may start a process that was dormant, and in COLD_START bind
+-- one to another core
 pub record Arrives (most : ℕ) (old new : Roster) : Type 0 where
   pub moves : Moves most old new
   pub owners : HasOrderlyOwners old → HasOrderlyOwners new
@@ -162,7 +165,7 @@ arrives_more n m few g = record {
   cores = g.cores;
 }
 
--- a change by which nobody is stopped, and then an event
+-- a change that starts and stops no process, and then an event
 pub arrives_then : {first second third : Roster} (n m : ℕ) → Reaches n first second
     → ((p : ℕ) → (record_at second p).started ≡ (record_at first p).started) → Arrives m second third → Arrives (n + m) first third
 arrives_then {first} {second} {third} n m g started h = record {
@@ -178,7 +181,7 @@ arrives_then {first} {second} {third} n m g started h = record {
   cores = λ late p. h.cores (g.late late) p ∙ (g.periods p).core;
 }
 
--- the two differ in nothing that time or a start is about
+-- the two agree in all on which the laws of time and of starts depend
 pub record IsAlike (r s : Record) : Type 0 where
   pub attributes : r.attributes ≡ s.attributes
   pub started : r.started ≡ s.started
@@ -187,7 +190,7 @@ pub record IsAlike (r s : Record) : Type 0 where
   pub deadline : r.deadline ≡ s.deadline
   pub release : r.release ≡ s.release
 
--- a record of which all holds that holds of every record of the roster
+-- if a law holds of every record of the roster, it holds of this record
 pub record Fits (roster : Roster) (r : Record) : Type 0 where
   pub time : AreInTime roster → IsInTime roster.now r
   pub one : WaitsForOne roster → is_by_itself r.suspended ≡ true → r.wait ≡ None
@@ -195,7 +198,7 @@ pub record Fits (roster : Roster) (r : Record) : Type 0 where
 
 -- one process has another record
 module _ (roster : Roster) (p : ℕ) (known : p < length roster.records) where
-  -- what holds of every record, and of the new one, holds of every record then
+  -- a property of every record, and of the new one, holds of every record afterwards
   all_stay : (P : Record → Type 0) (r : Record) → ((q : ℕ) → P (record_at roster q)) → P r → (q : ℕ) → P (record_at (with_record roster p r) q)
   all_stay P r before here q =
       elim (cases_eq q p) [
@@ -219,7 +222,7 @@ module _ (roster : Roster) (p : ℕ) (known : p < length roster.records) where
       record {
         many = changes.count;
         time = refl;
-        ceilings = refl;
+        rules = refl;
         stamps = omega (arith, ints);
         older = omega (arith, ints);
         stamped = λ stamped. stamped_record roster p known stamped r same;
@@ -229,7 +232,7 @@ module _ (roster : Roster) (p : ℕ) (known : p < length roster.records) where
         late = λ l. l;
       }
 
-  -- of the record's stamp no law but that of stamps speaks
+  -- no law but that of stamps depends on the record's stamp
   fits_stamped : (r : Record) (since : ℤ) → Fits roster r → Fits roster (record r { since = since })
   fits_stamped r since fits = record {
     time = λ before. let is = fits.time before in record { due = is.due; deadline = is.deadline; release = is.release; period = is.period };
@@ -245,7 +248,7 @@ module _ (roster : Roster) (p : ℕ) (known : p < length roster.records) where
       record {
         many = changes.count;
         time = refl;
-        ceilings = refl;
+        rules = refl;
         stamps = changes.one_more;
         older = omega (arith, ints);
         stamped = λ stamped. stamped_newest roster p known stamped r;
@@ -263,7 +266,7 @@ module _ (roster : Roster) (p : ℕ) (known : p < length roster.records) where
       record {
         many = changes.count;
         time = refl;
-        ceilings = refl;
+        rules = refl;
         stamps = changes.one_more;
         older = omega (arith, ints);
         stamped = λ stamped. stamped_oldest roster p known stamped r;
@@ -285,15 +288,15 @@ module _ (roster : Roster) (p : ℕ) (known : p < length roster.records) where
 
   -- the process has another record, and the others keep theirs
   pub another_record : (r : Record) → HasAnother roster (with_record roster p r) p r
-  another_record r = record { ceilings = refl; here = at_record roster p known r; others = (changes_record roster p r).others }
+  another_record r = record { rules = refl; here = at_record roster p known r; others = (changes_record roster p r).others }
 
   pub another_newest : (r : Record) → HasAnother roster (newest roster p r) p (record r { since = roster.young })
-  another_newest r = record { ceilings = refl; here = at_newest roster p known r; others = (changes_newest roster p r).others }
+  another_newest r = record { rules = refl; here = at_newest roster p known r; others = (changes_newest roster p r).others }
 
   pub another_oldest : (r : Record) → HasAnother roster (oldest roster p r) p (record r { since = roster.old })
-  another_oldest r = record { ceilings = refl; here = at_record roster p known (record r { since = roster.old }); others = (changes_oldest roster p r).others }
+  another_oldest r = record { rules = refl; here = at_record roster p known (record r { since = roster.old }); others = (changes_oldest roster p r).others }
 
-  -- where the process stays in its period, all do
+  -- if the process stays in its period, all do
   periods_kept : (new : Roster) (r : Record) → HasAnother roster new p r → StaysInPeriod (record_at roster p) r → KeepsPeriods roster new
   periods_kept new r has stays q =
       elim (cases_eq q p) [
@@ -345,7 +348,7 @@ module _ (roster : Roster) (p : ℕ) (known : p < length roster.records) where
   awake_one (Some Itself) h = both_ways false refl h
   awake_one (Some Other) h = both_ways false refl h
 
-  -- the process's own record, but for what no law is about
+  -- the process's own record, changed in parts on which no law depends
   pub own_fits : (r : Record) → IsAlike r (record_at roster p)
       → (is_by_itself r.suspended ≡ true → is_by_itself (record_at roster p).suspended ≡ true) → Fits roster r
   own_fits r alike suspended = record {
@@ -371,7 +374,7 @@ module _ (roster : Roster) (p : ℕ) (known : p < length roster.records) where
   no_wait : (r : Record) → r.owned ≡ (record_at roster p).owned → ((m : ℕ) → r.wait ≡ Some (Mutex m) → ⊥) → IsSameOwner roster p r
   no_wait r owned idle = record { owned = owned; mutex = λ m is. absurd (idle m is) }
 
-  -- a record with the process's own deadline and release, that wakes
+  -- a record that wakes, with the process's own deadline and release
   pub awake_fits : (r : Record) → r.deadline ≡ (record_at roster p).deadline → r.release ≡ (record_at roster p).release
       → (is_normal roster.mode ≡ false → ⊥) → Fits roster (awake r)
   awake_fits r deadline release normal = record {
@@ -415,7 +418,7 @@ module _ (roster : Roster) (p : ℕ) (known : p < length roster.records) where
     starts = λ before. record { dormant = λ e. absurd (both_ways _ e begun); early = λ e. absurd (normal e); undue = λ e. absurd (normal e) };
   }
 
-  -- a record that waits for no release, and that the process's own one begins
+  -- a record that wakes, with the process's own attributes, core and release
   awake_stays : (r : Record) → r.attributes ≡ (record_at roster p).attributes → r.core ≡ (record_at roster p).core → r.release ≡ (record_at roster p).release
       → r.started ≡ (record_at roster p).started → StaysInPeriod (record_at roster p) (awake r)
   awake_stays r attributes core release started = record {
@@ -478,7 +481,7 @@ module _ (roster : Roster) (p : ℕ) (known : p < length roster.records) where
       (λ _. reaches_block Start (Some (roster.now + delay)) (from_now roster.now delay) (λ e. cc) begun normal (λ m is. cc)
       (λ e. absurd (both_ways _ e awaited)))
 
-  -- of two changes of one record the later one stands
+  -- of two changes of one record the later one counts
   newest_twice : (r s : Record) → newest (with_record roster p r) p s ≡ newest roster p s
   newest_twice r s = rw set-set
 
@@ -509,7 +512,7 @@ module _ (roster : Roster) (p : ℕ) (known : p < length roster.records) where
     starts = λ before. record { dormant = λ e. absurd (both_ways true e refl); early = λ e h. refl; undue = λ e. refl };
   }
 
-  -- a start, and what it leaves of the process
+  -- a start, and the process as it leaves it
   pub record Starts (new : Roster) : Type 0 where
     pub moves : Moves 1 roster new
     pub owners : HasOrderlyOwners roster → HasOrderlyOwners new
@@ -607,14 +610,6 @@ module _ (roster : Roster) (p : ℕ) (known : p < length roster.records) where
     dormant = λ _. refl;
   })
 
-  -- a stop of who owns no mutex
-  pub reaches_stop : (record_at roster p).owned ≡ None → Reaches 0 roster (stop roster p)
-  reaches_stop free =
-      reaches_of (moves_stop)
-      (owners_kept roster (stop roster p) (same_owner roster (stop roster p) p (stopped (record_at roster p))
-      (another_record (stopped (record_at roster p))) (no_wait _ (sym free) (λ m is. none-some (Mutex m) is))))
-      periods_stop
-
   pub reaches_suspend : Reaches 0 roster (suspend roster p)
   reaches_suspend =
       reaches_record _ refl (own_fits _ (record { attributes = refl; started = refl; wait = refl; due = refl; deadline = refl; release = refl }) (λ h. absurd (both_ways false refl h))) (own_mutex _ refl refl)
@@ -642,7 +637,7 @@ module _ (roster : Roster) (p : ℕ) (known : p < length roster.records) where
       let fits : Fits roster changed = own_fits _ (record { attributes = refl; started = refl; wait = refl; due = refl; deadline = refl; release = refl }) (λ h. h) in
       let same : IsSameOwner roster p changed = own_mutex _ refl refl in
       let stays_in = own_stays changed refl refl refl refl (λ e. e) in
-      let stays = is_some r.owned && is_level changed r in
+      let stays = owns_some r && is_level changed r in
       cond_both {A = Roster} ((is_eligible roster.mode r && not stays) || goes_by_priority roster (queue_in r)) _ _ (Reaches 1 roster)
       (λ _. reaches_newest changed fits same stays_in)
       (λ _. reaches_more 0 1 (omega arith) (reaches_record changed refl fits same stays_in))
@@ -714,7 +709,7 @@ reaches_await_release roster p known later aligned begun normal =
     (λ _ t e. subst (λ (x : Record). IsWholePeriodsAfter x.attributes.period x.release t) (sym here) (aligned t e))
     (ap (λ (x : Record). x.started) here ∙ begun) normal (λ m is. cc) (λ _. refl))
 
--- nobody is started or stopped by a step
+-- a move to a step starts and stops no process
 pub started_step : (roster : Roster) (p step : ℕ) → p < length roster.records → (q : ℕ)
     → (record_at (set_step roster p step) q).started ≡ (record_at roster q).started
 started_step roster p step known q =
@@ -724,7 +719,7 @@ started_step roster p step known q =
       | inr apart ↦ ap (λ (x : Record). x.started) ((changes_record roster p r).others q apart)
     ]
 
--- time that goes on over no due and no deadline leaves everybody in time
+-- time that passes over no due and no deadline leaves every process in time
 pub in_time_later : (roster : Roster) (t : ℕ) → AreInTime roster → roster.now ≤ t → HasNoDueBelow roster t → HasNoDeadlineBelow roster t
     → AreInTime (advance_to roster t)
 in_time_later roster t before later dues deadlines p = record {
@@ -750,3 +745,27 @@ module _ (next : Roster → Option ℕ) (change : Roster → ℕ → Changed) (H
   reaches_in_turn (suc left) roster holds =
       reaches_more (1 + left) (suc left) (omega arith)
       (reaches_and left (in_turn next change left) (reaches_in_turn left) roster holds (next roster) refl)
+
+-- changes of several processes, each of which gives at most one stamp for each notice, while this
+-- holds
+module _ (next : Roster → Option ℕ) (change : Roster → ℕ → Changed) (Holds : Roster → Type 0)
+    (stays : (roster : Roster) (p : ℕ) → Holds roster → next roster ≡ Some p → Holds (change roster p).roster)
+    (tells : (roster : Roster) (p : ℕ) → Holds roster → next roster ≡ Some p
+    → Reaches (length (change roster p).notices) roster (change roster p).roster) where
+  told_and : (others : Roster → Changed)
+      → ((roster : Roster) → Holds roster → Reaches (length (others roster).notices) roster (others roster).roster)
+      → (roster : Roster) → Holds roster → (found : Option ℕ) → next roster ≡ found
+      → Reaches (length (next_and others change roster found).notices) roster (next_and others change roster found).roster
+  told_and others rest roster holds None is = reaches_none 0 roster
+  told_and others rest roster holds (Some p) is =
+      let first = change roster p in
+      let second = others first.roster in
+      reaches_more (length first.notices + length second.notices) (length (first.notices ++ second.notices))
+      (omega (arith, length-append first.notices second.notices))
+      (reaches_then (length first.notices) (length second.notices) (tells roster p holds is)
+      (rest first.roster (stays roster p holds is)))
+
+  pub reaches_told : (left : ℕ) (roster : Roster) → Holds roster
+      → Reaches (length (in_turn next change left roster).notices) roster (in_turn next change left roster).roster
+  reaches_told zero roster holds = reaches_none 0 roster
+  reaches_told (suc left) roster holds = told_and (in_turn next change left) (reaches_told left) roster holds (next roster) refl

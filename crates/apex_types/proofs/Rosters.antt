@@ -1,4 +1,4 @@
--- How a change of one record changes a roster: it gives at most one stamp.
+-- Changes of one record of a roster: each gives at most one stamp.
 use Rattle.std.proofs.Common.{◌≡◌, ◌≢◌, ℕ, ◌<◌, ◌≤ℤ◌, pos, ◌+ℤ◌, None, length, arith}
 use Rattle.std.proofs.lemmas.Int.{ints}
 use Rattle.std.proofs.lemmas.List.{get_or-set_other, get_or-set_same, length-set}
@@ -6,7 +6,7 @@ use Rattle.apex_types.specs.Terms.{Record}
 use Rattle.apex_types.specs.Roster.{Roster, nobody, record_at, with_record}
 use Rattle.apex_types.specs.Stamps.{newest, oldest, without_due}
 
--- of the records process p's alone may be another, and at most one stamp is given
+-- only the record of process p may differ, and at most one stamp is given
 pub record ChangesOne (before after : Roster) (p : ℕ) : Type 0 where
   pub count : length after.records ≡ length before.records
   pub others : (q : ℕ) → q ≢ p → record_at after q ≡ record_at before q

@@ -1,5 +1,5 @@
--- What holds of a row of the services: of each refusal, by which nothing changes, and of the effect where
--- no guard holds.
+-- Laws of a row of the services: a property of each refusal, by which nothing changes, and of the
+-- effect if no guard holds, is a property of the row.
 use Rattle.std.proofs.Common.{◌≡◌, ℕ, Bool, false, cond, refl}
 use Rattle.std.proofs.lemmas.Bool.{cond_both}
 use Rattle.apex_types.specs.Terms.{Caller, ReturnCode}
@@ -11,7 +11,7 @@ use Rattle.apex_types.specs.Satisfied.{is_no_error}
 
 module _ {X : Type 0} (roster : Roster) (object : X) (P : Outcome X → Type 0)
     (refuses : (code : ReturnCode) → is_no_error code ≡ false → P (refused roster object code)) where
-  -- one guard, and the rest of the row where it doesn't hold
+  -- one guard, and the rest of the row if it does not hold
   pub by_guard : (holds : Bool) (code : ReturnCode) (rest : Outcome X) → is_no_error code ≡ false
       → (holds ≡ false → P rest) → P (cond holds (refused roster object code) rest)
   by_guard holds code rest bad passes =

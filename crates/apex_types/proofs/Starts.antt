@@ -1,4 +1,4 @@
--- What changes of single processes keep of the order of starts.
+-- The order of starts: changes of single processes keep it.
 use Rattle.std.proofs.Common.{◌≡◌, ℕ, zero, suc, ◌<◌, ◌≤◌, arith, ◌&&◌, Bool, true, false, Option, None, Some, is_none, length, refl, sym, ◌∙◌, ap}
 use Rattle.std.proofs.lemmas.Bool.{and_parts, both_ways, eqb-true, eq-eqb}
 use Rattle.std.proofs.lemmas.Option.{none-some, same_Some}
@@ -57,7 +57,7 @@ runnable mode r e =
 pub eligible_may_wait : (mode : Mode) (r : Record) → is_eligible mode r ≡ true → may_wait r ≡ true
 eligible_may_wait mode r e = let is = runnable mode r e in rw (is.started, is.free)
 
--- nobody is eligible but in NORMAL
+-- no process is eligible before NORMAL
 pub early_ineligible : (mode : Mode) (r : Record) → is_normal mode ≡ false → is_eligible mode r ≡ false
 early_ineligible mode r e = rw e
 
@@ -67,7 +67,7 @@ ready_step roster p step ready =
     let r : Record = record (record_at roster p) { step = step } in
     record { known = rw (length-set roster.records p r) ready.known; eligible = rw (at_record roster p ready.known r) ready.eligible }
 
--- and where it receives a message
+-- and when it receives a message
 pub ready_receive : (roster : Roster) (p : ℕ) (message : Message) → IsReady roster p → IsReady (receive roster p message) p
 ready_receive roster p message ready =
     let r : Record = record (record_at roster p) { inbox = Some message } in
@@ -87,11 +87,11 @@ unfolding runs_on
 chosen_core roster core p e =
     eqb-true _ _ (and_parts _ _ (place_passes (runs_on roster.mode core) is_before roster.records p nobody e)).1
 
--- a process that waits for nothing stands in no queue
+-- a process that waits for nothing is in no queue
 pub waitless_queue : (r : Record) (q : Queue) → r.wait ≡ None → queue_in r ≡ Some q → ⊥
 waitless_queue r q free is = none-some q (rw free at is)
 
--- the entry into NORMAL makes nobody eligible
+-- the entry into NORMAL makes no process eligible
 
 pub readies_nobody : (roster : Roster) → HasOrderlyStarts roster → is_normal roster.mode ≡ false → (mode : Mode) (p : ℕ)
     → is_eligible mode (record_at roster p) ≡ true → is_eligible roster.mode (record_at roster p) ≡ true
@@ -109,7 +109,7 @@ two_unready roster mode two first second (suc (suc p)) e =
     let none : record_at roster (suc (suc p)) ≡ nobody = get_or_past roster.records (suc (suc p)) nobody past in
     absurd (both_ways _ (ap (λ (r : Record). r.started) none) (runnable mode (record_at roster (suc (suc p))) e).started)
 
--- a process that waits in a queue stands there
+-- two queues that are the same are equal
 same_queue : (q r : Queue) → is_same_queue q r ≡ true → q ≡ r
 same_queue queues.Normal queues.Normal e = refl
 same_queue (queues.Semaphore s) (queues.Semaphore t) e = ap queues.Semaphore (eqb-true s t e)
@@ -139,7 +139,7 @@ pub waits_there : (q : Queue) (r : Record) → queue_in r ≡ Some q → waits_i
 unfolding waits_in
 waits_there q r e = rw e (queue_itself q)
 
--- so does the first waiter
+-- the first waiter of a queue waits in it
 pub first_waits : (roster : Roster) (q : Queue) (p : ℕ) → first_waiter roster q ≡ Some p → waits_in q (record_at roster p) ≡ true
 first_waits roster q p e = place_passes (waits_in q) (waits_before (discipline_of roster q)) roster.records p nobody e
 
@@ -150,7 +150,7 @@ first_stands roster q p e =
 pub first_within : (roster : Roster) (q : Queue) (p : ℕ) → first_waiter roster q ≡ Some p → p < length roster.records
 first_within roster q p e = place_within (waits_in q) (waits_before (discipline_of roster q)) roster.records p e
 
--- a process that stands in a queue is started
+-- a process in a queue is started
 waiter_started : (r : Record) (started : Bool) → r.started ≡ started → (r.started ≡ false → r.wait ≡ None) → (q : Queue) → queue_in r ≡ Some q → started ≡ true
 waiter_started r true is dormant q e = refl
 waiter_started r false is dormant q e = absurd (none-some q (rw (dormant is) at e))
@@ -158,7 +158,7 @@ waiter_started r false is dormant q e = absurd (none-some q (rw (dormant is) at 
 pub queued_started : (roster : Roster) → HasOrderlyStarts roster → (p : ℕ) (q : Queue) → queue_in (record_at roster p) ≡ Some q → (record_at roster p).started ≡ true
 queued_started roster orderly p q e = waiter_started (record_at roster p) (record_at roster p).started refl (orderly.dormant p) q e
 
--- who stands in the queue of those that wait for NORMAL may begin another wait
+-- a process in the queue of those that wait for NORMAL may begin another wait
 pub normal_free : (wait : Option Wait) → queue_in (record nobody { wait = wait }) ≡ Some queues.Normal → is_free wait ≡ true
 normal_free None e = cc
 normal_free (Some (Normal delay)) e = refl
@@ -177,7 +177,7 @@ first_may_wait roster orderly p e =
     let stands = first_stands roster queues.Normal p e in
     rw (queued_started roster orderly p queues.Normal stands, normal_free _ stands)
 
--- before NORMAL a process that stands in another queue is a contradiction
+-- before NORMAL no process is in another queue
 pub queued_normal : (roster : Roster) → HasOrderlyStarts roster → (p : ℕ) (q : Queue) → queue_in (record_at roster p) ≡ Some q
     → is_same_queue queues.Normal q ≡ false → is_normal roster.mode ≡ false → ⊥
 queued_normal roster orderly p q e apart early =
@@ -185,7 +185,7 @@ queued_normal roster orderly p q e apart early =
     let normal = same_Some queues.Normal q (sym (orderly.early early p started) ∙ e) in
     both_ways _ apart (ap (is_same_queue queues.Normal) (sym normal))
 
--- who stands there awaits its first release
+-- a process in that queue awaits its first release
 normal_first : (wait : Option Wait) → queue_in (record nobody { wait = wait }) ≡ Some queues.Normal → awaits_first wait ≡ true
 normal_first None e = cc
 normal_first (Some (Normal delay)) e = refl

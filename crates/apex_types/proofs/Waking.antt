@@ -1,4 +1,5 @@
--- Processes that have what they waited for: each leaves its queue, and in the end nobody stands there.
+-- Processes that have what they waited for: each leaves its queue, and in the end no process is
+-- there.
 use Rattle.std.proofs.Common.{◌≡◌, ℕ, zero, suc, ◌+◌, ◌<◌, ◌≤◌, ◌≤ℤ◌, ◌+ℤ◌, pos, true, false, if◌then◌else◌, length, Option, None, Some, refl, ◌∙◌, inl, inr, arith}
 use Rattle.std.proofs.lemmas.Bool.{both_ways, cases_Bool, cases_lt, cond_both}
 use Rattle.std.proofs.lemmas.List.{get_or_past}
@@ -51,7 +52,7 @@ granted_gives (Some message) roster p =
     let gives = readied_gives got p (awake (record_at got p)) in
     record { many = gives.many ∙ (changes_record roster p r).count; stamps = gives.stamps; older = gives.older }
 
--- it tells one notice
+-- it gives one notice
 pub one_granted : (message : Option Message) (roster : Roster) (p : ℕ) → length (granted message roster p).notices ≡ 1
 one_granted None roster p = refl
 one_granted (Some message) roster p = refl
@@ -65,28 +66,28 @@ reach_grant_all queue message roster apart starts =
     (λ r p before is. reach_granted message r p queue apart before is)
     (length roster.records) roster starts
 
--- nobody waits past the end
+-- no process waits past the end
 past_waits : (queue : Queue) (r : Record) → r ≡ nobody → waits_in queue r ≡ false
 unfolding waits_in
 past_waits queue r is = rw is refl
 
--- where nobody is first, nobody waits
+-- if no process waits first, none waits
 pub none_waits : (roster : Roster) (queue : Queue) → first_waiter roster queue ≡ None → (p : ℕ) → waits_in queue (record_at roster p) ≡ false
 none_waits roster queue none p = elim (cases_lt p (length roster.records)) [
   | inl within ↦ (place_none (waits_in queue) (waits_before (discipline_of roster queue)) roster.records (waits_strict (discipline_of roster queue)) none).none p within
   | inr past ↦ past_waits queue (record_at roster p) (get_or_past roster.records p nobody past)
 ]
 
--- one of those who wait in the queue
+-- 1 for a process that waits in the queue, 0 for any other
 abbrev waiting_at : Queue → Record → ℕ
 waiting_at queue r = if waits_in queue r then 1 else 0
 
 module _ (queue : Queue) (roster : Roster) (p : ℕ) (known : p < length roster.records) where
-  -- another record, of which as much is known
+  -- the number of waiters after another record is set
   counted : (r : Record) → waiter_count (with_record roster p r) queue + waiting_at queue (record_at roster p) ≡ waiter_count roster queue + waiting_at queue r
   counted r = sum_by-set (waiting_at queue) roster.records p r nobody known
 
-  -- who waits there, and wakes, leaves it
+  -- a process that waits there, and wakes, leaves it
   leaves_newest : (r : Record) → waits_in queue (record_at roster p) ≡ true → waiter_count (newest roster p (awake r)) queue + 1 ≡ waiter_count roster queue
   unfolding waits_in
   leaves_newest r waits = let all = counted (record (awake r) { since = roster.young }) in omega (arith, rw waits at all)
@@ -101,12 +102,12 @@ module _ (queue : Queue) (roster : Roster) (p : ℕ) (known : p < length roster.
       (λ (after : Roster). waiter_count after queue + 1 ≡ waiter_count roster queue)
       (λ _. leaves_newest r waits) (λ _. leaves_record r waits)
 
--- who receives a message waits as before
+-- a process that receives a message waits as before
 received_waits : (queue : Queue) (r : Record) (message : Message) → waits_in queue (record r { inbox = Some message }) ≡ waits_in queue r
 unfolding waits_in
 received_waits queue r message = refl
 
--- who has what it waited for leaves its queue
+-- a process that has what it waited for leaves its queue
 granted_leaves : (queue : Queue) (message : Option Message) (roster : Roster) (p : ℕ) → p < length roster.records
     → waits_in queue (record_at roster p) ≡ true → waiter_count (granted message roster p).roster queue + 1 ≡ waiter_count roster queue
 granted_leaves queue None roster p known waits = leaves queue roster p known (record_at roster p) waits
@@ -121,7 +122,7 @@ granted_leaves queue (Some message) roster p known waits =
     let left = leaves queue got p known_so (record_at got p) waits_so in
     omega (arith, left, rw same at count)
 
--- nobody who is left waits, where there are turns enough
+-- with enough turns no process is left that waits
 module _ (queue : Queue) (message : Option Message) where
   abbrev IsLeft : Roster → Type 0
   IsLeft roster = (p : ℕ) → waits_in queue (record_at roster p) ≡ false
@@ -136,7 +137,7 @@ module _ (queue : Queue) (message : Option Message) where
       let fewer = granted_leaves queue message roster p (first_within roster queue p is) waits in
       rest (granted message roster p).roster (omega (arith, few, fewer))
 
-  -- nobody waits where none are counted
+  -- if no waiters are counted, no process waits
   none_counted : (roster : Roster) → waiter_count roster queue ≤ 0 → IsLeft roster
   none_counted roster none p = elim (cases_Bool (waits_in queue (record_at roster p))) [
     | inl waits ↦ elim (cases_lt p (length roster.records)) [

@@ -35,7 +35,7 @@ display_blackboard roster blackboard b message =
     (accepted_with (record blackboard { message = Some message })
     (grant_all (queues.Blackboard b) (Some message) roster))
 
--- a read by process p, where the blackboard holds this: it gets the message, else it waits
+-- a read by process p of a blackboard that holds this: p gets the message, else it waits
 abbrev pub read_shown : Roster → BlackboardObject → ℕ → ℕ → Timeout → Option Message → Outcome BlackboardObject
 read_shown roster blackboard b p timeout None = wait_for roster blackboard p (wait.Blackboard b) timeout
 read_shown roster blackboard b p timeout (Some message) = told (receive roster p message) blackboard (Gets message)
@@ -59,7 +59,7 @@ blackboard_own roster blackboard b caller (Display message) = display_blackboard
 blackboard_own roster blackboard b caller (Read timeout) = read_blackboard roster blackboard b caller timeout
 blackboard_own roster blackboard b caller Clear = clear_blackboard roster blackboard
 
--- the status: whether it holds a message, and how many wait
+-- the status: 1 if it holds a message, else 0, and the number of waiters
 abbrev pub blackboard_status : Roster → BlackboardObject → ℕ → Reply
 blackboard_status roster blackboard b =
     Status (if is_some blackboard.message then 1 else 0) (waiter_count roster (queues.Blackboard b))

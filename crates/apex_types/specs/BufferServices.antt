@@ -21,8 +21,8 @@ use Rattle.apex_types.specs.Waiters.{first_waiter, waiter_count}
 use Rattle.apex_types.specs.Waiting.{wait_for}
 use Rattle.apex_types.specs.Waking.{granted, woken}
 
--- a buffer as its services see it: the most bytes of a message, how many messages it may hold, and those
--- that it holds, the first one first
+-- a buffer as its services see it: the most bytes of a message, the most messages, and its
+-- messages, the first one first
 pub record BufferObject : Type 0 where
   pub longest : ℕ
   pub capacity : ℕ
@@ -43,14 +43,14 @@ held_back _ = None
 abbrev pub with_last : BufferObject → Message → BufferObject
 with_last buffer message = record buffer { messages = buffer.messages ++ message ∷ [] }
 
--- a send by process p to the buffer itself: its message goes last where there is room, else it waits
+-- a send by process p to the buffer itself: the message goes last if there is room, else p waits
 abbrev pub send_last : Roster → BufferObject → ℕ → ℕ → Message → Timeout → Outcome BufferObject
 send_last roster buffer b p message timeout =
     if nat_lt (length buffer.messages) buffer.capacity then accepted roster (with_last buffer message) []
     else wait_for roster buffer p (wait.Send b message) timeout
 
--- a send by process p, where this is the buffer's first waiter: a receiver gets the message, and no
--- other is passed over
+-- a send by process p to a buffer with this first waiter: if the waiter is a receiver it gets the
+-- message, else the message goes to the buffer itself
 abbrev pub send_past : Roster → BufferObject → ℕ → ℕ → Message → Timeout → Option ℕ → Outcome BufferObject
 send_past roster buffer b p message timeout None = send_last roster buffer b p message timeout
 send_past roster buffer b p message timeout (Some q) =
@@ -67,18 +67,19 @@ send_buffer roster buffer b caller message timeout =
     (by_process roster buffer caller (λ p.
     send_past roster buffer b p message timeout (first_waiter roster (queues.Buffer b))))
 
--- the message is received, and where process q waits with this one, that goes last, and q is woken
+-- the message is received; if process q waits with a message to send, that one goes last, and q is
+-- woken
 abbrev pub take_in : Roster → BufferObject → Message → ℕ → Option Message → Outcome BufferObject
 take_in roster buffer message q None = told roster buffer (Gets message)
 take_in roster buffer message q (Some sent) =
     answered_with (Gets message) (with_last buffer sent) (woken roster q NoError)
 
--- the message is received, where this is the buffer's first waiter
+-- the message is received from a buffer with this first waiter
 abbrev pub received : Roster → BufferObject → Message → Option ℕ → Outcome BufferObject
 received roster buffer message None = told roster buffer (Gets message)
 received roster buffer message (Some q) = take_in roster buffer message q (held_back (record_at roster q).wait)
 
--- a receive by process p, where these are the buffer's messages: it gets the first, else it waits
+-- a receive by process p from a buffer with these messages: p gets the first one, else it waits
 abbrev pub receive_first : Roster → BufferObject → ℕ → ℕ → Timeout → List Message → Outcome BufferObject
 receive_first roster buffer b p timeout [] = wait_for roster buffer p (wait.Receive b) timeout
 receive_first roster buffer b p timeout (message ∷ later) =
@@ -97,7 +98,7 @@ abbrev pub buffer_own : Roster → BufferObject → ℕ → Caller → BufferSer
 buffer_own roster buffer b caller (Send message timeout) = send_buffer roster buffer b caller message timeout
 buffer_own roster buffer b caller (Receive timeout) = receive_buffer roster buffer b caller timeout
 
--- the status: how many messages it holds, and how many wait
+-- the status: the number of messages, and of waiters
 abbrev pub buffer_status : Roster → BufferObject → ℕ → Reply
 buffer_status roster buffer b = Status (length buffer.messages) (waiter_count roster (queues.Buffer b))
 

@@ -1,6 +1,6 @@
 -- The services of process management that a process asks for itself (ARINC 653 Part 1, process
 -- management; the guards are this profile's).
-use Rattle.std.specs.Prelude.{ℕ, ◌+◌, [], ◌∷◌, is_some}
+use Rattle.std.specs.Prelude.{ℕ, ◌+◌, [], ◌∷◌}
 use Rattle.apex_types.specs.Terms.{Caller, CallerCall, Timeout}
 use Rattle.apex_types.specs.declared.calls.CallerCall.TheVariants.{StopSelf, SuspendSelf, GetMyId, GetMyProcessorCoreId}
 use Rattle.apex_types.specs.declared.calls.Timeout.TheVariants.{Poll, Ticks, Infinite}
@@ -8,17 +8,18 @@ use Rattle.apex_types.specs.declared.entries.Reply.TheVariants.{Value, Blocked, 
 use Rattle.apex_types.specs.declared.entries.ReturnCode.TheVariants.{InvalidMode}
 use Rattle.apex_types.specs.Dues.{due_after}
 use Rattle.apex_types.specs.Handovers.{halted}
+use Rattle.apex_types.specs.Owners.{owns_some}
 use Rattle.apex_types.specs.Periods.{is_periodic}
 use Rattle.apex_types.specs.Roster.{Roster, record_at}
 use Rattle.apex_types.specs.Rows.{Outcome, told, accepted, answered_with, by_process, guarded, ◌⟶◌}
 use Rattle.apex_types.specs.Stamps as stamps
 
--- process p suspends itself for so long
+-- process p suspends itself, until the timeout is over
 abbrev pub suspended_for : {X : Type 0} → Roster → X → ℕ → Timeout → Outcome X
 suspended_for roster objects p timeout =
     told (stamps.suspend_self roster p (due_after roster timeout)) objects Blocked
 
--- a suspension of process p by itself: for no time at all it changes nothing
+-- a suspension of process p by itself; with a timeout of 0 it changes nothing
 abbrev pub self_suspension : {X : Type 0} → Roster → X → ℕ → Timeout → Outcome X
 self_suspension roster objects p Poll = accepted roster objects []
 self_suspension roster objects p (Ticks n) = suspended_for roster objects p (Ticks n)
@@ -28,7 +29,7 @@ self_suspension roster objects p Infinite = suspended_for roster objects p Infin
 abbrev pub suspend_self : {X : Type 0} → Roster → X → ℕ → Timeout → Outcome X
 suspend_self roster objects p timeout =
     guarded roster objects
-    (is_periodic (record_at roster p) ⟶ InvalidMode ∷ is_some (record_at roster p).owned ⟶ InvalidMode ∷ [])
+    (is_periodic (record_at roster p) ⟶ InvalidMode ∷ owns_some (record_at roster p) ⟶ InvalidMode ∷ [])
     (self_suspension roster objects p timeout)
 
 -- a service that process p asks for itself

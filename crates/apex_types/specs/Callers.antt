@@ -1,4 +1,4 @@
--- Who calls a service, and who may.
+-- The callers of services: processes, the init list, or none.
 use Rattle.std.specs.Prelude.{ℕ, ◌<◌, Bool, true, false, ◌==◌, length}
 use Rattle.apex_types.specs.Terms.{Caller}
 use Rattle.apex_types.specs.declared.entries.Caller.TheVariants.{Process, Init, Nobody}

@@ -1,4 +1,4 @@
--- What a call names, and what it creates.
+-- The thing that a call names, and the one that it creates.
 use Rattle.std.specs.Prelude.{ℕ, Bool, true, false, Option, None, Some, ◌==◌, option_map}
 use Rattle.apex_types.specs.Terms.{Call, Message, Named, ObjectCall, Origin, Queue}
 use Rattle.apex_types.specs.declared.calls.BlackboardService.TheVariants.{Display, Clear}
@@ -11,36 +11,36 @@ use Rattle.apex_types.specs.declared.calls.SemaphoreService.TheVariants.{Wait, S
 use Rattle.apex_types.specs.declared.records.Queue.TheVariants as queues
 use Rattle.apex_types.specs.Queues.{is_queue}
 
--- the thing of a name, where an entry has it
+-- the thing of a name, if an entry has the name
 abbrev pub known : {I : Type 0} → Named I → Option I
 known (Known i) = Some i
 known (Unknown origin) = None
 
--- the thing that the call names, where it is an entry's
+-- the thing that the call names, if it is an entry's
 abbrev pub object_of : {I W : Type 0} → ObjectCall I W → Option I
 object_of (Create named) = known named
 object_of (GetId named) = known named
 object_of (GetStatus i) = Some i
 object_of (Own i service) = Some i
 
--- the thing that the call creates, where it is a CREATE of an entry
+-- the thing that the call creates, if it is a CREATE of an entry
 abbrev pub creation_of : {I W : Type 0} → ObjectCall I W → Option I
 creation_of (Create named) = known named
 creation_of _ = None
 
--- the origin of the name, where no entry has it
+-- the origin of the name, if no entry has it
 abbrev pub unknown : {I : Type 0} → Named I → Option Origin
 unknown (Known i) = None
 unknown (Unknown origin) = Some origin
 
--- the origin of the name that the call gives, where no entry has it
+-- the origin of the name that the call gives, if no entry has it
 abbrev pub object_origin : {I W : Type 0} → ObjectCall I W → Option Origin
 object_origin (Create named) = unknown named
 object_origin (GetId named) = unknown named
 object_origin (GetStatus i) = None
 object_origin (Own i service) = None
 
--- the origin of the name that the call gives, where no entry has it
+-- the origin of the name that the call gives, if no entry has it
 abbrev pub origin_of : Call → Option Origin
 origin_of (Partition call) = None
 origin_of (Process call) = object_origin call
@@ -58,7 +58,7 @@ abbrev pub is_work : Call → Bool
 is_work (Work amount) = true
 is_work _ = false
 
--- the message that the call gives: what SEND_BUFFER sends and DISPLAY_BLACKBOARD displays
+-- the message that the call gives, which SEND_BUFFER sends and DISPLAY_BLACKBOARD displays
 abbrev pub message_in : Call → Option Message
 message_in (Buffer (Own b (Send message timeout))) = Some message
 message_in (Blackboard (Own b (Display message))) = Some message
@@ -122,7 +122,7 @@ abbrev pub is_signal : Call → Bool
 is_signal (Semaphore (Own s Signal)) = true
 is_signal _ = false
 
--- the message that the call sends, where it is SEND_BUFFER
+-- the message that the call sends, if it is SEND_BUFFER
 abbrev pub sent_message : Call → Option Message
 sent_message (Buffer (Own b (Send message timeout))) = Some message
 sent_message _ = None
@@ -132,13 +132,13 @@ abbrev pub is_receive : Call → Bool
 is_receive (Buffer (Own b (Receive timeout))) = true
 is_receive _ = false
 
--- what a blackboard holds after the call, where it held this before
+-- the message on a blackboard after the call, by the one before it
 abbrev pub shown_after : Option Message → Call → Option Message
 shown_after shown (Blackboard (Own b (Display message))) = Some message
 shown_after shown (Blackboard (Own b Clear)) = None
 shown_after shown _ = shown
 
--- whether an event is up after the call, where it was or was not before
+-- whether an event is up after the call, by whether it was up before
 abbrev pub up_after : Bool → Call → Bool
 up_after up (Event (Own e Set)) = true
 up_after up (Event (Own e Reset)) = false

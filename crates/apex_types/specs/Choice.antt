@@ -1,4 +1,5 @@
--- The one record that passes a test and comes before every other that does: a minimum over all records.
+-- The one record that passes a test and comes before every other that does: a minimum over all
+-- records.
 use Rattle.std.specs.Prelude.{◌≡◌, ◌≢◌, ℕ, Bool, true, List, Option, Some, slice_get, ◌&&◌, not, position}
 use Rattle.std.specs.List.{list_any}
 use Rattle.apex_types.specs.Terms.{Record}

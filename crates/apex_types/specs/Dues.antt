@@ -1,5 +1,5 @@
--- When waits end by themselves and deadlines pass: the dues and deadlines of the processes, and the instant
--- at which the next one falls (this profile).
+-- The dues of the processes, at which waits end by themselves, their deadlines, and the next
+-- instant among these (this profile).
 use Rattle.std.specs.Prelude.{ℕ, ◌≤◌, ◌+◌, Bool, false, List, [], ◌∷◌, Option, None, Some, ◌==◌, min, ◌≡◌, ◌⊎◌, position}
 use Rattle.apex_types.specs.Limits.{latest}
 use Rattle.apex_types.specs.Terms.{Record, Timeout}
@@ -46,32 +46,32 @@ is_missed_at t r = is_instant t r.deadline
 abbrev pub first_missed : Roster → Option ℕ
 first_missed roster = position (is_missed_at roster.now) roster.records
 
--- when a wait that begins now ends by itself
+-- the instant at which a wait that begins now ends by itself, if it does
 abbrev pub due_after : Roster → Timeout → Option ℕ
 due_after roster Poll = None
 due_after roster (Ticks n) = Some (roster.now + n)
 due_after roster Infinite = None
 
--- so little time has passed that no sum of times overflows
+-- the time is 2^36 ticks at the most, so that no sum of times overflows
 abbrev pub HasTime : Roster → Type 0
 HasTime roster = roster.now ≤ latest
 
--- the instant, where there is one, is not below this one
+-- the instant, if there is one, is not below this one
 abbrev pub IsFrom : ℕ → Option ℕ → Type 0
 IsFrom t instant = (u : ℕ) → instant ≡ Some u → t ≤ u
 
--- no due that stands is below this instant
+-- no due is below this instant
 abbrev pub HasNoDueBelow : Roster → ℕ → Type 0
 HasNoDueBelow roster t = (p : ℕ) → IsFrom t (record_at roster p).due
 
--- no due that stands is below now
+-- no due is below now
 abbrev pub HasNoPastDue : Roster → Type 0
 HasNoPastDue roster = HasNoDueBelow roster roster.now
 
--- no deadline that stands is below this instant
+-- no deadline is below this instant
 abbrev pub HasNoDeadlineBelow : Roster → ℕ → Type 0
 HasNoDeadlineBelow roster t = (p : ℕ) → IsFrom t (record_at roster p).deadline
 
--- no deadline that stands is below now
+-- no deadline is below now
 abbrev pub HasNoPastDeadline : Roster → Type 0
 HasNoPastDeadline roster = HasNoDeadlineBelow roster roster.now

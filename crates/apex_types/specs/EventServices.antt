@@ -24,7 +24,7 @@ pub record EventObject : Type 0 where
   pub created : Bool
   pub up : Bool
 
--- SET_EVENT: the event is up, and all who wait for it are woken
+-- SET_EVENT: the event is up, and all processes that wait for it are woken
 abbrev pub set_event : Roster → EventObject → ℕ → Outcome EventObject
 set_event roster event e =
     guarded roster event (not event.created ⟶ InvalidParam ∷ [])
@@ -36,7 +36,7 @@ reset_event roster event =
     guarded roster event (not event.created ⟶ InvalidParam ∷ [])
     (accepted roster (record event { up = false }) [])
 
--- WAIT_EVENT: the process waits where the event is down
+-- WAIT_EVENT: the process waits if the event is down
 abbrev pub wait_event : Roster → EventObject → ℕ → Caller → Timeout → Outcome EventObject
 wait_event roster event e caller timeout =
     guarded roster event
@@ -50,11 +50,11 @@ event_own roster event e caller Set = set_event roster event e
 event_own roster event e caller Reset = reset_event roster event
 event_own roster event e caller (Wait timeout) = wait_event roster event e caller timeout
 
--- the status: whether it is up, and how many wait
+-- the status: 1 if it is up, else 0, and the number of waiters
 abbrev pub event_status : Roster → EventObject → ℕ → Reply
 event_status roster event e = Status (if event.up then 1 else 0) (waiter_count roster (queues.Event e))
 
--- event e of a table after the history
+-- event e of this entry after the history
 abbrev pub event_after : List Entry → ℕ → EventConfig → EventObject
 event_after history e entry = record { created = is_created created_event e history; up = is_up e history }
 

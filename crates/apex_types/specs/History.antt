@@ -1,4 +1,4 @@
--- What a history says: what it created, and how far the init list is.
+-- The things that a history created, and the next step of its init list.
 use Rattle.std.specs.Prelude.{ℕ, Bool, List, Option, ◌&&◌, count_by}
 use Rattle.std.specs.List.{list_any}
 use Rattle.std.specs.Option.{option_and_then}
@@ -8,7 +8,7 @@ use Rattle.apex_types.specs.Calls.{is_place}
 use Rattle.apex_types.specs.Satisfied.{is_accepted}
 use Rattle.apex_types.specs.Table.{Table, call_in}
 
--- the entry created the i-th of those that this says which calls create
+-- the entry created thing i; `created` gives the thing that a call creates
 abbrev pub creates : (Call → Option ℕ) → ℕ → Entry → Bool
 creates created i e = is_place i (option_and_then created e.call) && is_accepted e.reply
 
@@ -16,10 +16,10 @@ creates created i e = is_place i (option_and_then created e.call) && is_accepted
 abbrev pub is_created : (Call → Option ℕ) → ℕ → List Entry → Bool
 is_created created i history = list_any (creates created i) history
 
--- how many entries the init list made
+-- the number of entries that the init list made
 abbrev pub init_count : List Entry → ℕ
 init_count history = count_by (λ (e : Entry). is_by_init e.process) history
 
--- the next init step: the one after as many as there are entries of the init list
+-- the call of the next init step, whose place is the number of entries that the init list made
 abbrev pub next_init_call : Table → List Entry → Option Call
 next_init_call table history = call_in table.init (init_count history)

@@ -1,5 +1,7 @@
 pub mod Terms
 pub mod Limits
+pub mod Held
+pub mod Profiles
 pub mod Name
 pub mod Numbers
 pub mod Queues
@@ -36,7 +38,7 @@ pub mod TimeServices
 pub mod PartitionServices
 pub mod Works
 pub mod Machine
-pub mod Lines
+pub mod Texts
 pub mod Status
 pub mod Listing
 pub mod Distinct

@@ -6,6 +6,7 @@ use Rattle.apex_types.specs.Table.{Table}
 use Rattle.apex_types.specs.Roster.{Roster, record_at}
 use Rattle.apex_types.specs.Running.{chosen, process_state}
 use Rattle.apex_types.specs.Waiters.{first_waiter, next_waiter}
+use Rattle.apex_types.specs.Held.{holding_of}
 use Rattle.apex_types.specs.Owners.{owner, depth_of}
 use Rattle.apex_types.specs.Objects.{KindOf}
 use Rattle.apex_types.specs.ProcessServices.{process_kind}
@@ -23,7 +24,7 @@ waiters_from roster queue zero waiter = []
 waiters_from roster queue (suc n) None = []
 waiters_from roster queue (suc n) (Some p) = p ∷ waiters_from roster queue n (next_waiter roster queue p)
 
--- who waits in a queue, from the first waiter on
+-- the waiters of a queue, from the first one on
 unfoldable pub waiters : Roster → Queue → List ℕ
 waiters roster queue = waiters_from roster queue (length roster.records) (first_waiter roster queue)
 
@@ -36,20 +37,20 @@ texts_of text (suc n) = texts_of text n ++ text n
 abbrev pub object_in : {C X W : Type 0} → KindOf C X W → List X → ℕ → X
 object_in kind objects i = slice_index_or objects i kind.absent
 
--- the line of an object where it is created, and nothing where it is not
+-- the line of an object if it is created, and nothing if it is not
 abbrev pub if_created : {C X W : Type 0} → KindOf C X W → X → List ℕ → List ℕ
 if_created kind object line = if kind.created object then line else []
 
--- how deep an owner owns its mutex; a free mutex has no depth
-abbrev pub owned_depth : Roster → Option ℕ → ℕ
-owned_depth roster None = 0
-owned_depth roster (Some p) = depth_of (record_at roster p).owned
+-- the depth at which this owner owns mutex m; 0 without an owner
+abbrev pub owned_depth : Roster → ℕ → Option ℕ → ℕ
+owned_depth roster m None = 0
+owned_depth roster m (Some p) = depth_of (holding_of m (record_at roster p).owned)
 
--- what is listed of a core
+-- the listing of a core: its line
 abbrev pub core_listing : Roster → ℕ → List ℕ
 core_listing roster core = core_line core (chosen roster core)
 
--- what is listed of a process, where it is created
+-- the listing of a process: its line, if it is created
 abbrev pub process_listing : Table → Roster → Objects → ℕ → List ℕ
 process_listing table roster objects p =
     if_created process_kind (object_in process_kind objects.processes p)
@@ -60,7 +61,7 @@ abbrev pub semaphore_status_line : Table → Roster → ℕ → SemaphoreObject 
 semaphore_status_line table roster s semaphore =
     semaphore_line table s semaphore.value (waiters roster (queues.Semaphore s))
 
--- what is listed of a semaphore, where it is created
+-- the listing of a semaphore: its line, if it is created
 abbrev pub semaphore_listing : Table → Roster → Objects → ℕ → List ℕ
 semaphore_listing table roster objects s =
     let semaphore = object_in semaphore_kind objects.semaphores s in
@@ -71,7 +72,7 @@ abbrev pub buffer_status_line : Table → Roster → ℕ → BufferObject → Li
 buffer_status_line table roster b buffer =
     buffer_line table b buffer.messages (waiters roster (queues.Buffer b))
 
--- what is listed of a buffer, where it is created
+-- the listing of a buffer: its line, if it is created
 abbrev pub buffer_listing : Table → Roster → Objects → ℕ → List ℕ
 buffer_listing table roster objects b =
     let buffer = object_in buffer_kind objects.buffers b in
@@ -82,7 +83,7 @@ abbrev pub blackboard_status_line : Table → Roster → ℕ → BlackboardObjec
 blackboard_status_line table roster b blackboard =
     blackboard_line table b blackboard.message (waiters roster (queues.Blackboard b))
 
--- what is listed of a blackboard, where it is created
+-- the listing of a blackboard: its line, if it is created
 abbrev pub blackboard_listing : Table → Roster → Objects → ℕ → List ℕ
 blackboard_listing table roster objects b =
     let blackboard = object_in blackboard_kind objects.blackboards b in
@@ -92,7 +93,7 @@ blackboard_listing table roster objects b =
 abbrev pub event_status_line : Table → Roster → ℕ → EventObject → List ℕ
 event_status_line table roster e event = event_line table e event.up (waiters roster (queues.Event e))
 
--- what is listed of an event, where it is created
+-- the listing of an event: its line, if it is created
 abbrev pub event_listing : Table → Roster → Objects → ℕ → List ℕ
 event_listing table roster objects e =
     let event = object_in event_kind objects.events e in
@@ -101,14 +102,14 @@ event_listing table roster objects e =
 -- the line of a mutex
 abbrev pub mutex_status_line : Table → Roster → ℕ → List ℕ
 mutex_status_line table roster m =
-    mutex_line table m (owner roster m) (owned_depth roster (owner roster m)) (waiters roster (queues.Mutex m))
+    mutex_line table m (owner roster m) (owned_depth roster m (owner roster m)) (waiters roster (queues.Mutex m))
 
--- what is listed of a mutex, where it is created
+-- the listing of a mutex: its line, if it is created
 abbrev pub mutex_listing : Table → Roster → Objects → ℕ → List ℕ
 mutex_listing table roster objects m =
     if_created mutex_kind (object_in mutex_kind objects.mutexes m) (mutex_status_line table roster m)
 
--- the listing where the objects are these and the history has so many entries: time, mode and entries,
+-- the listing of these objects and of a history of n entries: time, mode and number of entries,
 -- each core, and then each created process and object, in the order of the table
 abbrev pub listing_of : Table → Roster → Objects → ℕ → List ℕ
 listing_of table roster objects entries =

@@ -1,4 +1,4 @@
--- The machine: what each event does to a partition. It has records, a history, and the records after
+-- The machine: how each event changes a partition. It has records, a history, and the records after
 -- each entry.
 use Rattle.std.specs.Prelude.{ℕ, ◌+◌, ◌-◌, Bool, true, false, List, [], ◌∷◌, ◌++◌, length, map, Option, None, Some, ◌==◌, nat_lt, ◌&&◌, if◌then◌else◌}
 use Rattle.apex_types.specs.Terms.{Call, Caller, Entry, Event, OpenWork, Reply, Who}
@@ -34,7 +34,7 @@ pub record Machine : Type 0 where
   pub past : List Roster
   pub history : List Entry
 
--- what the services see besides the processes' records
+-- the objects, which the services see besides the processes' records
 pub record Objects : Type 0 where
   pub processes : List ProcessObject
   pub semaphores : List SemaphoreObject
@@ -73,7 +73,7 @@ with_events objects events = record objects { events = events }
 abbrev pub with_mutexes : Objects → List MutexObject → Objects
 with_mutexes objects mutexes = record objects { mutexes = mutexes }
 
--- service: what the caller's call does
+-- service: the outcome of the caller's call
 abbrev pub service : Roster → Objects → Caller → Call → Outcome Objects
 service roster objects caller (Partition call) = partition_service roster objects call
 service roster objects caller (ToProcess call) =
@@ -103,7 +103,8 @@ abbrev pub served : Roster → Objects → Caller → Call → Deed
 served roster objects caller call =
     record { caller = caller; call = Some call; outcome = service roster objects caller call }
 
--- the place after this one: behind the last step a looping script is at its first one again
+-- the place after this one; after its last step a looping script goes to the first one, any other
+-- to its end
 abbrev pub next_place : ProcessConfig → ℕ → ℕ
 next_place entry step =
     if nat_lt (step + 1) (length entry.script) then step + 1
@@ -113,7 +114,7 @@ next_place entry step =
 abbrev pub move_on : Table → Roster → ℕ → Roster
 move_on table roster p = set_step roster p (next_place (process_config table p) (record_at roster p).step)
 
--- every step moves the place first, but work, whose place stays until it is done
+-- each step moves the place first, except for work, which moves it when it is done
 abbrev pub moved_for : Table → Roster → ℕ → Call → Roster
 moved_for table roster p call = if is_work call then roster else move_on table roster p
 
@@ -122,7 +123,8 @@ abbrev pub script_deed : Table → Roster → Objects → ℕ → Option Call �
 script_deed table roster objects p None = served roster objects (Process p) (ToCaller StopSelf)
 script_deed table roster objects p (Some call) = served (moved_for table roster p call) objects (Process p) call
 
--- how work ends: done where its process kept the core, and then it goes on in its script; else lost
+-- the end of work: if its process kept the core it is done, and the process goes on in its script;
+-- else it is lost
 abbrev pub ended : Table → Roster → Objects → ℕ → Bool → Outcome Objects
 ended table roster objects p true = told (move_on table roster p) objects Done
 ended table roster objects p false = told roster objects Lost
@@ -139,7 +141,7 @@ ended_deed table roster objects o = record {
 abbrev pub step_of : Table → Roster → ℕ → Option Call
 step_of table roster p = call_in (process_config table p).script (record_at roster p).step
 
--- the chosen process carries out its step; where there is none the turn is idle
+-- the chosen process carries out its step; without one the turn is idle
 abbrev pub chosen_deed : Table → Roster → Objects → Option ℕ → Deed
 chosen_deed table roster objects None =
     record { caller = Nobody; call = None; outcome = told roster objects Idle }
@@ -155,7 +157,7 @@ abbrev pub turn_deed : Table → Roster → Objects → ℕ → Option OpenWork 
 turn_deed table roster objects core (Some o) due = ended_deed table roster objects o
 turn_deed table roster objects core None due = step_deed table roster objects core due
 
--- the work that stands open on the core
+-- the work that is open on the core
 abbrev pub open_work : Machine → ℕ → Option OpenWork
 open_work machine core = open_work_of core machine.history machine.past
 
@@ -164,12 +166,12 @@ abbrev pub due_init_call : Table → Machine → ℕ → Option Call
 due_init_call table machine core =
     if is_cold_start machine.roster.mode && core == 0 then next_init_call table machine.history else None
 
--- what a turn of the core does
+-- the deed of a turn of the core
 abbrev pub deed_of : Table → Machine → ℕ → Deed
 deed_of table machine core =
     turn_deed table machine.roster (objects_after table machine.history) core (open_work machine core) (due_init_call table machine core)
 
--- what a tick of n does: time goes on, and no object changes
+-- the deed of a tick of n: time goes on, and no object changes
 abbrev pub tick_deed : Roster → Objects → ℕ → Deed
 tick_deed roster objects n =
     let passed = pass_time roster n in record {
@@ -183,7 +185,7 @@ tick_deed roster objects n =
       };
     }
 
--- the entry that tells of a deed, as the history's number-th
+-- the entry of a deed, with this number in the history
 abbrev pub entry_of : ℕ → Who → Deed → Entry
 entry_of number who deed = record {
   number = number;
@@ -216,7 +218,7 @@ abbrev pub happen : Table → Machine → Event → Machine
 happen table machine (Turn core) = turn table machine core
 happen table machine (Tick n) = tick table machine n
 
--- an event, where the history has room for its entry; else nothing
+-- an event, if the history has room for its entry; else nothing
 abbrev pub accept : Table → Machine → Event → Machine
 accept table machine event = if nat_lt (length machine.history) table.limit then happen table machine event else machine
 
@@ -229,7 +231,7 @@ run table machine (event ∷ events) = run table (accept table machine event) ev
 abbrev pub opening : Table → Machine
 opening table = record { roster = opening_roster table; past = []; history = [] }
 
--- the event that an entry tells of; a ticker's entry has a reply that says how many ticks were asked for
+-- the event that an entry records; the reply of a ticker's entry has the ticks that were asked for
 abbrev pub asked_ticks : Reply → ℕ
 asked_ticks (Advanced asked went) = asked
 asked_ticks _ = 0
@@ -244,7 +246,7 @@ event_of e = event_by e.who e.reply
 abbrev pub events_of : List Entry → List Event
 events_of history = map event_of history
 
--- the run of the events that the history tells of
+-- the run of the events that the history records
 abbrev pub replay : Table → List Entry → Machine
 replay table history = run table (opening table) (events_of history)
 

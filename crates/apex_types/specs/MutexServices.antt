@@ -1,6 +1,6 @@
 -- The services of mutexes, row by row: the first guard that holds answers and changes nothing (this
 -- profile).
-use Rattle.std.specs.Prelude.{ℕ, ◌+◌, ◌-◌, Bool, true, false, List, [], ◌∷◌, Option, None, Some, nat_lt, not, if◌then◌else◌}
+use Rattle.std.specs.Prelude.{ℕ, ◌+◌, ◌-◌, Bool, true, false, List, [], ◌∷◌, ◌++◌, Option, None, Some, nat_lt, not, if◌then◌else◌}
 use Rattle.apex_types.specs.Terms.{Caller, Entry, Holding, MutexService, Reply, Timeout}
 use Rattle.apex_types.specs.declared.calls.MutexService.TheVariants.{Acquire, Release}
 use Rattle.apex_types.specs.declared.entries.Reply.TheVariants.{Status}
@@ -8,9 +8,10 @@ use Rattle.apex_types.specs.declared.entries.ReturnCode.TheVariants.{InvalidPara
 use Rattle.apex_types.specs.declared.records.Wait.TheVariants as wait
 use Rattle.apex_types.specs.Calls.{created_mutex}
 use Rattle.apex_types.specs.Handovers.{hand_over}
+use Rattle.apex_types.specs.Held.{holding_of, with_depth, without}
 use Rattle.apex_types.specs.History.{is_created}
 use Rattle.apex_types.specs.Objects.{KindOf}
-use Rattle.apex_types.specs.Owners.{ceiling_of, depth_of, is_deepest, owner, owns, owns_another, record_of}
+use Rattle.apex_types.specs.Owners.{ceiling_of, depth_of, is_deepest, may_not_wait, owner, owns, owns_most, record_of}
 use Rattle.apex_types.specs.Roster.{Roster, record_at}
 use Rattle.apex_types.specs.Rows.{Outcome, refused, accepted, accepted_with, guarded, ◌⟶◌, by_process}
 use Rattle.apex_types.specs.Stamps.{own}
@@ -21,58 +22,63 @@ use Rattle.apex_types.specs.Waiting.{wait_for}
 pub record MutexObject : Type 0 where
   pub created : Bool
 
--- process p, which owns no mutex, asks for mutex m, whose owner this is: it owns a free one, at depth 1,
--- and waits for another one's
+-- process p, which does not own mutex m, asks for it: if it has no owner, p owns it too, at depth
+-- 1, else p waits for it
 abbrev pub acquire_from : Roster → MutexObject → ℕ → ℕ → Timeout → Option ℕ → Outcome MutexObject
 acquire_from roster mutex m p timeout None =
-    accepted (own roster p (Some (record { mutex = m; ceiling = ceiling_of roster m; depth = 1 }))) mutex []
+    let holding : Holding = record { mutex = m; ceiling = ceiling_of roster m; depth = 1 } in
+    accepted (own roster p ((record_at roster p).owned ++ holding ∷ [])) mutex []
 acquire_from roster mutex m p timeout (Some q) = wait_for roster mutex p (wait.Mutex m) timeout
 
--- process p, which owns this, asks for mutex m: who owns it goes one deeper
+-- process p asks for mutex m: with this holding of it p goes one deeper; without one it owns a free
+-- mutex, or waits for its owner
 abbrev pub acquire_by : Roster → MutexObject → ℕ → ℕ → Timeout → Option Holding → Outcome MutexObject
 acquire_by roster mutex m p timeout None = acquire_from roster mutex m p timeout (owner roster m)
 acquire_by roster mutex m p timeout (Some holding) =
-    accepted (own roster p (Some (record holding { depth = holding.depth + 1 }))) mutex []
+    accepted (own roster p (with_depth m (holding.depth + 1) (record_at roster p).owned)) mutex []
 
 -- ACQUIRE_MUTEX
 abbrev pub acquire_mutex : Roster → MutexObject → ℕ → Caller → Timeout → Outcome MutexObject
 acquire_mutex roster mutex m caller timeout =
     guarded roster mutex
     (not mutex.created ⟶ InvalidParam
-    ∷ owns_another m (record_of roster caller) ⟶ InvalidMode
+    ∷ may_not_wait m timeout (record_of roster caller) ⟶ InvalidMode
+    ∷ owns_most roster m (record_of roster caller) ⟶ InvalidMode
     ∷ nat_lt (ceiling_of roster m) (record_of roster caller).base ⟶ InvalidMode
-    ∷ is_deepest (record_of roster caller) ⟶ InvalidMode ∷ [])
-    (by_process roster mutex caller (λ p. acquire_by roster mutex m p timeout (record_at roster p).owned))
+    ∷ is_deepest m (record_of roster caller) ⟶ InvalidMode ∷ [])
+    (by_process roster mutex caller (λ p.
+    acquire_by roster mutex m p timeout (holding_of m (record_at roster p).owned)))
 
--- process p, which owns this, releases it: it goes one less deep, or gives the mutex up, which then goes
--- to its first waiter
-abbrev pub release_by : Roster → MutexObject → ℕ → Option Holding → Outcome MutexObject
-release_by roster mutex p None = refused roster mutex InvalidMode
-release_by roster mutex p (Some holding) =
-    if nat_lt 1 holding.depth then
-    accepted (own roster p (Some (record holding { depth = holding.depth - 1 }))) mutex []
-    else accepted_with mutex (hand_over (own roster p None) holding)
+-- process p releases mutex m, of this holding: it goes one less deep, or gives the mutex up, which
+-- then goes to its first waiter; without a holding it is refused
+abbrev pub release_by : Roster → MutexObject → ℕ → ℕ → Option Holding → Outcome MutexObject
+release_by roster mutex m p None = refused roster mutex InvalidMode
+release_by roster mutex m p (Some holding) =
+    let owned = (record_at roster p).owned in
+    if nat_lt 1 holding.depth then accepted (own roster p (with_depth m (holding.depth - 1) owned)) mutex []
+    else accepted_with mutex (hand_over (own roster p (without m owned)) holding)
 
 -- RELEASE_MUTEX
 abbrev pub release_mutex : Roster → MutexObject → ℕ → Caller → Outcome MutexObject
 release_mutex roster mutex m caller =
     guarded roster mutex
     (not mutex.created ⟶ InvalidParam ∷ not (owns m (record_of roster caller)) ⟶ InvalidMode ∷ [])
-    (by_process roster mutex caller (λ p. release_by roster mutex p (record_at roster p).owned))
+    (by_process roster mutex caller (λ p.
+    release_by roster mutex m p (holding_of m (record_at roster p).owned)))
 
 -- the services that mutexes alone have
 abbrev pub mutex_own : Roster → MutexObject → ℕ → Caller → MutexService → Outcome MutexObject
 mutex_own roster mutex m caller (Acquire timeout) = acquire_mutex roster mutex m caller timeout
 mutex_own roster mutex m caller Release = release_mutex roster mutex m caller
 
--- the id of an owner as users see it, or 0, and how deep it owns
-abbrev pub owner_status : Roster → Option ℕ → Reply
-owner_status roster None = Status 0 0
-owner_status roster (Some p) = Status (p + 1) (depth_of (record_at roster p).owned)
+-- the id of the owner of mutex m as users see it, and its depth; 0 and 0 without an owner
+abbrev pub owner_status : Roster → ℕ → Option ℕ → Reply
+owner_status roster m None = Status 0 0
+owner_status roster m (Some p) = Status (p + 1) (depth_of (holding_of m (record_at roster p).owned))
 
--- the status: who owns it, and how deep
+-- the status: the owner, and its depth
 abbrev pub mutex_status : Roster → MutexObject → ℕ → Reply
-mutex_status roster mutex m = owner_status roster (owner roster m)
+mutex_status roster mutex m = owner_status roster m (owner roster m)
 
 -- mutex m of this entry after the history
 abbrev pub mutex_after : List Entry → ℕ → MutexConfig → MutexObject

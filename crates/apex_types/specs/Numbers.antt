@@ -12,16 +12,16 @@ digits_value (digit ∷ rest) = (digit - 48) * 10 ^ length rest + digits_value r
 abbrev pub has_leading_zero : List ℕ → Bool
 has_leading_zero word = nat_lt 1 (length word) && slice_index word 0 == 48
 
--- the number that a word writes; none where the word is no number
+-- the number that a word writes; none if the word is no number
 abbrev pub number_of : List ℕ → Option ℕ
 number_of word =
     if length word == 0 || has_leading_zero word then None
     else if all_ascii_digits word then Some (digits_value word) else None
 
--- the number, where it is at most `most`
+-- the number, if it is at most `most`
 abbrev pub at_most : ℕ → Option ℕ → Option ℕ
 at_most most = option_and_then (λ n. if nat_le n most then Some n else None)
 
--- the number, where it is at least `least`
+-- the number, if it is at least `least`
 abbrev pub at_least : ℕ → Option ℕ → Option ℕ
 at_least least = option_and_then (λ n. if nat_le least n then Some n else None)

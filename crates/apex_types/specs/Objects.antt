@@ -9,9 +9,10 @@ use Rattle.apex_types.specs.Places.{map_places}
 use Rattle.apex_types.specs.Roster.{Roster, is_normal}
 use Rattle.apex_types.specs.Rows.{Outcome, told, refused, accepted, guarded, ◌⟶◌, within}
 
--- a kind of object: C is what the table says of one, X what its services see, W its own services
+-- a kind of object: C is its entry in the table, X the object as its services see it, W its own
+-- services
 pub record KindOf (C X W : Type 0) : Type 0 where
-  -- what stands for an object past the end of the table
+  -- the object at a place past the end of the table
   pub absent : X
   pub created : X → Bool
   -- the object once it is created

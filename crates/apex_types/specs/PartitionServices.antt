@@ -16,7 +16,7 @@ use Rattle.apex_types.specs.Waiters.{first_waiter}
 use Rattle.apex_types.specs.InTurn.{Changed, in_turn}
 use Rattle.apex_types.specs.Ticks.{begun}
 
--- who has waited for NORMAL for the longest time
+-- the process that has waited for NORMAL for the longest time
 abbrev pub first_to_start : Roster → Option ℕ
 first_to_start roster = first_waiter roster queues.Normal
 
@@ -29,12 +29,13 @@ delay_of _ = 0
 abbrev pub begin_waiter : Roster → ℕ → Changed
 begin_waiter roster p = begun roster p (delay_of (record_at roster p).wait)
 
--- the entry into NORMAL: the mode is set, and the starts of all who wait for it begin in order of since
+-- the entry into NORMAL: the mode is set, and the starts that wait for it begin, the longest wait
+-- first
 unfoldable pub enter_normal : Roster → Changed
 enter_normal roster =
     in_turn first_to_start begin_waiter (length roster.records) (set_mode roster mode.Normal)
 
--- IDLE: every process is stopped for good, and nobody is told
+-- IDLE: every process is stopped for good, without a notice
 abbrev pub enter_idle : Roster → Roster
 enter_idle roster = record roster { mode = mode.Idle; records = map stopped roster.records }
 

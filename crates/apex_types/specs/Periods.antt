@@ -13,11 +13,11 @@ is_periodic r = is_some r.attributes.period
 abbrev pub next_release : ℕ → ℕ → ℕ → ℕ
 next_release now release period = release + ((now - release) / period + 1) * period
 
--- the next release of the process, where it is periodic
+-- the next release of the process, if it is periodic
 abbrev pub release_after : ℕ → Record → Option ℕ
 release_after now r = option_map (next_release now r.release) r.attributes.period
 
--- the deadline that begins to run at this instant, where the capacity is finite
+-- the deadline that begins to run at this instant, if the capacity is finite
 abbrev pub deadline_from : ℕ → Record → Option ℕ
 deadline_from t r = option_map (λ capacity. t + capacity) r.attributes.capacity
 
@@ -26,7 +26,7 @@ abbrev pub is_beyond : ℕ → Option ℕ → ℕ → Bool
 is_beyond release None t = false
 is_beyond release (Some period) t = nat_lt (release + period) t
 
--- a delay that is not below the period, where there is one
+-- there is a period, and the delay is not below it
 abbrev pub is_period_long : Option ℕ → ℕ → Bool
 is_period_long None delay = false
 is_period_long (Some period) delay = nat_le period delay
@@ -46,18 +46,18 @@ awaits_first _ = false
 abbrev pub IsReleased : Record → Type 0
 IsReleased r = (r.started ≡ true) × (awaits_first r.wait ≡ false)
 
--- nobody was released later than now
+-- no process was released later than now
 abbrev pub HasNoFutureRelease : Roster → Type 0
 HasNoFutureRelease roster = (p : ℕ) → (record_at roster p).release ≤ roster.now
 
--- no due and no deadline that stands is below this instant, the release is not above it, and a wait for
--- the next release ends whole periods after the last one
+-- the due and the deadline, if there are any, are not below this instant, the release is not above
+-- it, and a wait for the next release ends whole periods after the last one
 pub record IsInTime (now : ℕ) (r : Record) : Type 0 where
   pub due : IsFrom now r.due
   pub deadline : IsFrom now r.deadline
   pub release : r.release ≤ now
   pub period : r.wait ≡ Some Period → (t : ℕ) → r.due ≡ Some t → IsWholePeriodsAfter r.attributes.period r.release t
 
--- that holds of every process now
+-- every process is in time now
 abbrev pub AreInTime : Roster → Type 0
 AreInTime roster = (p : ℕ) → IsInTime roster.now (record_at roster p)

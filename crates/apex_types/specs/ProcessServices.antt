@@ -2,6 +2,7 @@
 -- holds answers and changes nothing (ARINC 653 Part 1, process management; the guards are this
 -- profile's).
 use Rattle.std.specs.Prelude.{ℕ, Bool, true, false, List, [], ◌∷◌, nat_le, nat_lt, is_none, is_some, not, ◌&&◌, ◌||◌, if◌then◌else◌}
+use Rattle.apex_types.specs.Limits.{most_priority}
 use Rattle.apex_types.specs.Terms.{Caller, Entry, Notice, ProcessService, Record, Reply, State, Timeout}
 use Rattle.apex_types.specs.declared.calls.ProcessService.TheVariants.{InitializeCoreAffinity, SetPriority, Start, DelayedStart, Stop, Suspend, Resume}
 use Rattle.apex_types.specs.declared.calls.Timeout.TheVariants.{Poll, Ticks, Infinite}
@@ -14,6 +15,7 @@ use Rattle.apex_types.specs.Calls.{created_process}
 use Rattle.apex_types.specs.Handovers.{halted}
 use Rattle.apex_types.specs.History.{is_created}
 use Rattle.apex_types.specs.Objects.{KindOf}
+use Rattle.apex_types.specs.Owners.{owns_some}
 use Rattle.apex_types.specs.Periods.{is_period_long, is_periodic}
 use Rattle.apex_types.specs.Roster.{Roster, record_at, is_normal}
 use Rattle.apex_types.specs.Rows.{Outcome, Guard, accepted, accepted_with, guarded, ◌⟶◌}
@@ -40,21 +42,21 @@ abbrev pub set_priority : Roster → ProcessObject → ℕ → ℕ → Outcome P
 set_priority roster process p priority =
     guarded roster process
     (not process.created ⟶ InvalidParam
-    ∷ not (nat_le 1 priority && nat_le priority 239) ⟶ InvalidParam
+    ∷ not (nat_le 1 priority && nat_le priority most_priority) ⟶ InvalidParam
     ∷ not (record_at roster p).started ⟶ InvalidMode ∷ [])
     (accepted (stamps.set_priority roster p priority) process [])
 
--- a delay for ever
+-- the delay is infinite
 abbrev pub is_infinite : Timeout → Bool
 is_infinite Infinite = true
 is_infinite _ = false
 
--- how many ticks a delay is
+-- the ticks of a delay, or 0 if it has none
 abbrev pub delay_ticks : Timeout → ℕ
 delay_ticks (Ticks n) = n
 delay_ticks _ = 0
 
--- a start begins at once in NORMAL
+-- the notices of a start, which begins at once in NORMAL
 abbrev pub start_notices : Roster → ℕ → ℕ → List Notice
 start_notices roster p delay = if is_normal roster.mode then begin_notices p delay else []
 
@@ -71,7 +73,8 @@ start_process roster process p delay =
     ∷ is_unfit_delay (record_at roster p) delay ⟶ InvalidParam ∷ [])
     (accepted (stamps.start roster p (delay_ticks delay)) process (start_notices roster p (delay_ticks delay)))
 
--- the guards of a service that a process may not ask for itself, and that needs a created one
+-- the guards of a service for another process, and then these: the call is refused if the caller
+-- names itself, or if the process is not created
 abbrev pub of_another : Caller → ProcessObject → ℕ → List Guard → List Guard
 of_another caller process p guards =
     is_by_process p caller ⟶ InvalidParam ∷ not process.created ⟶ InvalidParam ∷ guards
@@ -94,10 +97,10 @@ suspend_process roster process p caller =
     (of_another caller process p
     (is_unsuspendable (record_at roster p) ⟶ InvalidMode
     ∷ is_some (record_at roster p).suspended ⟶ NoAction
-    ∷ is_some (record_at roster p).owned ⟶ InvalidMode ∷ []))
+    ∷ owns_some (record_at roster p) ⟶ InvalidMode ∷ []))
     (accepted (stamps.suspend roster p) process [])
 
--- RESUME wakes a process that suspended itself
+-- the notices of RESUME, which wakes a process that suspended itself
 abbrev pub resume_notices : Roster → ℕ → List Notice
 resume_notices roster p = if stamps.is_by_itself (record_at roster p).suspended then Woken p NoError ∷ [] else []
 

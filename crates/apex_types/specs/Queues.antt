@@ -1,12 +1,12 @@
--- The queues in which processes wait, and which wait stands in which (ARINC 653 Part 1, intrapartition
+-- The queues in which processes wait, and the queue of each wait (ARINC 653 Part 1, intrapartition
 -- communication).
 use Rattle.std.specs.Prelude.{Bool, true, false, Option, None, Some, ◌==◌}
 use Rattle.apex_types.specs.Terms.{Queue, Wait}
 use Rattle.apex_types.specs.declared.records.Queue.TheVariants as queues
 use Rattle.apex_types.specs.declared.records.Wait.TheVariants.{Normal, Start, Time, Period, Semaphore, Receive, Send, Blackboard, Event, Mutex}
 
--- the queue in which a wait stands: a wait for an instant stands in none, and receivers and senders
--- stand in the one queue of their buffer
+-- the queue of a wait: a wait for an instant has none, and receivers and senders have the one queue
+-- of their buffer
 abbrev pub queue_of : Wait → Option Queue
 queue_of (Normal delay) = Some queues.Normal
 queue_of Start = None

@@ -1,8 +1,10 @@
--- What a contract sees of the processes: mode, time, one record each, and the two counters of stamps.
-use Rattle.std.specs.Prelude.{ℕ, ◌+◌, Bool, true, false, List, length, map, slice_index_or, slice_set, ℤ, pos, None}
+-- The roster, which is the processes as a contract sees them: mode, time, one record each, and the
+-- two counters of stamps.
+use Rattle.std.specs.Prelude.{ℕ, ◌+◌, Bool, true, false, List, [], length, map, slice_index_or, slice_set, ℤ, pos, None}
 use Rattle.apex_types.specs.Terms.{Discipline, Mode, Record}
 use Rattle.apex_types.specs.declared.records.Mode.TheVariants.{Idle, ColdStart, Normal}
 use Rattle.apex_types.specs.Places.{map_places}
+use Rattle.apex_types.specs.Profiles.{owned_of}
 use Rattle.apex_types.specs.Table.{Table, ProcessConfig, SemaphoreConfig, BufferConfig, MutexConfig, no_attributes}
 
 -- the disciplines of the queues of semaphores, of buffers and of mutexes
@@ -11,8 +13,13 @@ pub record Disciplines : Type 0 where
   pub buffers : List Discipline
   pub mutexes : List Discipline
 
--- the processes of a partition at one moment, and what stays: how many cores it has, the disciplines of
--- its queues, and the ceilings of its mutexes
+-- the rules of the mutexes: their ceilings, and the most that a process may own at once
+pub record MutexRules : Type 0 where
+  pub ceilings : List ℕ
+  pub most_owned : ℕ
+
+-- the processes of a partition at one moment, and what never changes: the number of cores, the
+-- disciplines of its queues, and the rules of its mutexes
 pub record Roster : Type 0 where
   pub cores : ℕ
   pub mode : Mode
@@ -21,7 +28,7 @@ pub record Roster : Type 0 where
   pub young : ℤ
   pub old : ℤ
   pub disciplines : Disciplines
-  pub ceilings : List ℕ
+  pub rules : MutexRules
 
 -- a record that no process has, for a place past the end
 abbrev pub nobody : Record
@@ -36,7 +43,7 @@ nobody = record {
   due = None;
   deadline = None;
   release = 0;
-  owned = None;
+  owned = [];
   step = 0;
   inbox = None;
 }
@@ -74,7 +81,7 @@ opening_record p entry = record {
   due = None;
   deadline = None;
   release = 0;
-  owned = None;
+  owned = [];
   step = 0;
   inbox = None;
 }
@@ -91,6 +98,10 @@ disciplines_of table = record {
 abbrev pub ceilings_of : Table → List ℕ
 ceilings_of table = map (λ (m : MutexConfig). m.ceiling) table.mutexes
 
+-- the rules that the table gives
+abbrev pub rules_of : Table → MutexRules
+rules_of table = record { ceilings = ceilings_of table; most_owned = owned_of table.profile }
+
 -- the roster before any event
 abbrev pub opening_roster : Table → Roster
 opening_roster table = record {
@@ -101,5 +112,5 @@ opening_roster table = record {
   young = pos (length table.processes + 1);
   old = pos 0;
   disciplines = disciplines_of table;
-  ceilings = ceilings_of table;
+  rules = rules_of table;
 }

@@ -1,5 +1,4 @@
--- What a service leaves and answers, and how the rows of the services read: guards in order, then the
--- effect.
+-- The outcome of a service, and the rows of the services: guards in order, then the effect.
 use Rattle.std.specs.Prelude.{◌≡◌, ℕ, Bool, List, [], ◌∷◌, ◌++◌, if◌then◌else◌}
 use Rattle.apex_types.specs.Terms.{Caller, Notice, Reply, ReturnCode}
 use Rattle.apex_types.specs.declared.entries.Caller.TheVariants.{Process, Init, Nobody}
@@ -8,7 +7,8 @@ use Rattle.apex_types.specs.declared.entries.ReturnCode.TheVariants.{NoError, In
 use Rattle.apex_types.specs.InTurn.{Changed}
 use Rattle.apex_types.specs.Roster.{Roster}
 
--- what a service leaves, answers and tells; the object is whatever it works on besides the roster
+-- the outcome of a service: the roster and the object that it leaves, its reply and its notices;
+-- the object is whatever it works on besides the roster
 pub record Outcome (X : Type 0) : Type 0 where
   pub roster : Roster
   pub object : X
@@ -23,7 +23,7 @@ told roster object reply = record { roster = roster; object = object; reply = re
 abbrev pub refused : {X : Type 0} → Roster → X → ReturnCode → Outcome X
 refused roster object code = told roster object (Code code)
 
--- answered NO_ERROR, with what the service leaves and tells
+-- answered NO_ERROR, with the roster, the object and the notices of the service
 abbrev pub accepted : {X : Type 0} → Roster → X → List Notice → Outcome X
 accepted roster object notices =
     record { roster = roster; object = object; reply = Code NoError; notices = notices }
@@ -37,7 +37,7 @@ answered_with reply object changed =
 abbrev pub accepted_with : {X : Type 0} → X → Changed → Outcome X
 accepted_with object changed = answered_with (Code NoError) object changed
 
--- a guard: where it holds the call is refused with its code
+-- a guard: if it holds, the call is refused with its code
 pub record Guard : Type 0 where
   pub holds : Bool
   pub code : ReturnCode
@@ -52,13 +52,13 @@ guarded roster object [] effect = effect
 guarded roster object (guard ∷ guards) effect =
     if guard.holds then refused roster object guard.code else guarded roster object guards effect
 
--- a service for a process that calls: no init step asks for it
+-- a service for a process that calls; an init step is refused
 abbrev pub by_process : {X : Type 0} → Roster → X → Caller → (ℕ → Outcome X) → Outcome X
 by_process roster object (Process p) effect = effect p
 by_process roster object Init effect = refused roster object InvalidMode
 by_process roster object Nobody effect = refused roster object InvalidMode
 
--- the outcome, for something of which the object is a part
+-- the outcome with its object put into a whole
 abbrev pub within : {X Y : Type 0} → (X → Y) → Outcome X → Outcome Y
 within whole outcome = record {
   roster = outcome.roster;
@@ -67,7 +67,8 @@ within whole outcome = record {
   notices = outcome.notices;
 }
 
--- what a service left is its outcome's, and its notices stand behind those that were there
+-- a service left the roster, the object and the reply of its outcome, and its notices come behind
+-- those that were there
 pub record Leaves {X : Type 0} (outcome : Outcome X) (left : Roster) (object : X) (answer : Reply) (before after : List Notice) : Type 0 where
   pub roster : left ≡ outcome.roster
   pub kept : object ≡ outcome.object

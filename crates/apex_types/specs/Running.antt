@@ -1,7 +1,8 @@
 -- Which process each core runs (ARINC 653 Part 1, process management; here core by core).
-use Rattle.std.specs.Prelude.{◌≡◌, ℕ, Bool, true, false, Option, None, Some, is_none, max, ◌==◌, nat_lt, int_lt, ◌&&◌, ◌||◌, not, if◌then◌else◌}
-use Rattle.apex_types.specs.Terms.{Holding, Mode, Record, State}
+use Rattle.std.specs.Prelude.{◌≡◌, ℕ, Bool, true, false, Option, None, Some, is_none, ◌==◌, nat_lt, int_lt, ◌&&◌, ◌||◌, not, if◌then◌else◌}
+use Rattle.apex_types.specs.Terms.{Mode, Record, State}
 use Rattle.apex_types.specs.declared.records.State.TheVariants.{Dormant, Ready, Running, Waiting}
+use Rattle.apex_types.specs.Held.{raised}
 use Rattle.apex_types.specs.Roster.{Roster, record_at, is_normal}
 use Rattle.apex_types.specs.Choice.{place_of_least}
 
@@ -17,12 +18,8 @@ IsEligible roster p = is_eligible roster.mode (record_at roster p) ≡ true
 abbrev pub IsIneligible : Roster → ℕ → Type 0
 IsIneligible roster p = is_eligible roster.mode (record_at roster p) ≡ false
 
--- the base priority, raised to the ceiling of a mutex that is owned
-abbrev pub raised : ℕ → Option Holding → ℕ
-raised base None = base
-raised base (Some holding) = max base holding.ceiling
-
--- the current priority; a greater one is more urgent
+-- the current priority: the greatest of the base priority and of the ceilings of all mutexes that the
+-- process owns; a greater one is more urgent
 abbrev pub current_priority : Record → ℕ
 current_priority r = raised r.base r.owned
 

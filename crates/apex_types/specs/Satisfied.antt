@@ -24,7 +24,8 @@ abbrev pub is_satisfied : Reply → Bool
 is_satisfied (Gets message) = true
 is_satisfied reply = is_accepted reply
 
--- the latest call of process p after an entry: its own where p asked for it, else the one before
+-- the latest call of process p after an entry: the entry's call if p asked for it, else the one
+-- before
 abbrev pub latest_after : ℕ → Option Call → Entry → Option Call
 latest_after p before e = if is_by_process p e.process then e.call else before
 
@@ -36,7 +37,8 @@ latest_call p history = fold (latest_after p) None history
 abbrev pub own_call : Entry → List Call
 own_call e = if is_satisfied e.reply then option_to_list e.call else []
 
--- the call that a notice satisfies: woken with NO_ERROR, a process has its latest call answered
+-- the call that a notice satisfies: a process that is woken with NO_ERROR has its latest call
+-- answered
 abbrev pub answered_by : List Entry → Notice → List Call
 answered_by history (Woken p code) =
     if is_no_error code then option_to_list (latest_call p history) else []
@@ -67,8 +69,8 @@ semaphore_value initial s history =
     let calls = calls_where (names (queues.Semaphore s)) history in
     initial + count_by is_signal calls - count_by is_wait calls
 
--- buffer content: the messages of its satisfied sends, in order, without as many as receives of it
--- were satisfied (ARINC 653 Part 1, buffers)
+-- buffer content: the messages of its satisfied sends, in order, without the first n, if n of its
+-- receives were satisfied (ARINC 653 Part 1, buffers)
 abbrev pub buffer_content : ℕ → List Entry → List Message
 buffer_content b history =
     let calls = calls_where (names (queues.Buffer b)) history in
@@ -79,6 +81,6 @@ buffer_content b history =
 abbrev pub blackboard_message : ℕ → List Entry → Option Message
 blackboard_message b history = fold shown_after None (calls_where (names (queues.Blackboard b)) history)
 
--- event value: up where the last of the sets and resets is a set (ARINC 653 Part 1, events)
+-- event value: up if the last of the sets and resets is a set (ARINC 653 Part 1, events)
 abbrev pub is_up : ℕ → List Entry → Bool
 is_up e history = fold up_after false (calls_where (names (queues.Event e)) history)

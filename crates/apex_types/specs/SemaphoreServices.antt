@@ -35,7 +35,8 @@ wait_semaphore roster semaphore s caller timeout =
     accepted roster (record semaphore { value = semaphore.value - 1 }) []
     else wait_for roster semaphore p (wait.Semaphore s) timeout))
 
--- a signal, where this is the first waiter: it is woken, else the value is raised
+-- a signal to a semaphore with this first waiter: the waiter is woken; without one the value is
+-- raised, unless it is at its maximum
 abbrev pub signal_to : Roster → SemaphoreObject → Option ℕ → Outcome SemaphoreObject
 signal_to roster semaphore None =
     guarded roster semaphore (not (nat_lt semaphore.value semaphore.maximum) ⟶ NoAction ∷ [])
@@ -53,7 +54,7 @@ abbrev pub semaphore_own : Roster → SemaphoreObject → ℕ → Caller → Sem
 semaphore_own roster semaphore s caller (Wait timeout) = wait_semaphore roster semaphore s caller timeout
 semaphore_own roster semaphore s caller Signal = signal_semaphore roster semaphore s
 
--- the status: the value, and how many wait
+-- the status: the value, and the number of waiters
 abbrev pub semaphore_status : Roster → SemaphoreObject → ℕ → Reply
 semaphore_status roster semaphore s = Status semaphore.value (waiter_count roster (queues.Semaphore s))
 

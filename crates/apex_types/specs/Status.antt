@@ -5,29 +5,30 @@ use Rattle.apex_types.specs.declared.records.Mode.TheVariants.{Idle, ColdStart, 
 use Rattle.apex_types.specs.declared.records.State.TheVariants.{Dormant, Ready, Running, Waiting}
 use Rattle.apex_types.specs.declared.records.Suspender.TheVariants.{Itself, Other}
 use Rattle.apex_types.specs.declared.records.Wait.TheVariants as waits
-use Rattle.apex_types.specs.Lines.{id_text, message_text, process_name, semaphore_name, buffer_name, blackboard_name, event_name, mutex_name}
+use Rattle.apex_types.specs.Held.{in_order}
+use Rattle.apex_types.specs.Texts.{id_text, message_text, process_name, semaphore_name, buffer_name, blackboard_name, event_name, mutex_name}
 use Rattle.apex_types.specs.Running.{current_priority}
 use Rattle.apex_types.specs.Table.{Table}
 
--- what there may be; `-` where there is none
+-- the text of a value, or `-` without one
 abbrev pub optional_text : {A : Type 0} → (A → List ℕ) → Option A → List ℕ
 optional_text text None = codes "-"
 optional_text text (Some x) = text x
 
--- a value behind those that stand before it in a list
+-- a value behind others in a list
 abbrev pub behind_text : {A : Type 0} → (A → List ℕ) → A → List ℕ
 behind_text text x = codes "," ++ text x
 
--- values with `,` between; `-` where there is none
+-- values with `,` between them, or `-` without one
 abbrev pub list_text : {A : Type 0} → (A → List ℕ) → List A → List ℕ
 list_text text [] = codes "-"
 list_text text (x ∷ xs) = text x ++ flat_map (behind_text text) xs
 
--- the id of a process, where there is one
+-- the id of a process, or `-`
 abbrev pub optional_id_text : Option ℕ → List ℕ
 optional_id_text id = optional_text id_text id
 
--- an instant in ticks, where there is one
+-- an instant in ticks, or `-`
 abbrev pub instant_text : Option ℕ → List ℕ
 instant_text instant = optional_text decimal instant
 
@@ -35,7 +36,7 @@ instant_text instant = optional_text decimal instant
 abbrev pub ids_text : List ℕ → List ℕ
 ids_text ids = list_text id_text ids
 
--- a message, where there is one
+-- a message, or `-`
 abbrev pub optional_message_text : Table → Option Message → List ℕ
 optional_message_text table message = optional_text (message_text table) message
 
@@ -56,7 +57,7 @@ state_text Ready = codes "READY"
 state_text Running = codes "RUNNING"
 state_text Waiting = codes "WAITING"
 
--- what a process waits for: a word, or a kind of object and an id
+-- the wait of a process: a word, or a kind of object and an id
 abbrev pub wait_text : Wait → List ℕ
 wait_text (waits.Normal delay) = codes "normal"
 wait_text waits.Start = codes "start"
@@ -69,26 +70,26 @@ wait_text (waits.Blackboard b) = codes "blackboard:" ++ id_text b
 wait_text (waits.Event e) = codes "event:" ++ id_text e
 wait_text (waits.Mutex m) = codes "mutex:" ++ id_text m
 
--- what a process waits for, where it waits
+-- the wait of a process, or `-`
 abbrev pub optional_wait_text : Option Wait → List ℕ
 optional_wait_text wait = optional_text wait_text wait
 
--- who suspended a process
+-- the suspender of a process
 abbrev pub suspender_text : Suspender → List ℕ
 suspender_text Itself = codes "self"
 suspender_text Other = codes "other"
 
--- who suspended a process, where it is suspended
+-- the suspender of a process, or `-`
 abbrev pub suspended_text : Option Suspender → List ℕ
 suspended_text suspended = optional_text suspender_text suspended
 
--- the mutex of what a process owns
+-- a mutex that a process owns
 abbrev pub held_text : Holding → List ℕ
 held_text holding = id_text holding.mutex
 
--- the id of the mutex that a process owns, where it owns one
-abbrev pub owns_text : Option Holding → List ℕ
-owns_text owned = optional_text held_text owned
+-- the ids of the mutexes that a process owns, in order of their numbers
+abbrev pub owns_text : List Holding → List ℕ
+owns_text owned = list_text held_text (in_order owned)
 
 -- whether an event is up
 abbrev pub up_text : Bool → List ℕ
@@ -102,7 +103,7 @@ time_line now = codes "time " ++ decimal now ++ codes "\n"
 abbrev pub mode_line : Mode → List ℕ
 mode_line mode = codes "mode " ++ operating_mode_text mode ++ codes "\n"
 
--- `history N`: how many entries there are
+-- `history N`, the number of entries
 abbrev pub history_line : ℕ → List ℕ
 history_line entries = codes "history " ++ decimal entries ++ codes "\n"
 
@@ -110,15 +111,15 @@ history_line entries = codes "history " ++ decimal entries ++ codes "\n"
 abbrev pub core_line : ℕ → Option ℕ → List ℕ
 core_line core running = codes "core " ++ decimal core ++ codes " running " ++ optional_id_text running ++ codes "\n"
 
--- how the line of a process or an object begins: its kind, id and name
+-- the head of the line of a process or an object: its kind, id and name
 abbrev pub head_text : List ℕ → ℕ → List ℕ → List ℕ
 head_text kind id name = kind ++ codes " " ++ id_text id ++ codes " name " ++ name
 
--- how the line of an object ends: who waits, in the queue's order
+-- the end of the line of an object: its waiters, in the queue's order
 abbrev pub waiting_text : List ℕ → List ℕ
 waiting_text waiting = codes " waiting " ++ ids_text waiting ++ codes "\n"
 
--- what is told of a process: its state, priorities and core, and what it waits for
+-- the state, the priorities, the core and the wait of a process
 abbrev pub state_part : State → Record → List ℕ
 state_part state r =
     codes " state " ++ state_text state ++ codes " base " ++ decimal r.base
@@ -129,13 +130,14 @@ state_part state r =
 abbrev pub instants_part : Record → List ℕ
 instants_part r = codes " due " ++ instant_text r.due ++ codes " deadline " ++ instant_text r.deadline
 
--- who suspended a process, its mutex, and the last message that it received
+-- the suspender of a process, its mutexes, and the last message that it received
 abbrev pub held_part : Table → Record → List ℕ
 held_part table r =
     codes " suspended " ++ suspended_text r.suspended ++ codes " owns " ++ owns_text r.owned
     ++ codes " inbox " ++ optional_message_text table r.inbox
 
--- `process I name N state S base B current C core K wait W due D deadline D suspended S owns M inbox X`
+-- `process I name N state S base B current C core K wait W due D deadline D suspended S owns M
+-- inbox X`
 abbrev pub process_line : Table → ℕ → State → Record → List ℕ
 process_line table p state r =
     head_text (codes "process") p (process_name table p) ++ state_part state r ++ instants_part r
@@ -164,7 +166,7 @@ abbrev pub event_line : Table → ℕ → Bool → List ℕ → List ℕ
 event_line table e up waiting =
     head_text (codes "event") e (event_name table e) ++ codes " state " ++ up_text up ++ waiting_text waiting
 
--- what is told of a mutex: its owner, and how deep it is owned
+-- the owner of a mutex, and its depth
 abbrev pub owner_text : Option ℕ → ℕ → List ℕ
 owner_text owner depth = codes " owner " ++ optional_id_text owner ++ codes " depth " ++ decimal depth
 

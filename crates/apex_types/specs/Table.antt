@@ -1,9 +1,9 @@
--- A partition table as every contract sees it, and what holds of each accepted one.
+-- A partition table as every contract sees it, and the facts about each accepted one.
 use Rattle.std.specs.Prelude.{◌≡◌, ℕ, ◌<◌, ◌≤◌, Bool, true, false, List, [], length, slice_index_or, slice_get, map, Option, None, Some, option_map, IsTrue}
-use Rattle.apex_types.specs.Limits.{most_cores, most_entries, most_init_steps, most_message, most_messages, most_objects, most_priority, most_processes, most_span, most_steps, most_value}
+use Rattle.apex_types.specs.Limits.{most_cores, most_entries, most_init_steps, most_message, most_messages, most_objects, most_priority, most_span, most_steps, most_value}
 use Rattle.std.specs.List.{IsDistinct}
 use Rattle.std.specs.Str.{bytes_eq}
-use Rattle.apex_types.specs.Terms.{Attributes, Call, Discipline, Message, Named, ObjectCall, Origin}
+use Rattle.apex_types.specs.Terms.{Attributes, Call, Discipline, Message, Named, ObjectCall, Origin, Profile}
 use Rattle.apex_types.specs.declared.calls.Call.TheVariants.{Partition, Process, Caller, Time, Semaphore, Buffer, Blackboard, Event, Mutex, Work}
 use Rattle.apex_types.specs.declared.calls.CallerCall.TheVariants.{StopSelf}
 use Rattle.apex_types.specs.declared.calls.Named.TheVariants.{Known, Unknown}
@@ -13,8 +13,9 @@ use Rattle.apex_types.specs.declared.records.DeadlineType.TheVariants.{Soft}
 use Rattle.apex_types.specs.declared.records.Discipline.TheVariants.{Fifo}
 use Rattle.apex_types.specs.Calls.{origin_of, message_in}
 use Rattle.apex_types.specs.Name.{is_name}
+use Rattle.apex_types.specs.Profiles.{processes_of}
 
--- a step as the table gives it; the literal is what its call names by the step's origin
+-- a step as the table gives it; its call names the literal by the step's origin
 pub record Step : Type 0 where
   pub call : Call
   pub literal : List ℕ
@@ -35,7 +36,7 @@ pub record SemaphoreConfig : Type 0 where
   pub initial : ℕ
   pub discipline : Discipline
 
--- a buffer as the table gives it: the most bytes of a message, and how many messages it holds
+-- a buffer as the table gives it: the most bytes of a message, and the most messages
 pub record BufferConfig : Type 0 where
   pub name : List ℕ
   pub length : ℕ
@@ -57,8 +58,9 @@ pub record MutexConfig : Type 0 where
   pub ceiling : ℕ
   pub discipline : Discipline
 
--- a partition table; the limit is how many entries its history may have
+-- a partition table; the limit is the most entries that its history may have
 pub record Table : Type 0 where
+  pub profile : Profile
   pub cores : ℕ
   pub limit : ℕ
   pub processes : List ProcessConfig
@@ -69,7 +71,7 @@ pub record Table : Type 0 where
   pub mutexes : List MutexConfig
   pub init : List Step
 
--- attributes and an entry that no table has, for a place past the end
+-- attributes and entries that no table has, for a place past the end
 abbrev pub no_attributes : Attributes
 no_attributes = record { priority = 0; period = None; capacity = None; deadline = Soft }
 
@@ -110,7 +112,7 @@ event_config table e = slice_index_or table.events e no_event
 abbrev pub mutex_config : Table → ℕ → MutexConfig
 mutex_config table m = slice_index_or table.mutexes m no_mutex
 
--- what stands past the end of every script: STOP_SELF
+-- the step past the end of every script: STOP_SELF
 abbrev pub no_step : Step
 no_step = record { call = Caller StopSelf; literal = [] }
 
@@ -118,11 +120,11 @@ no_step = record { call = Caller StopSelf; literal = [] }
 abbrev pub step_at : List Step → ℕ → Step
 step_at steps k = slice_index_or steps k no_step
 
--- its call, where there is such a step
+-- the call of the step at a place, if there is such a step
 abbrev pub call_in : List Step → ℕ → Option Call
 call_in steps k = option_map (λ (s : Step). s.call) (slice_get steps k)
 
--- the literal of the step of this origin, which is empty where no step stands there
+-- the literal of the step of this origin; empty if there is no such step
 abbrev pub literal_text : Table → Origin → List ℕ
 literal_text table (Init k) = (step_at table.init k).literal
 literal_text table (Script p k) = (step_at (process_config table p).script k).literal
@@ -131,19 +133,19 @@ literal_text table (Script p k) = (step_at (process_config table p).script k).li
 abbrev pub message_bytes : Table → Message → List ℕ
 message_bytes table message = literal_text table message.origin
 
--- a name that is an entry's is one of so many
+-- if the name is an entry's, the entry's place is below `many`
 abbrev pub IsKnownName : ℕ → Named ℕ → Type 0
 IsKnownName many (Known i) = i < many
 IsKnownName many (Unknown origin) = Unit {0}
 
--- the thing that the call names is one of so many
+-- if the call names an entry's thing, its place is below `many`
 abbrev pub IsKnownObject : {W : Type 0} → ℕ → ObjectCall ℕ W → Type 0
 IsKnownObject many (Create named) = IsKnownName many named
 IsKnownObject many (GetId named) = IsKnownName many named
 IsKnownObject many (GetStatus i) = i < many
 IsKnownObject many (Own i service) = i < many
 
--- what the call names is an entry of the table
+-- if the call names an entry's thing, the table has that entry
 abbrev pub IsKnown : Table → Call → Type 0
 IsKnown table (Partition call) = Unit {0}
 IsKnown table (Process call) = IsKnownObject (length table.processes) call
@@ -162,23 +164,23 @@ pub record IsMessageOf (origin : Origin) (literal : List ℕ) (message : Message
   pub many : message.length ≡ length literal
   pub few : message.length ≤ most_message
 
--- the literal of the step of this origin is what its call gives: a name that no entry has, a message,
--- or nothing
+-- the literal of the step of this origin is the one of its call: a name that no entry has, a
+-- message, or nothing
 abbrev pub IsLiteral : Origin → List ℕ → Option Origin → Option Message → Type 0
 IsLiteral origin literal None None = literal ≡ []
 IsLiteral origin literal None (Some message) = IsMessageOf origin literal message
 IsLiteral origin literal (Some named) message = (named ≡ origin) × IsTrue (is_name literal)
 
--- what holds of the step of this origin of an accepted table
+-- the facts about the step of this origin of an accepted table
 pub record IsLawfulStep (table : Table) (origin : Origin) (step : Step) : Type 0 where
   pub known : IsKnown table step.call
   pub literal : IsLiteral origin step.literal (origin_of step.call) (message_in step.call)
 
--- a span of time, where it is finite, is 1 to 4,294,967,295 ticks
+-- a span of time, if it is finite, is 1 to 4,294,967,295 ticks
 abbrev pub IsSpan : Option ℕ → Type 0
 IsSpan span = (ticks : ℕ) → span ≡ Some ticks → (1 ≤ ticks) × (ticks ≤ most_span)
 
--- what holds of the process at place p of an accepted table
+-- the facts about the process at place p of an accepted table
 pub record IsLawfulProcess (table : Table) (p : ℕ) (entry : ProcessConfig) : Type 0 where
   pub name : IsTrue (is_name entry.name)
   pub priority : (1 ≤ entry.attributes.priority) × (entry.attributes.priority ≤ most_priority)
@@ -189,37 +191,37 @@ pub record IsLawfulProcess (table : Table) (p : ℕ) (entry : ProcessConfig) : T
   pub looping : entry.loops ≡ true → 1 ≤ length entry.script
   pub script : (k : ℕ) → k < length entry.script → IsLawfulStep table (Script p k) (step_at entry.script k)
 
--- what holds of a semaphore of an accepted table
+-- the facts about a semaphore of an accepted table
 pub record IsLawfulSemaphore (entry : SemaphoreConfig) : Type 0 where
   pub name : IsTrue (is_name entry.name)
   pub maximum : (1 ≤ entry.maximum) × (entry.maximum ≤ most_value)
   pub initial : entry.initial ≤ entry.maximum
 
--- what holds of a buffer of an accepted table
+-- the facts about a buffer of an accepted table
 pub record IsLawfulBuffer (entry : BufferConfig) : Type 0 where
   pub name : IsTrue (is_name entry.name)
   pub length : (1 ≤ entry.length) × (entry.length ≤ most_message)
   pub capacity : (1 ≤ entry.capacity) × (entry.capacity ≤ most_messages)
 
--- what holds of a blackboard of an accepted table
+-- the facts about a blackboard of an accepted table
 pub record IsLawfulBlackboard (entry : BlackboardConfig) : Type 0 where
   pub name : IsTrue (is_name entry.name)
   pub length : (1 ≤ entry.length) × (entry.length ≤ most_message)
 
--- what holds of an event of an accepted table
+-- the facts about an event of an accepted table
 pub record IsLawfulEvent (entry : EventConfig) : Type 0 where
   pub name : IsTrue (is_name entry.name)
 
--- what holds of a mutex of an accepted table
+-- the facts about a mutex of an accepted table
 pub record IsLawfulMutex (entry : MutexConfig) : Type 0 where
   pub name : IsTrue (is_name entry.name)
   pub ceiling : (1 ≤ entry.ceiling) × (entry.ceiling ≤ most_priority)
 
--- what holds of an accepted table: ranges and references
+-- the facts about an accepted table: ranges, references and distinct names
 pub record IsLawful (table : Table) : Type 0 where
   pub cores : (1 ≤ table.cores) × (table.cores ≤ most_cores)
   pub limit : (1 ≤ table.limit) × (table.limit ≤ most_entries)
-  pub process_count : (1 ≤ length table.processes) × (length table.processes ≤ most_processes)
+  pub process_count : (1 ≤ length table.processes) × (length table.processes ≤ processes_of table.profile)
   pub semaphore_count : length table.semaphores ≤ most_objects
   pub buffer_count : length table.buffers ≤ most_objects
   pub blackboard_count : length table.blackboards ≤ most_objects

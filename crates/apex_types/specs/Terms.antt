@@ -22,10 +22,11 @@ pub use Rattle.apex_types.specs.declared.entries.Notice.{Notice}
 pub use Rattle.apex_types.specs.declared.entries.Reply.{Reply}
 pub use Rattle.apex_types.specs.declared.entries.ReturnCode.{ReturnCode}
 pub use Rattle.apex_types.specs.declared.entries.Who.{Who}
+pub use Rattle.apex_types.specs.declared.profiles.Profile.{Profile}
 pub use Rattle.apex_types.specs.declared.records.Attributes.{Attributes}
 pub use Rattle.apex_types.specs.declared.records.DeadlineType.{DeadlineType}
 pub use Rattle.apex_types.specs.declared.records.Discipline.{Discipline}
-pub use Rattle.apex_types.specs.declared.records.Holding.{Holding}
+pub use Rattle.apex_types.specs.declared.holdings.Holding.{Holding}
 pub use Rattle.apex_types.specs.declared.records.Mode.{Mode}
 pub use Rattle.apex_types.specs.declared.records.Queue.{Queue}
 pub use Rattle.apex_types.specs.declared.records.Record.{Record}

@@ -1,13 +1,13 @@
--- The services of time management, row by row: the first guard that holds answers and changes nothing
--- (ARINC 653 Part 1, time management; the guards are this profile's).
-use Rattle.std.specs.Prelude.{ℕ, ◌+◌, [], ◌∷◌, Some, is_none, is_some, not}
+-- The services of time management, row by row: the first guard that holds answers and changes
+-- nothing (ARINC 653 Part 1, time management; the guards are this profile's).
+use Rattle.std.specs.Prelude.{ℕ, ◌+◌, [], ◌∷◌, Some, is_none, not}
 use Rattle.apex_types.specs.Terms.{Caller, TimeCall, Timeout}
 use Rattle.apex_types.specs.declared.calls.TimeCall.TheVariants.{TimedWait, PeriodicWait, Replenish, GetTime}
 use Rattle.apex_types.specs.declared.calls.Timeout.TheVariants.{Poll, Ticks, Infinite}
 use Rattle.apex_types.specs.declared.entries.Reply.TheVariants.{Blocked, Value}
 use Rattle.apex_types.specs.declared.entries.ReturnCode.TheVariants.{NoAction, InvalidMode, InvalidParam}
 use Rattle.apex_types.specs.declared.records.Wait.TheVariants as wait
-use Rattle.apex_types.specs.Owners.{is_owner}
+use Rattle.apex_types.specs.Owners.{is_owner, owns_some}
 use Rattle.apex_types.specs.Periods.{is_beyond, is_periodic}
 use Rattle.apex_types.specs.Roster.{Roster, record_at}
 use Rattle.apex_types.specs.Rows.{Outcome, told, refused, accepted, by_process, guarded, ◌⟶◌}
@@ -31,10 +31,10 @@ abbrev pub periodic_wait : {X : Type 0} → Roster → X → ℕ → Outcome X
 periodic_wait roster objects p =
     guarded roster objects
     (not (is_periodic (record_at roster p)) ⟶ InvalidMode
-    ∷ is_some (record_at roster p).owned ⟶ InvalidMode ∷ [])
+    ∷ owns_some (record_at roster p) ⟶ InvalidMode ∷ [])
     (told (await_release roster p) objects Blocked)
 
--- REPLENISH by process p: its deadline is so far from now
+-- REPLENISH by process p: its deadline is the budget's ticks from now
 abbrev pub replenish : {X : Type 0} → Roster → X → ℕ → ℕ → Outcome X
 replenish roster objects budget p =
     let r = record_at roster p in

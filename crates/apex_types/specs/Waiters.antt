@@ -1,4 +1,4 @@
--- Who waits in a queue, and in which order (ARINC 653 Part 1, intrapartition communication).
+-- The waiters of a queue, and their order (ARINC 653 Part 1, intrapartition communication).
 use Rattle.std.specs.Prelude.{ℕ, Bool, true, false, Option, None, Some, ◌&&◌, count_by, slice_index_or}
 use Rattle.std.specs.Option.{option_and_then}
 use Rattle.apex_types.specs.Terms.{Discipline, Queue, Record}
@@ -9,7 +9,7 @@ use Rattle.apex_types.specs.Roster.{Roster, record_at}
 use Rattle.apex_types.specs.Choice.{place_of_least}
 use Rattle.apex_types.specs.Running.{is_older, is_before}
 
--- the queue in which the process stands
+-- the queue in which the process waits, if there is one
 abbrev pub queue_in : Record → Option Queue
 queue_in r = option_and_then queue_of r.wait
 
@@ -30,8 +30,8 @@ discipline_of roster (queues.Buffer b) = slice_index_or roster.disciplines.buffe
 discipline_of roster (queues.Mutex m) = slice_index_or roster.disciplines.mutexes m Fifo
 discipline_of roster _ = Fifo
 
--- whether r comes before s in a queue of this discipline: the longer waiter, or the more urgent one and
--- among equals the longer waiter
+-- whether r comes before s in a queue of this discipline: the longer waiter comes first, or the
+-- more urgent one and among equals the longer waiter
 abbrev pub waits_before : Discipline → Record → Record → Bool
 waits_before Fifo = is_older
 waits_before Priority = is_before
@@ -51,7 +51,7 @@ next_waiter roster queue p =
     let discipline = discipline_of roster queue in
     place_of_least (waits_behind discipline queue (record_at roster p)) (waits_before discipline) roster.records
 
--- how many wait in the queue
+-- the number of waiters of the queue
 abbrev pub waiter_count : Roster → Queue → ℕ
 waiter_count roster queue = count_by (waits_in queue) roster.records
 

@@ -1,4 +1,4 @@
--- How a process that calls begins to wait.
+-- A process that calls begins to wait.
 use Rattle.std.specs.Prelude.{ℕ}
 use Rattle.apex_types.specs.Terms.{Timeout, Wait}
 use Rattle.apex_types.specs.declared.calls.Timeout.TheVariants.{Poll, Ticks, Infinite}
@@ -9,12 +9,12 @@ use Rattle.apex_types.specs.Dues.{due_after}
 use Rattle.apex_types.specs.Rows.{Outcome, told, refused}
 use Rattle.apex_types.specs.Stamps.{block}
 
--- process p blocks, for as long as the timeout says
+-- process p blocks until the timeout is over
 abbrev pub blocked : {X : Type 0} → Roster → X → ℕ → Wait → Timeout → Outcome X
 blocked roster object p wait timeout =
     told (block roster p wait (due_after roster timeout)) object Blocked
 
--- process p waits for what is not there; a timeout of 0 asks not to wait
+-- process p waits until the timeout is over; with a timeout of 0 it is refused
 abbrev pub wait_for : {X : Type 0} → Roster → X → ℕ → Wait → Timeout → Outcome X
 wait_for roster object p wait Poll = refused roster object NotAvailable
 wait_for roster object p wait (Ticks n) = blocked roster object p wait (Ticks n)

@@ -1,5 +1,5 @@
--- Work, which takes two turns of a core: what a core has begun, and whether its process has been the core's
--- chosen one ever since (this profile).
+-- Work, which takes two turns of a core: the work that a core has begun, and whether its process
+-- has been the core's chosen one ever since (this profile).
 use Rattle.std.specs.Prelude.{ℕ, Bool, true, false, List, [], ◌∷◌, Option, None, Some, option_map, ◌==◌, ◌&&◌, if◌then◌else◌}
 use Rattle.std.specs.List.{list_all}
 use Rattle.std.specs.Option.{option_and_then, option_or}
@@ -21,7 +21,7 @@ abbrev pub is_turn_of : ℕ → Who → Bool
 is_turn_of core (Core c) = core == c
 is_turn_of core Ticker = false
 
--- this entry, where it is the core's
+-- this entry, if the core made it
 abbrev pub own_turn : ℕ → Entry → List Roster → Option Since
 own_turn core e states = if is_turn_of core e.who then Some (record { entry = e; states = states }) else None
 
@@ -49,7 +49,7 @@ abbrev pub open_since : ℕ → Since → Option OpenWork
 open_since core since =
     option_map (open_in core since.states) (work_begun since.entry.process since.entry.call since.entry.reply)
 
--- the work that stands open on the core
+-- the work that is open on the core
 abbrev pub open_work_of : ℕ → List Entry → List Roster → Option OpenWork
 open_work_of core history past = option_and_then (open_since core) (last_turn core history past)
 
@@ -57,7 +57,7 @@ open_work_of core history past = option_and_then (open_since core) (last_turn co
 abbrev pub fresh : Work → OpenWork
 fresh work = record { work = work; unbroken = true }
 
--- open work, looked at once more: it stays unbroken where its process is the core's chosen one in this state
+-- open work after one more state: it stays unbroken if its process is the core's chosen one there
 abbrev pub watched : Roster → ℕ → OpenWork → OpenWork
 watched roster core o =
     record { work = o.work; unbroken = o.unbroken && is_process o.work.process (chosen roster core) }

@@ -1,16 +1,16 @@
 //! The services with their arguments, as a step asks for them.
 ghost use Rattle.std.specs.Prelude.{◌≡◌};
-ghost use Rattle.apex_types.specs.Calls.{known, object_of, unknown, object_origin, origin_of, message_in};
+ghost use Rattle.apex_types.specs.Calls.{known, object_of};
 
 use crate::identifiers::{BlackboardId, BufferId, EventId, MutexId, ProcessId, SemaphoreId};
 use crate::spans::Span;
 
-/// How long a call may wait.
+/// The time that a call may wait.
 #[derive(Clone, Copy, PartialEq, Eq)]
 pub enum Timeout {
     /// Not at all: `0`.
     Poll,
-    /// So many ticks at the most, 1 to 4,294,967,295.
+    /// At most n ticks, n from 1 to 4,294,967,295.
     Ticks(u32),
     /// For ever: `infinite`.
     Infinite,
@@ -30,7 +30,7 @@ pub enum PartitionCall {
     GetPartitionStatus,
 }
 
-/// Where a step stands, by its place in its list, counted from 0.
+/// The place of a step in its list, counted from 0.
 #[derive(Clone, Copy, Debug, PartialEq, Eq)]
 pub enum Origin {
     /// In the init list.
@@ -43,7 +43,7 @@ pub enum Origin {
 #[derive(Clone, Copy, Debug, PartialEq, Eq)]
 pub struct Message {
     pub origin: Origin,
-    /// How many bytes it has, 0 to 64.
+    /// The number of its bytes, 0 to 64.
     pub length: u8,
 }
 
@@ -60,7 +60,7 @@ impl Default for Message {
 #[derive(Clone, Copy, PartialEq, Eq)]
 pub enum Named<I> {
     Known(I),
-    /// No entry has the name. It is the literal of the step that stands there.
+    /// A name that no entry has: the literal of the step of this origin.
     Unknown(Origin),
 }
 
@@ -75,7 +75,7 @@ pub enum ObjectCall<I, W> {
 }
 
 impl<I: Copy> Named<I> {
-    /// The thing of this name, where an entry has it.
+    /// The thing of this name, if an entry has it.
     pub fn known(&self) -> Option<I>
         ensures { result ≡ known self.now }
     {
@@ -84,20 +84,10 @@ impl<I: Copy> Named<I> {
             Named::Unknown(_) => None,
         }
     }
-
-    /// The origin of the name, where no entry has it.
-    pub fn origin(&self) -> Option<Origin>
-        ensures { result ≡ unknown self.now }
-    {
-        match self {
-            Named::Known(_) => None,
-            Named::Unknown(origin) => Some(*origin),
-        }
-    }
 }
 
 impl<I: Copy, W> ObjectCall<I, W> {
-    /// The thing that the call names, where it is an entry's.
+    /// The thing that the call names, if it is an entry's.
     pub fn object(&self) -> Option<I>
         ensures { result ≡ object_of self.now }
     {
@@ -106,19 +96,9 @@ impl<I: Copy, W> ObjectCall<I, W> {
             ObjectCall::GetStatus(id) | ObjectCall::Own(id, _) => Some(*id),
         }
     }
-
-    /// The origin of the name that the call gives, where no entry has it.
-    pub fn origin(&self) -> Option<Origin>
-        ensures { result ≡ object_origin self.now }
-    {
-        match self {
-            ObjectCall::Create(named) | ObjectCall::GetId(named) => named.origin(),
-            ObjectCall::GetStatus(_) | ObjectCall::Own(_, _) => None,
-        }
-    }
 }
 
-/// A service for a process that is named, but for the three that each kind has.
+/// A service for a named process, except for the three that each kind has.
 #[derive(Clone, Copy, PartialEq, Eq)]
 pub enum ProcessService {
     /// The core is any number from 0 to 255: the service tests it.
@@ -133,7 +113,7 @@ pub enum ProcessService {
     Resume,
 }
 
-/// A call of a service of process management for a process that is named.
+/// A call of a service of process management for a named process.
 pub type ProcessCall = ObjectCall<ProcessId, ProcessService>;
 
 /// A call of a service of process management that a process asks for itself.
@@ -150,12 +130,12 @@ pub enum CallerCall {
 pub enum TimeCall {
     TimedWait(Timeout),
     PeriodicWait,
-    /// The deadline is so far from now.
+    /// The deadline is this span from now.
     Replenish(Span),
     GetTime,
 }
 
-/// A service of semaphores, but for the three that each kind has.
+/// A service of semaphores, except for the three that each kind has.
 #[derive(Clone, Copy, PartialEq, Eq)]
 pub enum SemaphoreService {
     Wait(Timeout),
@@ -165,7 +145,7 @@ pub enum SemaphoreService {
 /// A call of a service of semaphores.
 pub type SemaphoreCall = ObjectCall<SemaphoreId, SemaphoreService>;
 
-/// A service of buffers, but for the three that each kind has.
+/// A service of buffers, except for the three that each kind has.
 #[derive(Clone, Copy, PartialEq, Eq)]
 pub enum BufferService {
     Send(Message, Timeout),
@@ -175,7 +155,7 @@ pub enum BufferService {
 /// A call of a service of buffers.
 pub type BufferCall = ObjectCall<BufferId, BufferService>;
 
-/// A service of blackboards, but for the three that each kind has.
+/// A service of blackboards, except for the three that each kind has.
 #[derive(Clone, Copy, PartialEq, Eq)]
 pub enum BlackboardService {
     Display(Message),
@@ -186,7 +166,7 @@ pub enum BlackboardService {
 /// A call of a service of blackboards.
 pub type BlackboardCall = ObjectCall<BlackboardId, BlackboardService>;
 
-/// A service of events, but for the three that each kind has.
+/// A service of events, except for the three that each kind has.
 #[derive(Clone, Copy, PartialEq, Eq)]
 pub enum EventService {
     Set,
@@ -197,7 +177,7 @@ pub enum EventService {
 /// A call of a service of events.
 pub type EventCall = ObjectCall<EventId, EventService>;
 
-/// A service of mutexes, but for the three that each kind has.
+/// A service of mutexes, except for the three that each kind has.
 #[derive(Clone, Copy, PartialEq, Eq)]
 pub enum MutexService {
     Acquire(Timeout),
@@ -219,36 +199,6 @@ pub enum Call {
     Blackboard(BlackboardCall),
     Event(EventCall),
     Mutex(MutexCall),
-    /// Work of so many units, 1 to 1,048,576. One turn begins it, and the core's next one ends it.
+    /// Work of n units, n from 1 to 1,048,576. One turn begins it, and the core's next one ends it.
     Work(Span),
-}
-
-impl Call {
-    /// The origin of the name that the call gives, where no entry has it.
-    pub fn origin(&self) -> Option<Origin>
-        ensures { result ≡ origin_of self.now }
-    {
-        match self {
-            Call::Process(call) => call.origin(),
-            Call::Semaphore(call) => call.origin(),
-            Call::Buffer(call) => call.origin(),
-            Call::Blackboard(call) => call.origin(),
-            Call::Event(call) => call.origin(),
-            Call::Mutex(call) => call.origin(),
-            Call::Partition(_) | Call::Caller(_) | Call::Time(_) | Call::Work(_) => None,
-        }
-    }
-
-    /// The message that the call gives, if it gives one.
-    pub fn message(&self) -> Option<Message>
-        ensures { result ≡ message_in self.now }
-    {
-        match self {
-            Call::Buffer(ObjectCall::Own(_, BufferService::Send(message, _)))
-            | Call::Blackboard(ObjectCall::Own(_, BlackboardService::Display(message))) => {
-                Some(*message)
-            }
-            _ => None,
-        }
-    }
 }

@@ -4,6 +4,7 @@ ghost use Rattle.apex_types.specs.Limits.{most_notices};
 
 use crate::calls::{Call, Message};
 use crate::identifiers::{CoreId, ProcessId};
+use crate::limits::MOST_NOTICES;
 use crate::records::DeadlineType;
 use arrayvec::ArrayVec;
 use std::marker::Model;
@@ -21,37 +22,37 @@ pub enum ReturnCode {
     TimedOut,
 }
 
-/// What happens to a partition: one event is one atomic step.
+/// An event of a partition, which is one atomic step.
 #[derive(Clone, Copy, Debug, PartialEq, Eq)]
 pub enum Event {
     /// A turn of a core.
     Turn(CoreId),
-    /// A tick of so many ticks of time, 1 to 1,048,576.
+    /// A tick of n ticks of time, n from 1 to 1,048,576.
     Tick(u32),
 }
 
-/// Who made an event.
+/// The maker of an event.
 #[derive(Clone, Copy, PartialEq, Eq)]
 pub enum Who {
     Core(CoreId),
     Ticker,
 }
 
-/// Who asked for an entry's call.
+/// The caller of an entry's call.
 #[derive(Clone, Copy, PartialEq, Eq)]
 pub enum Caller {
     Process(ProcessId),
     /// The init list.
     Init,
-    /// Nobody: an idle turn or a tick.
+    /// No caller: an idle turn or a tick.
     Nobody,
 }
 
-/// What a call was answered.
+/// The reply to a call, or the result of an idle turn or a tick.
 #[derive(Clone, Copy, Debug, PartialEq, Eq)]
 pub enum Reply {
     Code(ReturnCode),
-    /// What the caller asked for: a time in ticks, an id or a core.
+    /// The value that the caller asked for: a time in ticks, an id or a core.
     Value(u64),
     /// The two numbers of a status.
     Status(u32, u32),
@@ -69,11 +70,11 @@ pub enum Reply {
     Done,
     /// The work is lost: its process lost the core meanwhile.
     Lost,
-    /// A tick: how many ticks were asked for, and how many time went on.
+    /// A tick: the ticks that were asked for, and those by which time went on.
     Advanced(u32, u32),
 }
 
-/// What an event did to a process other than its caller.
+/// The effect of an event on a process other than its caller.
 #[derive(Clone, Copy, PartialEq, Eq)]
 pub enum Notice {
     /// The process's wait, or its suspension of itself, ended with this code.
@@ -90,10 +91,10 @@ impl Default for Notice {
     }
 }
 
-/// The notices of one event, in order: 64 at the most, kept inline.
+/// The notices of one event, in order: [`MOST_NOTICES`] at the most, kept inline.
 #[derive(Drop)]
 pub struct Notices {
-    notices: ArrayVec<Notice, 64>,
+    notices: ArrayVec<Notice, MOST_NOTICES>,
 }
 
 impl Model for Notices {
@@ -189,7 +190,7 @@ pub struct LentEntry<'a> {
     pub process: Caller,
     pub call: Option<Call>,
     pub reply: Reply,
-    /// 64 at the most.
+    /// [`MOST_NOTICES`] at the most.
     pub notices: &'a [Notice],
 }
 

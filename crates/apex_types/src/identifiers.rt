@@ -87,27 +87,27 @@ impl<K> Id<K> {
     }
 }
 
-/// What an id of a process stands for.
+/// The kind of an id of a process.
 #[derive(Clone, Copy, Debug, PartialEq, Eq)]
 pub struct ProcessKind;
 
-/// What an id of a semaphore stands for.
+/// The kind of an id of a semaphore.
 #[derive(Clone, Copy, PartialEq, Eq)]
 pub struct SemaphoreKind;
 
-/// What an id of a buffer stands for.
+/// The kind of an id of a buffer.
 #[derive(Clone, Copy, PartialEq, Eq)]
 pub struct BufferKind;
 
-/// What an id of a blackboard stands for.
+/// The kind of an id of a blackboard.
 #[derive(Clone, Copy, PartialEq, Eq)]
 pub struct BlackboardKind;
 
-/// What an id of an event of APEX stands for.
+/// The kind of an id of an event of APEX.
 #[derive(Clone, Copy, PartialEq, Eq)]
 pub struct EventKind;
 
-/// What an id of a mutex stands for.
+/// The kind of an id of a mutex.
 #[derive(Clone, Copy, PartialEq, Eq)]
 pub struct MutexKind;
 
@@ -123,7 +123,7 @@ pub type BufferId = Id<BufferKind>;
 /// A blackboard of the partition.
 pub type BlackboardId = Id<BlackboardKind>;
 
-/// An event of APEX, which is up or down. What happens to the partition is an `Event`.
+/// An event of APEX, which is up or down. An `Event` is a turn or a tick of the partition.
 pub type EventId = Id<EventKind>;
 
 /// A mutex of the partition.

@@ -7,9 +7,12 @@
 
 mod calls;
 mod entries;
+mod holdings;
 mod identifiers;
+mod limits;
 mod names;
 mod numbers;
+mod profiles;
 mod records;
 mod spans;
 mod steps;
@@ -21,14 +24,22 @@ pub use calls::{
     ProcessCall, ProcessService, RequestedMode, SemaphoreCall, SemaphoreService, TimeCall, Timeout,
 };
 pub use entries::{Caller, Entry, Event, Full, LentEntry, Notice, Notices, Reply, ReturnCode, Who};
+pub use holdings::{Holding, Holdings};
 pub use identifiers::{
     BlackboardId, BlackboardKind, BufferId, BufferKind, CoreId, EventId, EventKind, Id, MutexId,
     MutexKind, ProcessId, ProcessKind, SemaphoreId, SemaphoreKind,
 };
+pub use limits::{
+    MOST_CORES, MOST_DEPTH, MOST_ENTRIES, MOST_INIT_STEPS, MOST_LINE, MOST_LITERAL, MOST_MESSAGE,
+    MOST_MESSAGES, MOST_NAME, MOST_NOTICES, MOST_OBJECTS, MOST_OWNED, MOST_OWNED_IN_ONE,
+    MOST_PRIORITY, MOST_PROCESSES, MOST_PROCESSES_IN_ONE, MOST_PROFILE, MOST_SPAN, MOST_STEPS,
+    MOST_TICKS, MOST_VALUE, MOST_WORK, USUAL_ENTRIES,
+};
 pub use names::Name;
 pub use numbers::{number, number_at_most};
+pub use profiles::Profile;
 pub use records::{
-    Attributes, DeadlineType, Discipline, Holding, Mode, Queue, Record, State, Suspender, Wait,
+    Attributes, DeadlineType, Discipline, Mode, Queue, Record, State, Suspender, Wait,
 };
 pub use spans::Span;
 pub use steps::{Literal, Step};

@@ -4,16 +4,18 @@ ghost use Rattle.std.specs.List.{list_all};
 ghost use Rattle.std.specs.Str.{bytes_eq};
 ghost use Rattle.std.specs.Cmp.{partial_equiv_from_equiv};
 ghost use Rattle.std.specs.Cmp.Lexicographic.{nat_list_eq_equiv};
+ghost use Rattle.apex_types.specs.Limits.{most_name};
 ghost use Rattle.apex_types.specs.Name.{is_visible, is_name, padded};
 
+use crate::limits::MOST_NAME;
 use std::marker::Model;
 
 /// The name of a process or of an object: 1 to 30 bytes from 0x21 to 0x7E, compared byte by byte.
 #[derive(Clone, Copy)]
 pub struct Name {
     /// The name's bytes, and zeros behind them: so a name has one form alone.
-    bytes: [u8; 30],
-    /// How many of the bytes are the name's.
+    bytes: [u8; MOST_NAME],
+    /// The number of bytes that the name has.
     used: u8,
 }
 
@@ -65,20 +67,20 @@ fn all_visible(text: &[u8]) -> bool
 fn is_name(text: &[u8]) -> bool
     ensures { result ≡ is_name text.now }
 {
-    1 <= text.len() && text.len() <= 30 && all_visible(text)
+    1 <= text.len() && text.len() <= MOST_NAME && all_visible(text)
 }
 
-fn padded(name: &[u8]) -> [u8; 30]
-    requires { length name.now ≤ 30 }
+fn padded(name: &[u8]) -> [u8; MOST_NAME]
+    requires { length name.now ≤ most_name }
     ensures { result ≡ padded name.now }
 {
-    let mut bytes = [0; 30];
+    let mut bytes = [0; MOST_NAME];
     bytes[..name.len()].copy_from_slice(name);
     bytes
 }
 
 impl Name {
-    /// The name of these bytes, or none where they are no name. Takes no memory.
+    /// The name of these bytes, or none if they are no name. Takes no memory.
     pub fn from_bytes(text: &[u8]) -> Option<Name>
         ensures none { IsNone result → is_name text.now ≡ false }
         ensures some { IfSome result (λ name. (name ≡ text.now) × (is_name text.now ≡ true)) }

@@ -9,7 +9,7 @@ fn has_leading_zero(word: &[u8]) -> bool
 }
 
 /// The decimal number that a word writes, without a sign and without a leading zero; 2^32 in place
-/// of any greater one.
+/// of any greater one. None if the word is no such number.
 pub fn number(word: &[u8]) -> Option<u64>
     ensures { result ≡ option_map (min (2 ^ 32)) (number_of word.now) }
 {
@@ -26,7 +26,7 @@ pub fn number(word: &[u8]) -> Option<u64>
     Some(number)
 }
 
-/// The decimal number that a word writes, where it is at most `most`.
+/// The decimal number that a word writes, if it is at most `most`.
 pub fn number_at_most(word: &[u8], most: u32) -> Option<u32>
     ensures { result ≡ at_most most (number_of word.now) }
 {

@@ -3,11 +3,12 @@ ghost use Rattle.std.specs.Prelude.{◌≡◌};
 ghost use Rattle.apex_types.specs.Roster.{is_normal};
 ghost use Rattle.apex_types.specs.Running.{current_priority, is_eligible};
 ghost use Rattle.apex_types.specs.Stamps.{is_by_itself};
-ghost use Rattle.apex_types.specs.Owners.{owns};
+ghost use Rattle.apex_types.specs.Owners.{owns, owns_some};
 ghost use Rattle.apex_types.specs.Queues.{queue_of};
 ghost use Rattle.apex_types.specs.Waiters.{queue_in};
 
 use crate::calls::Message;
+use crate::holdings::Holdings;
 use crate::identifiers::{BlackboardId, BufferId, CoreId, EventId, MutexId, SemaphoreId};
 use crate::spans::Span;
 
@@ -36,10 +37,10 @@ pub enum State {
     Waiting,
 }
 
-/// What a process waits for.
+/// The wait of a process, by the thing for which it waits.
 #[derive(Clone, Copy, PartialEq, Eq)]
 pub enum Wait {
-    /// The partition's entry into NORMAL, where its start begins with this delay in ticks.
+    /// The partition's entry into NORMAL, at which its start begins with this delay in ticks.
     Normal(u32),
     /// The instant of its start, after a DELAYED_START.
     Start,
@@ -60,10 +61,10 @@ pub enum Wait {
     Mutex(MutexId),
 }
 
-/// Where processes stand one behind the other while they wait.
+/// A queue, in which processes wait one behind the other.
 #[derive(Clone, Copy, PartialEq, Eq)]
 pub enum Queue {
-    /// Those that wait for the entry into NORMAL.
+    /// The processes that wait for the entry into NORMAL.
     Normal,
     Semaphore(SemaphoreId),
     /// Receivers, or senders.
@@ -74,7 +75,7 @@ pub enum Queue {
 }
 
 impl Wait {
-    /// The queue in which a process stands that waits for this. None where it waits for an instant.
+    /// The queue in which a process with this wait is. None for a wait for an instant.
     pub fn queue(&self) -> Option<Queue>
         ensures { result ≡ queue_of self.now }
     {
@@ -90,55 +91,45 @@ impl Wait {
     }
 }
 
-/// Who suspended a process.
+/// The suspender of a process.
 #[derive(Clone, Copy, PartialEq, Eq)]
 pub enum Suspender {
     Itself,
     Other,
 }
 
-/// Who comes first in the queue of a semaphore, a buffer or a mutex (ARINC 653 Part 1, intrapartition
+/// The order in the queue of a semaphore, a buffer or a mutex (ARINC 653 Part 1, intrapartition
 /// communication).
 #[derive(Clone, Copy, PartialEq, Eq)]
 pub enum Discipline {
-    /// Who waits longest.
+    /// The longest waiter first.
     Fifo,
-    /// The most urgent, and among equals who waits longest.
+    /// The most urgent waiter first, and among equals the longest waiter.
     Priority,
 }
 
-/// What a process has of the mutex that it owns (this profile).
-#[derive(Clone, Copy, PartialEq, Eq)]
-pub struct Holding {
-    pub mutex: MutexId,
-    /// The priority to which the mutex raises its owner, 1 to 239.
-    pub ceiling: u8,
-    /// How often the process acquired it and has not released it yet, 1 to 32.
-    pub depth: u8,
-}
-
-/// What a missed deadline does to its process (ARINC 653 Part 1, process management).
+/// The effect of a missed deadline on its process (ARINC 653 Part 1, process management).
 #[derive(Clone, Copy, PartialEq, Eq)]
 pub enum DeadlineType {
-    /// Nothing.
+    /// The process goes on.
     Soft,
-    /// It stops the process (this profile).
+    /// The process is stopped (this profile).
     Hard,
 }
 
-/// What the table gives a process for good.
+/// The attributes that the table gives a process for good.
 #[derive(Clone, Copy)]
 pub struct Attributes {
     /// The base priority to which a START goes back.
     pub priority: u8,
     /// The time from one release to the next. None for an aperiodic process.
     pub period: Option<Span>,
-    /// The time from a release to the deadline. None where it is infinite.
+    /// The time from a release to the deadline. None if it is infinite.
     pub capacity: Option<Span>,
     pub deadline: DeadlineType,
 }
 
-/// What the partition keeps of a process.
+/// The record that the partition keeps of a process.
 #[derive(Clone, Copy)]
 pub struct Record {
     pub attributes: Attributes,
@@ -150,15 +141,15 @@ pub struct Record {
     pub wait: Option<Wait>,
     /// Its stamp: the smaller, the longer it is in its queue.
     pub since: i64,
-    /// The instant in ticks at which its wait, or its suspension of itself, ends if it does so of its
-    /// own.
+    /// The instant in ticks at which its wait, or its suspension of itself, ends by itself, if it
+    /// does.
     pub due: Option<u64>,
     /// The instant in ticks at which its deadline passes, if one runs.
     pub deadline: Option<u64>,
     /// The instant in ticks of its last release. 0 before the first one.
     pub release: u64,
-    /// The mutex that it owns, if it owns one.
-    pub owned: Option<Holding>,
+    /// The mutexes that it owns.
+    pub owned: Holdings,
     /// The place of its next step in its script, counted from 0.
     pub step: u8,
     /// The last message that it received.
@@ -173,28 +164,29 @@ impl Record {
         mode.is_normal() && self.started && self.suspended.is_none() && self.wait.is_none()
     }
 
-    /// The current priority: the greater of the base priority and the ceiling of the mutex that the
-    /// process owns. A greater one is more urgent.
+    /// The current priority: the greatest of the base priority and the ceilings of the mutexes that
+    /// the process owns. A greater one is more urgent.
     pub fn current_priority(&self) -> u8
         ensures { result ≡ current_priority self.now }
     {
-        match &self.owned {
-            Some(holding) if holding.ceiling > self.base => holding.ceiling,
-            _ => self.base,
-        }
+        self.owned.raised(self.base)
     }
 
     /// The process owns this mutex.
     pub fn owns(&self, mutex: MutexId) -> bool
         ensures { result ≡ owns mutex self.now }
     {
-        match &self.owned {
-            Some(holding) => holding.mutex == mutex,
-            None => false,
-        }
+        self.owned.holds(mutex)
     }
 
-    /// The queue in which the process stands, if it stands in one.
+    /// The process owns a mutex.
+    pub fn owns_some(&self) -> bool
+        ensures { result ≡ owns_some self.now }
+    {
+        !self.owned.is_empty()
+    }
+
+    /// The queue in which the process waits, if it waits in one.
     pub fn queue(&self) -> Option<Queue>
         ensures { result ≡ queue_in self.now }
     {

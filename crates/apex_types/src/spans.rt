@@ -23,7 +23,7 @@ impl Model for Span {
 }
 
 impl Span {
-    /// The span of so many ticks.
+    /// The span of n ticks.
     pub fn of(ticks: u32) -> Span
         requires { 1 ≤ ticks }
         ensures { result ≡ ticks }
@@ -31,7 +31,7 @@ impl Span {
         Span { ticks }
     }
 
-    /// How many ticks it has.
+    /// The number of its ticks.
     pub fn ticks(self) -> u32
         ensures value { result ≡ self }
         ensures range { 1 ≤ result }

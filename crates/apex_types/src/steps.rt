@@ -3,13 +3,14 @@ ghost use Rattle.std.specs.Prelude.{◌≡◌, ◌≤◌, [], length};
 ghost use Rattle.apex_types.specs.Limits.{most_literal};
 
 use crate::calls::Call;
+use crate::limits::MOST_LITERAL;
 use arrayvec::ArrayVec;
 use std::marker::Model;
 
 /// The bytes that a step alone has, as a name that no entry has: 64 at the most, kept inline.
 #[derive(Drop)]
 pub struct Literal {
-    bytes: ArrayVec<u8, 64>,
+    bytes: ArrayVec<u8, MOST_LITERAL>,
 }
 
 impl Model for Literal {

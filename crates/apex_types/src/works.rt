@@ -3,7 +3,7 @@
 use crate::identifiers::ProcessId;
 use crate::spans::Span;
 
-/// Work that a process has begun, of so many units, 1 to 1,048,576 (this profile).
+/// Work of n units that a process has begun, n from 1 to 1,048,576 (this profile).
 #[derive(Clone, Copy)]
 pub struct Work {
     pub process: ProcessId,

@@ -15,7 +15,7 @@ pub length_queued : (d : Discipline) (ps : List ℕ) (p priority : ℕ) (xs : Li
 length_queued Fifo ps p priority xs = omega (arith, length-append xs (p ∷ []))
 length_queued Priority ps p priority xs = length_placed (is_lower ps priority) p xs
 
--- what is read of the counts is the length of the list
+-- the value that is read of the counts is the length of the list
 pub count_is : (counts : List ℕ) (links : Links) (l value : ℕ) → AreCounted counts links → length counts ≡ most_queues
     → first_list ≤ l → l < first_list + most_queues → value ≡ get_or counts (l - first_list) value → value ≡ length (list_at links l)
 count_is counts links l value counted long from to read =
@@ -57,14 +57,14 @@ module _ (counts : List ℕ) (links : Links) (p : ℕ) (counted : AreCounted cou
   kept : (m : ℕ) → stands_in p (list_at links m) ≡ false → list_at (removed links p) m ≡ list_at links m
   kept m out = at_removed links p m ∙ without_out p (list_at links m) out
 
-  -- it stood in none, or in one that is no queue's
+  -- it was in none, or in one that is no queue's
   pub other_counted : ((m : ℕ) → m < most_queues → stands_in p (list_at links (first_list + m)) ≡ false) → AreCounted counts (removed links p)
   other_counted out m inside = rw (kept (first_list + m) (out m inside)) (counted m inside)
 
   pub free_counted : IsFree links p → AreCounted counts (removed links p)
   free_counted out = other_counted (λ m _. out (first_list + m))
 
-  -- it stood in that of a queue
+  -- it was in that of a queue
   module _ (l : ℕ) (only : IsOnlyIn links p l) where
     elsewhere : (m : ℕ) → m ≢ l → stands_in p (list_at links m) ≡ false
     elsewhere m apart = only_there links p l m only apart
@@ -90,7 +90,7 @@ module _ (counts : List ℕ) (links : Links) (p : ℕ) (counted : AreCounted cou
     pub outside_counted : ((m : ℕ) → m < most_queues → l ≢ first_list + m) → AreCounted counts (removed links p)
     outside_counted none = other_counted (λ m inside. elsewhere (first_list + m) (λ f. none m inside (sym f)))
 
-    -- somebody is counted where the process stands
+    -- the list of the process has a count of one at least
     pub counted_here : (value : ℕ) → length counts ≡ most_queues → first_list ≤ l → l < first_list + most_queues → value ≡ get_or counts (l - first_list) value → 0 < value
     counted_here value long from to read =
         omega (arith, count_is counts links l value counted long from to read, length_without p (list_at links l) only.here)

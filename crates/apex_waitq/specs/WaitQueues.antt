@@ -1,4 +1,4 @@
--- The wait queues: a list for each queue, and how many stand in it.
+-- The wait queues: a list for each queue, and its length.
 use Rattle.std.specs.Prelude.{◌≡◌, ℕ, ◌+◌, ◌<◌, nat_lt, Bool, List, [], ◌∷◌, ◌++◌, length, slice_index_or, ⊤}
 use Rattle.apex_types.specs.declared.records.Discipline.{Discipline}
 use Rattle.apex_types.specs.declared.records.Queue.{Queue}
@@ -7,11 +7,11 @@ use Rattle.apex_types.specs.declared.records.Queue.TheVariants as queues
 use Rattle.apex_links.specs.Links.{Links, list_at, removed, with_list}
 use Rattle.apex_links.specs.Placing.{placed}
 
--- how many lists of a set come before those of the queues
+-- the number of lists of a set that come before those of the queues
 abbrev pub first_list : ℕ
 first_list = 2048
 
--- how many queues there may be: six kinds of 256
+-- the most queues: six kinds of 256
 abbrev pub most_queues : ℕ
 most_queues = 1536
 
@@ -37,8 +37,8 @@ IsNumbered (queues.Mutex m) = m < 256
 abbrev pub wait_list : Queue → ℕ
 wait_list queue = first_list + queue_place queue
 
--- what a contract sees of the queues: how many wait in each, and the priority that each process had when
--- it began to wait
+-- the queues as a contract sees them: the number of waiters of each, and the priority that each
+-- process had when it began to wait
 pub record Waits : Type 0 where
   pub counts : List ℕ
   pub priorities : List ℕ
@@ -56,7 +56,7 @@ abbrev pub queued : Discipline → List ℕ → ℕ → ℕ → List ℕ → Lis
 queued Fifo priorities p priority xs = xs ++ p ∷ []
 queued Priority priorities p priority xs = placed (is_lower priorities priority) p xs
 
--- process p, of this priority, stands in list l from now on
+-- process p, of this priority, is in list l from now on
 abbrev pub queued_in : List ℕ → Links → ℕ → Discipline → ℕ → ℕ → Links
 queued_in priorities links l discipline p priority =
     with_list links l (queued discipline priorities p priority (list_at links l))

@@ -1,5 +1,5 @@
-//! The wait queues of a partition: the waiters of each object, in the order of its discipline, and their
-//! number.
+//! The wait queues of a partition: the waiters of each object, in the order of its discipline, and
+//! their number.
 #![tactic(auto)]
 
 mod lists;

@@ -21,7 +21,7 @@ pub(crate) fn queue_place(queue: Queue) -> u16
     }
 }
 
-/// The list of those who wait in the queue.
+/// The list of the waiters of the queue.
 pub fn wait_list(queue: Queue) -> ListId
     ensures value { result ≡ wait_list queue }
     ensures known { result < first_list + most_queues }

@@ -10,13 +10,14 @@ use apex_types::{Discipline, ProcessId, Queue};
 use std::alloc::{AllocError, Global};
 use std::marker::Model;
 
-/// How many lists of a link set come before those of the queues.
+/// The number of lists of a link set that come before those of the queues.
 const FIRST_LIST: usize = 2048;
 
-/// How many queues there may be.
+/// The most queues.
 const MOST_QUEUES: usize = 1536;
 
-/// How many wait in each queue, and the priority that each process had when it began to wait.
+/// The number of waiters of each queue, and the priority that each process had when it began to
+/// wait.
 ///
 /// The queues themselves are lists of a link set, which is lent to each call.
 #[derive(Drop)]
@@ -36,7 +37,7 @@ impl Model for WaitQueues {
     ghost invariant = { λ q. length q.counts.items ≡ most_queues };
 }
 
-/// The test that finds those of a lower priority.
+/// The test for processes of a lower priority.
 #[derive(Drop)]
 struct Lower<'a> {
     priorities: &'a [u8],
@@ -54,7 +55,7 @@ impl Test for Lower<'_> {
 }
 
 impl WaitQueues {
-    /// Queues for so many processes, of whom none waits. Fails only for want of memory.
+    /// Queues for n processes, none of which waits. Fails only for want of memory.
     pub fn new(alloc: Global, processes: u16) -> Result<WaitQueues, AllocError>
         ensures counts { IfOk result (λ queues. queues.counts ≡ replicate most_queues 0) }
         ensures priorities { IfOk result (λ queues. queues.priorities ≡ replicate processes 0) }
@@ -64,7 +65,7 @@ impl WaitQueues {
         Ok(WaitQueues { counts, priorities })
     }
 
-    /// The process, which stands in no list, goes into this one by the discipline.
+    /// The process, which is in no list, goes into this one by the discipline.
     fn enter(
         &self,
         links: &mut LinkSet,
@@ -91,7 +92,7 @@ impl WaitQueues {
         }
     }
 
-    /// The process, which stands in no list, waits in the queue from now on: behind all others, or with
+    /// The process, which is in no list, waits in the queue from now on: behind all others, or with
     /// the discipline PRIORITY before those of a lower priority than its own.
     pub fn join(
         &mut self,
@@ -119,7 +120,7 @@ impl WaitQueues {
         self.counts[list.place() - FIRST_LIST] += 1;
     }
 
-    /// The process stands in no list from now on.
+    /// The process is in no list from now on.
     pub fn leave(&mut self, links: &mut LinkSet, process: ProcessId)
         requires lists { first_list + most_queues ≤ length links.old.lists }
         requires process { process < links.old.processes }
@@ -130,17 +131,17 @@ impl WaitQueues {
         ensures counted { AreCounted self.new.counts links.new }
     {
         links.holds();
-        if let Some(list) = links.list_of(process) {
+        if let Some(list) = links.take(process) {
             let place = list.place();
             if place >= FIRST_LIST && place < FIRST_LIST + MOST_QUEUES {
                 self.counts[place - FIRST_LIST] -= 1;
             }
         }
-        links.remove(process);
     }
 
-    /// The process waits in the queue with this priority from now on, as the newest there: it leaves its
-    /// place, and goes behind all others, or with the discipline PRIORITY before those of a lower priority.
+    /// The process waits in the queue with this priority from now on, as the newest there: it
+    /// leaves its place, and goes behind all others, or with the discipline PRIORITY before those
+    /// of a lower priority.
     pub fn requeue(
         &mut self,
         links: &mut LinkSet,
@@ -162,7 +163,7 @@ impl WaitQueues {
         self.join(links, queue, discipline, process, priority);
     }
 
-    /// Who is first in the queue.
+    /// The first waiter of the queue.
     pub fn first(&self, links: &LinkSet, queue: Queue) -> Option<ProcessId>
         requires lists { first_list + most_queues ≤ length links.now.lists }
         ensures value { result ≡ first_of (list_at links.now (wait_list queue)) }
@@ -172,7 +173,7 @@ impl WaitQueues {
         links.front(wait_list(queue))
     }
 
-    /// How many wait in the queue.
+    /// The number of waiters of the queue.
     pub fn count(&self, links: &LinkSet, queue: Queue) -> u32
         requires counted { AreCounted self.now.counts links.now }
         ensures value { result ≡ length (list_at links.now (wait_list queue)) }

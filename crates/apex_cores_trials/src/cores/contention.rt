@@ -3,14 +3,15 @@ ghost use Rattle.std.specs.Prelude.{◌≡◌, length, vec_len};
 ghost use Rattle.apex_receipts.specs.Receipts.{voice_of};
 ghost use Rattle.apex_partition.specs.Seats.{IsSeated};
 
-use super::crews::{CORES, Pauses, Reports, TURNS, run_all};
+use super::crews::{Crew, Pauses, Reports, TICKS, TURNS, run_all};
+use super::reading::HasRead;
 use super::values::{is_value_by_run, value_by_entries, value_by_lines};
 use crate::lines::lines_of;
 use apex_history::Entries;
-use apex_partition::{Closed, Naming, Opened, Receipt, Shared, open};
+use apex_partition::{Closed, Naming, NewBoard, Opened, Receipt, Shared, open_read};
 use apex_table::{Table, read_table};
-use apex_types::Who;
-use std::alloc::Global;
+use apex_types::{MOST_CORES, Who};
+use std::alloc::{AllocError, Global};
 use std::marker::Brand;
 use std::process::Abort;
 use std::str;
@@ -18,44 +19,63 @@ use std::sync::Wait;
 use std::test::Fail;
 use std::thread::Threads;
 
+/// The objects of a storm.
+const OBJECTS: &str = r#"
+[[semaphore]]
+name = "S"
+initial = 2
+maximum = 8
+discipline = "FIFO"
+
+[[mutex]]
+name = "M"
+ceiling = 50
+discipline = "PRIORITY"
+
+[[buffer]]
+name = "B"
+length = 4
+capacity = 2
+discipline = "PRIORITY"
+"#;
+
 /// On each core a process that takes a semaphore, a mutex and a place of a buffer, and one that stops, starts
 /// and moves the processes of the two cores behind it.
 fn storm(alloc: Global) -> Result<String, Fail> {
-    let mut text = String::from_str(alloc, "cores = 8\nhistory = 8192\n")?;
-    for core in 0..CORES {
-        push_processes(&mut text, core, (core + 1) % CORES, (core + 2) % CORES)?;
+    let mut text = format!(in alloc; "cores = {MOST_CORES}\nhistory = 8192\n")?;
+    for core in 0..MOST_CORES {
+        let (next, after) = ((core + 1) % MOST_CORES, (core + 2) % MOST_CORES);
+        push_worker(&mut text, core)?;
+        push_mover(&mut text, core, next, after)?;
     }
-    text.push_str("[[semaphore]]\nname = \"S\"\ninitial = 2\nmaximum = 8\n")?;
-    text.push_str("discipline = \"FIFO\"\n")?;
-    text.push_str("[[mutex]]\nname = \"M\"\nceiling = 50\ndiscipline = \"PRIORITY\"\n")?;
-    text.push_str("[[buffer]]\nname = \"B\"\nlength = 4\ncapacity = 2\n")?;
-    text.push_str("discipline = \"PRIORITY\"\n")?;
+    text.push_str(OBJECTS)?;
     Ok(text)
 }
 
-/// The two processes of a core, with the numbers of the next core and of the one after it.
-fn push_processes(text: &mut String, core: u8, next: u8, after: u8) -> Result<(), Fail> {
+/// The keys of a process that works.
+const WORK: &str = "loop = true\nstart = true\nscript = [\"WAIT_SEMAPHORE S 2\", \
+\"ACQUIRE_MUTEX M 0\", \"RELEASE_MUTEX M\", \"SEND_BUFFER B 01 0\", \"RECEIVE_BUFFER B 0\", \
+\"SIGNAL_SEMAPHORE S\", \"work 1\"]\n";
+
+/// The process of a core that works.
+fn push_worker(text: &mut String, core: u32) -> Result<(), AllocError> {
     write!(
         text,
-        "[[process]]\nname = \"W{core}\"\npriority = 10\ncore = {core}\n"
-    )?;
-    text.push_str("loop = true\nstart = true\nscript = [\"WAIT_SEMAPHORE S 2\", ")?;
-    text.push_str("\"ACQUIRE_MUTEX M 0\", \"RELEASE_MUTEX M\", \"SEND_BUFFER B 01 0\", ")?;
-    text.push_str("\"RECEIVE_BUFFER B 0\", \"SIGNAL_SEMAPHORE S\", \"work 1\"]\n")?;
-    write!(
-        text,
-        "[[process]]\nname = \"K{core}\"\npriority = 20\ncore = {core}\n"
-    )?;
-    text.push_str("loop = true\nstart = true\nscript = [")?;
-    write!(
-        text,
-        "\"STOP W{next}\", \"START W{next}\", \"SET_PRIORITY W{after} 30\", "
-    )?;
-    write!(text, "\"SET_PRIORITY W{after} 10\", \"TIMED_WAIT 1\"]\n")?;
-    Ok(())
+        "[[process]]\nname = \"W{core}\"\npriority = 10\ncore = {core}\n{WORK}"
+    )
 }
 
-/// What a storm leaves: the lines of its history, and the value of S by its entries.
+/// The process of a core that stops, starts and moves the workers of the next core and of the one after it.
+fn push_mover(text: &mut String, core: u32, next: u32, after: u32) -> Result<(), AllocError> {
+    write!(
+        text,
+        "[[process]]\nname = \"K{core}\"\npriority = 20\ncore = {core}\nloop = true\nstart = true\n\
+script = [\"STOP W{next}\", \"START W{next}\", \"SET_PRIORITY W{after} 30\", \
+\"SET_PRIORITY W{after} 10\", \"TIMED_WAIT 1\"]\n"
+    )
+}
+
+/// The results of a storm: the lines of its history, and the value of S by its entries.
 #[derive(Drop)]
 struct Aftermath {
     lines: Vec<u8>,
@@ -82,13 +102,26 @@ fn confirm_last<P: Naming, R: Abort>(rt: &R, closed: &Closed<P>, receipts: &[Rec
     }
 }
 
+/// The entries of the whole crew.
+const ALL: u32 = MOST_CORES * TURNS + TICKS;
+
+/// The reader, if there is one, saw neither the entries nor the time go back, and is told of all entries.
+fn tell<P: Naming, R: Abort + Wait>(rt: &R, closed: &mut Closed<P>, read: Option<HasRead<P>>) {
+    if let Some(read) = read {
+        assert!(rt; read.backwards == 0);
+        let (last, _reader) = closed.tell(rt, read.reader);
+        assert!(rt; last.entries == ALL);
+    }
+}
+
 /// Closes the partition of these threads, and confirms the receipts.
-fn close<P: Naming, R: Abort>(rt: &R, shared: Shared<P>, reports: Reports<P>) -> Closed<P>
+fn close<P: Naming, R: Abort + Wait>(rt: &R, shared: Shared<P>, reports: Reports<P>) -> Closed<P>
     requires seated { IsSeated reports.seats.items }
     requires each { vec_len reports.seats ≡ P.table.cores }
 {
-    let closed = shared.close(reports.seats, reports.ticker);
+    let mut closed = shared.close(reports.seats, reports.ticker);
     confirm_last(rt, &closed, reports.receipts.as_slice());
+    tell(rt, &mut closed, reports.read);
     closed
 }
 
@@ -104,6 +137,7 @@ fn run_storm<P: Naming + Send + Sync, R: Abort + Threads + Wait + Sync>(
     alloc: Global,
     table: Table,
     opened: Opened,
+    board: NewBoard,
     gate: Pauses,
 ) -> Result<Aftermath, Fail>
     requires table { P.table ≡ table }
@@ -111,10 +145,16 @@ fn run_storm<P: Naming + Send + Sync, R: Abort + Threads + Wait + Sync>(
     requires scribe { P.scribe ≡ opened.scribe }
     requires voice { P.voice ≡ voice_of opened.cores opened.ticker }
     requires cores { length opened.cores ≡ table.cores }
+    requires cell { P.cell ≡ board.cell }
 {
     let cores = usize::from(table.cores());
-    let (shared, seats, ticker) = open::<P>(alloc, table, opened)?;
-    let reports = run_all(rt, alloc, &shared, seats, ticker, &gate)?;
+    let (shared, seats, ticker, mut board) = open_read::<P>(alloc, table, opened, board)?;
+    let crew = Crew {
+        seats,
+        ticker,
+        reader: board.take(),
+    };
+    let reports = run_all(rt, alloc, &shared, crew, &gate)?;
     let is_whole = reports.seats.len() == cores;
     assert!(rt; is_whole);
     let closed = close(rt, shared, reports);
@@ -124,7 +164,7 @@ fn run_storm<P: Naming + Send + Sync, R: Abort + Threads + Wait + Sync>(
 /// All ways to read the value of S from what a storm leaves of this table agree.
 fn agrees<R: Abort>(rt: &R, alloc: Global, text: &str, aftermath: &Aftermath) -> Result<(), Fail> {
     let history = str::from_utf8(aftermath.lines.as_slice())?;
-    assert!(rt; history.lines().count() == 4100);
+    assert!(rt; history.lines().count() == ALL as usize);
     let value = aftermath.value.expect(rt, "no more waits than units");
     assert!(rt; value_by_lines(history) == Some(value));
     assert!(rt; is_value_by_run(alloc, text, history, value)?);
@@ -136,20 +176,26 @@ fn agrees<R: Abort>(rt: &R, alloc: Global, text: &str, aftermath: &Aftermath) ->
 fn weather<R: Abort + Threads + Wait + Sync>(
     rt: &R,
     alloc: Global,
+    board: NewBoard,
     gate: Pauses,
 ) -> Result<(), Fail> {
     let text = storm(alloc)?;
     let table = read_table(alloc, text.as_str().as_bytes())?;
     table.lawful();
     let opened = Opened::new(alloc, u32::from(table.cores()))?;
-    let aftermath = run_storm::<Brand, R>(rt, alloc, table, opened, gate)?;
+    let aftermath = run_storm::<Brand, R>(rt, alloc, table, opened, board, gate)?;
     agrees(rt, alloc, text.as_str(), &aftermath)
 }
 
 #[test]
 fn twenty_storms_are_weathered(rt: HostRuntime) -> Result<(), Fail> {
     for _time in 0..20 {
-        weather(&rt, rt.alloc(), Pauses { times: 0 })?;
+        weather(
+            &rt,
+            rt.alloc(),
+            NewBoard::without_readers(),
+            Pauses { times: 0 },
+        )?;
     }
     Ok(())
 }
@@ -157,5 +203,17 @@ fn twenty_storms_are_weathered(rt: HostRuntime) -> Result<(), Fail> {
 // While a process backs off at the gate, others move it and stop it, so that much of its work is lost.
 #[test]
 fn a_storm_is_weathered_where_work_takes_time(rt: HostRuntime) -> Result<(), Fail> {
-    weather(&rt, rt.alloc(), Pauses { times: 10 })
+    weather(
+        &rt,
+        rt.alloc(),
+        NewBoard::without_readers(),
+        Pauses { times: 10 },
+    )
+}
+
+// Neither the entries nor the time go back while eight cores and the ticker are at work.
+#[test]
+fn ten_thousand_reads_beside_a_storm(rt: HostRuntime) -> Result<(), Fail> {
+    let board = NewBoard::new(rt.alloc(), 1)?;
+    weather(&rt, rt.alloc(), board, Pauses { times: 0 })
 }

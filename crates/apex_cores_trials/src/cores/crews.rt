@@ -1,9 +1,10 @@
-//! Workers in threads of their own: one for each seat, and one for the ticker.
+//! Threads: one for each seat, one for the ticker, and one for a reader.
 ghost use Rattle.std.specs.Prelude.{◌++◌, ◌∷◌, [], IfOk, OnOk};
 ghost use Rattle.apex_partition.specs.Seats.{IsSeated};
 
+use super::reading::{HasRead, start_reading};
 use apex_cores::{CoreReport, Gate, TickerReport, run_core, run_ticker};
-use apex_partition::{Naming, Receipt, Seat, Shared, Ticker};
+use apex_partition::{Naming, Reader, Receipt, Seat, Shared, Ticker};
 use apex_types::{CoreId, ProcessId};
 use crossbeam_utils::Backoff;
 use std::alloc::Global;
@@ -13,14 +14,13 @@ use std::test::Fail;
 use std::thread;
 use std::thread::{JoinHandle, Scope, Threads};
 
-pub const CORES: u8 = 8;
-
 /// The turns of each core.
 pub const TURNS: u32 = 500;
 
-const TICKS: u32 = 100;
+/// The ticks of the ticker.
+pub const TICKS: u32 = 100;
 
-/// A gate that backs off so many times in each work.
+/// A gate that backs off `times` times in each work.
 #[derive(Clone, Copy)]
 pub struct Pauses {
     pub times: u32,
@@ -60,13 +60,30 @@ fn start_ticker<'s, E, P: Naming + Send + Sync, R: Threads + Wait + Sync>(
     }
 }
 
-/// What the threads gave back: the seats in the order of their cores, the ticker, and the receipts of the
-/// cores' last turns.
+/// The values that the threads take: the seats, the ticker, and the reader, if there is one.
+#[derive(Drop)]
+pub struct Crew<P: Naming> {
+    pub seats: Vec<Seat<P>>,
+    pub ticker: Ticker<P>,
+    pub reader: Option<Reader<P>>,
+}
+
+/// The threads of a crew.
+#[derive(Drop)]
+struct Started<P: Naming> {
+    cores: Vec<JoinHandle<CoreReport<P>>>,
+    ticking: JoinHandle<TickerReport<P>>,
+    reading: Option<JoinHandle<HasRead<P>>>,
+}
+
+/// The results of the threads: the seats in the order of their cores, the ticker, the receipts of the cores'
+/// last turns, and what was read.
 #[derive(Drop)]
 pub struct Reports<P: Naming> {
     pub seats: Vec<Seat<P>>,
     pub ticker: Ticker<P>,
     pub receipts: Vec<Receipt<P>>,
+    pub read: Option<HasRead<P>>,
 }
 
 /// Puts back the seat of the next core.
@@ -105,22 +122,58 @@ fn join_cores<P: Naming, R: Abort + Threads>(
     Ok(seats)
 }
 
-fn run_in<'s, E, P: Naming + Send + Sync, R: Abort + Threads + Wait + Sync>(
+fn start_cores<'s, E, P: Naming + Send + Sync, G: Gate + Sync, R: Threads + Wait + Sync>(
     rt: &'s R,
     alloc: Global,
     scope: &'s Scope<'s, E>,
     shared: &'s Shared<P>,
     seats: Vec<Seat<P>>,
-    ticker: Ticker<P>,
-    gate: &'s Pauses,
-) -> Result<Reports<P>, Fail>
-    ensures { IfOk result (λ all. IsSeated all.seats.items) }
-{
+    gate: &'s G,
+) -> Result<Vec<JoinHandle<CoreReport<P>>>, Fail> {
     let mut cores = Vec::new(alloc);
     for seat in seats {
         cores.push(start_core(rt, scope, shared, seat, gate)?)?;
     }
+    Ok(cores)
+}
+
+/// Starts the reader, if there is one, the cores and the ticker.
+fn start<'s, E, P: Naming + Send + Sync, G: Gate + Sync, R: Threads + Wait + Sync>(
+    rt: &'s R,
+    alloc: Global,
+    scope: &'s Scope<'s, E>,
+    shared: &'s Shared<P>,
+    crew: Crew<P>,
+    gate: &'s G,
+) -> Result<Started<P>, Fail> {
+    let Crew {
+        seats,
+        ticker,
+        reader,
+    } = crew;
+    let reading = start_reading(rt, scope, reader)?;
+    let cores = start_cores(rt, alloc, scope, shared, seats, gate)?;
     let ticking = start_ticker(rt, scope, shared, ticker)?;
+    Ok(Started {
+        cores,
+        ticking,
+        reading,
+    })
+}
+
+/// Joins the threads.
+fn join<P: Naming, R: Abort + Threads>(
+    rt: &R,
+    alloc: Global,
+    started: Started<P>,
+) -> Result<Reports<P>, Fail>
+    ensures { IfOk result (λ all. IsSeated all.seats.items) }
+{
+    let Started {
+        cores,
+        ticking,
+        reading,
+    } = started;
     let mut receipts = Vec::new(alloc);
     let seats = join_cores(rt, alloc, cores, &mut receipts)?;
     let ticker = ticking.join(rt).ticker;
@@ -129,21 +182,35 @@ fn run_in<'s, E, P: Naming + Send + Sync, R: Abort + Threads + Wait + Sync>(
         seats,
         ticker,
         receipts,
+        read: reading.map(|reading| reading.join(rt)),
     })
 }
 
-/// Runs all seats and the ticker at once, and joins them.
+fn run_in<'s, E, P: Naming + Send + Sync, R: Abort + Threads + Wait + Sync>(
+    rt: &'s R,
+    alloc: Global,
+    scope: &'s Scope<'s, E>,
+    shared: &'s Shared<P>,
+    crew: Crew<P>,
+    gate: &'s Pauses,
+) -> Result<Reports<P>, Fail>
+    ensures { IfOk result (λ all. IsSeated all.seats.items) }
+{
+    let started = start(rt, alloc, scope, shared, crew, gate)?;
+    join(rt, alloc, started)
+}
+
+/// Runs the whole crew, each of it in a thread of its own, and joins the threads.
 pub fn run_all<'x, P: Naming + Send + Sync, R: Abort + Threads + Wait + Sync>(
     rt: &'x R,
     alloc: Global,
     shared: &'x Shared<P>,
-    seats: Vec<Seat<P>>,
-    ticker: Ticker<P>,
+    crew: Crew<P>,
     gate: &'x Pauses,
 ) -> Result<Reports<P>, Fail>
     ensures { IfOk result (λ all. IsSeated all.seats.items) }
 {
     thread::scope(thread::scope_env(), rt, move |scope| {
-        run_in(rt, alloc, scope, shared, seats, ticker, gate)
+        run_in(rt, alloc, scope, shared, crew, gate)
     })
 }

@@ -1,11 +1,14 @@
-//! Two cores, each of which works only where the other one does, too.
+//! Two cores, each of which works only if the other one does, too.
 
 use apex_cores::{Gate, RunPlan, run_partition};
 use apex_table::read_table;
 use apex_types::{CoreId, ProcessId};
 use crossbeam_utils::Backoff;
+use std::alloc::Global;
+use std::sync::Wait;
 use std::sync::atomic::{AtomicBool, Ordering};
 use std::test::Fail;
+use std::thread::Threads;
 
 const TABLE: &str = r#"
 cores = 2
@@ -26,7 +29,7 @@ start = true
 script = ["work 1"]
 "#;
 
-/// How often a core asks whether the other one's work has begun.
+/// The number of times that a core asks whether the other one's work has begun.
 const POLLS: u32 = 1_000_000;
 
 /// A gate that holds each core's work until the other one's has begun.
@@ -56,24 +59,39 @@ impl Gate for Meeting {
     }
 }
 
-// Where one thread served both cores, or held the lock while it worked, or never came to the gate, they
-// would not meet.
+/// The turns of each core.
+const TURNS: u32 = 30_000;
+
+/// The number of entries of a run over this gate.
+fn run_over<R: Threads + Wait + Sync>(
+    rt: &R,
+    alloc: Global,
+    gate: &Meeting,
+) -> Result<usize, Fail> {
+    let table = read_table(alloc, TABLE.as_bytes())?;
+    let plan = RunPlan {
+        turns: TURNS,
+        ticks: 0,
+    };
+    let closed = run_partition(rt, alloc, table, plan, gate)?;
+    Ok(closed.entries().len())
+}
+
+// If one thread served both cores, or held the lock while it worked, or never came to the gate,
+// they would not meet.
 #[test]
 fn two_cores_work_at_once(rt: HostRuntime) -> Result<(), Fail> {
-    let table = read_table(rt.alloc(), TABLE.as_bytes())?;
     let gate = Meeting {
         first: AtomicBool::new(false),
         second: AtomicBool::new(false),
         missed: AtomicBool::new(false),
     };
-    let plan = RunPlan {
-        turns: 30_000,
-        ticks: 0,
-    };
-    let closed = run_partition(&rt, rt.alloc(), table, plan, &gate)?;
-    assert!(rt; gate.first.load(Ordering::SeqCst));
-    assert!(rt; gate.second.load(Ordering::SeqCst));
-    assert!(rt; !gate.missed.load(Ordering::SeqCst));
-    assert_eq!(rt; closed.entries().len(), 60_000);
+    let entries = run_over(&rt, rt.alloc(), &gate)?;
+    assert!(rt; entries == 2 * TURNS as usize);
+    let (first, second) = (
+        gate.first.load(Ordering::SeqCst),
+        gate.second.load(Ordering::SeqCst),
+    );
+    assert!(rt; first && second && !gate.missed.load(Ordering::SeqCst));
     Ok(())
 }

@@ -1,4 +1,4 @@
-//! What refusals say.
+//! The texts of refusals.
 
 use apex_cores::RunFault;
 use std::test::Fail;

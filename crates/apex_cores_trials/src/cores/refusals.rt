@@ -28,7 +28,7 @@ const PLAN: RunPlan = RunPlan {
     ticks: 5,
 };
 
-/// How often core 0's turns begin work.
+/// The number of core 0's turns that begin work.
 const WORKS: u32 = 1000;
 
 /// A gate that counts its calls.
@@ -55,7 +55,7 @@ impl Gate for Counter {
     }
 }
 
-/// Refuses the thread of this number, and counts what it is asked.
+/// Refuses the thread of this number, and counts the threads for which it is asked.
 #[derive(Clone, Copy)]
 struct AllBut {
     refused: u32,
@@ -75,7 +75,8 @@ impl Starts for AllBut {
     }
 }
 
-/// What came of a run: its entries or its fault, the threads that were asked for, and the gate's calls.
+/// The result of a run: its entries or its fault, the threads that were asked for, and the gate's
+/// calls.
 #[derive(Drop)]
 struct Outcome {
     entries: Result<usize, RunFault>,
@@ -109,7 +110,8 @@ fn run_without<R: Threads + Wait + Sync>(
     })
 }
 
-// The threads that had begun have come to their end where the run has, so that all work of core 0 was done.
+// The threads that had begun have come to their end when the run has, so that all work of core 0
+// was done.
 #[test]
 fn a_refused_thread_is_told_once_the_others_have_ended(rt: HostRuntime) -> Result<(), Fail> {
     for refused in 0..4u32 {

@@ -7,8 +7,8 @@ use apex_history::{Counted, Entries, Page, read_line};
 use apex_store::PlainStore;
 use apex_table::{Table, read_table};
 use apex_types::{
-    Call, Caller, Event, LentEntry, Notice, ObjectCall, ProcessId, Reply, ReturnCode,
-    SemaphoreService,
+    Call, Caller, Event, LentEntry, MOST_PROCESSES, MOST_TICKS, Notice, ObjectCall, ProcessId,
+    Reply, ReturnCode, SemaphoreService,
 };
 use std::alloc::Global;
 use std::str;
@@ -17,12 +17,12 @@ use std::test::Fail;
 /// The value of S before any event.
 const INITIAL: u64 = 2;
 
-/// How many lines have this text in them.
+/// The number of lines that have this text in them.
 fn lines_with(history: &str, text: &str) -> u64 {
     history.lines().filter(|line| line.contains(text)).count() as u64
 }
 
-/// The initial value, plus so many signals, less so many waits; none if there were too many waits.
+/// The initial value, plus the signals, less the waits; none if there were too many waits.
 fn value_after(signals: u64, waits: u64) -> Option<u64> {
     INITIAL.saturating_add(signals).checked_sub(waits)
 }
@@ -36,13 +36,13 @@ pub fn value_by_lines(history: &str) -> Option<u64> {
     value_after(signals, waits.saturating_add(woken))
 }
 
-/// What entries satisfied of S, the table's one semaphore.
+/// The calls on S, the table's one semaphore, that entries satisfied.
 #[derive(Drop)]
 struct Satisfied {
     signals: u64,
     waits: u64,
     /// Whether the latest call of each process is a wait for S.
-    is_wait: [bool; 32],
+    is_wait: [bool; MOST_PROCESSES],
 }
 
 /// The service of S that a call asks for, if it asks for one.
@@ -115,7 +115,7 @@ pub fn value_by_entries(entries: Entries<'_>) -> Option<u64> {
     let mut satisfied = Satisfied {
         signals: 0,
         waits: 0,
-        is_wait: [false; 32],
+        is_wait: [false; MOST_PROCESSES],
     };
     for entry in entries {
         satisfied.note(&entry);
@@ -123,17 +123,17 @@ pub fn value_by_entries(entries: Entries<'_>) -> Option<u64> {
     value_after(satisfied.signals, satisfied.waits)
 }
 
-/// Whether a kernel of so many cores may be asked for the event.
+/// Whether a kernel with `cores` cores may be asked for the event.
 fn is_within(cores: u8, event: &Event) -> bool
     ensures { IsTrue result → IsWithin cores event.now }
 {
     match event {
         Event::Turn(core) => core.number() < cores,
-        Event::Tick(ticks) => (1..=1_048_576).contains(ticks),
+        Event::Tick(ticks) => 1 <= *ticks && *ticks <= MOST_TICKS,
     }
 }
 
-/// The event that the line names, of a kernel of so many cores.
+/// The event that the line names, for a kernel with `cores` cores.
 fn event_of(cores: u8, line: &str) -> Result<Event, Fail>
     ensures { IfOk result (IsWithin cores) }
 {
@@ -143,7 +143,7 @@ fn event_of(cores: u8, line: &str) -> Result<Event, Fail>
     }
 }
 
-/// The events that the lines name, of a kernel of so many cores.
+/// The events that the lines name, for a kernel with `cores` cores.
 fn events_of(alloc: Global, cores: u8, history: &str) -> Result<Vec<Event>, Fail>
     ensures { IfOk result (λ events. All (IsWithin cores) events.items) }
 {

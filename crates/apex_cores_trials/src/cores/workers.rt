@@ -1,5 +1,5 @@
 //! The workers of one core and of the ticker, one after the other.
-ghost use Rattle.std.specs.Prelude.{◌≡◌, length};
+ghost use Rattle.std.specs.Prelude.{◌≡◌, None, length};
 ghost use Rattle.apex_receipts.specs.Receipts.{voice_of};
 
 use apex_cores::{Gate, run_core, run_ticker};
@@ -25,7 +25,7 @@ start = true
 script = ["work 3"]
 "#;
 
-/// A gate that counts its calls and adds up what it is asked for.
+/// A gate that counts its calls and adds up the work for which it is asked.
 #[derive(Drop)]
 struct Counter {
     calls: AtomicU64,
@@ -64,69 +64,94 @@ impl Gate for Counter {
     }
 }
 
-/// The last of five turns begins the work, which is done at the gate before the worker ends.
-fn begin_work<P: Naming, R: Abort + Wait>(
+/// The turns for which a worker is asked, those that it makes, the reply of the last one, and the number of the
+/// seat's entries after it.
+#[derive(Clone, Copy)]
+struct Shift {
+    asked: u32,
+    made: u32,
+    reply: Reply,
+    count: u32,
+}
+
+impl Shift {
+    /// Whether the history is full before all turns are made.
+    fn is_cut_short(&self) -> bool {
+        self.made < self.asked
+    }
+}
+
+/// Five turns begin the work, and one ends it. Then there is room for two idle turns and two ticks.
+const BEGIN: Shift = Shift {
+    asked: 5,
+    made: 5,
+    reply: Reply::Begun,
+    count: 5,
+};
+
+const END: Shift = Shift {
+    asked: 1,
+    made: 1,
+    reply: Reply::Done,
+    count: 6,
+};
+
+const IDLE: Shift = Shift {
+    asked: 5,
+    made: 2,
+    reply: Reply::Idle,
+    count: 8,
+};
+
+/// The work is done at the gate before the worker that began it ends, and by no other one.
+fn take_turns<P: Naming, R: Abort + Wait>(
     rt: &R,
     shared: &Shared<P>,
     seat: Seat<P>,
     gate: &Counter,
+    shift: Shift,
 ) -> Seat<P> {
-    let begun = run_core(rt, shared, seat, 5, gate);
-    assert!(rt; begun.turns == 5 && !begun.full);
+    let report = run_core(rt, shared, seat, shift.asked, gate);
+    assert!(rt; report.turns == shift.made && report.full == shift.is_cut_short());
+    let last = report.last.expect(rt, "there was a turn");
+    assert!(rt; last.place() == shift.count && last.entry().reply == shift.reply);
+    let seat = report.seat;
+    assert!(rt; seat.count() == shift.count && seat.told_full() == shift.is_cut_short());
     assert!(rt; gate.is_called_once());
-    begun.seat
+    seat
 }
 
-/// The next turn ends the work, and begins none.
-fn end_work<P: Naming, R: Abort + Wait>(
-    rt: &R,
-    shared: &Shared<P>,
-    seat: Seat<P>,
-    gate: &Counter,
-) -> Seat<P> {
-    let done = run_core(rt, shared, seat, 1, gate);
-    assert!(rt; done.turns == 1 && !done.full);
-    let last = done.last.expect(rt, "there was a turn");
-    assert!(rt; last.place() == 6 && last.entry().reply == Reply::Done);
-    assert!(rt; gate.is_called_once());
-    done.seat
-}
-
-/// Two of five turns are made, and then the history is full.
-fn stop_core<P: Naming, R: Abort + Wait>(
-    rt: &R,
-    shared: &Shared<P>,
-    seat: Seat<P>,
-    gate: &Counter,
-) {
-    let ended = run_core(rt, shared, seat, 5, gate);
-    assert!(rt; ended.turns == 2 && ended.full);
-    assert!(rt; ended.seat.count() == 8 && ended.seat.told_full());
-    let last = ended.last.expect(rt, "there were turns");
-    assert!(rt; last.place() == 8 && last.entry().reply == Reply::Idle);
-    assert!(rt; gate.is_called_once());
-}
-
-fn tick_twice<P: Naming, R: Abort + Wait>(
+/// Asks for `asked` ticks, of which `made` are made; the ticker has made two in all.
+fn tick<P: Naming, R: Abort + Wait>(
     rt: &R,
     shared: &Shared<P>,
     ticker: Ticker<P>,
+    asked: u32,
+    made: u32,
 ) -> Ticker<P> {
-    let ticked = run_ticker(rt, shared, ticker, 2);
-    assert!(rt; ticked.ticks == 2 && !ticked.full);
-    assert!(rt; ticked.ticker.count() == 2 && ticked.ticker.sum() == 2);
-    ticked.ticker
+    let report = run_ticker(rt, shared, ticker, asked);
+    assert!(rt; report.ticks == made && report.full == (made < asked));
+    let ticker = report.ticker;
+    assert!(rt; ticker.count() == 2 && ticker.sum() == 2 && ticker.told_full() == (made < asked));
+    ticker
 }
 
-/// The history is full, so that there is no tick.
-fn stop_ticker<P: Naming, R: Abort + Wait>(rt: &R, shared: &Shared<P>, ticker: Ticker<P>) {
-    let stopped = run_ticker(rt, shared, ticker, 5);
-    assert!(rt; stopped.ticks == 0 && stopped.full);
-    assert!(rt; stopped.ticker.count() == 2 && stopped.ticker.told_full());
-}
-
-// Eight turns and two ticks fill the history.
+/// Eight turns and two ticks fill the history.
 fn work_until_full<P: Naming, R: Abort + Wait>(
+    rt: &R,
+    shared: &Shared<P>,
+    seat: Seat<P>,
+    ticker: Ticker<P>,
+) {
+    let gate = Counter::new();
+    let seat = take_turns(rt, shared, seat, &gate, BEGIN);
+    let seat = take_turns(rt, shared, seat, &gate, END);
+    let ticker = tick(rt, shared, ticker, 2, 2);
+    let _seat = take_turns(rt, shared, seat, &gate, IDLE);
+    let _ticker = tick(rt, shared, ticker, 5, 0);
+}
+
+fn open_and_work<P: Naming, R: Abort + Wait>(
     rt: &R,
     alloc: Global,
     table: Table,
@@ -137,15 +162,11 @@ fn work_until_full<P: Naming, R: Abort + Wait>(
     requires scribe { P.scribe ≡ opened.scribe }
     requires voice { P.voice ≡ voice_of opened.cores opened.ticker }
     requires cores { length opened.cores ≡ table.cores }
+    requires cell { P.cell ≡ None }
 {
     let (shared, mut seats, ticker) = open::<P>(alloc, table, opened)?;
     let seat = seats.pop().expect(rt, "the core has a seat");
-    let gate = Counter::new();
-    let seat = begin_work(rt, &shared, seat, &gate);
-    let seat = end_work(rt, &shared, seat, &gate);
-    let ticker = tick_twice(rt, &shared, ticker);
-    stop_core(rt, &shared, seat, &gate);
-    stop_ticker(rt, &shared, ticker);
+    work_until_full(rt, &shared, seat, ticker);
     Ok(())
 }
 
@@ -154,5 +175,5 @@ fn workers_stop_at_a_full_history(rt: HostRuntime) -> Result<(), Fail> {
     let table = read_table(rt.alloc(), WORKER.as_bytes())?;
     table.lawful();
     let opened = Opened::new(rt.alloc(), u32::from(table.cores()))?;
-    work_until_full::<Brand, HostRuntime>(&rt, rt.alloc(), table, opened)
+    open_and_work::<Brand, HostRuntime>(&rt, rt.alloc(), table, opened)
 }

@@ -7,7 +7,10 @@ use apex_types::{CoreId, Full};
 use std::process::Abort;
 use std::test::Fail;
 
-/// Three entries fill the history of a partition with two cores.
+/// The number of entries that fill the history of `ALONE`.
+pub const MOST_ALONE: u32 = 3;
+
+/// A partition with two cores, whose history is short.
 pub const ALONE: &str = "
 cores = 2
 history = 3
@@ -31,9 +34,11 @@ fn fill(rt: &impl Abort, partition: &mut Partition) {
     assert!(rt; turn_of(rt, partition, CoreId::new(0)).is_ok());
 }
 
-/// Whether a turn and a tick are refused, since the history has its three entries.
+/// Whether a turn and a tick are refused, since the history has all its entries.
 fn is_full(rt: &impl Abort, partition: &mut Partition) -> bool {
-    let full = Err(Full { entries: 3 });
+    let full = Err(Full {
+        entries: MOST_ALONE,
+    });
     turn_of(rt, partition, CoreId::new(0)) == full && partition.tick(3) == full
 }
 
@@ -43,6 +48,6 @@ fn a_full_history_refuses_both_events(rt: HostRuntime) -> Result<(), Fail> {
     let mut partition = Partition::boot(rt.alloc(), table)?;
     fill(&rt, &mut partition);
     assert!(rt; is_full(&rt, &mut partition));
-    assert!(rt; partition.entries().len() == 3);
+    assert!(rt; partition.entries().len() == MOST_ALONE as usize);
     Ok(())
 }

@@ -1,18 +1,18 @@
 //! The services of process management that a process asks for itself.
 
-ghost use Rattle.std.specs.Prelude.{◌≡◌, ◌<◌, [], length};
+ghost use Rattle.std.specs.Prelude.{◌≡◌, ◌<◌, ◌≤◌, [], length};
 ghost use Rattle.apex_types.specs.CallerServices as services;
 ghost use Rattle.apex_types.specs.Callers.{IsReady, IsReadyCaller};
 ghost use Rattle.apex_types.specs.Dues.{HasTime};
-ghost use Rattle.apex_types.specs.Limits.{most_notices};
+ghost use Rattle.apex_types.specs.Limits.{most_owned, most_processes};
 ghost use Rattle.apex_types.specs.Rows.{Leaves};
-ghost use Rattle.apex_types.specs.Stamps.{HasStamps};
+ghost use Rattle.apex_types.specs.Stamps.{HasStamps, HasStampsFor};
 
 use crate::objects::Objects;
 use apex_store::{Store, due_after, halt};
 use apex_types::{Caller, CallerCall, Notices, ProcessId, Reply, ReturnCode, Timeout};
 
-/// SUSPEND_SELF by a process. INVALID_MODE where it is periodic or owns a mutex.
+/// SUSPEND_SELF by a process: INVALID_MODE if it is periodic or owns a mutex.
 fn suspend_self<S: Store>(
     store: &mut S,
     objects: &Objects,
@@ -26,7 +26,7 @@ fn suspend_self<S: Store>(
         (S.roster store.new) objects.now result [] [] }
 {
     let row = store.record(process);
-    if row.attributes.period.is_some() || row.owned.is_some() {
+    if row.attributes.period.is_some() || row.owns_some() {
         return Reply::Code(ReturnCode::InvalidMode);
     }
     match timeout {
@@ -40,6 +40,7 @@ fn suspend_self<S: Store>(
 }
 
 /// Carries out a service that the process asks for itself.
+#[tactic(auto, using(apex_types::proofs::Handovers::few_halted))]
 fn serve_itself<S: Store>(
     store: &mut S,
     objects: &Objects,
@@ -48,14 +49,17 @@ fn serve_itself<S: Store>(
     notices: &mut Notices,
 ) -> Reply
     requires ready { IsReady (S.roster store.old) process }
-    requires stamps { HasStamps (S.roster store.old) }
+    requires stamps { HasStampsFor most_owned (S.roster store.old) }
     requires time { HasTime (S.roster store.old) }
-    requires room { length notices.old < most_notices }
+    requires room { length notices.old ≤ most_processes }
     ensures { Leaves (services.service_by (S.roster store.old) objects.now call.now process)
         (S.roster store.new) objects.now result notices.old notices.new }
 {
     match call {
         CallerCall::StopSelf => {
+            // Each mutex of the process wakes at most one other.
+            let row = store.record(process);
+            let _few = row.owned.as_slice();
             halt(store, process, notices);
             Reply::Gone
         }
@@ -67,7 +71,7 @@ fn serve_itself<S: Store>(
     }
 }
 
-/// Carries out a service that the caller asks for itself. INVALID_MODE where no process calls.
+/// Carries out a service that the caller asks for itself. INVALID_MODE if no process calls.
 pub(crate) fn serve<S: Store>(
     store: &mut S,
     objects: &Objects,
@@ -76,9 +80,9 @@ pub(crate) fn serve<S: Store>(
     notices: &mut Notices,
 ) -> Reply
     requires caller { IsReadyCaller (S.roster store.old) caller.now }
-    requires stamps { HasStamps (S.roster store.old) }
+    requires stamps { HasStampsFor most_owned (S.roster store.old) }
     requires time { HasTime (S.roster store.old) }
-    requires room { length notices.old < most_notices }
+    requires room { length notices.old ≤ most_processes }
     ensures { Leaves (services.caller_service (S.roster store.old) objects.now caller.now call.now)
         (S.roster store.new) objects.now result notices.old notices.new }
 {

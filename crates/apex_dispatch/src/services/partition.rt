@@ -25,8 +25,8 @@ fn delay_of(wait: Option<Wait>) -> u32
     }
 }
 
-/// The start of a process that waited for NORMAL begins: a release where it has no delay, else a
-/// wait for its start.
+/// The start of a process that waited for NORMAL begins: a release if its delay is 0, else a wait
+/// for its start.
 #[tactic(auto, using(apex_types::proofs::Dues::from_now))]
 fn begin_waiter<S: Store>(store: &mut S, process: ProcessId, notices: &mut Notices)
     requires known { process < length (S.roster store.old).records }
@@ -47,7 +47,7 @@ fn begin_waiter<S: Store>(store: &mut S, process: ProcessId, notices: &mut Notic
     }
 }
 
-/// Who has waited for NORMAL for the longest time.
+/// The process that has waited for NORMAL for the longest time.
 fn first_to_start<S: Store>(store: &S) -> Option<ProcessId>
     ensures value { result ≡ services.first_to_start (S.roster store.now) }
     ensures known { IfSome result (λ p. p < length (S.roster store.now).records) }
@@ -55,7 +55,7 @@ fn first_to_start<S: Store>(store: &S) -> Option<ProcessId>
     store.first(Queue::Normal)
 }
 
-/// The entry into NORMAL: begins the starts of all who wait for it, who waits longest first.
+/// The entry into NORMAL: begins the starts that wait for it, the longest wait first.
 #[tactic(auto, unfolding(apex_types::specs::PartitionServices::enter_normal))]
 fn enter_normal<S: Store>(store: &mut S, notices: &mut Notices)
     requires few { length (S.roster store.old).records ≤ most_processes }
@@ -76,7 +76,7 @@ fn enter_normal<S: Store>(store: &mut S, notices: &mut Notices)
     }
 }
 
-/// IDLE: stops every process for good, and tells nobody.
+/// IDLE: stops every process for good, without a notice.
 fn enter_idle<S: Store>(store: &mut S)
     requires few { length (S.roster store.old).records ≤ most_processes }
     ensures { S.roster store.new ≡ services.enter_idle (S.roster store.old) }
@@ -87,7 +87,7 @@ fn enter_idle<S: Store>(store: &mut S)
     }
 }
 
-/// SET_PARTITION_MODE. NO_ACTION where NORMAL is asked for in NORMAL.
+/// SET_PARTITION_MODE: NO_ACTION if NORMAL is asked for in NORMAL.
 fn set_partition_mode<S: Store>(
     store: &mut S,
     objects: &Objects,

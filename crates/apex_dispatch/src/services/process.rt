@@ -1,19 +1,19 @@
 //! The services of process management for a process that is named.
 
 ghost use Rattle.std.specs.Prelude.{◌≡◌, ◌<◌, ◌≤◌, [], ◌++◌, length, false, is_some, not, IfSome};
-ghost use Rattle.apex_types.specs.Limits.{most_notices, most_processes};
+ghost use Rattle.apex_types.specs.Limits.{most_notices, most_owned, most_processes};
 ghost use Rattle.apex_types.specs.Callers.{IsReadyCaller, is_by_process};
 ghost use Rattle.apex_types.specs.Dues.{HasTime};
 ghost use Rattle.apex_types.specs.Periods.{is_period_long};
 ghost use Rattle.apex_types.specs.ProcessServices as services;
 ghost use Rattle.apex_types.specs.Roster.{Roster};
 ghost use Rattle.apex_types.specs.Rows.{Leaves};
-ghost use Rattle.apex_types.specs.Stamps.{HasManyStamps, HasStamps};
+ghost use Rattle.apex_types.specs.Stamps.{HasManyStamps, HasStamps, HasStampsFor};
 
 use apex_store::{Object, Store, halt};
 use apex_types::{
-    Caller, CoreId, Notice, Notices, ProcessId, ProcessKind, ProcessService, Record, Reply,
-    ReturnCode, Span, State, Timeout,
+    Caller, CoreId, MOST_PRIORITY, Notice, Notices, ProcessId, ProcessKind, ProcessService, Record,
+    Reply, ReturnCode, Span, State, Timeout,
 };
 use std::marker::Model;
 
@@ -62,7 +62,7 @@ fn is_unsuspendable(row: &Record) -> bool
     !row.started || row.attributes.period.is_some()
 }
 
-/// A delay, in ticks, that isn't below the period, where there is one.
+/// There is a period, and the delay, in ticks, is not below it.
 fn is_period_long(period: Option<Span>, delay: u32) -> bool
     ensures { result ≡ is_period_long period delay }
 {
@@ -72,8 +72,8 @@ fn is_period_long(period: Option<Span>, delay: u32) -> bool
     }
 }
 
-/// The ticks of a delay with which the process, of this record, may start: not one for ever, nor one
-/// of a whole period.
+/// The ticks of a delay with which the process, of this record, may start. None for an infinite
+/// delay, and for one that is not below the period.
 fn fit_delay(row: &Record, delay: Timeout) -> Option<u32>
     ensures fit { is_some result ≡ not (services.is_unfit_delay row.now delay) }
     ensures ticks { IfSome result (λ ticks. ticks ≡ services.delay_ticks delay) }
@@ -97,8 +97,8 @@ impl ProcessObject {
         ProcessObject { created: false }
     }
 
-    /// INITIALIZE_PROCESS_CORE_AFFINITY: INVALID_MODE in NORMAL, INVALID_PARAM where the process
-    /// isn't created, INVALID_CONFIG where the partition has no such core.
+    /// INITIALIZE_PROCESS_CORE_AFFINITY: INVALID_MODE in NORMAL, INVALID_PARAM if the process isn't
+    /// created, INVALID_CONFIG if the partition has no such core.
     #[tactic(auto, using(apex_types::proofs::Starts::early_ineligible))]
     fn initialize_core_affinity<S: Store>(&self, store: &mut S, id: ProcessId, core: u8) -> Reply
         requires known { id < length (S.roster store.old).records }
@@ -118,15 +118,15 @@ impl ProcessObject {
         Reply::Code(ReturnCode::NoError)
     }
 
-    /// SET_PRIORITY. INVALID_PARAM where the process isn't created or the priority is not from 1 to
-    /// 239, INVALID_MODE where the process is dormant.
+    /// SET_PRIORITY: INVALID_PARAM if the process isn't created or the priority is not from 1 to
+    /// 239, INVALID_MODE if the process is dormant.
     fn set_priority<S: Store>(&self, store: &mut S, id: ProcessId, priority: u16) -> Reply
         requires known { id < length (S.roster store.old).records }
         requires stamps { HasStamps (S.roster store.old) }
         ensures { Leaves (services.set_priority (S.roster store.old) self.now id priority)
             (S.roster store.new) self.now result [] [] }
     {
-        if !self.created || !(1..=239).contains(&priority) {
+        if !self.created || !(1..=MOST_PRIORITY as u16).contains(&priority) {
             return Reply::Code(ReturnCode::InvalidParam);
         }
         if !store.record(id).started {
@@ -136,8 +136,8 @@ impl ProcessObject {
         Reply::Code(ReturnCode::NoError)
     }
 
-    /// DELAYED_START, and START, whose delay is 0. INVALID_PARAM where the process isn't created, the
-    /// delay is infinite or it isn't below the period, NO_ACTION where the process is started.
+    /// DELAYED_START, and START, whose delay is 0: INVALID_PARAM if the process isn't created,
+    /// NO_ACTION if it is started, INVALID_PARAM if the delay is infinite or not below the period.
     fn start<S: Store>(
         &self,
         store: &mut S,
@@ -169,8 +169,9 @@ impl ProcessObject {
         Reply::Code(ReturnCode::NoError)
     }
 
-    /// STOP of another process, whose mutex goes to the first who waits for it. INVALID_PARAM where
-    /// it is the caller or isn't created, NO_ACTION where it is dormant.
+    /// STOP of another process, whose mutexes go to their first waiters. INVALID_PARAM if it is the
+    /// caller or isn't created, NO_ACTION if it is dormant.
+    #[tactic(auto, using(apex_types::proofs::Handovers::few_halted))]
     fn stop<S: Store>(
         &self,
         store: &mut S,
@@ -179,24 +180,27 @@ impl ProcessObject {
         notices: &mut Notices,
     ) -> Reply
         requires known { id < length (S.roster store.old).records }
-        requires stamps { HasStamps (S.roster store.old) }
-        requires room { length notices.old < most_notices }
+        requires stamps { HasStampsFor most_owned (S.roster store.old) }
+        requires room { length notices.old ≤ most_processes }
         ensures { Leaves (services.stop_process (S.roster store.old) self.now id caller.now)
             (S.roster store.new) self.now result notices.old notices.new }
     {
         if is_by_process(id, caller) || !self.created {
             return Reply::Code(ReturnCode::InvalidParam);
         }
-        if !store.record(id).started {
+        let row = store.record(id);
+        if !row.started {
             return Reply::Code(ReturnCode::NoAction);
         }
+        // Each of its mutexes wakes at most one process.
+        let _few = row.owned.as_slice();
         halt(store, id, notices);
         Reply::Code(ReturnCode::NoError)
     }
 
-    /// SUSPEND of another process. INVALID_PARAM where it is the caller or isn't created,
-    /// INVALID_MODE where it is dormant or periodic, NO_ACTION where it is suspended, INVALID_MODE
-    /// where it owns a mutex.
+    /// SUSPEND of another process: INVALID_PARAM if the process is the caller or isn't created,
+    /// INVALID_MODE if it is dormant or periodic, NO_ACTION if it is suspended, INVALID_MODE if it
+    /// owns a mutex.
     fn suspend<S: Store>(&self, store: &mut S, id: ProcessId, caller: &Caller) -> Reply
         requires known { id < length (S.roster store.old).records }
         ensures { Leaves (services.suspend_process (S.roster store.old) self.now id caller.now)
@@ -212,16 +216,16 @@ impl ProcessObject {
         if row.suspended.is_some() {
             return Reply::Code(ReturnCode::NoAction);
         }
-        if row.owned.is_some() {
+        if row.owns_some() {
             return Reply::Code(ReturnCode::InvalidMode);
         }
         store.suspend(id);
         Reply::Code(ReturnCode::NoError)
     }
 
-    /// RESUME of another process, which is woken where it had suspended itself. INVALID_PARAM where
-    /// it is the caller or isn't created, INVALID_MODE where it is dormant or periodic, NO_ACTION where
-    /// it is not suspended.
+    /// RESUME of another process, which is woken if it had suspended itself: INVALID_PARAM if the
+    /// process is the caller or isn't created, INVALID_MODE if it is dormant or periodic, NO_ACTION
+    /// if it is not suspended.
     fn resume<S: Store>(
         &self,
         store: &mut S,

@@ -14,7 +14,7 @@ use crate::objects::Objects;
 use apex_store::{Store, due_after, is_owner, next_release};
 use apex_types::{Caller, ProcessId, Reply, ReturnCode, Span, TimeCall, Timeout, Wait};
 
-/// TIMED_WAIT by a process. INVALID_PARAM where the time is infinite.
+/// TIMED_WAIT by a process: INVALID_PARAM if the time is infinite.
 #[tactic(auto, using(apex_types::proofs::Starts::eligible_may_wait))]
 fn timed_wait<S: Store>(
     store: &mut S,
@@ -42,7 +42,7 @@ fn timed_wait<S: Store>(
     }
 }
 
-/// TIMED_WAIT. INVALID_MODE where the caller owns a mutex or no process calls.
+/// TIMED_WAIT: INVALID_MODE if the caller owns a mutex or no process calls.
 fn serve_timed_wait<S: Store>(
     store: &mut S,
     objects: &Objects,
@@ -65,7 +65,7 @@ fn serve_timed_wait<S: Store>(
 }
 
 /// PERIODIC_WAIT by a process: it waits for its next release, and has no deadline until then.
-/// INVALID_MODE where it is aperiodic or owns a mutex.
+/// INVALID_MODE if it is aperiodic or owns a mutex.
 #[tactic(auto, using(apex_types::proofs::Starts::eligible_may_wait))]
 fn periodic_wait<S: Store>(store: &mut S, objects: &Objects, process: ProcessId) -> Reply
     requires ready { IsReady (S.roster store.old) process }
@@ -76,7 +76,7 @@ fn periodic_wait<S: Store>(store: &mut S, objects: &Objects, process: ProcessId)
         (S.roster store.new) objects.now result [] [] }
 {
     let row = store.record(process);
-    if row.attributes.period.is_none() || row.owned.is_some() {
+    if row.attributes.period.is_none() || row.owns_some() {
         return Reply::Code(ReturnCode::InvalidMode);
     }
     let due = next_release(store, process);
@@ -96,8 +96,8 @@ fn is_beyond(release: u64, period: Option<Span>, instant: u64) -> bool
     }
 }
 
-/// REPLENISH by a process: its deadline is so far from now. NO_ACTION where its capacity is infinite,
-/// INVALID_MODE where the deadline would be above the end of its period.
+/// REPLENISH by a process: its deadline is the budget, in ticks, from now. NO_ACTION if its
+/// capacity is infinite, INVALID_MODE if the deadline would be above the end of its period.
 fn replenish<S: Store>(store: &mut S, objects: &Objects, process: ProcessId, budget: Span) -> Reply
     requires ready { IsReady (S.roster store.old) process }
     requires time { HasTime (S.roster store.old) }
@@ -117,7 +117,7 @@ fn replenish<S: Store>(store: &mut S, objects: &Objects, process: ProcessId, bud
     Reply::Code(ReturnCode::NoError)
 }
 
-/// PERIODIC_WAIT. INVALID_MODE where no process calls.
+/// PERIODIC_WAIT: INVALID_MODE if no process calls.
 fn serve_periodic_wait<S: Store>(store: &mut S, objects: &Objects, caller: &Caller) -> Reply
     requires caller { IsReadyCaller (S.roster store.old) caller.now }
     requires stamps { HasStamps (S.roster store.old) }
@@ -132,7 +132,7 @@ fn serve_periodic_wait<S: Store>(store: &mut S, objects: &Objects, caller: &Call
     }
 }
 
-/// REPLENISH. INVALID_MODE where no process calls.
+/// REPLENISH: INVALID_MODE if no process calls.
 fn serve_replenish<S: Store>(
     store: &mut S,
     objects: &Objects,

@@ -1,14 +1,17 @@
 //! The parts of the lines of the status listing.
-ghost use Rattle.std.specs.Prelude.{◌≡◌, ◌+◌, ◌<◌, ◌≤◌, ◌++◌, length, flat_map, codes, decimal};
+ghost use Rattle.std.specs.Prelude.{◌≡◌, ◌+◌, ◌*◌, ◌<◌, ◌≤◌, ◌++◌, length, flat_map, codes, decimal};
+ghost use Rattle.apex_history.specs.declared.puts.TheConstants.{LINES_ROOM};
 ghost use Rattle.arrayvec.specs.ArrayVec.{array_vec_len};
-ghost use Rattle.apex_types.specs.Limits.{most_messages, most_processes};
-ghost use Rattle.apex_types.specs.Lines.{id_text, message_text};
+ghost use Rattle.apex_types.specs.Limits.{most_messages, most_owned, most_processes};
+ghost use Rattle.apex_types.specs.Texts.{id_text, message_text};
 ghost use Rattle.apex_types.specs.Status as status;
 
 use super::message::put_message;
 use super::{Lines, put, put_id, put_long_number, put_name};
 use apex_table::Table;
-use apex_types::{Holding, Id, Message, Mode, Name, ProcessId, Record, State, Suspender, Wait};
+use apex_types::{
+    Holding, Holdings, Id, Message, Mode, Name, ProcessId, Record, State, Suspender, Wait,
+};
 
 pub(super) fn mode_word(mode: &Mode) -> &'static str
     ensures value { result.now ≡ status.operating_mode_text mode.now }
@@ -53,7 +56,7 @@ pub(super) fn up_word(up: bool) -> &'static str
 }
 
 pub(super) fn put_optional_id(line: &mut Lines, id: &Option<ProcessId>)
-    requires { array_vec_len line.old + 10 ≤ 8192 }
+    requires { array_vec_len line.old + 10 ≤ LINES_ROOM }
     ensures text { line.new.items ≡ line.old.items ++ status.optional_id_text id.now }
     ensures short { array_vec_len line.new ≤ array_vec_len line.old + 10 }
 {
@@ -64,7 +67,7 @@ pub(super) fn put_optional_id(line: &mut Lines, id: &Option<ProcessId>)
 }
 
 pub(super) fn put_instant(line: &mut Lines, instant: &Option<u64>)
-    requires { array_vec_len line.old + 20 ≤ 8192 }
+    requires { array_vec_len line.old + 20 ≤ LINES_ROOM }
     ensures text { line.new.items ≡ line.old.items ++ status.instant_text instant.now }
     ensures short { array_vec_len line.new ≤ array_vec_len line.old + 20 }
 {
@@ -74,19 +77,46 @@ pub(super) fn put_instant(line: &mut Lines, instant: &Option<u64>)
     }
 }
 
-pub(super) fn put_owned(line: &mut Lines, owned: &Option<Holding>)
-    requires { array_vec_len line.old + 10 ≤ 8192 }
-    ensures text { line.new.items ≡ line.old.items ++ status.owns_text owned.now }
-    ensures short { array_vec_len line.new ≤ array_vec_len line.old + 10 }
+#[tactic(auto, using(std::proofs::Common::append_assoc))]
+fn put_mutex_behind(line: &mut Lines, holding: &Holding)
+    requires { array_vec_len line.old + 11 ≤ LINES_ROOM }
+    ensures text { line.new.items ≡ line.old.items ++ status.behind_text status.held_text holding.now }
+    ensures short { array_vec_len line.new ≤ array_vec_len line.old + 11 }
 {
-    match owned {
-        Some(holding) => put_id(line, holding.mutex),
+    put(line, ",");
+    put_id(line, holding.mutex);
+}
+
+fn put_mutexes_behind(line: &mut Lines, held: &[Holding])
+    requires few { length held.now ≤ most_owned }
+    requires room { array_vec_len line.old + 11 * most_owned ≤ LINES_ROOM }
+    ensures text { line.new.items ≡ line.old.items ++ flat_map (status.behind_text status.held_text) held.now }
+    ensures short { array_vec_len line.new ≤ array_vec_len line.old + 11 * most_owned }
+{
+    for holding in held {
+        put_mutex_behind(line, holding);
+    }
+}
+
+// The mutexes that a process owns, in order of their numbers, with `,` between.
+#[tactic(auto, using(std::proofs::Common::append_assoc))]
+pub(super) fn put_owned(line: &mut Lines, owned: &Holdings)
+    requires { array_vec_len line.old + 10 + 11 * most_owned ≤ LINES_ROOM }
+    ensures text { line.new.items ≡ line.old.items ++ status.owns_text owned.now }
+    ensures short { array_vec_len line.new ≤ array_vec_len line.old + 10 + 11 * most_owned }
+{
+    let held = owned.in_order();
+    match held.as_slice().split_first() {
+        Some((first, others)) => {
+            put_id(line, first.mutex);
+            put_mutexes_behind(line, others);
+        }
         None => put(line, "-"),
     }
 }
 
 pub(super) fn put_optional_message(line: &mut Lines, table: &Table, message: &Option<Message>)
-    requires { array_vec_len line.old + 128 ≤ 8192 }
+    requires { array_vec_len line.old + 128 ≤ LINES_ROOM }
     ensures text { line.new.items ≡ line.old.items ++ status.optional_message_text table.now message.now }
     ensures short { array_vec_len line.new ≤ array_vec_len line.old + 128 }
 {
@@ -99,7 +129,7 @@ pub(super) fn put_optional_message(line: &mut Lines, table: &Table, message: &Op
 // A kind, with the colon behind it, and an id.
 #[tactic(auto, using(std::proofs::Common::append_assoc))]
 fn put_kind_and_id<K: Copy>(line: &mut Lines, kind: &str, id: Id<K>)
-    requires { array_vec_len line.old + length kind.now + 10 ≤ 8192 }
+    requires { array_vec_len line.old + length kind.now + 10 ≤ LINES_ROOM }
     ensures text { line.new.items ≡ line.old.items ++ (kind.now ++ id_text id) }
     ensures short { array_vec_len line.new ≤ array_vec_len line.old + length kind.now + 10 }
 {
@@ -108,7 +138,7 @@ fn put_kind_and_id<K: Copy>(line: &mut Lines, kind: &str, id: Id<K>)
 }
 
 fn put_wait(line: &mut Lines, wait: &Wait)
-    requires { array_vec_len line.old + 21 ≤ 8192 }
+    requires { array_vec_len line.old + 21 ≤ LINES_ROOM }
     ensures text { line.new.items ≡ line.old.items ++ status.wait_text wait.now }
     ensures short { array_vec_len line.new ≤ array_vec_len line.old + 21 }
 {
@@ -127,7 +157,7 @@ fn put_wait(line: &mut Lines, wait: &Wait)
 }
 
 pub(super) fn put_optional_wait(line: &mut Lines, wait: &Option<Wait>)
-    requires { array_vec_len line.old + 21 ≤ 8192 }
+    requires { array_vec_len line.old + 21 ≤ LINES_ROOM }
     ensures text { line.new.items ≡ line.old.items ++ status.optional_wait_text wait.now }
     ensures short { array_vec_len line.new ≤ array_vec_len line.old + 21 }
 {
@@ -139,7 +169,7 @@ pub(super) fn put_optional_wait(line: &mut Lines, wait: &Option<Wait>)
 
 #[tactic(auto, using(std::proofs::Common::append_assoc))]
 fn put_id_behind(line: &mut Lines, id: ProcessId)
-    requires { array_vec_len line.old + 11 ≤ 8192 }
+    requires { array_vec_len line.old + 11 ≤ LINES_ROOM }
     ensures text { line.new.items ≡ line.old.items ++ status.behind_text id_text id }
     ensures short { array_vec_len line.new ≤ array_vec_len line.old + 11 }
 {
@@ -149,22 +179,22 @@ fn put_id_behind(line: &mut Lines, id: ProcessId)
 
 fn put_ids_behind(line: &mut Lines, ids: &[ProcessId])
     requires few { length ids.now ≤ most_processes }
-    requires room { array_vec_len line.old + 352 ≤ 8192 }
+    requires room { array_vec_len line.old + 11 * most_processes ≤ LINES_ROOM }
     ensures text { line.new.items ≡ line.old.items ++ flat_map (status.behind_text id_text) ids.now }
-    ensures short { array_vec_len line.new ≤ array_vec_len line.old + 352 }
+    ensures short { array_vec_len line.new ≤ array_vec_len line.old + 11 * most_processes }
 {
     for id in ids {
         put_id_behind(line, *id);
     }
 }
 
-// Who waits, with `,` between.
+// The ids of waiters, with `,` between.
 #[tactic(auto, using(std::proofs::Common::append_assoc))]
 fn put_ids(line: &mut Lines, ids: &[ProcessId])
     requires few { length ids.now ≤ most_processes }
-    requires room { array_vec_len line.old + 362 ≤ 8192 }
+    requires room { array_vec_len line.old + 10 + 11 * most_processes ≤ LINES_ROOM }
     ensures text { line.new.items ≡ line.old.items ++ status.ids_text ids.now }
-    ensures short { array_vec_len line.new ≤ array_vec_len line.old + 362 }
+    ensures short { array_vec_len line.new ≤ array_vec_len line.old + 10 + 11 * most_processes }
 {
     match ids.split_first() {
         Some((first, others)) => {
@@ -177,7 +207,7 @@ fn put_ids(line: &mut Lines, ids: &[ProcessId])
 
 #[tactic(auto, using(std::proofs::Common::append_assoc))]
 fn put_message_behind(line: &mut Lines, table: &Table, message: &Message)
-    requires { array_vec_len line.old + 129 ≤ 8192 }
+    requires { array_vec_len line.old + 129 ≤ LINES_ROOM }
     ensures text { line.new.items ≡ line.old.items ++ status.behind_text (message_text table.now) message.now }
     ensures short { array_vec_len line.new ≤ array_vec_len line.old + 129 }
 {
@@ -187,9 +217,9 @@ fn put_message_behind(line: &mut Lines, table: &Table, message: &Message)
 
 fn put_messages_behind(line: &mut Lines, table: &Table, messages: &[Message])
     requires few { length messages.now ≤ most_messages }
-    requires room { array_vec_len line.old + 2064 ≤ 8192 }
+    requires room { array_vec_len line.old + 129 * most_messages ≤ LINES_ROOM }
     ensures text { line.new.items ≡ line.old.items ++ flat_map (status.behind_text (message_text table.now)) messages.now }
-    ensures short { array_vec_len line.new ≤ array_vec_len line.old + 2064 }
+    ensures short { array_vec_len line.new ≤ array_vec_len line.old + 129 * most_messages }
 {
     for message in messages {
         put_message_behind(line, table, message);
@@ -200,9 +230,9 @@ fn put_messages_behind(line: &mut Lines, table: &Table, messages: &[Message])
 #[tactic(auto, using(std::proofs::Common::append_assoc))]
 pub(super) fn put_messages(line: &mut Lines, table: &Table, messages: &[Message])
     requires few { length messages.now ≤ most_messages }
-    requires room { array_vec_len line.old + 2192 ≤ 8192 }
+    requires room { array_vec_len line.old + 128 + 129 * most_messages ≤ LINES_ROOM }
     ensures text { line.new.items ≡ line.old.items ++ status.messages_text table.now messages.now }
-    ensures short { array_vec_len line.new ≤ array_vec_len line.old + 2192 }
+    ensures short { array_vec_len line.new ≤ array_vec_len line.old + 128 + 129 * most_messages }
 {
     match messages.split_first() {
         Some((first, others)) => {
@@ -213,11 +243,11 @@ pub(super) fn put_messages(line: &mut Lines, table: &Table, messages: &[Message]
     }
 }
 
-// How the line of a process or an object begins.
+// The head of the line of a process or an object.
 #[tactic(auto, using(std::proofs::Common::append_assoc))]
 pub(super) fn put_head<K: Copy>(line: &mut Lines, kind: &str, id: Id<K>, name: &Name)
     requires word { length kind.now ≤ 10 }
-    requires room { array_vec_len line.old + 57 ≤ 8192 }
+    requires room { array_vec_len line.old + 57 ≤ LINES_ROOM }
     ensures text { line.new.items ≡ line.old.items ++ status.head_text kind.now id name.now }
     ensures short { array_vec_len line.new ≤ array_vec_len line.old + 57 }
 {
@@ -228,13 +258,13 @@ pub(super) fn put_head<K: Copy>(line: &mut Lines, kind: &str, id: Id<K>, name: &
     put_name(line, name);
 }
 
-// How the line of an object ends.
+// The end of the line of an object.
 #[tactic(auto, using(std::proofs::Common::append_assoc))]
 pub(super) fn put_waiting(line: &mut Lines, waiting: &[ProcessId])
     requires few { length waiting.now ≤ most_processes }
-    requires room { array_vec_len line.old + 372 ≤ 8192 }
+    requires room { array_vec_len line.old + 20 + 11 * most_processes ≤ LINES_ROOM }
     ensures text { line.new.items ≡ line.old.items ++ status.waiting_text waiting.now }
-    ensures short { array_vec_len line.new ≤ array_vec_len line.old + 372 }
+    ensures short { array_vec_len line.new ≤ array_vec_len line.old + 20 + 11 * most_processes }
 {
     put(line, " waiting ");
     put_ids(line, waiting);

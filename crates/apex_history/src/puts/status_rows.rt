@@ -1,7 +1,8 @@
 //! The lines of the status listing, each from its parts.
 ghost use Rattle.std.specs.Prelude.{◌≡◌, ◌+◌, ◌<◌, ◌≤◌, ◌++◌, length, codes};
+ghost use Rattle.apex_history.specs.declared.puts.TheConstants.{LINES_ROOM};
 ghost use Rattle.arrayvec.specs.ArrayVec.{array_vec_len};
-ghost use Rattle.apex_types.specs.Limits.{most_messages, most_processes};
+ghost use Rattle.apex_types.specs.Limits.{most_line, most_messages, most_processes};
 ghost use Rattle.apex_types.specs.Status as status;
 ghost use Rattle.apex_history.specs.StatusRows.{row_text, IsPrintableRow};
 
@@ -19,7 +20,7 @@ use apex_types::{
 
 #[tactic(auto, using(std::proofs::Common::append_assoc))]
 fn put_time(line: &mut Lines, now: u64)
-    requires { array_vec_len line.old + 26 ≤ 8192 }
+    requires { array_vec_len line.old + 26 ≤ LINES_ROOM }
     ensures text { line.new.items ≡ line.old.items ++ status.time_line now }
 {
     put(line, "time ");
@@ -29,7 +30,7 @@ fn put_time(line: &mut Lines, now: u64)
 
 #[tactic(auto, using(std::proofs::Common::append_assoc))]
 fn put_mode(line: &mut Lines, mode: &Mode)
-    requires { array_vec_len line.old + 26 ≤ 8192 }
+    requires { array_vec_len line.old + 26 ≤ LINES_ROOM }
     ensures text { line.new.items ≡ line.old.items ++ status.mode_line mode.now }
 {
     put(line, "mode ");
@@ -39,7 +40,7 @@ fn put_mode(line: &mut Lines, mode: &Mode)
 
 #[tactic(auto, using(std::proofs::Common::append_assoc))]
 fn put_history(line: &mut Lines, entries: u32)
-    requires { array_vec_len line.old + 26 ≤ 8192 }
+    requires { array_vec_len line.old + 26 ≤ LINES_ROOM }
     ensures text { line.new.items ≡ line.old.items ++ status.history_line entries }
 {
     put(line, "history ");
@@ -49,7 +50,7 @@ fn put_history(line: &mut Lines, entries: u32)
 
 #[tactic(auto, using(std::proofs::Common::append_assoc))]
 fn put_core(line: &mut Lines, core: CoreId, running: &Option<ProcessId>)
-    requires { array_vec_len line.old + 40 ≤ 8192 }
+    requires { array_vec_len line.old + 40 ≤ LINES_ROOM }
     ensures text { line.new.items ≡ line.old.items ++ status.core_line core running.now }
 {
     put(line, "core ");
@@ -59,10 +60,10 @@ fn put_core(line: &mut Lines, core: CoreId, running: &Option<ProcessId>)
     put(line, "\n");
 }
 
-// A process's state, priorities and core, and what it waits for.
+// A process's state, priorities, core and wait.
 #[tactic(auto, using(std::proofs::Common::append_assoc))]
 fn put_state(line: &mut Lines, state: &State, fields: &Record)
-    requires { array_vec_len line.old + 100 ≤ 8192 }
+    requires { array_vec_len line.old + 100 ≤ LINES_ROOM }
     ensures text { line.new.items ≡ line.old.items ++ status.state_part state.now fields.now }
     ensures short { array_vec_len line.new ≤ array_vec_len line.old + 100 }
 {
@@ -81,7 +82,7 @@ fn put_state(line: &mut Lines, state: &State, fields: &Record)
 // The instants at which a process's wait ends, and its deadline passes.
 #[tactic(auto, using(std::proofs::Common::append_assoc))]
 fn put_instants(line: &mut Lines, fields: &Record)
-    requires { array_vec_len line.old + 60 ≤ 8192 }
+    requires { array_vec_len line.old + 60 ≤ LINES_ROOM }
     ensures text { line.new.items ≡ line.old.items ++ status.instants_part fields.now }
     ensures short { array_vec_len line.new ≤ array_vec_len line.old + 60 }
 {
@@ -91,12 +92,12 @@ fn put_instants(line: &mut Lines, fields: &Record)
     put_instant(line, &fields.deadline);
 }
 
-// Who suspended a process, its mutex, and the last message that it received.
+// Who suspended a process, its mutexes, and the last message that it received.
 #[tactic(auto, using(std::proofs::Common::append_assoc))]
 fn put_held(line: &mut Lines, table: &Table, fields: &Record)
-    requires { array_vec_len line.old + 180 ≤ 8192 }
+    requires { array_vec_len line.old + 224 ≤ LINES_ROOM }
     ensures text { line.new.items ≡ line.old.items ++ status.held_part table.now fields.now }
-    ensures short { array_vec_len line.new ≤ array_vec_len line.old + 180 }
+    ensures short { array_vec_len line.new ≤ array_vec_len line.old + 224 }
 {
     put(line, " suspended ");
     put(line, suspended_word(&fields.suspended));
@@ -109,7 +110,7 @@ fn put_held(line: &mut Lines, table: &Table, fields: &Record)
 #[tactic(auto, using(std::proofs::Common::append_assoc))]
 fn put_process(line: &mut Lines, table: &Table, process: ProcessId, state: &State, fields: &Record)
     requires known { process < length table.now.processes }
-    requires room { array_vec_len line.old + 4096 ≤ 8192 }
+    requires room { array_vec_len line.old + most_line ≤ LINES_ROOM }
     ensures text { line.new.items ≡ line.old.items ++ status.process_line table.now process state.now fields.now }
 {
     put_head(line, "process", process, table.process(process).name());
@@ -129,7 +130,7 @@ fn put_semaphore(
 )
     requires known { semaphore < length table.now.semaphores }
     requires few { length waiting.now ≤ most_processes }
-    requires room { array_vec_len line.old + 4096 ≤ 8192 }
+    requires room { array_vec_len line.old + most_line ≤ LINES_ROOM }
     ensures text { line.new.items ≡ line.old.items ++ status.semaphore_line table.now semaphore value waiting.now }
 {
     put_head(
@@ -154,7 +155,7 @@ fn put_buffer(
     requires known { buffer < length table.now.buffers }
     requires held { length messages.now ≤ most_messages }
     requires few { length waiting.now ≤ most_processes }
-    requires room { array_vec_len line.old + 4096 ≤ 8192 }
+    requires room { array_vec_len line.old + most_line ≤ LINES_ROOM }
     ensures text { line.new.items ≡ line.old.items ++ status.buffer_line table.now buffer messages.now waiting.now }
 {
     put_head(line, "buffer", buffer, table.buffer(buffer).name());
@@ -173,7 +174,7 @@ fn put_blackboard(
 )
     requires known { blackboard < length table.now.blackboards }
     requires few { length waiting.now ≤ most_processes }
-    requires room { array_vec_len line.old + 4096 ≤ 8192 }
+    requires room { array_vec_len line.old + most_line ≤ LINES_ROOM }
     ensures text { line.new.items ≡ line.old.items ++ status.blackboard_line table.now blackboard message.now waiting.now }
 {
     put_head(
@@ -191,7 +192,7 @@ fn put_blackboard(
 fn put_event(line: &mut Lines, table: &Table, event: EventId, up: bool, waiting: &[ProcessId])
     requires known { event < length table.now.events }
     requires few { length waiting.now ≤ most_processes }
-    requires room { array_vec_len line.old + 4096 ≤ 8192 }
+    requires room { array_vec_len line.old + most_line ≤ LINES_ROOM }
     ensures text { line.new.items ≡ line.old.items ++ status.event_line table.now event up waiting.now }
 {
     put_head(line, "event", event, table.event(event).name());
@@ -200,10 +201,10 @@ fn put_event(line: &mut Lines, table: &Table, event: EventId, up: bool, waiting:
     put_waiting(line, waiting);
 }
 
-// Who owns a mutex, and how deep.
+// The owner of a mutex, and its depth.
 #[tactic(auto, using(std::proofs::Common::append_assoc))]
 fn put_owner(line: &mut Lines, owner: &Option<ProcessId>, depth: u8)
-    requires { array_vec_len line.old + 40 ≤ 8192 }
+    requires { array_vec_len line.old + 40 ≤ LINES_ROOM }
     ensures text { line.new.items ≡ line.old.items ++ status.owner_text owner.now depth }
     ensures short { array_vec_len line.new ≤ array_vec_len line.old + 40 }
 {
@@ -224,7 +225,7 @@ fn put_mutex(
 )
     requires known { mutex < length table.now.mutexes }
     requires few { length waiting.now ≤ most_processes }
-    requires room { array_vec_len line.old + 4096 ≤ 8192 }
+    requires room { array_vec_len line.old + most_line ≤ LINES_ROOM }
     ensures text { line.new.items ≡ line.old.items ++ status.mutex_line table.now mutex owner.now depth waiting.now }
 {
     put_head(line, "mutex", mutex, table.mutex(mutex).name());
@@ -235,7 +236,7 @@ fn put_mutex(
 /// Puts the line of the row behind the others.
 pub(crate) fn put_row(line: &mut Lines, table: &Table, row: &StatusRow<'_>)
     requires printable { IsPrintableRow table.now row.now }
-    requires room { array_vec_len line.old + 4096 ≤ 8192 }
+    requires room { array_vec_len line.old + most_line ≤ LINES_ROOM }
     ensures { line.new.items ≡ line.old.items ++ row_text table.now row.now }
 {
     match row {

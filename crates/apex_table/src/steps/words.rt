@@ -2,32 +2,23 @@
 ghost use Rattle.std.specs.Prelude.{ℕ, ◌≡◌, ◌<◌, ◌≤◌, ◌/◌, ◌%◌, ◌==◌, ◌&&◌, true, map, length, IfOk};
 ghost use Rattle.apex_types.specs.Limits.{most_message, most_processes};
 ghost use Rattle.std.specs.Char.{digit_value};
-ghost use Rattle.std.specs.List.{list_all, list_any};
-ghost use Rattle.apex_table.specs.Words.{words, is_empty, is_number, is_timeout, is_digit, pairs_value, is_message, message_bytes, message, number, timeout, span, entry_of};
+ghost use Rattle.std.specs.List.{list_all, position_from};
+ghost use Rattle.std.specs.Str.{bytes_eq};
+ghost use Rattle.apex_table.specs.Words.{words, is_number, is_timeout, is_digit, pairs_value, is_message, message_bytes, number, timeout, requested_mode, entry_of};
 
 use crate::fault::{Place, TableFault};
 use crate::named::place_of;
-use apex_types::{Literal, Message, Name, Origin, Span, Timeout, number_at_most};
+use apex_types::{
+    Literal, MOST_LITERAL, MOST_MESSAGE, MOST_SPAN, Name, RequestedMode, Timeout, number_at_most,
+};
 use arrayvec::ArrayVec;
 use std::alloc::{AllocError, Global};
 
-/// What stands between single spaces, which may be empty.
+/// The parts between single spaces, which may be empty.
 pub fn words(alloc: Global, text: &str) -> Result<Vec<&str>, AllocError>
     ensures { IfOk result (λ v. map (λ w. w.now) v.items ≡ words text.now) }
 {
     text.split(' ').collect(alloc)
-}
-
-/// Whether a word has no byte: another spacing than one space leaves such a word.
-pub fn has_empty(words: &[&str]) -> bool
-    ensures { result ≡ list_any is_empty (map (λ w. w.now) words.now) }
-{
-    for word in words {
-        if word.is_empty() {
-            return true;
-        }
-    }
-    false
 }
 
 /// Whether a word has the form of a number, which may be of any size.
@@ -44,14 +35,13 @@ pub fn is_timeout(word: &str) -> bool
     word == "infinite" || is_number(word)
 }
 
-/// The number that a word writes, which is `most` at the most.
-pub fn number(at: Place, most: u32, word: &str) -> Result<u32, TableFault>
-    ensures value { result ≡ number at most word.now }
-    ensures range { IfOk result (λ n. n ≤ most) }
+/// The number that a word writes, from `low` to `high`.
+pub fn number(at: Place, low: u32, high: u32, word: &str) -> Result<u32, TableFault>
+    ensures { result ≡ number at low high word.now }
 {
-    match number_at_most(word.as_bytes(), most) {
-        Some(number) => Ok(number),
-        None => Err(TableFault::OutOfRange(at)),
+    match number_at_most(word.as_bytes(), high) {
+        Some(number) if low <= number => Ok(number),
+        _ => Err(TableFault::OutOfRange(at)),
     }
 }
 
@@ -62,19 +52,19 @@ pub fn timeout(at: Place, word: &str) -> Result<Timeout, TableFault>
     match word {
         "0" => Ok(Timeout::Poll),
         "infinite" => Ok(Timeout::Infinite),
-        _ => Ok(Timeout::Ticks(number(at, u32::MAX, word)?)),
+        _ => Ok(Timeout::Ticks(number(at, 1, MOST_SPAN, word)?)),
     }
 }
 
-/// The span that a word writes: so many ticks or units, at least one, and `most` at the most.
-pub fn span(at: Place, most: u32, word: &str) -> Result<Span, TableFault>
-    ensures { result ≡ span at most word.now }
+/// The mode that a word asks for.
+pub fn requested_mode(word: &str) -> Option<RequestedMode>
+    ensures { result ≡ requested_mode word.now }
 {
-    let many = number(at, most, word)?;
-    if many == 0 {
-        return Err(TableFault::OutOfRange(at));
+    match word {
+        "NORMAL" => Some(RequestedMode::Normal),
+        "IDLE" => Some(RequestedMode::Idle),
+        _ => None,
     }
-    Ok(Span::of(many))
 }
 
 fn is_digit(byte: u8) -> bool
@@ -121,7 +111,7 @@ fn decoded(digits: &[u8]) -> Literal
     requires few { length digits.now / 2 ≤ most_message }
     ensures { result ≡ pairs_value digits.now }
 {
-    let mut bytes = ArrayVec::<u8, 64>::new();
+    let mut bytes = ArrayVec::<u8, MOST_LITERAL>::new();
     let mut rest = digits;
     while let [high, low, others @ ..] = rest {
         bytes.push(value_of(*high) * 16 + value_of(*low));
@@ -142,21 +132,21 @@ pub fn message_bytes(at: Place, word: &str) -> Result<Literal, TableFault>
     if !is_pairs(digits) {
         return Err(TableFault::OutOfRange(at));
     }
-    if digits.len() / 2 > 64 {
+    if digits.len() / 2 > MOST_MESSAGE {
         return Err(TableFault::OutOfRange(at));
     }
     Ok(decoded(digits))
 }
 
-/// The message that a word writes, in the step of this origin.
-pub fn message(at: Place, origin: &Origin, word: &str) -> Result<Message, TableFault>
-    ensures { result ≡ message at origin.now word.now }
+/// The place, counted from 0, of the entry of this name, if one has it.
+pub fn place_of_name(names: &[Name], name: &[u8]) -> Option<u8>
+    requires { length names.now ≤ most_processes }
+    ensures { result ≡ position_from (bytes_eq name.now) 0 names.now }
 {
-    let bytes = message_bytes(at, word)?;
-    Ok(Message {
-        origin: *origin,
-        length: bytes.as_bytes().len() as u8,
-    })
+    match place_of(names, name) {
+        Some(place) => Some(place as u8),
+        None => None,
+    }
 }
 
 /// The place, counted from 0, of the entry of this name.
@@ -164,8 +154,8 @@ pub fn entry_of(at: Place, names: &[Name], name: &str) -> Result<u8, TableFault>
     requires { length names.now ≤ most_processes }
     ensures { result ≡ entry_of at names.now name.now }
 {
-    match place_of(names, name.as_bytes()) {
-        Some(place) => Ok(place as u8),
+    match place_of_name(names, name.as_bytes()) {
+        Some(place) => Ok(place),
         None => Err(TableFault::UnknownName(at)),
     }
 }

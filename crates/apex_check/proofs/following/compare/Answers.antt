@@ -1,6 +1,6 @@
 use Rattle.std.proofs.Common.{◌≡◌, ◌<◌, ap, length, None, Some, rules}
 use Rattle.std.specs.List.{last_or}
-use Rattle.apex_types.specs.Lines.{IsPrintable}
+use Rattle.apex_calls.specs.Lines.{IsPrintable}
 use Rattle.apex_dispatch.specs.Kernel.{KernelState}
 use Rattle.apex_check.proofs.MoreLines.{latest_adds, latest_holds, latest_some}
 use Rattle.apex_check.proofs.following.compare.Goals as goal

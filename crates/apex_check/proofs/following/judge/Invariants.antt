@@ -1,4 +1,5 @@
--- No read failed so far. The lines that were taken are those of *run* for the events of the history.
+-- No read failed so far. The lines that were taken are those of *run* for the events of the
+-- history.
 use Rattle.std.proofs.Common.{◌≡◌, ◌-◌, ℕ, List, length}
 use Rattle.std.specs.Io.KnownBytes.{Consumes, prepend_known}
 use Rattle.apex_history.specs.Counted.{inner_of, failures_of}

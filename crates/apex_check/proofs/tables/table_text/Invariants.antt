@@ -1,4 +1,5 @@
--- No read failed so far. What was taken is in the text: whole lines of a table, and then a piece of one.
+-- No read failed so far. The bytes that were taken are in the text: whole lines of a table, and
+-- then a piece of one.
 use Rattle.std.proofs.Common.{◌≡◌, ◌≤◌, length, take, drop}
 use Rattle.std.specs.Io.KnownBytes.{Consumes, prepend_known}
 use Rattle.apex_history.specs.Counted.{inner_of, failures_of, reads_left_of}

@@ -1,4 +1,4 @@
--- The events of so many items were made, and there was room for each.
+-- The events of the first n items were made, and there was room for each.
 use Rattle.std.proofs.Common.{◌≡◌, ◌+◌, ◌≤◌, length, drop}
 use Rattle.apex_types.specs.Machine.{run}
 use Rattle.apex_dispatch.specs.Kernel.{kernel_in}

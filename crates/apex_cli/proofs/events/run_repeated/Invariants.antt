@@ -1,4 +1,4 @@
--- So many of the events were made, and there was room for each.
+-- The first n of the events were made, and there was room for each.
 use Rattle.std.proofs.Common.{◌≡◌, ◌+◌, ◌-◌, ◌≤◌, length, replicate}
 use Rattle.apex_types.specs.Machine.{run}
 use Rattle.apex_dispatch.specs.Kernel.{kernel_in}

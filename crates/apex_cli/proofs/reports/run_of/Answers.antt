@@ -22,4 +22,4 @@ returns-clause-ok c =
           w.fault-is ∙ ap (λ n. Some (HistoryFull n)) at_limit ∙ sym (fault_full table events many)
     ] in
     let below : are_cores_below table.cores c.args.items.now ≡ true = search rules in
-    λ report. rw done (answer_is report c.args.items.now c.args.text.now table _ c.match-run_items.fault c.in_ok-table.ensures below refl told)
+    λ report. rw done (answer_is report c.args.items.now c.args.text.now table _ c.match-run_items.fault c.in_ok-table.ensures.table below refl told)

@@ -21,19 +21,19 @@ returns-in_err-ran g c =
 pub returns-in-None : goal.returns-in-None
 returns-in-None g c =
     let read = ap table_of (sym c.as_slice.ensures.value) ∙ c.in_ok-ran.ensures.table in
-    written c.in_ok-text.text.items _ _ c.in_ok-text.ensures.bytes read c.in_ok-ran.ensures.ran
+    written c.in_ok-text.text.items _ _ _ c.in_ok-text.ensures.bytes read c.in_ok-ran.ensures.ran c.in_ok-ran.ensures.front
     (sym c.in-None.is ∙ c.in-Ok.ensures.fault ∙ c.in_ok-ran.ensures.fault)
     c.in-Ok.ensures.ok (c.in_ok-text.ensures.counted, c.in-Ok.ensures.counted)
 
 pub returns-in-Ok : goal.returns-in-Ok
 returns-in-Ok g c =
     let read = ap table_of (sym c.as_slice.ensures.value) ∙ c.in_ok-ran.ensures.table in
-    written c.in_ok-text.text.items _ _ c.in_ok-text.ensures.bytes read c.in_ok-ran.ensures.ran
+    written c.in_ok-text.text.items _ _ _ c.in_ok-text.ensures.bytes read c.in_ok-ran.ensures.ran c.in_ok-ran.ensures.front
     (sym c.in-Some.is ∙ c.in-Ok.ensures.fault ∙ c.in_ok-ran.ensures.fault)
     c.in-Ok.ensures.ok (c.in_ok-text.ensures.counted, c.in-Ok.ensures.counted)
 
 pub returns : goal.returns
 returns g c =
     let read = ap table_of (sym c.as_slice.ensures.value) ∙ c.in_ok-ran.ensures.table in
-    unwritten c.in_ok-text.text.items _ _ c.in_ok-text.ensures.bytes read c.in_ok-ran.ensures.ran
+    unwritten c.in_ok-text.text.items _ _ _ c.in_ok-text.ensures.bytes read c.in_ok-ran.ensures.ran c.in_ok-ran.ensures.front
     c.in-Err.ensures.err (c.in_ok-text.ensures.counted, c.in-Err.ensures.counted)

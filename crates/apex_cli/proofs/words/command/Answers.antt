@@ -13,12 +13,14 @@ returns c =
     c.in_ok-status.ensures.shape c.required-2.ensures.local ∙ ap₂ with_rule c.new-2.ensures.app c.required-2.ensures.rule in
     let check_is : app_of c.new-check.result ≡ check = search rules in
     let run_for_is = c.in_ok-run_for.ensures.shape c.required-3.ensures.local ∙ ap₂ with_rule c.new-3.ensures.app c.required-3.ensures.rule in
+    let run_to_is = c.in_ok-run_to.ensures.shape c.required-4.ensures.local ∙ ap₂ with_rule run_for_is c.required-4.ensures.rule in
     let run_is : app_of c.in_ok-threads.threads ≡ run =
-    c.in_ok-threads.ensures.shape c.required-4.ensures.local ∙ ap₂ with_rule run_for_is c.required-4.ensures.rule in
+    c.in_ok-threads.ensures.shape c.flag.ensures.local ∙ ap₂ with_rule run_to_is c.flag.ensures.rule in
     let replay_local = c.in_ok-replay.ensures.globals ∙ ap₂ (λ a b. a || b) c.new.ensures.local c.required.ensures.local in
     let status_local = c.in_ok-status.ensures.globals ∙ ap₂ (λ a b. a || b) c.new-2.ensures.local c.required-2.ensures.local in
     let run_for_local = c.in_ok-run_for.ensures.globals ∙ ap₂ (λ a b. a || b) c.new-3.ensures.local c.required-3.ensures.local in
-    let run_local = c.in_ok-threads.ensures.globals ∙ ap₂ (λ a b. a || b) run_for_local c.required-4.ensures.local in
+    let run_to_local = c.in_ok-run_to.ensures.globals ∙ ap₂ (λ a b. a || b) run_for_local c.required-4.ensures.local in
+    let run_local = c.in_ok-threads.ensures.globals ∙ ap₂ (λ a b. a || b) run_to_local c.flag.ensures.local in
     let alone_is : app_of c.subcommand_required.result ≡ apex_alone = search rules in
     let one_is : app_of c.in_ok-with_replay.with_replay ≡ with_subcommand apex_alone replay.top =
     c.in_ok-with_replay.ensures.shape replay_local ∙ ap₂ with_subcommand alone_is (ap (λ (a : App). a.top) replay_is) in

@@ -1,8 +1,8 @@
-use Rattle.std.proofs.Common.{rules, ◌∙◌, ap₂, codes, Option}
+use Rattle.std.proofs.Common.{rules, ◌∙◌, ap, ap₂, codes, Option, Bool}
 use Rattle.clap.proofs.WalkLemmas.{first_value-rows}
-use Rattle.clap.specs.Words.{Text, found_of}
+use Rattle.clap.specs.Words.{Text, first_of, found_of, rows_of}
 use Rattle.std.specs.Prelude.{option_map, option_and_then}
-use Rattle.apex_cli.specs.Words.{runs}
+use Rattle.apex_cli.specs.Words.{runs, says_given}
 use Rattle.apex_cli.proofs.words.run_given.Goals as goal
 
 pub returns-in_err-turns : goal.returns-in_err-turns
@@ -18,6 +18,9 @@ returns-in_err-ticks c =
 
 pub returns : goal.returns
 returns c =
-    ap₂ (λ (turns ticks : Option Text). option_and_then (λ n. option_map (runs n) ticks) turns)
+    let rows = rows_of (found_of c.args.matches.now) in
+    ap₂ (λ (turns ticks : Option Text). option_and_then (λ n. option_map (λ k. runs n k c.has_flag.result) ticks) turns)
     (c.in_ok-turns.ensures ∙ first_value-rows (found_of c.args.matches.now) (codes "turns"))
     (c.in_ok-ticks.ensures ∙ first_value-rows (found_of c.args.matches.now) (codes "ticks"))
+    ∙ ap (λ (front : Bool). option_and_then (λ n. option_map (λ k. runs n k front) (first_of (codes "ticks") rows)) (first_of (codes "turns") rows))
+    (c.has_flag.ensures ∙ ap says_given (first_value-rows (found_of c.args.matches.now) (codes "front")))

@@ -9,4 +9,4 @@ returns g c =
     let kernel = c.args.kernel.now in
     let held = c.holds.ensures in
     let sound = subst (IsSound kernel.table) held.replays (sound_run kernel.table held.lawful (events_of kernel.machine.history)) in
-    owned_in_order kernel.table kernel.machine sound.orderly.ceilings sound.orderly.owners
+    owned_in_order kernel.table kernel.machine sound.orderly.rules sound.orderly.owners

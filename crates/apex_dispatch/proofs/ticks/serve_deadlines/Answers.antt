@@ -1,19 +1,61 @@
-use Rattle.std.proofs.Common.{◌≡◌, ◌<◌, length, Some, None, ◌∙◌, arith, sym, ap, length-append}
-use Rattle.apex_types.specs.Dues.{first_missed}
-use Rattle.apex_types.specs.InTurn.{Makes}
+use Rattle.std.proofs.Common.{◌≡◌, ◌<◌, ◌+◌, ◌++◌, length, Some, None, refl, ◌∙◌, arith, sym, ap, length-append}
+use Rattle.std.proofs.lemmas.Int.{ints}
+use Rattle.std.proofs.lemmas.List.Sums.{count_by-le-length}
+use Rattle.apex_types.specs.Dues.{first_missed, is_missed_at}
+use Rattle.apex_types.specs.InTurn.{Changed, Makes}
 use Rattle.apex_types.specs.Stamps.{set_deadline, without_deadline_of}
 use Rattle.apex_types.specs.Ticks.{serve_missed}
 use Rattle.apex_types.proofs.Dues.{first_missed_within}
-use Rattle.apex_types.proofs.Reaches.{reaches_then}
-use Rattle.apex_dispatch.proofs.MissesServed.{few_told, missed_is, reach_serve_missed}
+use Rattle.apex_types.proofs.Reaches.{reaches_more, reaches_none, reaches_then}
+use Rattle.apex_dispatch.proofs.MissesServed.{may_wake, missed_is, missed_tells, reach_serve_missed}
 use Rattle.apex_types.proofs.Loops.{made_by_none, made_by_all, leads_on}
 use Rattle.apex_dispatch.proofs.ticks.serve_deadlines.Goals as goal
+
+pub loop-turn-init : goal.loop-turn-init
+loop-turn-init g c =
+    let old = g.S.Store.roster c.args.store.now in
+    let some = count_by-le-length (may_wake old.now) old.records in
+    let others = count_by-le-length (is_missed_at old.now) old.records in
+    record {
+      rest = λ left e.
+          let all : left ≡ length old.records = omega (arith, e, c.process_count-turn-end.ensures) in
+          rw all refl;
+      reaches = rw c.requires.room (reaches_none 0 old);
+      starts = c.requires.starts;
+      end = c.process_count-turn-end.ensures;
+      room = rw c.requires.room (omega (arith, some, others));
+    }
 
 pub returns-in-None : goal.returns-in-None
 returns-in-None g c =
     let nobody = sym c.in-None.ensures.value in
     let same = c.in-None.ensures.taken ∙ ap (without_deadline_of (g.S.Store.roster c.loop-turn.store)) nobody in
     rw same (made_by_none first_missed serve_missed _ _ _ _ _ _ c.loop-turn.invariant.rest (omega arith) nobody)
+
+pub miss-requires-clause-stamps : goal.miss-requires-clause-stamps
+miss-requires-clause-stamps g c =
+    let old = g.S.Store.roster c.loop-turn.store in
+    let before = c.loop-turn.invariant in
+    let found : first_missed old ≡ Some c.in-Some.process = sym c.in-Some.ensures.value in
+    let freed = c.in-Some.ensures.taken ∙ ap (without_deadline_of old) found in
+    let many = c.requires.stamps in
+    rw freed (record {
+      young = omega (arith, ints, before.reaches.stamps, many.young, before.room, c.requires.few);
+      old = omega (arith, ints, before.reaches.older, many.old, before.room, c.requires.few);
+    })
+
+pub miss-requires-clause-room : goal.miss-requires-clause-room
+miss-requires-clause-room g c =
+    let old = g.S.Store.roster c.loop-turn.store in
+    let process = c.in-Some.process in
+    let before = c.loop-turn.invariant in
+    let found : first_missed old ≡ Some process = sym c.in-Some.ensures.value in
+    let freed = c.in-Some.ensures.taken ∙ ap (without_deadline_of old) found in
+    let kind = ap (λ (r : _). r.attributes.deadline) c.record.ensures in
+    let is = missed_is old (g.S.Store.roster c.take_missed.new.self) process _ (first_missed_within old process found) freed kind in
+    let told = ap (λ (changed : Changed). length changed.notices) is in
+    let tells = missed_tells old process found in
+    omega (arith, told, tells.wakes, tells.misses, before.room, c.requires.few)
 
 pub loop-turn-preserved : goal.loop-turn-preserved
 loop-turn-preserved g c =
@@ -29,12 +71,18 @@ loop-turn-preserved g c =
     let makes : Makes (serve_missed old process) (g.S.Store.roster c.miss.new.store)
     c.loop-turn.notices c.miss.new.notices = rw (← is) c.miss.ensures in
     let reaches = reach_serve_missed old process before.starts found in
+    let told = (serve_missed old process).notices in
+    let tells = missed_tells old process found in
     record {
       rest = leads_on first_missed serve_missed _ _ _ old _ _ _ process before.rest found makes;
-      reaches = rw makes.roster (reaches_then c.loop-turn.turn 1 before.reaches reaches);
+      reaches = rw (makes.roster, makes.notices)
+          (reaches_more (length c.loop-turn.notices + length told) (length (c.loop-turn.notices ++ told))
+          (omega (arith, length-append c.loop-turn.notices told))
+          (reaches_then (length c.loop-turn.notices) (length told) before.reaches reaches));
       starts = rw makes.roster (reaches.starts before.starts);
       end = before.end;
-      room = rw (makes.notices, length-append) (omega (arith, few_told old process, before.room));
+      room = rw (makes.roster, makes.notices, reaches.time, length-append)
+          (omega (arith, before.room, tells.wakes, tells.misses));
     }
 
 pub returns : goal.returns

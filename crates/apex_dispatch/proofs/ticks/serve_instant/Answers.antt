@@ -25,8 +25,8 @@ serve_dues-requires-clause-stamps g c =
     let reaches = reach_serve_deadlines old c.requires.starts in
     let many = c.requires.stamps in
     rw c.serve_deadlines.ensures.roster (record {
-      young = omega (arith, ints, reaches.stamps, many.young, c.requires.few);
-      old = omega (arith, ints, reaches.older, many.old, c.requires.few);
+      young = omega (arith, ints, reaches.stamps, many.young, c.requires.few, room_left old c.requires.starts);
+      old = omega (arith, ints, reaches.older, many.old, c.requires.few, room_left old c.requires.starts);
     })
 
 pub serve_dues-requires-clause-time : goal.serve_dues-requires-clause-time
@@ -39,4 +39,4 @@ pub serve_dues-requires-clause-room : goal.serve_dues-requires-clause-room
 serve_dues-requires-clause-room g c =
     let old = g.S.Store.roster c.args.store.now in
     let made = c.serve_deadlines.ensures in
-    rw (made.roster, made.notices, c.requires.room) (room_left old c.requires.starts c.requires.few)
+    rw (made.roster, made.notices, c.requires.room) (omega (arith, room_left old c.requires.starts, c.requires.few))

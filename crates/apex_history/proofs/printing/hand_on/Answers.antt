@@ -1,4 +1,4 @@
--- What the page was handed goes out with it.
+-- The lines that the page was handed go out with it.
 use Rattle.std.proofs.lemmas.Result.{on_err_weaker, on_ok_weaker}
 use Rattle.apex_history.proofs.Passing.{beginning_after, passes_all}
 use Rattle.apex_history.proofs.printing.hand_on.Goals as goal

@@ -1,4 +1,4 @@
--- What goes out of the page is a beginning of its text and the lines.
+-- The bytes that go out of the page are a prefix of its text and the lines.
 use Rattle.apex_history.proofs.Passing.{beginning_longer, passes_with}
 use Rattle.apex_history.proofs.Outcomes.{OnErr-always}
 use Rattle.apex_history.proofs.printing.pass_on.Goals as goal

@@ -1,8 +1,8 @@
--- What went through the page is a beginning of the lines.
+-- The bytes that went through the page are a prefix of the lines.
 use Rattle.std.proofs.Common.{[], ◌∷◌, ◌++◌, ap, sym, ◌∙◌, append_assoc, arith}
 use Rattle.std.proofs.lemmas.List.Elements.{All-rest}
 use Rattle.std.proofs.lemmas.Result.{on_err_weaker}
-use Rattle.apex_types.specs.Lines.{IsPrintable, line_of}
+use Rattle.apex_calls.specs.Lines.{IsPrintable, line_of}
 use Rattle.apex_history.proofs.LinesOf.{lines_more}
 use Rattle.apex_history.proofs.Outcomes.{OnErr-always}
 use Rattle.apex_history.proofs.Passing.{beginning_of_lines, passes_more}

@@ -1,8 +1,8 @@
--- No write failed so far; of the lines so far the writer has a beginning, the page what comes then, and
+-- No write failed so far; of the lines so far the writer has a prefix, the page the next part, and
 -- `lines` the rest.
 use Rattle.std.proofs.Common.{◌≡◌, ◌++◌}
 use Rattle.std.specs.Prelude.{All}
-use Rattle.apex_types.specs.Lines.{lines_of, IsPrintable}
+use Rattle.apex_calls.specs.Lines.{lines_of, IsPrintable}
 use Rattle.apex_history.specs.Counted.{inner_of, failures_of}
 use Rattle.apex_history.specs.Page.{Passes}
 use Rattle.apex_history.proofs.printing.print_history.Given as goal

@@ -1,4 +1,4 @@
--- Where memory is wanting, the bytes of the reads so far are gone from the reader.
+-- If memory is wanting, the bytes of the reads so far are gone from the reader.
 use Rattle.std.proofs.Common.{◌++◌, take}
 use Rattle.std.proofs.KnownBytes.{Consumes-trans}
 use Rattle.apex_history.proofs.Outcomes.{OnErr-always}

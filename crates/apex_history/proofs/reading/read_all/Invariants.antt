@@ -1,4 +1,4 @@
--- No read failed so far, and what was read is in `all`.
+-- No read failed so far, and the bytes that were read are in `all`.
 use Rattle.std.proofs.Common.{◌≡◌}
 use Rattle.std.specs.Io.KnownBytes.{Consumes}
 use Rattle.apex_history.specs.Counted.{inner_of, failures_of, reads_left_of}

@@ -1,7 +1,7 @@
 -- The event adds the column of its entry.
 use Rattle.std.proofs.Common.{◌≡◌, ◌∙◌, ap, refl, sym, None, Some}
 use Rattle.std.specs.List.{last_or}
-use Rattle.apex_types.specs.Lines.{IsPrintable}
+use Rattle.apex_calls.specs.Lines.{IsPrintable}
 use Rattle.apex_types.specs.Machine.{accept}
 use Rattle.apex_dispatch.specs.Kernel.{KernelState}
 use Rattle.apex_pictures.proofs.Drawn.{one_column}

@@ -1,10 +1,11 @@
 -- A core for each process so far.
 use Rattle.std.proofs.Common.{◌≡◌, ◌≤◌}
+use Rattle.apex_types.specs.Limits.{most_processes}
 use Rattle.arrayvec.specs.ArrayVec.{array_vec_len}
 use Rattle.apex_pictures.proofs.frames.cores_of.Given as goal
 
 abbrev pub invariant-loop-place : goal.invariant-loop-place
 invariant-loop-place l = record {
-  end : l.place-end ≤ 32;
+  end : l.place-end ≤ most_processes;
   many : array_vec_len l.cores ≡ l.place;
 }

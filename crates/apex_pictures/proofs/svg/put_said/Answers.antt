@@ -1,4 +1,4 @@
--- The call and the reply follow the front of the line of nobody.
+-- The call and the reply follow the front of the line without a caller.
 use Rattle.std.proofs.Common.{◌∙◌}
 use Rattle.apex_pictures.proofs.Said.{bare_long, bare_said}
 use Rattle.apex_pictures.proofs.svg.put_said.Goals as goal

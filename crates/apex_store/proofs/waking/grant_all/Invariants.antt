@@ -1,5 +1,6 @@
 use Rattle.std.proofs.Common.{◌≡◌, ◌≤◌, ◌≤ℤ◌, ◌+ℤ◌, pos, length, ◌+◌}
 use Rattle.apex_types.specs.InTurn.{behind}
+use Rattle.apex_types.specs.Limits.{most_processes}
 use Rattle.apex_types.specs.Waking.{first_in, granted, grant_all}
 use Rattle.apex_types.proofs.Loops.{LeadsTo}
 use Rattle.apex_store.proofs.waking.grant_all.Given as goal
@@ -12,5 +13,5 @@ invariant-loop-turn g l = record {
   young : (g.S.Store.roster l.store).young ≤ℤ ((g.S.Store.roster l.fn.store).young +ℤ pos l.turn);
   old : (g.S.Store.roster l.store).old ≡ (g.S.Store.roster l.fn.store).old;
   end : l.turn-end ≡ length (g.S.Store.roster l.fn.store).records;
-  room : length l.notices ≤ 32 + l.turn;
+  room : length l.notices ≤ most_processes + l.turn;
 }

@@ -5,5 +5,5 @@ use Rattle.apex_table.proofs.default_init.create_each.Given as goal
 
 abbrev pub invariant-loop-place : goal.invariant-loop-place
 invariant-loop-place g l =
-    l.init.items ++ map_places (creates g.K.Services.kind) l.place (drop l.place l.objects)
-    ≡ l.fn.init.items ++ map_places (creates g.K.Services.kind) 0 l.objects
+    l.init.items ++ map_places (creates l.kind) l.place (drop l.place l.objects)
+    ≡ l.fn.init.items ++ map_places (creates l.kind) 0 l.objects

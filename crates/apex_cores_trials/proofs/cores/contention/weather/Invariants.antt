@@ -7,4 +7,5 @@ ghosts-run_storm g a = record {
   scribe = a.opened.scribe;
   voice = voice_of a.opened.cores a.opened.ticker;
   table = a.table;
+  cell = a.board.cell;
 }

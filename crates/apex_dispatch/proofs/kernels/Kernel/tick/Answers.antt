@@ -1,4 +1,5 @@
 use Rattle.std.proofs.Common.{◌<◌, length, refl, arith}
+use Rattle.apex_types.proofs.BothProfiles.{lawful_count}
 use Rattle.apex_types.specs.declared.Event.TheVariants.{Tick}
 use Rattle.apex_types.specs.Machine.{machine_with}
 use Rattle.apex_dispatch.specs.Kernel.{kernel_with}
@@ -9,7 +10,7 @@ use Rattle.apex_dispatch.proofs.kernels.Kernel.tick.Goals as goal
 
 pub pass_time-went-requires-clause-few : goal.pass_time-went-requires-clause-few
 pass_time-went-requires-clause-few g c =
-    let few = c.self.invariant.lawful.process_count in
+    let few = lawful_count _ c.self.invariant.lawful in
     omega (arith, (kept_sound c.self.invariant).orderly.many, few)
 
 pub pass_time-went-requires-clause-starts : goal.pass_time-went-requires-clause-starts

@@ -1,5 +1,5 @@
--- No write failed so far; of what the page held and the texts so far the writer has a beginning, and the
--- page the rest.
+-- No write failed so far; of the text that the page held and the texts so far the writer has a
+-- prefix, and the page the rest.
 use Rattle.std.proofs.Common.{◌≡◌, ◌++◌}
 use Rattle.apex_types.specs.Listing.{texts_of}
 use Rattle.apex_history.specs.Counted.{inner_of, failures_of}

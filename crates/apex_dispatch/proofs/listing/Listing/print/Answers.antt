@@ -1,4 +1,5 @@
--- The next section goes behind those before it, and what the page holds behind the last one goes out.
+-- The next section goes behind those before it, and the text of the page behind the last one goes
+-- out.
 use Rattle.std.proofs.Common.{◌≡◌, arith}
 use Rattle.std.proofs.lemmas.Result.{on_err_weaker, on_ok_weaker}
 use Rattle.apex_history.proofs.Outcomes.{OnErr-always}

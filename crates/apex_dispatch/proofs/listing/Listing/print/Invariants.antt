@@ -1,4 +1,4 @@
--- No write failed so far; of the sections so far the writer has a beginning, and the page the rest.
+-- No write failed so far; of the sections so far the writer has a prefix, and the page the rest.
 use Rattle.std.proofs.Common.{◌≡◌, take}
 use Rattle.std.specs.Prelude.{flat_map}
 use Rattle.apex_history.specs.Counted.{inner_of, failures_of}

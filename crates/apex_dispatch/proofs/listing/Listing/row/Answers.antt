@@ -1,4 +1,4 @@
--- A process is told at its place.
+-- A process is listed at its place.
 use Rattle.apex_dispatch.proofs.listing.Listing.row.Goals as goal
 
 pub returns-in-Processes : goal.returns-in-Processes

@@ -1,4 +1,5 @@
 use Rattle.std.proofs.Common.{◌≡◌, ◌≤◌, ◌<◌, length, ℕ}
+use Rattle.apex_types.specs.Limits.{most_processes}
 use Rattle.apex_types.specs.declared.Mode.TheVariants.{Idle}
 use Rattle.apex_types.specs.Roster.{record_at}
 use Rattle.apex_types.specs.Stamps.{stopped}
@@ -10,7 +11,7 @@ invariant-loop-place g l = record {
       ≡ record (g.S.Store.roster l.fn.store) { mode = Idle; records = (g.S.Store.roster l.store).records };
   many : length (g.S.Store.roster l.store).records ≡ length (g.S.Store.roster l.fn.store).records;
   end : l.place-end ≡ length (g.S.Store.roster l.fn.store).records;
-  few : l.place-end ≤ 32;
+  few : l.place-end ≤ most_processes;
   done : (p : ℕ) → p < l.place → record_at (g.S.Store.roster l.store) p
       ≡ stopped (record_at (g.S.Store.roster l.fn.store) p);
   rest : (p : ℕ) → l.place ≤ p → record_at (g.S.Store.roster l.store) p ≡ record_at (g.S.Store.roster l.fn.store) p;

@@ -1,4 +1,5 @@
 use Rattle.std.proofs.Common.{◌≡◌, ◌≤◌, length, ◌+◌}
+use Rattle.apex_types.specs.Limits.{most_processes}
 use Rattle.apex_types.specs.InTurn.{behind}
 use Rattle.apex_types.specs.PartitionServices.{first_to_start, begin_waiter, enter_normal}
 use Rattle.apex_types.proofs.Reaches.{Reaches}
@@ -13,5 +14,5 @@ invariant-loop-turn g l = record {
   reaches : Reaches l.turn (g.S.Store.roster l.fn.store) (g.S.Store.roster l.store);
   begun : IsBegun (g.S.Store.roster l.store);
   end : l.turn-end ≡ length (g.S.Store.roster l.fn.store).records;
-  room : length l.notices ≤ 32 + l.turn;
+  room : length l.notices ≤ most_processes + l.turn;
 }

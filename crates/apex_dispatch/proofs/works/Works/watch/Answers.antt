@@ -5,7 +5,7 @@ use Rattle.apex_dispatch.specs.Terms.{OpenWork}
 use Rattle.apex_dispatch.specs.Works.{work_at}
 use Rattle.apex_dispatch.proofs.works.Works.watch.Goals as goal
 
--- nothing stands open past the last core
+-- no work is open past the last core
 nothing : (b : Bool) → cond {A = Option OpenWork} b None None ≡ None
 nothing true = refl
 nothing false = refl

@@ -1,4 +1,5 @@
--- No write failed so far, what is gone from `rest` was appended, and what `rest` comes to the text comes to.
+-- No write failed so far, the bytes that are gone from `rest` were appended, and writes of `rest`
+-- from here on are writes of the text from its start.
 use Rattle.std.proofs.Common.{◌≡◌, ℕ, List, ◌++◌, length, Result}
 use Rattle.std.specs.Io.KnownBytes.{Appends}
 use Rattle.std.specs.declared.io.Error.{Error}

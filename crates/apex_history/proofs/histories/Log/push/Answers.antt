@@ -1,5 +1,6 @@
 -- The row is that of the entry, and its notices come last.
 use Rattle.std.proofs.Common.{rules, ◌≡◌, ◌+◌, ◌<◌, ◌≤◌, [], ◌∷◌, ◌++◌, length, refl}
+use Rattle.apex_types.specs.Limits.{most_notices}
 use Rattle.apex_history.proofs.EntriesOf.{row_of, entries_put, kept_put, length_entries}
 use Rattle.apex_history.proofs.histories.Log.push.Goals.{After-push_reserved}
 use Rattle.apex_history.proofs.histories.Log.push.Goals as goal
@@ -14,7 +15,7 @@ placed c =
 
 pub invariant_of-self : goal.invariant_of-self
 invariant_of-self c =
-    let few : length c.args.entry.now.notices ≤ 64 = rw (← c.entry.view_is) c.entry.invariant in
+    let few : length c.args.entry.now.notices ≤ most_notices = rw (← c.entry.view_is) c.entry.invariant in
     let room : length c.self.inside.rows.items < c.self.inside.limit = rw (← c.self.view_is, length_entries) at c.requires.room in
     rw (placed c, noted c, c.push_reserved.ensures.capacity)
     (kept_put _ _ _ _ _ _ c.args.entry.now c.self.invariant room few c.put_notices.ensures.room)

@@ -1,8 +1,8 @@
--- The digits of the bytes so far stand behind what the line held, two for each.
+-- The digits of the bytes so far are behind the earlier text of the line, two for each.
 use Rattle.std.proofs.Common.{◌≡◌, ◌+◌, ◌*◌, ◌++◌, take}
 use Rattle.std.specs.Prelude.{flat_map}
 use Rattle.arrayvec.specs.ArrayVec.{array_vec_len}
-use Rattle.apex_types.specs.Lines.{byte_text}
+use Rattle.apex_types.specs.Texts.{byte_text}
 use Rattle.apex_history.proofs.puts.message.put_digits_of.Given as goal
 
 abbrev pub invariant-loop-byte : goal.invariant-loop-byte

@@ -1,8 +1,8 @@
--- The ids so far stand behind what the line held, with at most 11 bytes each.
+-- The ids so far are behind the earlier text of the line, with at most 11 bytes each.
 use Rattle.std.proofs.Common.{◌≡◌, ◌+◌, ◌*◌, ◌≤◌, ◌++◌, take}
 use Rattle.std.specs.Prelude.{flat_map}
 use Rattle.arrayvec.specs.ArrayVec.{array_vec_len}
-use Rattle.apex_types.specs.Lines.{id_text}
+use Rattle.apex_types.specs.Texts.{id_text}
 use Rattle.apex_types.specs.Status.{behind_text}
 use Rattle.apex_history.proofs.puts.status.put_ids_behind.Given as goal
 

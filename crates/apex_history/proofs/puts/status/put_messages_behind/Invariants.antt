@@ -1,8 +1,8 @@
--- The messages so far stand behind what the line held, with at most 129 bytes each.
+-- The messages so far are behind the earlier text of the line, with at most 129 bytes each.
 use Rattle.std.proofs.Common.{◌≡◌, ◌+◌, ◌*◌, ◌≤◌, ◌++◌, take}
 use Rattle.std.specs.Prelude.{flat_map}
 use Rattle.arrayvec.specs.ArrayVec.{array_vec_len}
-use Rattle.apex_types.specs.Lines.{message_text}
+use Rattle.apex_types.specs.Texts.{message_text}
 use Rattle.apex_types.specs.Status.{behind_text}
 use Rattle.apex_history.proofs.puts.status.put_messages_behind.Given as goal
 

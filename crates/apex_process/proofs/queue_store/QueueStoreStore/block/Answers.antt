@@ -11,9 +11,9 @@ pub invariant_of-self : goal.invariant_of-self
 invariant_of-self c =
     let was = c.self.inside.records in
     let known = rw (← c.self.view_is) at c.requires.known in (
-      renewed_row was _ _ c.self.inside.lists _ c.args.process c.read-row.result known c.self.invariant.0 c.block.ensures
+      renewed_row was _ _ c.self.inside.lists _ c.args.process c.read-row.result.now known c.self.invariant.0 c.block.ensures
           (renews_block was c.args.process known c.self.invariant.0.stamped c.args.wait c.args.due) c.read-row.ensures c.put_newest.ensures.links c.put_newest.ensures.priorities c.put_newest.ensures.place,
-      due_row was _ _ c.self.inside.timers.dues c.self.inside.timers.deadlines _ _ c.args.process c.read-row.result c.self.invariant.1 c.block.ensures (retimes_block was c.args.process known c.args.wait c.args.due (rw (← c.self.view_is) at c.requires.due)) c.read-row.ensures
+      due_row was _ _ c.self.inside.timers.dues c.self.inside.timers.deadlines _ _ c.args.process c.read-row.result.now c.self.invariant.1 c.block.ensures (retimes_block was c.args.process known c.args.wait c.args.due (rw (← c.self.view_is) at c.requires.due)) c.read-row.ensures
           (deadline_newest was c.args.process known (stamps.waiting (record_at was c.args.process) c.args.wait c.args.due) refl) c.set_due.ensures.dues c.set_due.ensures.deadlines,
       owners_kept was _ _ _ c.self.invariant.2 c.block.ensures (own_newest was c.args.process known (stamps.waiting (record_at was c.args.process) c.args.wait c.args.due) refl),
     )

@@ -1,4 +1,4 @@
-use Rattle.std.proofs.Common.{Some, refl, arith}
+use Rattle.std.proofs.Common.{[], ◌∷◌, refl, arith}
 use Rattle.apex_types.specs.Roster.{record_at}
 use Rattle.apex_types.specs.Stamps as stamps
 use Rattle.apex_process.proofs.Renewals.{renews_inherit}
@@ -11,11 +11,11 @@ pub invariant_of-self : goal.invariant_of-self
 invariant_of-self c =
     let was = c.self.inside.records in
     let known = rw (← c.self.view_is) at c.requires.known in (
-      renewed_row was _ _ c.self.inside.lists _ c.args.process c.read-row-2.result known c.self.invariant.0 c.inherit.ensures
-          (renews_inherit was c.args.process known c.self.invariant.0.stamped c.args.holding) c.read-row-2.ensures c.put_newest.ensures.links c.put_newest.ensures.priorities c.put_newest.ensures.place,
-      due_row was _ _ c.self.inside.timers.dues c.self.inside.timers.deadlines _ _ c.args.process c.read-row-2.result c.self.invariant.1 c.inherit.ensures (retimes_inherit was c.args.process known c.args.holding) c.read-row-2.ensures
-          (deadline_readied was c.args.process known (stamps.awake (record (record_at was c.args.process) { owned = Some c.args.holding })) refl) c.set_due.ensures.dues c.set_due.ensures.deadlines,
+      renewed_row was _ _ c.self.inside.lists _ c.args.process c.read-row.result.now known c.self.invariant.0 c.inherit.ensures
+          (renews_inherit was c.args.process known c.self.invariant.0.stamped c.args.holding) c.read-row.ensures c.put_newest.ensures.links c.put_newest.ensures.priorities c.put_newest.ensures.place,
+      due_row was _ _ c.self.inside.timers.dues c.self.inside.timers.deadlines _ _ c.args.process c.read-row.result.now c.self.invariant.1 c.inherit.ensures (retimes_inherit was c.args.process known c.args.holding) c.read-row.ensures
+          (deadline_readied was c.args.process known (stamps.awake (record (record_at was c.args.process) { owned = c.args.holding ∷ [] })) refl) c.set_due.ensures.dues c.set_due.ensures.deadlines,
       owners_inherited was _ _ _ _ _ c.args.process c.args.holding c.self.invariant.2 c.inherit.ensures
-          (disowns_readied was c.args.process known (stamps.awake (record (record_at was c.args.process) { owned = Some c.args.holding })))
+          (disowns_readied was c.args.process known (stamps.awake (record (record_at was c.args.process) { owned = c.args.holding ∷ [] })))
           c.leave.ensures.here c.leave.ensures.others c.add.ensures.same c.add.ensures.others (omega (arith, known, c.self.invariant.0.few)),
     )

@@ -11,9 +11,9 @@ pub invariant_of-self : goal.invariant_of-self
 invariant_of-self c =
     let was = c.self.inside.records in
     let known = rw (← c.self.view_is) at c.requires.known in (
-      renewed_row was _ _ c.self.inside.lists _ c.args.process c.read-row.result known c.self.invariant.0 c.release.ensures
+      renewed_row was _ _ c.self.inside.lists _ c.args.process c.read-row.result.now known c.self.invariant.0 c.release.ensures
           (renews_release was c.args.process known c.self.invariant.0.stamped) c.read-row.ensures c.put_newest.ensures.links c.put_newest.ensures.priorities c.put_newest.ensures.place,
-      retimed_row was _ _ c.self.inside.timers.dues c.self.inside.timers.deadlines _ _ c.args.process c.read-row.result c.self.invariant.1 c.release.ensures (retimes_release was c.args.process known)
+      retimed_row was _ _ c.self.inside.timers.dues c.self.inside.timers.deadlines _ _ c.args.process c.read-row.result.now c.self.invariant.1 c.release.ensures (retimes_release was c.args.process known)
           c.read-row.ensures _ _ c.set_due.ensures.dues c.set_due.ensures.deadlines c.set_deadline.ensures.dues c.set_deadline.ensures.deadlines,
       owners_kept was _ _ _ c.self.invariant.2 c.release.ensures (own_readied was c.args.process known (released_at was.now (record_at was c.args.process)) refl),
     )

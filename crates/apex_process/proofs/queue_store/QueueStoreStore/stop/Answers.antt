@@ -1,4 +1,4 @@
-use Rattle.std.proofs.Common.{None}
+use Rattle.std.proofs.Common.{[], None}
 use Rattle.apex_types.specs.Roster.{record_at}
 use Rattle.apex_types.specs.Stamps.{stopped}
 use Rattle.apex_process.proofs.Renewals.{none_stop, renews_stop}
@@ -16,6 +16,6 @@ invariant_of-self c =
       both_known was _ _ c.self.inside.timers.dues c.self.inside.timers.deadlines _ _ _ _ c.args.process None None c.self.invariant.1 c.stop.ensures (retimes_stop was c.args.process known)
           (timers_stopped was c.args.process known).0 (timers_stopped was c.args.process known).1
           c.set_due.ensures.dues c.set_due.ensures.deadlines c.set_deadline.ensures.dues c.set_deadline.ensures.deadlines,
-      owners_changed was _ _ _ _ c.args.process None c.self.invariant.2 c.stop.ensures (disowns_record was c.args.process known (stopped (record_at was c.args.process)))
+      owners_changed was _ _ _ _ c.args.process [] c.self.invariant.2 c.stop.ensures (disowns_record was c.args.process known (stopped (record_at was c.args.process)))
           c.leave-2.ensures.here (λ m q _. c.leave-2.ensures.others m q),
     )

@@ -11,9 +11,9 @@ pub invariant_of-self : goal.invariant_of-self
 invariant_of-self c =
     let was = c.self.inside.records in
     let known = rw (← c.self.view_is) at c.requires.known in (
-      renewed_row was _ _ c.self.inside.lists _ c.args.process c.read-woken.result known c.self.invariant.0 c.unblock.ensures
+      renewed_row was _ _ c.self.inside.lists _ c.args.process c.read-woken.result.now known c.self.invariant.0 c.unblock.ensures
           (renews_unblock was c.args.process known c.self.invariant.0.stamped) c.read-woken.ensures c.put_newest.ensures.links c.put_newest.ensures.priorities c.put_newest.ensures.place,
-      due_row was _ _ c.self.inside.timers.dues c.self.inside.timers.deadlines _ _ c.args.process c.read-woken.result c.self.invariant.1 c.unblock.ensures (retimes_unblock was c.args.process known) c.read-woken.ensures
+      due_row was _ _ c.self.inside.timers.dues c.self.inside.timers.deadlines _ _ c.args.process c.read-woken.result.now c.self.invariant.1 c.unblock.ensures (retimes_unblock was c.args.process known) c.read-woken.ensures
           (deadline_readied was c.args.process known (stamps.awake (record_at was c.args.process)) refl) c.set_due.ensures.dues c.set_due.ensures.deadlines,
       owners_kept was _ _ _ c.self.invariant.2 c.unblock.ensures (own_readied was c.args.process known (stamps.awake (record_at was c.args.process)) refl),
     )

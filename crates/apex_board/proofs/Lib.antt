@@ -1,0 +1,4 @@
+pub mod Prefixes
+pub mod Openings
+pub mod Keeps
+pub mod Words

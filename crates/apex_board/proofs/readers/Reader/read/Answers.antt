@@ -1,0 +1,36 @@
+use Rattle.std.proofs.Common.{◌≡◌, List, rules, ap, sym, ◌∙◌, subst}
+use Rattle.crossbeam_utils.specs.Register.{Turns}
+use Rattle.crossbeam_utils.specs.Seq.{cell_view}
+use Rattle.apex_types.specs.declared.entries.Entry.{Entry}
+use Rattle.apex_board.specs.Cells.{HasSeen, IsKept, Sees, known_in}
+use Rattle.apex_board.specs.Fronts.{Front as FrontValue, IsFrontAfter}
+use Rattle.apex_board.specs.declared.law.View.{View}
+use Rattle.apex_board.proofs.Keeps.{reads}
+use Rattle.apex_board.proofs.Words.{front_cores}
+use Rattle.apex_board.proofs.readers.Reader.read.Goals as goal
+
+pub load_as-words-requires : goal.load_as-words-requires
+load_as-words-requires g c =
+    let mark = c.self.inside.mark in
+    let rule = subst (λ (v : View). Turns IsKept mark.id v (λ words. words) (λ before words same after. Sees before words after)) (sym c.self.invariant.2)
+    (reads g.P.Naming.table (known_in (cell_view mark)) mark.id) in
+    (search rules, (search rules, (search rules, rule)))
+
+pub from_words-requires : goal.from_words-requires
+from_words-requires g c =
+    let mark = c.self.inside.mark in
+    let seen : HasSeen g.P.Naming.table (known_in (cell_view mark)) c.load_as-words.result (cell_view c.load_as-words.new.pass) =
+    subst (λ (v : View). Sees v c.load_as-words.result (cell_view c.load_as-words.new.pass)) c.self.invariant.2 c.load_as-words.ensures.rule in
+    let shows = seen.shows in
+    (shows.front, shows.written, shows.fits, front_cores g.P.Naming.table seen.history shows.front shows.after ∙ sym c.self.invariant.3)
+
+pub returns-clause-front : goal.returns-clause-front
+returns-clause-front g c =
+    let mark = c.self.inside.mark in
+    let seen : HasSeen g.P.Naming.table (known_in (cell_view mark)) c.load_as-words.result (cell_view c.load_as-words.new.pass) =
+    subst (λ (v : View). Sees v c.load_as-words.result (cell_view c.load_as-words.new.pass)) c.self.invariant.2 c.load_as-words.ensures.rule in
+    let shows = seen.shows in
+    let is : c.from_words.result ≡ shows.front = c.from_words.ensures shows.front shows.written shows.fits
+    (front_cores g.P.Naming.table seen.history shows.front shows.after ∙ sym c.self.invariant.3) in
+    subst (λ (f : FrontValue). IsFrontAfter g.P.Naming.table (known_in (cell_view c.load_as-words.new.pass)) f) (sym is)
+    (subst (λ (l : List Entry). IsFrontAfter g.P.Naming.table l shows.front) (sym (ap known_in seen.view)) shows.after)

@@ -1,0 +1,3 @@
+pub mod Fronts
+pub mod Cells
+pub mod Boards

@@ -1,0 +1,13 @@
+//! The board of a partition: the front that it publishes, and the readers, which never take its lock.
+#![tactic(auto)]
+
+mod boards;
+mod fronts;
+mod law;
+mod publishers;
+mod readers;
+
+pub use boards::{Board, MOST_READERS, NewBoard};
+pub use fronts::Front;
+pub use publishers::Publisher;
+pub use readers::Reader;

@@ -1,0 +1,177 @@
+//! The services of a partition: a row for each, with its word, the shapes of the words behind it,
+//! and whether an init list may have it.
+ghost use Rattle.std.specs.Prelude.{◌≡◌, ◌≤◌, length, map, IfSome, option_map};
+ghost use Rattle.apex_calls.specs.Catalogue.{IsRow, row_in, row_of, rows, view};
+
+use Kind::*;
+use Shape::*;
+use apex_types::{MOST_SPAN, MOST_WORK};
+
+/// A kind of things that steps name.
+#[derive(Clone, Copy)]
+pub enum Kind {
+    Process,
+    Semaphore,
+    Buffer,
+    Blackboard,
+    Event,
+    Mutex,
+}
+
+/// The shape of a word of a step.
+#[derive(Clone, Copy)]
+pub enum Shape {
+    /// The name of an entry of this kind.
+    Entry(Kind),
+    /// A name for a thing of this kind, which need not be an entry's.
+    Named(Kind),
+    /// A number from the first one to the second one.
+    Number(u32, u32),
+    Timeout,
+    Message,
+    /// The mode that SET_PARTITION_MODE asks for.
+    Mode,
+}
+
+/// A service, as a step asks for it.
+#[derive(Clone, Copy)]
+pub enum Service {
+    SetPartitionMode,
+    GetPartitionStatus,
+    CreateProcess,
+    GetProcessId,
+    GetProcessStatus,
+    InitializeProcessCoreAffinity,
+    SetPriority,
+    Start,
+    DelayedStart,
+    Stop,
+    Suspend,
+    Resume,
+    StopSelf,
+    SuspendSelf,
+    GetMyId,
+    GetMyProcessorCoreId,
+    TimedWait,
+    PeriodicWait,
+    Replenish,
+    GetTime,
+    Work,
+    CreateSemaphore,
+    GetSemaphoreId,
+    GetSemaphoreStatus,
+    WaitSemaphore,
+    SignalSemaphore,
+    CreateBuffer,
+    GetBufferId,
+    GetBufferStatus,
+    SendBuffer,
+    ReceiveBuffer,
+    CreateBlackboard,
+    GetBlackboardId,
+    GetBlackboardStatus,
+    DisplayBlackboard,
+    ReadBlackboard,
+    ClearBlackboard,
+    CreateEvent,
+    GetEventId,
+    GetEventStatus,
+    SetEvent,
+    ResetEvent,
+    WaitEvent,
+    CreateMutex,
+    GetMutexId,
+    GetMutexStatus,
+    AcquireMutex,
+    ReleaseMutex,
+}
+
+/// A service's row: the service, its word in a step, the shapes of the words behind it, and whether
+/// an init list may have it.
+pub type Row = (Service, &'static str, &'static [Shape], bool);
+
+macro_rules! rows {
+    ($($service:ident $word:literal [$($shape:expr),*] $init:literal;)*) => {
+        [$((Service::$service, $word, &[$($shape),*], $init)),*]
+    };
+}
+
+/// The services of ARINC 653 Part 1, those of mutexes and `work` (this profile), in the order of
+/// [`Service`].
+pub static CATALOGUE: [Row; 48] = rows! {
+    SetPartitionMode "SET_PARTITION_MODE" [Mode] true;
+    GetPartitionStatus "GET_PARTITION_STATUS" [] true;
+    CreateProcess "CREATE_PROCESS" [Named(Process)] true;
+    GetProcessId "GET_PROCESS_ID" [Named(Process)] true;
+    GetProcessStatus "GET_PROCESS_STATUS" [Entry(Process)] true;
+    InitializeProcessCoreAffinity "INITIALIZE_PROCESS_CORE_AFFINITY" [Entry(Process), Number(0, 255)] true;
+    SetPriority "SET_PRIORITY" [Entry(Process), Number(0, 65_535)] true;
+    Start "START" [Entry(Process)] true;
+    DelayedStart "DELAYED_START" [Entry(Process), Timeout] true;
+    Stop "STOP" [Entry(Process)] true;
+    Suspend "SUSPEND" [Entry(Process)] false;
+    Resume "RESUME" [Entry(Process)] false;
+    StopSelf "STOP_SELF" [] false;
+    SuspendSelf "SUSPEND_SELF" [Timeout] false;
+    GetMyId "GET_MY_ID" [] false;
+    GetMyProcessorCoreId "GET_MY_PROCESSOR_CORE_ID" [] false;
+    TimedWait "TIMED_WAIT" [Timeout] false;
+    PeriodicWait "PERIODIC_WAIT" [] false;
+    Replenish "REPLENISH" [Number(1, MOST_SPAN)] false;
+    GetTime "GET_TIME" [] true;
+    Work "work" [Number(1, MOST_WORK)] false;
+    CreateSemaphore "CREATE_SEMAPHORE" [Named(Semaphore)] true;
+    GetSemaphoreId "GET_SEMAPHORE_ID" [Named(Semaphore)] true;
+    GetSemaphoreStatus "GET_SEMAPHORE_STATUS" [Entry(Semaphore)] true;
+    WaitSemaphore "WAIT_SEMAPHORE" [Entry(Semaphore), Timeout] false;
+    SignalSemaphore "SIGNAL_SEMAPHORE" [Entry(Semaphore)] true;
+    CreateBuffer "CREATE_BUFFER" [Named(Buffer)] true;
+    GetBufferId "GET_BUFFER_ID" [Named(Buffer)] true;
+    GetBufferStatus "GET_BUFFER_STATUS" [Entry(Buffer)] true;
+    SendBuffer "SEND_BUFFER" [Entry(Buffer), Message, Timeout] false;
+    ReceiveBuffer "RECEIVE_BUFFER" [Entry(Buffer), Timeout] false;
+    CreateBlackboard "CREATE_BLACKBOARD" [Named(Blackboard)] true;
+    GetBlackboardId "GET_BLACKBOARD_ID" [Named(Blackboard)] true;
+    GetBlackboardStatus "GET_BLACKBOARD_STATUS" [Entry(Blackboard)] true;
+    DisplayBlackboard "DISPLAY_BLACKBOARD" [Entry(Blackboard), Message] true;
+    ReadBlackboard "READ_BLACKBOARD" [Entry(Blackboard), Timeout] false;
+    ClearBlackboard "CLEAR_BLACKBOARD" [Entry(Blackboard)] true;
+    CreateEvent "CREATE_EVENT" [Named(Event)] true;
+    GetEventId "GET_EVENT_ID" [Named(Event)] true;
+    GetEventStatus "GET_EVENT_STATUS" [Entry(Event)] true;
+    SetEvent "SET_EVENT" [Entry(Event)] true;
+    ResetEvent "RESET_EVENT" [Entry(Event)] true;
+    WaitEvent "WAIT_EVENT" [Entry(Event), Timeout] false;
+    CreateMutex "CREATE_MUTEX" [Named(Mutex)] true;
+    GetMutexId "GET_MUTEX_ID" [Named(Mutex)] true;
+    GetMutexStatus "GET_MUTEX_STATUS" [Entry(Mutex)] true;
+    AcquireMutex "ACQUIRE_MUTEX" [Entry(Mutex), Timeout] false;
+    ReleaseMutex "RELEASE_MUTEX" [Entry(Mutex)] false;
+};
+
+fn row_in(rows: &'static [Row], word: &str) -> Option<&'static Row>
+    ensures { option_map (λ row. view row.now) result ≡ row_in (map view rows.now) word.now }
+{
+    for row in rows {
+        if row.1 == word {
+            return Some(row);
+        }
+    }
+    None
+}
+
+/// The row of the service that this word asks for.
+pub fn row_of_word(word: &str) -> Option<&'static Row>
+    ensures row { option_map (λ row. view row.now) result ≡ row_in rows word.now }
+    ensures own { IfSome result (λ row. IsRow (view row.now)) }
+{
+    row_in(&CATALOGUE, word)
+}
+
+/// The row of this service.
+pub fn row_of(service: Service) -> &'static Row
+    ensures row { view result.now ≡ row_of service }
+    ensures short { (length result.now.1.now ≤ 32) × (length result.now.2.now ≤ 3) }
+{
+    &CATALOGUE[service as usize]
+}

@@ -1,0 +1,9 @@
+//! The services and their calls: a row for each service, the call that it makes of its arguments, and
+//! the text of a call.
+#![tactic(auto)]
+
+mod catalogue;
+mod parts;
+
+pub use catalogue::{CATALOGUE, Kind, Row, Service, Shape, row_of, row_of_word};
+pub use parts::{Arguments, call_of, parts_of};

@@ -1,0 +1,84 @@
+//! The line of the front after a run.
+ghost use Rattle.std.specs.Prelude.{◌≡◌, ◌+◌, ◌≤◌, ◌++◌, length, decimal, flat_map};
+ghost use Rattle.arrayvec.specs.ArrayString.{array_string_len};
+ghost use Rattle.apex_types.specs.Limits.{most_cores};
+ghost use Rattle.apex_cli.specs.FrontLines.{front_line, front_text, running_text};
+
+use apex_partition::Front;
+use apex_types::ProcessId;
+use arrayvec::ArrayString;
+use itoa::Buffer;
+
+/// The line of a front, which has at most 126 bytes.
+pub type FrontLine = ArrayString<128>;
+
+fn put_number(line: &mut FrontLine, number: u32)
+    requires { array_string_len line.old + 10 ≤ 128 }
+    ensures text { line.new.bytes ≡ line.old.bytes ++ decimal number }
+    ensures short { array_string_len line.new ≤ array_string_len line.old + 10 }
+{
+    let mut buffer = Buffer::new();
+    line.push_str(buffer.format(number));
+}
+
+fn put_long_number(line: &mut FrontLine, number: u64)
+    requires { array_string_len line.old + 20 ≤ 128 }
+    ensures text { line.new.bytes ≡ line.old.bytes ++ decimal number }
+    ensures short { array_string_len line.new ≤ array_string_len line.old + 20 }
+{
+    let mut buffer = Buffer::new();
+    line.push_str(buffer.format(number));
+}
+
+/// Who runs on a core.
+#[tactic(auto, using(std::proofs::Common::append_assoc))]
+fn put_running(line: &mut FrontLine, running: &Option<ProcessId>)
+    requires { array_string_len line.old + 11 ≤ 128 }
+    ensures text { line.new.bytes ≡ line.old.bytes ++ running_text running.now }
+    ensures short { array_string_len line.new ≤ array_string_len line.old + 11 }
+{
+    match running {
+        Some(process) => {
+            line.push_str(" ");
+            put_number(line, process.number());
+        }
+        None => line.push_str(" -"),
+    }
+}
+
+/// Who runs on each core.
+fn put_chosen(line: &mut FrontLine, chosen: &[Option<ProcessId>])
+    requires few { length chosen.now ≤ most_cores }
+    requires room { array_string_len line.old ≤ 37 }
+    ensures text { line.new.bytes ≡ line.old.bytes ++ flat_map running_text chosen.now }
+    ensures short { array_string_len line.new ≤ array_string_len line.old + 88 }
+{
+    for running in chosen {
+        put_running(line, running);
+    }
+}
+
+/// The line of a front, with its line feed.
+#[tactic(auto, using(std::proofs::Common::append_assoc))]
+fn front_line(front: &Front) -> FrontLine
+    ensures { result.bytes ≡ front_line front.entry.now }
+{
+    let mut line = FrontLine::new();
+    line.push_str("front ");
+    put_number(&mut line, front.entries);
+    line.push_str(" ");
+    put_long_number(&mut line, front.now);
+    put_chosen(&mut line, front.chosen.as_slice());
+    line.push('\n');
+    line
+}
+
+/// The line of a front that was asked for; nothing if none was.
+pub fn front_text(front: &Option<Front>) -> FrontLine
+    ensures { result.bytes ≡ front_text front.entry.now }
+{
+    match front {
+        Some(front) => front_line(front),
+        None => FrontLine::new(),
+    }
+}

@@ -1,0 +1,203 @@
+//! The value under the lock: the partition, the scribe of its history, and the publisher of its fronts.
+ghost use Rattle.std.specs.Prelude.{◌≡◌, ℕ, ◌+◌, ◌<◌, ◌≤◌, ◌++◌, ◌∷◌, [], None, All, IfErr, IfOk, IfSome, IsOk, MatchOption, OnErr, ◌↔◌, length, slice_index_or, vec_len};
+ghost use Rattle.apex_types.specs.declared.entries.Entry.{Entry};
+ghost use Rattle.apex_types.specs.declared.entries.Who.TheVariants.{Core, Ticker as ToTicker};
+ghost use Rattle.apex_types.specs.Limits.{most_ticks};
+ghost use Rattle.apex_types.specs.Machine.{opening, tick, turn};
+ghost use Rattle.apex_dispatch.specs.Kernel.{kernel_in};
+ghost use Rattle.apex_receipts.specs.Receipts.{Spoken, Stands};
+ghost use Rattle.apex_partition.specs.Headline.{HasHeadline};
+ghost use Rattle.apex_partition.specs.Seats.{IsLatest, IsOneOf, IsRun, IsSeated, IsSettled, asked_ticks, told_full, with_entry};
+
+use crate::closed::Closed;
+use crate::partitions::Partition;
+use crate::seats::{Seat, Ticker};
+use apex_board::Publisher;
+use apex_receipts::{Naming, Receipt, Scribe, Voice};
+use apex_types::{Entry as KeptEntry, Full};
+use std::marker::Model;
+use std::sync::Wait;
+
+/// The partition with the scribe that writes its history down and, if it has readers, the publisher of its
+/// fronts. Contracts see it as the partition.
+///
+/// Whenever the lock is free, the front after the whole history is published.
+#[derive(Drop)]
+pub struct Published<P: Naming> {
+    partition: Partition,
+    scribe: Scribe<P>,
+    publisher: Option<Publisher<P>>,
+}
+
+impl<P: Naming> Model for Published<P> {
+    ghost use Rattle.std.specs.Prelude.{◌≡◌, MatchOption, None};
+    ghost use Rattle.apex_dispatch.specs.Kernel.{KernelState};
+
+    ghost Value = { KernelState };
+
+    ghost view = { λ l. l.partition };
+
+    ghost invariant = { λ l. (l.partition.table ≡ P.table) × (l.scribe ≡ l.partition.machine.history)
+        × MatchOption l.publisher (P.cell ≡ None) (λ history. history ≡ l.partition.machine.history) };
+}
+
+/// Writes down the entry that the partition has just made, for its voice.
+fn record_latest<P: Naming>(
+    partition: &Partition,
+    scribe: &mut Scribe<P>,
+    voice: &mut Voice<P>,
+) -> Receipt<P>
+    requires table { partition.now.table ≡ P.table }
+    requires latest { (e : Entry) × IsLatest scribe.old voice.old.who e partition.now.machine.history }
+    ensures history { scribe.new ≡ partition.now.machine.history }
+    ensures voice { voice.new ≡ with_entry voice.old result.entry }
+    ensures latest { IsLatest scribe.old voice.old.who result.entry partition.now.machine.history }
+    ensures place { result.place ≡ length voice.old.own + 1 }
+{
+    partition.stays_within();
+    scribe.record(voice, partition.latest())
+}
+
+/// Publishes the front after the partition's last entry, if it has readers.
+fn publish_latest<P: Naming, R: Wait>(
+    rt: &R,
+    partition: &Partition,
+    publisher: &mut Option<Publisher<P>>,
+    latest: &KeptEntry,
+)
+    requires table { partition.now.table ≡ P.table }
+    requires before { MatchOption publisher.old (P.cell ≡ None) (λ history. history ++ latest.now ∷ [] ≡ partition.now.machine.history) }
+    ensures { MatchOption publisher.new (P.cell ≡ None) (λ history. history ≡ partition.entry.now.machine.history) }
+{
+    if let Some(publisher) = publisher {
+        publisher.publish(rt, &partition.front(), latest);
+    }
+}
+
+impl<P: Naming> Published<P> {
+    /// A partition before any event, a scribe that has written nothing and, if the partition has readers,
+    /// a publisher that has published nothing.
+    pub fn new(
+        partition: Partition,
+        scribe: Scribe<P>,
+        publisher: Option<Publisher<P>>,
+    ) -> Published<P>
+        requires partition { partition ≡ kernel_in P.table (opening P.table) }
+        requires scribe { scribe ≡ [] }
+        requires publisher { MatchOption publisher (P.cell ≡ None) (λ history. history ≡ []) }
+        ensures { result ≡ partition }
+    {
+        Published {
+            partition,
+            scribe,
+            publisher,
+        }
+    }
+
+    /// One turn of the seat's core, whole, and the receipt of its entry. If it is accepted, the front after
+    /// it is published.
+    pub fn turn<R: Wait>(&mut self, rt: &R, seat: &mut Seat<P>) -> Result<Receipt<P>, Full>
+        ensures accepted { IsOk result ↔ (length self.old.machine.history < self.old.table.limit) }
+        ensures done { IfOk result (λ r. (core : ℕ) × (seat.old.who ≡ Core core)
+            × (self.new ≡ kernel_in self.old.table (turn self.old.table self.old.machine core))
+            × (self.new.machine.history ≡ self.old.machine.history ++ r.entry ∷ [])) }
+        ensures ok { IfOk result (λ r. (seat.new ≡ with_entry seat.old r.entry)
+            × (r.entry.who ≡ seat.old.who) × (r.place ≡ length seat.old.own + 1)) }
+        ensures refused { OnErr result (self.new ≡ self.old) }
+        ensures full { IfErr result (λ e. (seat.new ≡ told_full seat.old) × (e.entries ≡ P.table.limit)) }
+    {
+        if let Err(full) = self.partition.turn(seat.core) {
+            self.scribe.refuse(&mut seat.voice);
+            return Err(full);
+        }
+        let receipt = record_latest(&self.partition, &mut self.scribe, &mut seat.voice);
+        publish_latest(rt, &self.partition, &mut self.publisher, receipt.entry());
+        Ok(receipt)
+    }
+
+    /// One tick of `n`, whole, and the receipt of its entry. If it is accepted, the front after it is
+    /// published.
+    pub fn tick<R: Wait>(
+        &mut self,
+        rt: &R,
+        ticker: &mut Ticker<P>,
+        n: u32,
+    ) -> Result<Receipt<P>, Full>
+        requires range { (1 ≤ n) × (n ≤ most_ticks) }
+        ensures accepted { IsOk result ↔ (length self.old.machine.history < self.old.table.limit) }
+        ensures done { IfOk result (λ r. (self.new ≡ kernel_in self.old.table (tick self.old.table self.old.machine n))
+            × (self.new.machine.history ≡ self.old.machine.history ++ r.entry ∷ [])) }
+        ensures ok { IfOk result (λ r. (ticker.new ≡ with_entry ticker.old r.entry)
+            × (r.entry.who ≡ ticker.old.who) × (r.place ≡ length ticker.old.own + 1) × (asked_ticks r.entry ≡ n)) }
+        ensures refused { OnErr result (self.new ≡ self.old) }
+        ensures full { IfErr result (λ e. (ticker.new ≡ told_full ticker.old) × (e.entries ≡ P.table.limit)) }
+    {
+        if let Err(full) = self.partition.tick(n) {
+            self.scribe.refuse(&mut ticker.voice);
+            return Err(full);
+        }
+        let receipt = record_latest(&self.partition, &mut self.scribe, &mut ticker.voice);
+        ticker.sum += u64::from(n);
+        publish_latest(rt, &self.partition, &mut self.publisher, receipt.entry());
+        Ok(receipt)
+    }
+
+    /// The partition. If a receipt is given, its entry is in the partition's history.
+    pub fn shown(&mut self, seen: Option<&Receipt<P>>) -> &Partition
+        ensures partition { result.now ≡ self.old }
+        ensures table { result.now.table ≡ P.table }
+        ensures headline { HasHeadline result.now }
+        ensures stands { IfSome seen.entry (λ r. Stands result.now.machine.history r.now.entry r.now.place) }
+    {
+        if let Some(receipt) = seen {
+            self.scribe.shows(receipt);
+        }
+        self.partition.holds();
+        &self.partition
+    }
+
+    /// The entries of the voice's core, or of the ticker, are those that were made with it.
+    fn settle(&mut self, mut voice: Voice<P>)
+        ensures same { self.new ≡ self.old }
+        ensures settled { IsSettled P.table self.old.machine.history voice.who voice }
+    {
+        self.partition.stays_within();
+        self.scribe.settle(&mut voice);
+    }
+
+    /// The entries of each core are those that its seat made.
+    pub fn settle_seats(&mut self, seats: Vec<Seat<P>>)
+        requires { IsSeated seats.items }
+        ensures same { self.new ≡ self.old }
+        ensures settled { (core : ℕ) (seat : Spoken) → core < vec_len seats
+            → IsSettled P.table self.old.machine.history (Core core) (slice_index_or seats.items core seat) }
+    {
+        for seat in seats {
+            self.settle(seat.voice);
+        }
+    }
+
+    /// The ticker's entries are those that it made.
+    pub fn settle_ticker(&mut self, ticker: Ticker<P>)
+        ensures same { self.new ≡ self.old }
+        ensures settled { IsSettled P.table self.old.machine.history ToTicker ticker }
+    {
+        self.settle(ticker.voice);
+    }
+
+    /// Ends the partition.
+    pub fn close(self) -> Closed<P>
+        ensures history { result ≡ self.machine.history }
+        ensures run { IsRun P.table result }
+        ensures others { All (λ (e : Entry). IsOneOf P.table.cores e.who) result }
+    {
+        let Published {
+            partition,
+            scribe,
+            publisher,
+        } = self;
+        partition.holds();
+        partition.stays_within();
+        Closed::new(partition, scribe.finish(), publisher)
+    }
+}
