@@ -1,5 +1,5 @@
 -- The things that a call names are entries of the table, word by word.
-use Rattle.std.proofs.Common.{◌≡◌, ℕ}
+use Rattle.std.proofs.Common.{ℕ}
 use Rattle.std.specs.List.{AllByRecursion}
 use Rattle.apex_types.specs.Table.{Table, IsKnown}
 use Rattle.apex_calls.specs.Terms.{BlackboardService, BufferService, Call, EventService, MutexService, ProcessService, SemaphoreService}

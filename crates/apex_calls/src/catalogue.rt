@@ -2,10 +2,17 @@
 //! and whether an init list may have it.
 ghost use Rattle.std.specs.Prelude.{◌≡◌, ◌≤◌, length, map, IfSome, option_map};
 ghost use Rattle.apex_calls.specs.Catalogue.{IsRow, row_in, row_of, rows, view};
+ghost use Rattle.apex_calls.specs.declared.catalogue.TheConstants.{MOST_SHAPES, MOST_WORD};
 
 use Kind::*;
 use Shape::*;
 use apex_types::{MOST_SPAN, MOST_WORK};
+
+/// The most bytes that the word of a service has.
+pub const MOST_WORD: usize = 32;
+
+/// The most words that a step has behind the word of its service.
+pub const MOST_SHAPES: usize = 3;
 
 /// A kind of things that steps name.
 #[derive(Clone, Copy)]
@@ -171,7 +178,8 @@ pub fn row_of_word(word: &str) -> Option<&'static Row>
 /// The row of this service.
 pub fn row_of(service: Service) -> &'static Row
     ensures row { view result.now ≡ row_of service }
-    ensures short { (length result.now.1.now ≤ 32) × (length result.now.2.now ≤ 3) }
+    ensures word { length result.now.1.now ≤ MOST_WORD }
+    ensures shapes { length result.now.2.now ≤ MOST_SHAPES }
 {
     &CATALOGUE[service as usize]
 }

@@ -5,5 +5,7 @@
 mod catalogue;
 mod parts;
 
-pub use catalogue::{CATALOGUE, Kind, Row, Service, Shape, row_of, row_of_word};
+pub use catalogue::{
+    CATALOGUE, Kind, MOST_SHAPES, MOST_WORD, Row, Service, Shape, row_of, row_of_word,
+};
 pub use parts::{Arguments, call_of, parts_of};

@@ -2,16 +2,26 @@
 ghost use Rattle.std.specs.Prelude.{◌≡◌, IfOk, IsNone, string_bytes};
 
 use crate::faults::CaseFault;
-use crate::programs::{Program, Telling, told_of};
-use crate::tellings::{Asked, number_of};
+use crate::programs::{Player, Program, Telling};
+use crate::tellings::{Asked, Part, number_of};
 use std::alloc::{AllocError, Global};
 use std::sync::Wait;
 use std::thread::Threads;
 
+/// The difference with this text.
+pub fn found(text: Result<String, AllocError>) -> Result<Option<String>, CaseFault> {
+    Ok(Some(text?))
+}
+
 /// The first line in which a text differs from what was expected.
 fn first_difference(alloc: Global, expected: &str, got: &str) -> Result<String, AllocError> {
-    let pairs = expected.lines().zip(got.lines());
-    let same = pairs.take_while(|(wanted, line)| wanted == line).count();
+    let mut same: usize = 0;
+    for (wanted, line) in expected.lines().zip(got.lines()) {
+        if wanted != line {
+            break;
+        }
+        same = same.saturating_add(1);
+    }
     let number = same.saturating_add(1);
     let wanted = expected.lines().nth(same).unwrap_or("no line");
     let line = got.lines().nth(same).unwrap_or("no line");
@@ -19,7 +29,7 @@ fn first_difference(alloc: Global, expected: &str, got: &str) -> Result<String, 
 }
 
 /// The difference of a text from what was expected; none if there is no difference.
-pub fn difference_of(alloc: Global, expected: &str, got: &str) -> Result<Option<String>, AllocError>
+fn difference_of(alloc: Global, expected: &str, got: &str) -> Result<Option<String>, CaseFault>
     ensures { IfOk result (λ difference. IsNone difference → expected.now ≡ got.now) }
 {
     if expected == got {
@@ -30,10 +40,13 @@ pub fn difference_of(alloc: Global, expected: &str, got: &str) -> Result<Option<
 
 /// The number of lines whose third word is this one.
 fn lines_of(history: &str, word: &str) -> usize {
-    history
-        .lines()
-        .filter(|line| line.split(' ').nth(2) == Some(word))
-        .count()
+    let mut count: usize = 0;
+    for line in history.lines() {
+        if line.split(' ').nth(2) == Some(word) {
+            count = count.saturating_add(1);
+        }
+    }
+    count
 }
 
 /// The whole lines at the head of a text.
@@ -44,60 +57,47 @@ fn whole_lines(text: &str) -> &str {
     }
 }
 
-/// The outcome of `check` for the table and these lines.
-fn checked<R: Threads + Wait + Sync, P: Program>(
-    rt: &R,
-    program: &P,
-    alloc: Global,
-    asked: &Asked<'_>,
-    lines: &str,
-) -> Result<Telling, CaseFault> {
-    told_of(
-        rt,
-        program,
-        alloc,
-        &["check"],
-        &[asked.table.as_str(), "%%\n", lines],
-    )
-}
-
-/// The difference of the number of lines of a word from the one that the case expects, which stands behind the word.
+/// The difference of the number of lines of a word from the one that the case expects, which stands
+/// behind the word.
 fn difference_of_count(
     alloc: Global,
     count: &str,
     lines: &str,
 ) -> Result<Option<String>, CaseFault> {
-    let (word, number) = count.split_once(' ').ok_or(CaseFault::Number)?;
-    let got = lines_of(lines, word);
-    if number_of(number)? == got as u64 {
+    let Some((word, number)) = count.split_once(' ') else {
+        return Err(CaseFault::Number);
+    };
+    let (wanted, got) = (number_of(number)?, lines_of(lines, word));
+    if wanted == got as u64 {
         return Ok(None);
     }
-    Ok(Some(format!(in alloc; "{got} lines of {word}")?))
+    found(format!(in alloc; "{got} lines of {word}"))
 }
 
-/// The difference of the numbers of lines of each core and of the ticker from those that the case expects.
-fn difference_of_counts(
+/// The difference of lines from what the case expects of them in this part.
+fn difference_of_part(
     alloc: Global,
-    counts: &[&str],
+    part: &Part<'_>,
     lines: &str,
 ) -> Result<Option<String>, CaseFault> {
-    for count in counts {
-        if let Some(difference) = difference_of_count(alloc, count, lines)? {
-            return Ok(Some(difference));
-        }
+    match part {
+        Part::Count(count) => difference_of_count(alloc, count, lines),
+        Part::Text(text) if lines.contains(*text) => Ok(None),
+        Part::Text(text) => found(format!(in alloc; "{text} stands nowhere")),
     }
-    Ok(None)
 }
 
-/// The difference of lines from those that have each of these texts.
-fn difference_of_texts(
+/// The difference of lines from what the case expects of them: the number of each core's and of the
+/// ticker's, and the texts in them.
+fn difference_of_parts(
     alloc: Global,
-    texts: &[&str],
+    parts: &[Part<'_>],
     lines: &str,
-) -> Result<Option<String>, AllocError> {
-    for text in texts {
-        if !lines.contains(*text) {
-            return Ok(Some(format!(in alloc; "{text} stands nowhere")?));
+) -> Result<Option<String>, CaseFault> {
+    for part in parts {
+        let difference = difference_of_part(alloc, part, lines)?;
+        if difference.is_some() {
+            return Ok(difference);
         }
     }
     Ok(None)
@@ -108,67 +108,92 @@ fn difference_of_verdict(
     alloc: Global,
     told: &Telling,
     verdict: &str,
-) -> Result<Option<String>, AllocError> {
+) -> Result<Option<String>, CaseFault> {
     let (status, got) = (told.status, told.output.as_str().trim_end());
     if status == 0 && got == verdict {
         return Ok(None);
     }
-    Ok(Some(format!(in alloc; "check says {got}, with status {status}")?))
+    found(format!(in alloc; "check says {got}, with status {status}"))
 }
 
-/// The difference of the lines of a run by threads from those that the case expects: the number of
-/// each core's and of the ticker's, the texts in them, and the verdict of `check`.
-fn difference_of_run<R: Threads + Wait + Sync, P: Program>(
-    rt: &R,
-    program: &P,
-    alloc: Global,
+/// The difference of the outcome of `check`, for the table and these lines, from this verdict.
+fn difference_of_check<R: Threads + Wait + Sync, P: Program>(
+    player: &Player<'_, R, P>,
     asked: &Asked<'_>,
+    lines: &str,
     verdict: &str,
+) -> Result<Option<String>, CaseFault> {
+    let told = player.told_of(&["check"], &[asked.table.as_str(), "%%\n", lines])?;
+    difference_of_verdict(player.alloc, &told, verdict)
+}
+
+/// The difference of the lines of a run by threads from those that the case expects, and of the
+/// verdict of `check` on them from this one.
+fn difference_of_run<R: Threads + Wait + Sync, P: Program>(
+    player: &Player<'_, R, P>,
+    asked: &Asked<'_>,
+    lines: &str,
+    verdict: &str,
+) -> Result<Option<String>, CaseFault> {
+    match difference_of_parts(player.alloc, asked.expected.parts.as_slice(), lines) {
+        Ok(None) => difference_of_check(player, asked, lines, verdict),
+        difference => difference,
+    }
+}
+
+/// The difference of these lines from those that the case expects.
+fn difference_of_output<R: Threads + Wait + Sync, P: Program>(
+    player: &Player<'_, R, P>,
+    asked: &Asked<'_>,
     lines: &str,
 ) -> Result<Option<String>, CaseFault> {
-    let expected = &asked.expected;
-    if let Some(difference) = difference_of_counts(alloc, expected.counts.as_slice(), lines)? {
-        return Ok(Some(difference));
+    if let Some(verdict) = asked.expected.verdict {
+        return difference_of_run(player, asked, lines, verdict);
     }
-    if let Some(difference) = difference_of_texts(alloc, expected.stands.as_slice(), lines)? {
-        return Ok(Some(difference));
-    }
-    let told = checked(rt, program, alloc, asked, lines)?;
-    Ok(difference_of_verdict(alloc, &told, verdict)?)
+    let whole = asked.expected.output.as_str();
+    let expected = whole.get(..asked.devices.room).unwrap_or(whole);
+    difference_of(player.alloc, expected, lines)
 }
 
 /// The difference of the program's outcome from the one that the case expects; none if there is no
 /// difference.
 pub fn difference_in<R: Threads + Wait + Sync, P: Program>(
-    rt: &R,
-    program: &P,
-    alloc: Global,
+    player: &Player<'_, R, P>,
     asked: &Asked<'_>,
     told: &Telling,
 ) -> Result<Option<String>, CaseFault> {
     let (wanted, got) = (asked.expected.status, told.status);
     if wanted != got {
-        return Ok(Some(format!(in alloc; "expected status {wanted}, but got {got}")?));
+        return found(format!(in player.alloc; "expected status {wanted}, but got {got}"));
     }
-    let error = asked.expected.error.as_str();
-    if let Some(difference) = difference_of(alloc, error, told.error.as_str())? {
-        return Ok(Some(difference));
+    match difference_of(
+        player.alloc,
+        asked.expected.error.as_str(),
+        told.error.as_str(),
+    ) {
+        Ok(None) => difference_of_output(player, asked, told.output.as_str()),
+        difference => difference,
     }
-    let lines = told.output.as_str();
-    if let Some(verdict) = asked.expected.verdict {
-        return difference_of_run(rt, program, alloc, asked, verdict, lines);
+}
+
+/// Whether `check` finds legal these lines of a run.
+fn is_legal<R: Threads + Wait + Sync, P: Program>(
+    player: &Player<'_, R, P>,
+    asked: &Asked<'_>,
+    lines: &str,
+) -> Result<bool, CaseFault> {
+    let count = lines.lines().count();
+    let legal = format!(in player.alloc; "legal {count}")?;
+    match difference_of_check(player, asked, lines, legal.as_str()) {
+        Ok(difference) => Ok(difference.is_none()),
+        Err(fault) => Err(fault),
     }
-    let whole = asked.expected.output.as_str();
-    let expected = whole.get(..asked.devices.room).unwrap_or(whole);
-    Ok(difference_of(alloc, expected, lines)?)
 }
 
 /// Whether these lines are a prefix of the whole text, and not all of it. Lines of a run by threads
 /// differ from those of another one, so that the whole ones of them have to be legal.
 pub fn is_beginning<R: Threads + Wait + Sync, P: Program>(
-    rt: &R,
-    program: &P,
-    alloc: Global,
+    player: &Player<'_, R, P>,
     asked: &Asked<'_>,
     lines: &str,
     whole: &str,
@@ -177,9 +202,8 @@ pub fn is_beginning<R: Threads + Wait + Sync, P: Program>(
         return Ok(whole.starts_with(lines) && lines.len() < whole.len());
     }
     let begun = whole_lines(lines);
-    let count = begun.lines().count();
-    let legal = format!(in alloc; "legal {count}")?;
-    let told = checked(rt, program, alloc, asked, begun)?;
-    let is_legal = told.output.as_str().trim_end() == legal.as_str();
-    Ok(is_legal && count < whole.lines().count())
+    if begun.lines().count() >= whole.lines().count() {
+        return Ok(false);
+    }
+    is_legal(player, asked, begun)
 }

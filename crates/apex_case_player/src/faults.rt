@@ -1,41 +1,57 @@
 //! Why a case was not played to its end.
 use std::alloc::{AllocError, AllocFailed};
-use std::io;
+use std::error::Error;
 use std::str::Utf8Error;
-use thiserror::Error;
+use std::{fmt, io};
 
 /// The reason why a case was not played to its end, or no report was written.
-#[derive(Clone, Copy, Debug, Error)]
+#[derive(Clone, Copy, Debug)]
 pub enum CaseFault {
-    #[error("out of memory")]
     Memory,
-    #[error("a stream or a file failed")]
     Stream,
-    #[error("the text is no UTF-8")]
     Text,
     /// A line of the outline has too few words, or too many.
-    #[error("ill-formed outline")]
     Outline,
-    #[error("no line of a history")]
     NoLines,
-    #[error("no folder of examples")]
     NoFolder,
     /// A line `edit` has no arrow, or its text or that of a line `at` is not in the table.
-    #[error("no such edit")]
     Edit,
-    #[error("ill-formed reading")]
     Reading,
-    #[error("no number")]
     Number,
-    #[error("no words, or words twice")]
     Words,
-    #[error("ill-formed fold")]
     Fold,
     /// A kernel over a store without lists makes another history than the program, whose lists are
     /// linked.
-    #[error("another history without lists")]
     Plain,
 }
+
+impl CaseFault {
+    /// The fault in words.
+    pub fn text(self) -> &'static str {
+        match self {
+            CaseFault::Memory => "out of memory",
+            CaseFault::Stream => "a stream or a file failed",
+            CaseFault::Text => "the text is no UTF-8",
+            CaseFault::Outline => "ill-formed outline",
+            CaseFault::NoLines => "no line of a history",
+            CaseFault::NoFolder => "no folder of examples",
+            CaseFault::Edit => "no such edit",
+            CaseFault::Reading => "ill-formed reading",
+            CaseFault::Number => "no number",
+            CaseFault::Words => "no words, or words twice",
+            CaseFault::Fold => "ill-formed fold",
+            CaseFault::Plain => "another history without lists",
+        }
+    }
+}
+
+impl fmt::Display for CaseFault {
+    fn fmt<W: fmt::Write>(&self, f: &mut fmt::Formatter<W>) -> fmt::Result {
+        f.write_str(self.text())
+    }
+}
+
+impl Error for CaseFault {}
 
 impl From<AllocError> for CaseFault {
     fn from(_error: AllocError) -> CaseFault {

@@ -4,12 +4,25 @@ use std::alloc::Global;
 
 /// Appends a part of a text that begins in a fold; `Fold` as for the whole text.
 fn push_unfolded(whole: &mut String, piece: &str) -> Result<(), CaseFault> {
-    let (fold, after) = piece.split_once(">>").ok_or(CaseFault::Fold)?;
-    let (times, part) = fold.split_once(" * ").ok_or(CaseFault::Fold)?;
-    for _time in 0..times.parse::<u16>().map_err(|_| CaseFault::Fold)? {
+    let Some((fold, after)) = piece.split_once(">>") else {
+        return Err(CaseFault::Fold);
+    };
+    let Some((times, part)) = fold.split_once(" * ") else {
+        return Err(CaseFault::Fold);
+    };
+    push_times(whole, times, part)?;
+    whole.push_str(after)?;
+    Ok(())
+}
+
+/// Appends a part as many times as a fold says.
+fn push_times(whole: &mut String, times: &str, part: &str) -> Result<(), CaseFault> {
+    let Ok(times) = times.parse::<u16>() else {
+        return Err(CaseFault::Fold);
+    };
+    for _time in 0..times {
         whole.push_str(part)?;
     }
-    whole.push_str(after)?;
     Ok(())
 }
 

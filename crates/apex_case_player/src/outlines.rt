@@ -35,10 +35,17 @@ impl<'a> Outline<'a> {
             differs: false,
             lines: String::new(alloc),
         };
-        for line in text.lines().filter(|line| !is_silent(line)) {
-            outline.put(line)?;
-        }
+        outline.put_all(text)?;
         Ok(outline)
+    }
+
+    fn put_all(&mut self, text: &'a str) -> Result<(), CaseFault> {
+        for line in text.lines() {
+            if !is_silent(line) {
+                self.put(line)?;
+            }
+        }
+        Ok(())
     }
 
     fn put(&mut self, line: &'a str) -> Result<(), CaseFault> {
@@ -66,15 +73,15 @@ impl<'a> Outline<'a> {
         let profile = self.profile;
         let cores = self.cores;
         let history = self.history;
-        let init = self.init.as_str();
-        let mut text = format!(in alloc;
-            "profile = {profile}\ncores = {cores}\nhistory = {history}\n"
-        )?;
-        if self.has_init {
-            writeln!(text, "init = [{init}]")?;
-        }
-        text.push_str(self.sections.as_str())?;
-        Ok(text)
+        let (open, shut) = if self.has_init {
+            ("init = [", "]\n")
+        } else {
+            ("", "")
+        };
+        let (init, rest) = (self.init.as_str(), self.sections.as_str());
+        format!(in alloc;
+            "profile = {profile}\ncores = {cores}\nhistory = {history}\n{open}{init}{shut}{rest}"
+        )
     }
 }
 
@@ -93,36 +100,47 @@ fn keys_of(kind: &str) -> &'static [&'static str] {
 
 /// Writes steps as the items of an array of texts.
 fn put_steps(text: &mut String, steps: &str) -> Result<(), AllocError> {
-    for step in steps.split("; ").filter(|step| !step.is_empty()) {
-        write!(text, "\"{step}\", ")?;
+    for step in steps.split("; ") {
+        if !step.is_empty() {
+            write!(text, "\"{step}\", ")?;
+        }
     }
     Ok(())
 }
 
 /// Writes a key with its value, which is a number, `true` or a text.
 fn put_key(text: &mut String, key: &str, value: &str) -> Result<(), AllocError> {
-    if value == "true" || value.parse::<u32>().is_ok() {
-        writeln!(text, "{key} = {value}")
-    } else {
-        writeln!(text, "{key} = \"{value}\"")
-    }
+    let is_bare = value == "true" || value.parse::<u32>().is_ok();
+    let quote = if is_bare { "" } else { "\"" };
+    writeln!(text, "{key} = {quote}{value}{quote}")
 }
 
 /// Writes the section of a process, given as `NAME PRIORITY CORE KEY KEY=VALUE: STEP; STEP`.
 fn put_process(text: &mut String, process: &str) -> Result<(), CaseFault> {
-    let (head, steps) = process.split_once(':').ok_or(CaseFault::Outline)?;
+    let Some((head, steps)) = process.split_once(':') else {
+        return Err(CaseFault::Outline);
+    };
+    put_attributes(text, head)?;
+    text.push_str("script = [")?;
+    put_steps(text, steps.trim_start())?;
+    text.push_str("]\n")?;
+    Ok(())
+}
+
+/// Writes the head of a process's section, given as `NAME PRIORITY CORE KEY KEY=VALUE`.
+fn put_attributes(text: &mut String, head: &str) -> Result<(), CaseFault> {
     let mut words = head.split(' ');
     text.push_str("[[process]]\n")?;
     for key in ["name", "priority", "core"] {
-        put_key(text, key, words.next().ok_or(CaseFault::Outline)?)?;
+        let Some(value) = words.next() else {
+            return Err(CaseFault::Outline);
+        };
+        put_key(text, key, value)?;
     }
     for word in words {
         let (key, value) = word.split_once('=').unwrap_or((word, "true"));
         put_key(text, key, value)?;
     }
-    text.push_str("script = [")?;
-    put_steps(text, steps.trim_start())?;
-    text.push_str("]\n")?;
     Ok(())
 }
 
@@ -131,7 +149,10 @@ fn put_object(text: &mut String, kind: &str, keys: &[&str], values: &str) -> Res
     let mut values = values.split(' ');
     writeln!(text, "[[{kind}]]")?;
     for key in keys {
-        put_key(text, key, values.next().ok_or(CaseFault::Outline)?)?;
+        let Some(value) = values.next() else {
+            return Err(CaseFault::Outline);
+        };
+        put_key(text, key, value)?;
     }
     match values.next() {
         None => Ok(()),

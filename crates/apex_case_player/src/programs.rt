@@ -78,18 +78,28 @@ pub fn bytes_of(alloc: Global, texts: &[&str]) -> Result<Vec<u8>, AllocError> {
     Ok(bytes)
 }
 
-/// The outcome of the program with these words and this text, if no call fails.
-pub fn told_of<R: Threads + Wait + Sync, P: Program>(
-    rt: &R,
-    program: &P,
-    alloc: Global,
-    words: &[&str],
-    texts: &[&str],
-) -> Result<Telling, CaseFault> {
-    let request = Request {
-        words: Some(words_of(alloc, words)?),
-        bytes: bytes_of(alloc, texts)?,
-        devices: Devices::sound(),
-    };
-    program.told(rt, alloc, request)
+/// The program that cases are played against, with the runtime and the allocator of its calls.
+#[derive(Drop)]
+pub struct Player<'a, R, P> {
+    pub rt: &'a R,
+    pub program: &'a P,
+    pub alloc: Global,
+}
+
+impl<'a, R: Threads + Wait + Sync, P: Program> Player<'a, R, P> {
+    /// The outcome of a call of the program.
+    pub fn told(&self, request: Request) -> Result<Telling, CaseFault> {
+        self.program.told(self.rt, self.alloc, request)
+    }
+
+    /// The outcome of the program with these words and this text, if no call fails.
+    pub fn told_of(&self, words: &[&str], texts: &[&str]) -> Result<Telling, CaseFault> {
+        let words = Some(words_of(self.alloc, words)?);
+        let bytes = bytes_of(self.alloc, texts)?;
+        self.told(Request {
+            words,
+            bytes,
+            devices: Devices::sound(),
+        })
+    }
 }

@@ -1,4 +1,5 @@
 //! The readings of a table: changes of its text, each with its fault.
+use crate::differences::found;
 use crate::examples::{names_in, text_of};
 use crate::faults::CaseFault;
 use crate::folds::unfolded;
@@ -13,18 +14,29 @@ fn lines_of(alloc: Global, line: &str) -> Result<String, CaseFault> {
     Ok(unfolded(alloc, line)?.replace(alloc, "; ", "\n")?)
 }
 
+/// The table with the reading's new text at the first place of the old one.
+fn replaced(alloc: Global, table: &str, old: &str, new: &str) -> Result<String, CaseFault> {
+    let new = lines_of(alloc, new)?;
+    Ok(table.replacen(alloc, old, new.as_str(), 1)?)
+}
+
 /// The table with the new text in place of the reading's old one; `Edit` if the old one is nowhere
 /// in it.
 fn changed(alloc: Global, table: &str, at: &str, new: &str) -> Result<String, CaseFault> {
-    let new = lines_of(alloc, new)?;
     if at == "whole" {
-        return Ok(new);
+        return lines_of(alloc, new);
     }
     let old = lines_of(alloc, at)?;
     if at.is_empty() || !table.contains(old.as_str()) {
         return Err(CaseFault::Edit);
     }
-    Ok(table.replacen(alloc, old.as_str(), new.as_str(), 1)?)
+    replaced(alloc, table, old.as_str(), new)
+}
+
+/// Whether the program accepts this text of a table.
+fn is_accepted<P: Program>(program: &P, alloc: Global, text: &str) -> Result<bool, AllocError> {
+    let fault = program.fault_of(alloc, text)?;
+    Ok(fault.as_str() == "none")
 }
 
 /// The number of bytes of the shortest prefix of the table that is accepted, or of the whole table.
@@ -34,8 +46,8 @@ fn shortest_accepted<P: Program>(
     table: &str,
 ) -> Result<usize, AllocError> {
     for (end, _) in table.char_indices() {
-        let (beginning, _) = table.split_at_checked(end).unwrap_or((table, ""));
-        if program.fault_of(alloc, beginning)?.as_str() == "none" {
+        let beginning = table.get(..end).unwrap_or(table);
+        if is_accepted(program, alloc, beginning)? {
             return Ok(end);
         }
     }
@@ -47,13 +59,13 @@ fn difference_of_cuts<P: Program>(
     program: &P,
     alloc: Global,
     table: &str,
-) -> Result<Option<String>, AllocError> {
+) -> Result<Option<String>, CaseFault> {
     let whole = table.trim_end().len();
     let got = shortest_accepted(program, alloc, table)?;
     if got == whole {
         return Ok(None);
     }
-    Ok(Some(format!(in alloc; "{got} bytes of {whole} are accepted")?))
+    found(format!(in alloc; "{got} bytes of {whole} are accepted"))
 }
 
 /// The difference of the fault of a table's text from the expected one.
@@ -62,12 +74,12 @@ fn difference_of_fault<P: Program>(
     alloc: Global,
     text: &str,
     expected: &str,
-) -> Result<Option<String>, AllocError> {
+) -> Result<Option<String>, CaseFault> {
     let got = program.fault_of(alloc, text)?;
     if got.as_str() == expected {
         return Ok(None);
     }
-    Ok(Some(format!(in alloc; "expected {expected}, but got {got}")?))
+    found(format!(in alloc; "expected {expected}, but got {got}"))
 }
 
 /// The difference of a reading from the expected one; none if there is no difference.
@@ -79,71 +91,98 @@ fn difference_in<P: Program>(
     reading: &str,
 ) -> Result<Option<String>, CaseFault> {
     if reading == "cuts" {
-        return Ok(difference_of_cuts(program, alloc, table)?);
+        return difference_of_cuts(program, alloc, table);
     }
-    let (expected, new) = reading.split_once(':').ok_or(CaseFault::Reading)?;
+    let Some((expected, new)) = reading.split_once(':') else {
+        return Err(CaseFault::Reading);
+    };
     let text = changed(alloc, table, at, new.strip_prefix(' ').unwrap_or(new))?;
-    Ok(difference_of_fault(program, alloc, text.as_str(), expected)?)
+    difference_of_fault(program, alloc, text.as_str(), expected)
 }
 
-/// The complaint about a line with a reading; none if it is as it should be.
-fn complaint_of<P: Program>(
-    program: &P,
+/// The readings of an example's table.
+#[derive(Drop)]
+struct Readings<'a, P> {
+    program: &'a P,
     alloc: Global,
-    table: &str,
-    at: &str,
-    line: &str,
-) -> Result<Option<String>, AllocError> {
-    let reading = line.strip_prefix("differs ").unwrap_or(line);
-    let is_to_differ = reading.len() < line.len();
-    match difference_in(program, alloc, table, at, reading) {
-        Ok(None) if is_to_differ => Ok(Some(String::from_str(alloc, "it is as told")?)),
-        Ok(Some(_)) if is_to_differ => Ok(None),
-        Ok(difference) => Ok(difference),
-        Err(fault) => Ok(Some(fault.to_string(alloc)?)),
-    }
+    example: &'a str,
+    table: &'a str,
 }
 
-/// Complains of the readings at a place of the table that are not as expected, and counts the
-/// others.
-fn check_place<P: Program>(
-    program: &P,
-    alloc: Global,
-    report: &mut Report,
-    example: &str,
-    table: &str,
-    at: &str,
-    readings: &str,
-) -> Result<usize, AllocError> {
-    let mut count: usize = 0;
-    for line in readings.lines().filter(|line| !is_silent(line)) {
-        match complaint_of(program, alloc, table, at, line)? {
-            Some(complaint) => report.complain(example, line, complaint.as_str())?,
-            None => count = count.saturating_add(1),
+impl<'a, P: Program> Readings<'a, P> {
+    /// Complains of a line if its reading is not as expected, and answers whether it is.
+    fn check(&self, report: &mut Report, at: &str, line: &str) -> Result<bool, AllocError> {
+        let reading = line.strip_prefix("differs ").unwrap_or(line);
+        let is_to_differ = reading.len() < line.len();
+        match difference_in(self.program, self.alloc, self.table, at, reading) {
+            Ok(None) if is_to_differ => self.complain(report, line, "it is as told"),
+            Ok(Some(difference)) if !is_to_differ => self.complain(
+                report,
+                line,
+                difference.as_str(),
+            ),
+            Ok(_) => Ok(true),
+            Err(fault) => self.complain(report, line, fault.text()),
         }
     }
-    Ok(count)
+
+    /// Complains of a line, which is not as expected.
+    fn complain(&self, report: &mut Report, line: &str, what: &str) -> Result<bool, AllocError> {
+        report.complain(self.example, line, what)?;
+        Ok(false)
+    }
+
+    /// Complains of the readings at a place of the table that are not as expected, and counts the
+    /// others.
+    fn check_place(
+        &self,
+        report: &mut Report,
+        at: &str,
+        readings: &str,
+    ) -> Result<usize, AllocError> {
+        let mut count: usize = 0;
+        for line in readings.lines() {
+            if !is_silent(line) && self.check(report, at, line)? {
+                count = count.saturating_add(1);
+            }
+        }
+        Ok(count)
+    }
+
+    /// Checks the readings, place by place, and reports the number of those that are as expected.
+    fn check_all(&self, report: &mut Report, readings: &str) -> Result<(), AllocError> {
+        let mut places = readings.split("\nat ");
+        let head = places.next().unwrap_or("");
+        let mut count = self.check_place(report, "", head)?;
+        for place in places {
+            let (at, lines) = cut_line(place);
+            count = count.saturating_add(self.check_place(report, at, lines)?);
+        }
+        report.count_readings(self.example, count)
+    }
 }
 
-/// Checks the readings of a table, place by place, and reports the number of those that are as
-/// expected.
-fn check_table<P: Program>(
+/// Checks the readings of this table of the folder.
+fn check_table<R: Files + AllocGlobal, P: Program>(
+    rt: &R,
     program: &P,
-    alloc: Global,
     report: &mut Report,
+    folder: &str,
     example: &str,
-    table: &str,
-    readings: &str,
-) -> Result<(), AllocError> {
-    let mut places = readings.split("\nat ");
-    let head = places.next().unwrap_or("");
-    let mut count = check_place(program, alloc, report, example, table, "", head)?;
-    for place in places {
-        let (at, lines) = cut_line(place);
-        let more = check_place(program, alloc, report, example, table, at, lines)?;
-        count = count.saturating_add(more);
-    }
-    report.count_readings(example, count)
+) -> Result<(), CaseFault> {
+    let texts = text_of(rt, folder, example, "readings")?;
+    let Ok(table) = text_of(rt, folder, example, "toml") else {
+        report.complain(example, "table", "it cannot be read")?;
+        return Ok(());
+    };
+    let readings = Readings {
+        program,
+        alloc: rt.alloc(),
+        example,
+        table: table.as_str(),
+    };
+    readings.check_all(report, texts.as_str())?;
+    Ok(())
 }
 
 /// Checks the readings of each file `NAME.readings` of the folder, over the table `NAME.toml`.
@@ -154,22 +193,8 @@ pub fn check_readings<R: Files + AllocGlobal + Clone + Drop, P: Program>(
     folder: &str,
 ) -> Result<(), CaseFault> {
     for name in names_in(rt, folder)?.iter() {
-        let Some((example, "readings")) = name.as_str().rsplit_once('.') else {
-            continue;
-        };
-        let readings = text_of(rt, folder, example, "readings")?;
-        match text_of(rt, folder, example, "toml") {
-            Ok(table) => {
-                check_table(
-                    program,
-                    rt.alloc(),
-                    report,
-                    example,
-                    table.as_str(),
-                    readings.as_str(),
-                )?;
-            }
-            Err(_) => report.complain(example, "table", "it cannot be read")?,
+        if let Some((example, "readings")) = name.as_str().rsplit_once('.') {
+            check_table(rt, program, report, folder, example)?;
         }
     }
     Ok(())

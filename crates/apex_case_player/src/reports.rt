@@ -1,7 +1,12 @@
 //! The report on the rows and on the examples, line by line.
 ghost use Rattle.std.specs.Prelude.{◌≡◌, false};
 
+use crate::rows::is_silent;
 use std::alloc::{AllocError, Global};
+
+fn put_verdict(text: &mut String, row: &str, told: &str, what: &str) -> Result<(), AllocError> {
+    writeln!(text, "{row}: {told}: {what}")
+}
 
 /// The report so far.
 #[derive(Drop)]
@@ -55,7 +60,7 @@ impl Report {
     pub fn confirm(&mut self, example: &str, case: &str, how: &str) -> Result<(), AllocError>
         ensures { self.new.is_clean ≡ self.old.is_clean }
     {
-        writeln!(self.text, "{example}: {case}: {how}")
+        put_verdict(&mut self.text, example, case, how)
     }
 
     /// Reports the number of readings of an example's table that are as expected.
@@ -70,7 +75,22 @@ impl Report {
         ensures { self.new.is_clean ≡ false }
     {
         self.is_clean = false;
-        writeln!(self.text, "{row}: {told}: {what}")
+        put_verdict(&mut self.text, row, told, what)
+    }
+
+    /// Complains of each line of a text that says something.
+    pub fn complain_of_lines(
+        &mut self,
+        row: &str,
+        text: &str,
+        what: &str,
+    ) -> Result<(), AllocError> {
+        for line in text.lines() {
+            if !is_silent(line) {
+                self.complain(row, line, what)?;
+            }
+        }
+        Ok(())
     }
 
     /// Reports the numbers of rows, guards, effects and cases.

@@ -57,33 +57,55 @@ fn told_by(line: &str) -> Told<'_> {
     }
 }
 
+/// The lines of a text that say something.
+fn told_in(alloc: Global, text: &str) -> Result<Vec<Told<'_>>, AllocError> {
+    let mut told = Vec::new(alloc);
+    for line in text.lines() {
+        if !is_silent(line) {
+            told.push(told_by(line))?;
+        }
+    }
+    Ok(told)
+}
+
 impl<'a> Row<'a> {
     /// The row of a text, which begins with the row's name and ends before the next row.
     pub fn read(alloc: Global, text: &'a str) -> Result<Row<'a>, AllocError> {
         let (head, cases) = cut_cases(alloc, text)?;
         let (name, lines) = cut_line(head);
-        let mut told = Vec::new(alloc);
-        for line in lines.lines().filter(|line| !is_silent(line)) {
-            told.push(told_by(line))?;
-        }
+        let told = told_in(alloc, lines)?;
         Ok(Row { name, told, cases })
     }
 
     /// The number of cases that have this name.
     pub fn cases_of(&self, name: &str) -> usize {
-        self.cases.iter().filter(|case| case.name == name).count()
+        let mut count: usize = 0;
+        for case in self.cases.iter() {
+            if case.name == name {
+                count = count.saturating_add(1);
+            }
+        }
+        count
     }
 
     /// Whether a guard or an effect has this text.
     pub fn tells(&self, name: &str) -> bool {
-        self.told.iter().any(|told| match told {
-            Told::Guard(text) | Told::Effect(text) => *text == name,
-            Told::Stray(_) => false,
-        })
+        for told in self.told.iter() {
+            match told {
+                Told::Guard(text) | Told::Effect(text) if *text == name => return true,
+                _ => {}
+            }
+        }
+        false
     }
 
     /// Whether the row has an effect.
     pub fn has_effect(&self) -> bool {
-        self.told.iter().any(|told| matches!(told, Told::Effect(_)))
+        for told in self.told.iter() {
+            if matches!(told, Told::Effect(_)) {
+                return true;
+            }
+        }
+        false
     }
 }

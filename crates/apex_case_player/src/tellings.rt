@@ -15,24 +15,39 @@ pub struct Expected<'a> {
     /// The verdict of `check` on the lines, if these differ from run to run; then `output` is
     /// empty.
     pub verdict: Option<&'a str>,
-    /// Words with the number of lines that have it as their third one.
-    pub counts: Vec<&'a str>,
-    /// Texts that are in the lines.
-    pub stands: Vec<&'a str>,
+    /// What is expected of the lines in part.
+    pub parts: Vec<Part<'a>>,
 }
 
-/// The further trials of the case, each one again and again.
+/// What a case expects of the lines in part.
 #[derive(Drop)]
-pub struct Tries {
-    /// The number of reads, each of which fails in turn.
-    pub reads: Option<u64>,
-    /// The number of writes, each of which fails in turn.
-    pub writes: Option<u64>,
-    /// The number of prefixes of the table that are answered as the whole one is; each other one is
-    /// refused.
-    pub cuts: Option<u64>,
-    /// The number of lines behind the separator in which each byte is changed in turn.
-    pub changes: Option<u64>,
+pub enum Part<'a> {
+    /// A word with the number of lines that have it as their third one.
+    Count(&'a str),
+    /// A text that is in the lines.
+    Text(&'a str),
+}
+
+/// The kind of a further trial.
+#[derive(Clone, Copy)]
+pub enum Kind {
+    /// Each read fails in turn.
+    Reads,
+    /// Each write fails in turn.
+    Writes,
+    /// The table is cut behind each byte. The count is that of the prefixes that are answered as
+    /// the whole one is; each other one is refused.
+    Cuts,
+    /// Each byte of the first lines behind the separator is changed in turn.
+    Changes,
+}
+
+/// A further trial of the case, again and again.
+#[derive(Drop)]
+pub struct Trial {
+    pub kind: Kind,
+    /// The number of the reads, the writes, the prefixes or the lines.
+    pub count: u64,
 }
 
 /// The request of a case of an example, and the expected outcome.
@@ -50,38 +65,90 @@ pub struct Asked<'a> {
     is_unfetched: bool,
     pub devices: Devices,
     pub expected: Expected<'a>,
-    pub tries: Tries,
+    /// The further trials, in the order of the case's lines.
+    pub trials: Vec<Trial>,
     /// Whether the outcome must be another one.
     pub differs: bool,
+}
+
+/// The table with the new text, in which `; ` is a line feed, at each place of the old one.
+fn replaced(alloc: Global, table: &str, old: &str, new: &str) -> Result<String, CaseFault> {
+    let new = new.replace(alloc, "; ", "\n")?;
+    Ok(table.replace(alloc, old, new.as_str())?)
 }
 
 /// The table with `OLD -> NEW` done at each place of the old text; `; ` is a line feed in both.
 /// `Edit` if the old text is nowhere in it.
 fn edited(alloc: Global, table: &str, edit: &str) -> Result<String, CaseFault> {
-    let (old, new) = edit.split_once(" -> ").ok_or(CaseFault::Edit)?;
+    let Some((old, new)) = edit.split_once(" -> ") else {
+        return Err(CaseFault::Edit);
+    };
     let old = old.replace(alloc, "; ", "\n")?;
-    let new = new.replace(alloc, "; ", "\n")?;
     if old.as_str().is_empty() || !table.contains(old.as_str()) {
         return Err(CaseFault::Edit);
     }
-    Ok(table.replace(alloc, old.as_str(), new.as_str())?)
+    replaced(alloc, table, old.as_str(), new)
+}
+
+/// Appends a piece and its ending.
+fn put_text(text: &mut String, piece: &str, ending: &str) -> Result<(), CaseFault> {
+    text.push_str(piece)?;
+    text.push_str(ending)?;
+    Ok(())
 }
 
 /// The number that a word of a case writes.
 pub fn number_of(word: &str) -> Result<u64, CaseFault> {
-    word.parse::<u64>().map_err(|_| CaseFault::Number)
+    match word.parse::<u64>() {
+        Ok(number) => Ok(number),
+        Err(_) => Err(CaseFault::Number),
+    }
 }
 
-fn size_of(word: &str) -> Result<usize, CaseFault> {
-    word.parse::<usize>().map_err(|_| CaseFault::Number)
+/// Takes a line about a size of a device.
+fn put_size(size: &mut usize, word: &str) -> Result<bool, CaseFault> {
+    match word.parse::<usize>() {
+        Ok(number) => {
+            *size = number;
+            Ok(true)
+        }
+        Err(_) => Err(CaseFault::Number),
+    }
+}
+
+/// Takes the line if it is about a further trial, and answers whether it is.
+fn put_trial(trials: &mut Vec<Trial>, field: &str, rest: &str) -> Result<bool, CaseFault> {
+    let Some(kind) = Kind::named(field) else {
+        return Ok(false);
+    };
+    let count = number_of(rest)?;
+    trials.push(Trial { kind, count })?;
+    Ok(true)
+}
+
+fn put_status(status: &mut u8, word: &str) -> Result<(), CaseFault> {
+    match word.parse::<u8>() {
+        Ok(number) => {
+            *status = number;
+            Ok(())
+        }
+        Err(_) => Err(CaseFault::Number),
+    }
+}
+
+fn put_part<'a>(parts: &mut Vec<Part<'a>>, part: Part<'a>) -> Result<(), CaseFault> {
+    parts.push(part)?;
+    Ok(())
 }
 
 impl<'a> Asked<'a> {
     /// The case of these lines, over the example's table.
     pub fn read(alloc: Global, table: &str, lines: &'a str) -> Result<Asked<'a>, CaseFault> {
         let mut asked = Asked::of_table(String::from_str(alloc, table)?, alloc);
-        asked.put_all(alloc, lines)?;
-        Ok(asked)
+        match asked.put_all(alloc, lines) {
+            Ok(()) => Ok(asked),
+            Err(fault) => Err(fault),
+        }
     }
 
     /// A case without lines.
@@ -94,16 +161,23 @@ impl<'a> Asked<'a> {
             is_unfetched: false,
             devices: Devices::sound(),
             expected: Expected::nothing(alloc),
-            tries: Tries::none(),
+            trials: Vec::new(alloc),
             differs: false,
         }
     }
 
     /// Takes all lines of the case, which have to give words and an outcome.
     fn put_all(&mut self, alloc: Global, lines: &'a str) -> Result<(), CaseFault> {
-        for line in lines.lines().filter(|line| !is_silent(line)) {
-            self.put(alloc, line)?;
+        for line in lines.lines() {
+            if !is_silent(line) {
+                self.put(alloc, line)?;
+            }
         }
+        self.check_whole()
+    }
+
+    /// The fault if the lines give no words, or no outcome.
+    fn check_whole(&self) -> Result<(), CaseFault> {
         if !self.is_asked {
             return Err(CaseFault::Words);
         }
@@ -116,70 +190,95 @@ impl<'a> Asked<'a> {
     fn put(&mut self, alloc: Global, line: &'a str) -> Result<(), CaseFault> {
         let (field, rest) = line.split_once(' ').unwrap_or((line, ""));
         match field {
-            "edit" => self.table = edited(alloc, self.table.as_str(), rest)?,
-            "given" => writeln!(self.behind, "{rest}")?,
-            "return" => write!(self.behind, "{rest}\r\n")?,
-            "cut" => self.behind.push_str(rest)?,
-            "differs" if rest.is_empty() => self.differs = true,
-            _ if self.put_words(field, rest)? => {}
-            _ if self.put_devices(field, rest)? => {}
-            _ => self.expected.put(field, rest, line)?,
+            "edit" => self.edit(alloc, rest),
+            "given" => put_text(&mut self.behind, rest, "\n"),
+            "return" => put_text(&mut self.behind, rest, "\r\n"),
+            "cut" => put_text(&mut self.behind, rest, ""),
+            _ => self.put_field(field, rest, line),
         }
+    }
+
+    /// Does this edit of the table.
+    fn edit(&mut self, alloc: Global, edit: &str) -> Result<(), CaseFault> {
+        self.table = edited(alloc, self.table.as_str(), edit)?;
         Ok(())
+    }
+
+    fn put_field(&mut self, field: &'a str, rest: &'a str, line: &'a str) -> Result<(), CaseFault> {
+        if self.put_words(field, rest)? || self.put_devices(field, rest)? {
+            return Ok(());
+        }
+        self.expected.put(field, rest, line)
     }
 
     /// Takes the line if it is about the program's words, and answers whether it is.
     fn put_words(&mut self, field: &'a str, rest: &'a str) -> Result<bool, CaseFault> {
         match field {
-            "schedule" => self.ask(&["replay", "--schedule", rest])?,
-            "listing" => self.ask(&["status", "--schedule", rest])?,
-            "words" => self.ask_all(rest)?,
-            "word" => self.words.push(rest)?,
-            "unfetched" => self.is_unfetched = true,
-            _ => return Ok(false),
+            "schedule" => self.ask(&["replay", "--schedule", rest]),
+            "listing" => self.ask(&["status", "--schedule", rest]),
+            "words" => self.ask_all(rest),
+            "word" => self.ask_further(rest),
+            "unfetched" => {
+                self.is_unfetched = true;
+                self.is_asked = true;
+                Ok(true)
+            }
+            _ => Ok(false),
         }
-        self.is_asked = true;
-        Ok(true)
     }
 
-    /// Takes the line if it is about the devices, and answers whether it is.
+    /// Takes the line if it is about the devices, the trials or whether the outcome must be another
+    /// one, and answers whether it is.
     fn put_devices(&mut self, field: &'a str, rest: &'a str) -> Result<bool, CaseFault> {
         match field {
-            "gives" => self.devices.gives = size_of(rest)?,
-            "room" => self.devices.room = size_of(rest)?,
-            "mute" => self.devices.failing_error = 1,
-            "reads" => self.tries.reads = Some(number_of(rest)?),
-            "writes" => self.tries.writes = Some(number_of(rest)?),
-            "cuts" => self.tries.cuts = Some(number_of(rest)?),
-            "changes" => self.tries.changes = Some(number_of(rest)?),
-            _ => return Ok(false),
+            "gives" => put_size(&mut self.devices.gives, rest),
+            "room" => put_size(&mut self.devices.room, rest),
+            "mute" => {
+                self.devices.failing_error = 1;
+                Ok(true)
+            }
+            "differs" if rest.is_empty() => {
+                self.differs = true;
+                Ok(true)
+            }
+            _ => put_trial(&mut self.trials, field, rest),
         }
-        Ok(true)
     }
 
     /// Asks for the words between spaces; `Words` if some were asked for before.
-    fn ask_all(&mut self, words: &'a str) -> Result<(), CaseFault> {
+    fn ask_all(&mut self, words: &'a str) -> Result<bool, CaseFault> {
         if self.is_asked {
             return Err(CaseFault::Words);
         }
-        for word in words.split(' ').filter(|word| !word.is_empty()) {
-            self.words.push(word)?;
+        self.is_asked = true;
+        for word in words.split(' ') {
+            if !word.is_empty() {
+                self.words.push(word)?;
+            }
         }
-        Ok(())
+        Ok(true)
     }
 
     /// Asks for these words; `Words` if some were asked for before.
-    fn ask(&mut self, words: &[&'a str]) -> Result<(), CaseFault> {
+    fn ask(&mut self, words: &[&'a str]) -> Result<bool, CaseFault> {
         if self.is_asked {
             return Err(CaseFault::Words);
         }
+        self.is_asked = true;
         self.words.extend_from_slice(words)?;
-        Ok(())
+        Ok(true)
+    }
+
+    /// Asks for one more word.
+    fn ask_further(&mut self, word: &'a str) -> Result<bool, CaseFault> {
+        self.is_asked = true;
+        self.words.push(word)?;
+        Ok(true)
     }
 
     /// Whether the program is asked for this.
     pub fn is_for(&self, command: &str) -> bool {
-        self.words.first().is_some_and(|word| *word == command)
+        matches!(self.words.first(), Some(word) if *word == command)
     }
 
     /// The words that the program is given; none if it had no memory to fetch them.
@@ -196,13 +295,15 @@ impl<'a> Asked<'a> {
     }
 }
 
-impl Tries {
-    fn none() -> Tries {
-        Tries {
-            reads: None,
-            writes: None,
-            cuts: None,
-            changes: None,
+impl Kind {
+    /// The kind of trial that a line asks for by this word.
+    fn named(field: &str) -> Option<Kind> {
+        match field {
+            "reads" => Some(Kind::Reads),
+            "writes" => Some(Kind::Writes),
+            "cuts" => Some(Kind::Cuts),
+            "changes" => Some(Kind::Changes),
+            _ => None,
         }
     }
 }
@@ -214,8 +315,7 @@ impl<'a> Expected<'a> {
             error: String::new(alloc),
             status: 0,
             verdict: None,
-            counts: Vec::new(alloc),
-            stands: Vec::new(alloc),
+            parts: Vec::new(alloc),
         }
     }
 
@@ -226,13 +326,15 @@ impl<'a> Expected<'a> {
 
     fn put(&mut self, field: &'a str, rest: &'a str, line: &'a str) -> Result<(), CaseFault> {
         match field {
-            "status" => self.status = rest.parse::<u8>().map_err(|_| CaseFault::Number)?,
-            "verdict" => self.verdict = Some(rest),
-            "lines" => self.counts.push(rest)?,
-            "stands" => self.stands.push(rest)?,
-            "apex:" => writeln!(self.error, "{line}")?,
-            _ => writeln!(self.output, "{line}")?,
+            "status" => put_status(&mut self.status, rest),
+            "verdict" => {
+                self.verdict = Some(rest);
+                Ok(())
+            }
+            "lines" => put_part(&mut self.parts, Part::Count(rest)),
+            "stands" => put_part(&mut self.parts, Part::Text(rest)),
+            "apex:" => put_text(&mut self.error, line, "\n"),
+            _ => put_text(&mut self.output, line, "\n"),
         }
-        Ok(())
     }
 }

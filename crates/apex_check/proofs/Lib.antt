@@ -7,3 +7,4 @@ pub mod Endings
 pub mod Apart
 pub mod GoesOn
 pub mod Told
+pub mod LineFeeds

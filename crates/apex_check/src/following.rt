@@ -13,10 +13,11 @@ ghost use Rattle.apex_check.specs.Steps.{Answers, IsLineFaultOf, IsOfLine, IsTel
 ghost use Rattle.apex_check.specs.Texts.{IsOneLine, ended};
 ghost use Rattle.apex_check.specs.Verdicts.{JudgesLines};
 
+use crate::expected::ExpectedLine;
 use crate::pending::{Next, Pending};
 use crate::verdicts::{CheckFault, Verdict};
 use apex_dispatch::Kernel;
-use apex_history::{Counted, LineFault, Lines, Source, put_line, read_line};
+use apex_history::{Counted, LineFault, Source, read_line};
 use apex_store::PlainStore;
 use apex_types::{Entry, Event, Full};
 
@@ -70,9 +71,13 @@ fn make(kernel: &mut Kernel<PlainStore>, event: Event) -> Result<(), Full>
     kernel.run(&[event])
 }
 
-/// Makes the event, and compares the machine's line, which goes into `own`, with this one, which
-/// has its line feed.
-fn compare(kernel: &mut Kernel<PlainStore>, own: &mut Lines, event: Event, line: &[u8]) -> Answer
+/// Makes the event, and compares the machine's line with this one, which has its line feed.
+fn compare(
+    kernel: &mut Kernel<PlainStore>,
+    expected: &mut ExpectedLine,
+    event: Event,
+    line: &[u8],
+) -> Answer
     requires { IsWithin kernel.old.table.cores event }
     ensures new { kernel.new ≡ kernel_in kernel.old.table (accept kernel.old.table kernel.old.machine event) }
     ensures answers { Answers kernel.old.table kernel.old.machine event line.now result }
@@ -84,9 +89,7 @@ fn compare(kernel: &mut Kernel<PlainStore>, own: &mut Lines, event: Event, line:
     let Some(entry) = kernel.entries().latest() else {
         return Answer::Beyond;
     };
-    own.clear();
-    put_line(own, kernel.table(), &entry);
-    if own.as_slice() == line {
+    if expected.line(kernel.table(), &entry) == line {
         Answer::Same
     } else {
         Answer::Differs(entry.kept())
@@ -114,10 +117,10 @@ fn fault_at(line: u32, fault: LineFault) -> CheckFault
 }
 
 /// Makes the event that the line names, and gives the verdict if the machine's line is not this
-/// one, which has its line feed. The machine's line goes into `own`.
+/// one, which has its line feed.
 fn judge_line(
     kernel: &mut Kernel<PlainStore>,
-    own: &mut Lines,
+    expected: &mut ExpectedLine,
     line: &[u8],
 ) -> Result<Option<Verdict>, CheckFault>
     requires { 0 < length line.now }
@@ -135,7 +138,7 @@ fn judge_line(
         Ok(event) => event,
         Err(fault) => return Err(fault_at(number, fault)),
     };
-    let answer = compare(kernel, own, event, line);
+    let answer = compare(kernel, expected, event, line);
     kernel.holds();
     match answer {
         Answer::Same => Ok(None),
@@ -159,7 +162,7 @@ pub(crate) fn judge<R: Source>(
     ensures counted { CountsCheck result (failures_of reader.old) (failures_of reader.new) }
 {
     kernel.holds();
-    let mut own = Lines::new();
+    let mut expected = ExpectedLine::new();
     loop {
         let Ok(next) = pending.next(reader) else {
             return Err(CheckFault::Read);
@@ -170,7 +173,7 @@ pub(crate) fn judge<R: Source>(
             Next::Rest => return Err(CheckFault::BadLine(count(kernel) + 1)),
             Next::End => return Ok(Verdict::Legal(count(kernel))),
         };
-        if let Some(verdict) = judge_line(kernel, &mut own, &pending.bytes()[..end + 1])? {
+        if let Some(verdict) = judge_line(kernel, &mut expected, &pending.bytes()[..end + 1])? {
             return Ok(verdict);
         }
         pending.take(end + 1);

@@ -2,6 +2,7 @@
 #![tactic(auto)]
 
 mod checking;
+mod expected;
 mod following;
 mod pending;
 mod tables;

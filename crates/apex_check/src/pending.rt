@@ -11,6 +11,7 @@ ghost use Rattle.apex_check.specs.Texts.{IsOneLine, is_line_feed};
 use apex_history::{Counted, Source};
 use apex_types::MOST_LINE;
 use arrayvec::ArrayVec;
+use memchr::memchr;
 use std::io::{Read, Result};
 use std::marker::Model;
 
@@ -50,10 +51,11 @@ impl Model for Pending {
 }
 
 /// The place of the first line feed.
+#[tactic(auto, using(crate::proofs::LineFeeds::first_place))]
 fn line_feed(bytes: &[u8]) -> Option<usize>
     ensures { result ≡ position is_line_feed bytes.now }
 {
-    bytes.iter().position(|byte| *byte == b'\n')
+    memchr(b'\n', bytes)
 }
 
 /// The first line's length, without its line feed.

@@ -7,7 +7,7 @@ ghost use Rattle.apex_check.specs.TableFaults.{fault_of_table};
 ghost use Rattle.apex_check.specs.Verdicts.{verdict_text};
 ghost use Rattle.apex_check.specs.declared.verdicts.CheckFault.TheVariants.{Memory};
 
-use apex_history::{Lines, put_line};
+use apex_history::{Lines, NextSteps, put_line};
 use apex_table::{Table, TableFault};
 use apex_types::Entry;
 use itoa::Buffer;
@@ -106,7 +106,7 @@ pub(crate) fn verdict_text(table: &Table, verdict: &Verdict) -> Lines
             put_number(&mut text, *line);
             put(&mut text, b"\nexpected: ");
             match expected {
-                Some(entry) => put_line(&mut text, table, &entry.lent()),
+                Some(entry) => put_line(&mut text, table, &mut NextSteps::new(), &entry.lent()),
                 None => put(&mut text, b"nothing\n"),
             }
         }

@@ -4,6 +4,7 @@ ghost use Rattle.arrayvec.specs.ArrayString.{array_string_len};
 ghost use Rattle.apex_table.specs.Fault as tables;
 ghost use Rattle.apex_cli.specs.Faults.{fault_of_checking, fault_of_read, fault_of_run, fault_of_table, fault_text, line_told, status_of_fault};
 ghost use Rattle.apex_cli.specs.declared.faults.CliFault.TheVariants.{Memory};
+ghost use Rattle.apex_cli.specs.declared.faults.TheConstants.{FAULT_ROOM};
 
 use apex_check::CheckFault;
 use apex_cores::RunFault;
@@ -18,8 +19,11 @@ use std::fmt;
 const USAGE: &str =
     "apex: usage: apex replay|status --schedule S, apex run --turns N --ticks K, apex check";
 
+/// Room for the bytes of a fault's line.
+const FAULT_ROOM: usize = 128;
+
 /// A fault's line.
-pub type Line = ArrayString<128>;
+pub type Line = ArrayString<FAULT_ROOM>;
 
 /// The reason why the program did not do all that was asked.
 ///
@@ -126,7 +130,7 @@ fn put_table_fault(text: &mut Line, fault: TableFault)
 }
 
 fn put_number(text: &mut Line, number: u32)
-    requires { array_string_len text.old + 10 ≤ 128 }
+    requires { array_string_len text.old + 10 ≤ FAULT_ROOM }
     ensures text { text.new.bytes ≡ text.old.bytes ++ decimal number }
     ensures short { array_string_len text.new ≤ array_string_len text.old + 10 }
 {

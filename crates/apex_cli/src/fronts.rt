@@ -1,19 +1,23 @@
 //! The line of the front after a run.
-ghost use Rattle.std.specs.Prelude.{◌≡◌, ◌+◌, ◌≤◌, ◌++◌, length, decimal, flat_map};
+ghost use Rattle.std.specs.Prelude.{◌≡◌, ◌+◌, ◌*◌, ◌<◌, ◌≤◌, ◌++◌, length, decimal, flat_map};
 ghost use Rattle.arrayvec.specs.ArrayString.{array_string_len};
 ghost use Rattle.apex_types.specs.Limits.{most_cores};
 ghost use Rattle.apex_cli.specs.FrontLines.{front_line, front_text, running_text};
+ghost use Rattle.apex_cli.specs.declared.fronts.TheConstants.{FRONT_ROOM};
 
 use apex_partition::Front;
 use apex_types::ProcessId;
 use arrayvec::ArrayString;
 use itoa::Buffer;
 
-/// The line of a front, which has at most 126 bytes.
-pub type FrontLine = ArrayString<128>;
+/// Room for the bytes of a front's line.
+const FRONT_ROOM: usize = 128;
+
+/// The line of a front.
+pub type FrontLine = ArrayString<FRONT_ROOM>;
 
 fn put_number(line: &mut FrontLine, number: u32)
-    requires { array_string_len line.old + 10 ≤ 128 }
+    requires { array_string_len line.old + 10 ≤ FRONT_ROOM }
     ensures text { line.new.bytes ≡ line.old.bytes ++ decimal number }
     ensures short { array_string_len line.new ≤ array_string_len line.old + 10 }
 {
@@ -22,7 +26,7 @@ fn put_number(line: &mut FrontLine, number: u32)
 }
 
 fn put_long_number(line: &mut FrontLine, number: u64)
-    requires { array_string_len line.old + 20 ≤ 128 }
+    requires { array_string_len line.old + 20 ≤ FRONT_ROOM }
     ensures text { line.new.bytes ≡ line.old.bytes ++ decimal number }
     ensures short { array_string_len line.new ≤ array_string_len line.old + 20 }
 {
@@ -30,10 +34,10 @@ fn put_long_number(line: &mut FrontLine, number: u64)
     line.push_str(buffer.format(number));
 }
 
-/// Who runs on a core.
+/// The process that a core runs.
 #[tactic(auto, using(std::proofs::Common::append_assoc))]
 fn put_running(line: &mut FrontLine, running: &Option<ProcessId>)
-    requires { array_string_len line.old + 11 ≤ 128 }
+    requires { array_string_len line.old + 11 ≤ FRONT_ROOM }
     ensures text { line.new.bytes ≡ line.old.bytes ++ running_text running.now }
     ensures short { array_string_len line.new ≤ array_string_len line.old + 11 }
 {
@@ -46,12 +50,12 @@ fn put_running(line: &mut FrontLine, running: &Option<ProcessId>)
     }
 }
 
-/// Who runs on each core.
+/// The process that each core runs.
 fn put_chosen(line: &mut FrontLine, chosen: &[Option<ProcessId>])
     requires few { length chosen.now ≤ most_cores }
-    requires room { array_string_len line.old ≤ 37 }
+    requires room { array_string_len line.old + 11 * most_cores < FRONT_ROOM }
     ensures text { line.new.bytes ≡ line.old.bytes ++ flat_map running_text chosen.now }
-    ensures short { array_string_len line.new ≤ array_string_len line.old + 88 }
+    ensures short { array_string_len line.new ≤ array_string_len line.old + 11 * most_cores }
 {
     for running in chosen {
         put_running(line, running);

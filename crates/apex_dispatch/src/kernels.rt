@@ -1,12 +1,14 @@
 //! The kernel of one partition: boot, turn, tick and run.
-ghost use Rattle.std.specs.Prelude.{◌≡◌, ◌<◌, ◌≤◌, ◌↔◌, ◌+◌, ◌^◌, [], ◌∷◌, ◌++◌, length, ◌&&◌, ◌==◌, if◌then◌else◌, None, Some, slice_get, All, IfOk, IfErr, OnOk, OnErr, IsOk};
+ghost use Rattle.std.specs.Prelude.{◌≡◌, ◌<◌, ◌≤◌, ◌↔◌, ◌+◌, ◌^◌, [], ◌∷◌, ◌++◌, length, ◌&&◌, ◌==◌, if◌then◌else◌, None, Some, option_map, slice_get, All, IfOk, IfErr, OnOk, OnErr, IsOk};
 ghost use Rattle.std.specs.Io.KnownBytes.{Appends};
+ghost use Rattle.apex_types.specs.BufferServices.{BufferObject};
 ghost use Rattle.apex_types.specs.Callers.{is_by_init};
 ghost use Rattle.apex_types.specs.Limits.{latest, most_entries, most_ticks};
 ghost use Rattle.apex_types.specs.Roster.{opening_roster, is_cold_start};
 ghost use Rattle.apex_calls.specs.Lines.{IsPrintable};
 ghost use Rattle.apex_types.specs.Listing.{listing, listing_of};
 ghost use Rattle.apex_types.specs.Machine.{opening, turn, tick, happen, run, replay, events_of};
+ghost use Rattle.apex_types.specs.SemaphoreServices.{SemaphoreObject};
 ghost use Rattle.apex_types.specs.Table.{IsLawful, call_in};
 ghost use Rattle.apex_types.specs.Distinct.{HasDistinctStamps};
 ghost use Rattle.apex_history.specs.Counted.{inner_of, failures_of, CountsFailure, AppendsBeginning};
@@ -21,7 +23,9 @@ use crate::works::Works;
 use apex_history::{Counted, Entries, Log, Page, Sink};
 use apex_store::Store;
 use apex_table::Table;
-use apex_types::{Call, Caller, CoreId, Event, Full, LentEntry, Mode, Notices, Reply, Who};
+use apex_types::{
+    BufferId, Call, Caller, CoreId, Event, Full, LentEntry, Mode, Notices, Reply, SemaphoreId, Who,
+};
 use std::alloc::{AllocError, Global};
 use std::io;
 use std::marker::Model;
@@ -290,6 +294,26 @@ impl<S: Store> Kernel<S> {
         ensures { result ≡ self.now.machine.roster.now }
     {
         self.store.now()
+    }
+
+    /// The value of the semaphore, created or not. None if the table has no such semaphore.
+    pub fn semaphore_value(&self, semaphore: SemaphoreId) -> Option<u16>
+        ensures { result ≡ option_map (λ (s : SemaphoreObject). s.value) (slice_get self.now.objects.semaphores semaphore) }
+    {
+        match self.objects.semaphores.get(semaphore.place()) {
+            Some(semaphore) => Some(semaphore.value()),
+            None => None,
+        }
+    }
+
+    /// The number of messages that the buffer holds. None if the table has no such buffer.
+    pub fn message_count(&self, buffer: BufferId) -> Option<usize>
+        ensures { result ≡ option_map (λ (b : BufferObject). length b.messages) (slice_get self.now.objects.buffers buffer) }
+    {
+        match self.objects.buffers.get(buffer.place()) {
+            Some(buffer) => Some(buffer.messages().len()),
+            None => None,
+        }
     }
 
     pub fn store(&self) -> &S

@@ -5,3 +5,4 @@ pub mod LinesOf
 pub mod Outcomes
 pub mod Parts
 pub mod Passing
+pub mod Digits

@@ -1,5 +1,5 @@
 -- The event that a line of a history names.
-use Rattle.std.specs.Prelude.{ℕ, List, [], ◌∷◌, Option, Some, None, Result, Ok, Err, length, take, drop, codes, ◌&&◌, nat_lt, if◌then◌else◌, option_map}
+use Rattle.std.specs.Prelude.{ℕ, List, ◌∷◌, Option, Some, None, Result, Ok, Err, length, take, drop, codes, ◌&&◌, nat_lt, if◌then◌else◌, option_map}
 use Rattle.std.specs.Str.{bytes_eq}
 use Rattle.apex_types.specs.Limits.{most_line}
 use Rattle.apex_types.specs.declared.Event.{Event}

@@ -15,6 +15,7 @@ mod rows;
 mod sources;
 mod status;
 mod status_rows;
+mod steps;
 mod words;
 
 pub use counting::Counted;
@@ -29,4 +30,5 @@ pub use reading::{ReadFault, read_all};
 pub use sources::{Sink, Source};
 pub use status::{gather_row, print_row};
 pub use status_rows::StatusRow;
+pub use steps::NextSteps;
 pub use words::{Ticks, cut, read_core, read_ticks};

@@ -13,6 +13,7 @@ use crate::lent::Entries;
 use crate::pages::Page;
 use crate::puts::{LINES_ROOM, Lines, put_line};
 use crate::sources::Sink;
+use crate::steps::NextSteps;
 use apex_table::Table;
 use apex_types::{LentEntry, MOST_LINE};
 use std::io::{Result, Write};
@@ -31,7 +32,7 @@ pub fn print_entry<W: Sink>(
     ensures counted { CountsFailure result (failures_of writer.old) (failures_of writer.new) }
 {
     let mut line = Lines::new();
-    put_line(&mut line, table, entry);
+    put_line(&mut line, table, &mut NextSteps::new(), entry);
     writer.write_all(line.as_slice())
 }
 
@@ -96,10 +97,11 @@ pub fn print_history<W: Sink>(
     ensures counted { CountsFailure result (failures_of writer.old) (failures_of writer.new) }
 {
     let mut lines = Lines::new();
+    let mut steps = NextSteps::new();
     page.clear();
     for entry in entries {
         make_room(&mut lines, page, writer)?;
-        put_line(&mut lines, table, &entry);
+        put_line(&mut lines, table, &mut steps, &entry);
     }
     hand_on(&mut lines, page, writer)
 }

@@ -1,6 +1,6 @@
 //! The words of a history's line, put one behind the other.
-ghost use Rattle.std.specs.Prelude.{◌≡◌, ◌+◌, ◌<◌, ◌≤◌, ◌++◌, length, flat_map, codes, decimal, IfSome};
-ghost use Rattle.apex_history.specs.declared.puts.TheConstants.{LINES_ROOM, NOTICE_ROOM, NOTICES_ROOM};
+ghost use Rattle.std.specs.Prelude.{◌≡◌, ◌+◌, ◌/◌, ◌%◌, ◌<◌, ◌≤◌, [], ◌∷◌, ◌++◌, length, flat_map, codes, decimal, IfSome};
+ghost use Rattle.apex_history.specs.declared.puts.TheConstants.{CALL_ROOM, LINES_ROOM, NOTICE_ROOM, NOTICES_ROOM};
 ghost use Rattle.apex_types.specs.Limits.{most_line, most_notices};
 ghost use Rattle.arrayvec.specs.ArrayVec.{array_vec_len};
 ghost use Rattle.apex_types.specs.Table.{IsKnown};
@@ -13,19 +13,30 @@ mod message;
 mod status;
 mod status_rows;
 
+use crate::steps::NextSteps;
+use apex_calls::{MOST_SHAPES, MOST_WORD};
 use apex_table::Table;
 use apex_types::{
-    Call, Caller, DeadlineType, Id, LentEntry, MOST_LINE, MOST_NOTICES, Name, Notice, Reply,
-    ReturnCode, Timeout, Who,
+    Call, Caller, DeadlineType, Id, LentEntry, MOST_LINE, MOST_LITERAL, MOST_NOTICES, Name, Notice,
+    Reply, ReturnCode, Timeout, Who,
 };
 use arrayvec::ArrayVec;
-use call::put_call;
+use call::put_called;
 use itoa::Buffer;
 use message::put_message;
 pub(crate) use status_rows::put_row;
 
 /// The most bytes of the lines that are put together before they go to a page.
 pub const LINES_ROOM: usize = 2 * MOST_LINE;
+
+/// The most bytes of an argument of a call: a message has two digits for each byte.
+const ARGUMENT_ROOM: usize = 2 * MOST_LITERAL;
+
+/// The most bytes of the arguments of a call, with a space before each.
+const ARGUMENTS_ROOM: usize = MOST_SHAPES * (ARGUMENT_ROOM + 1);
+
+/// The most bytes of a call.
+const CALL_ROOM: usize = MOST_WORD + ARGUMENTS_ROOM;
 
 /// The most bytes of a notice, with the separator before it.
 const NOTICE_ROOM: usize = 27;
@@ -64,20 +75,60 @@ fn put_digit(line: &mut Lines, digit: u8)
     requires digit { digit < 10 }
     requires room { array_vec_len line.old + 10 ≤ LINES_ROOM }
     ensures text { line.new.items ≡ line.old.items ++ decimal digit }
-    ensures short { array_vec_len line.new ≤ array_vec_len line.old + 10 }
+    ensures short { array_vec_len line.new ≤ array_vec_len line.old + 1 }
 {
     put_bytes(line, &[b'0' + digit]);
 }
 
-// A number of two digits.
-#[tactic(auto, using(itoa::proofs::Decimal::decimal_two))]
-fn put_two_digits(line: &mut Lines, number: u8)
-    requires digits { (10 ≤ number) × (number < 100) }
-    requires room { array_vec_len line.old + 10 ≤ LINES_ROOM }
-    ensures text { line.new.items ≡ line.old.items ++ decimal number }
-    ensures short { array_vec_len line.new ≤ array_vec_len line.old + 10 }
+// The two digits of a number below 100, of which the first one may be a zero.
+#[inline(always)]
+fn put_pair(line: &mut Lines, number: u8)
+    requires digits { number < 100 }
+    requires room { array_vec_len line.old + 2 ≤ LINES_ROOM }
+    ensures text { line.new.items ≡ line.old.items ++ (48 + number / 10) ∷ (48 + number % 10) ∷ [] }
+    ensures short { array_vec_len line.new ≤ array_vec_len line.old + 2 }
 {
     put_bytes(line, &[b'0' + number / 10, b'0' + number % 10]);
+}
+
+// A number of at most two digits.
+#[inline(always)]
+#[tactic(auto, using(crate::proofs::Digits::two_digits))]
+fn put_below_hundred(line: &mut Lines, number: u8)
+    requires digits { number < 100 }
+    requires room { array_vec_len line.old + 10 ≤ LINES_ROOM }
+    ensures text { line.new.items ≡ line.old.items ++ decimal number }
+    ensures short { array_vec_len line.new ≤ array_vec_len line.old + 2 }
+{
+    if number < 10 {
+        put_digit(line, number);
+    } else {
+        put_pair(line, number);
+    }
+}
+
+// A number of three or four digits.
+#[tactic(auto, using(crate::proofs::Digits::pair_behind))]
+fn put_hundreds(line: &mut Lines, number: u32)
+    requires digits { (100 ≤ number) × (number < 10000) }
+    requires room { array_vec_len line.old + 10 ≤ LINES_ROOM }
+    ensures text { line.new.items ≡ line.old.items ++ decimal number }
+    ensures short { array_vec_len line.new ≤ array_vec_len line.old + 4 }
+{
+    put_below_hundred(line, (number / 100) as u8);
+    put_pair(line, (number % 100) as u8);
+}
+
+// A number of five or six digits, as most entries of a long history have.
+#[tactic(auto, using(crate::proofs::Digits::pair_behind))]
+fn put_thousands(line: &mut Lines, number: u32)
+    requires digits { (10000 ≤ number) × (number < 1000000) }
+    requires room { array_vec_len line.old + 10 ≤ LINES_ROOM }
+    ensures text { line.new.items ≡ line.old.items ++ decimal number }
+    ensures short { array_vec_len line.new ≤ array_vec_len line.old + 6 }
+{
+    put_hundreds(line, number / 100);
+    put_pair(line, (number % 100) as u8);
 }
 
 // A number of any length, in a function of its own so that the shorter cases are inlined.
@@ -97,10 +148,12 @@ fn put_number(line: &mut Lines, number: u32)
     ensures text { line.new.items ≡ line.old.items ++ decimal number }
     ensures short { array_vec_len line.new ≤ array_vec_len line.old + 10 }
 {
-    if number < 10 {
-        put_digit(line, number as u8);
-    } else if number < 100 {
-        put_two_digits(line, number as u8);
+    if number < 100 {
+        put_below_hundred(line, number as u8);
+    } else if number < 10_000 {
+        put_hundreds(line, number);
+    } else if number < 1_000_000 {
+        put_thousands(line, number);
     } else {
         put_digits(line, number);
     }
@@ -123,8 +176,8 @@ fn put_long_number(line: &mut Lines, number: u64)
     ensures text { line.new.items ≡ line.old.items ++ decimal number }
     ensures short { array_vec_len line.new ≤ array_vec_len line.old + 20 }
 {
-    if number < 10 {
-        put_digit(line, number as u8);
+    if number < 1_000_000 {
+        put_number(line, number as u32);
     } else {
         put_long_digits(line, number);
     }
@@ -190,15 +243,15 @@ fn put_no_call(line: &mut Lines, reply: &Reply)
     }
 }
 
-fn put_asked(line: &mut Lines, table: &Table, asked: &Option<Call>, reply: &Reply)
-    requires known { IfSome asked.now (IsKnown table.now) }
-    requires room { array_vec_len line.old + 419 ≤ LINES_ROOM }
-    ensures text { line.new.items ≡ line.old.items ++ asked_text table.now asked.now reply.now }
-    ensures short { array_vec_len line.new ≤ array_vec_len line.old + 419 }
+fn put_asked(line: &mut Lines, table: &Table, steps: &mut NextSteps, entry: &LentEntry<'_>)
+    requires known { IfSome entry.now.call (IsKnown table.now) }
+    requires room { array_vec_len line.old + CALL_ROOM ≤ LINES_ROOM }
+    ensures text { line.new.items ≡ line.old.items ++ asked_text table.now entry.entry.now.call entry.entry.now.reply }
+    ensures short { array_vec_len line.new ≤ array_vec_len line.old + CALL_ROOM }
 {
-    match asked {
-        Some(call) => put_call(line, table, call),
-        None => put_no_call(line, reply),
+    match &entry.call {
+        Some(call) => put_called(line, table, steps, &entry.process, call),
+        None => put_no_call(line, &entry.reply),
     }
 }
 
@@ -323,7 +376,7 @@ fn put_notices(line: &mut Lines, notices: &[Notice])
 
 #[inline(always)]
 #[tactic(auto, using(std::proofs::Common::append_assoc))]
-fn put_entry(lines: &mut Lines, table: &Table, entry: &LentEntry<'_>)
+fn put_entry(lines: &mut Lines, table: &Table, steps: &mut NextSteps, entry: &LentEntry<'_>)
     requires printable { IsPrintable table.now entry.now }
     requires room { array_vec_len lines.old + most_line ≤ LINES_ROOM }
     ensures text { lines.new.items ≡ lines.old.items ++ line_of table.now entry.entry.now }
@@ -337,7 +390,7 @@ fn put_entry(lines: &mut Lines, table: &Table, entry: &LentEntry<'_>)
     put(lines, " ");
     put_caller(lines, &entry.process);
     put(lines, " ");
-    put_asked(lines, table, &entry.call, &entry.reply);
+    put_asked(lines, table, steps, entry);
     put(lines, " -> ");
     put_reply(lines, table, &entry.reply);
     put_notices(lines, entry.notices);
@@ -346,13 +399,16 @@ fn put_entry(lines: &mut Lines, table: &Table, entry: &LentEntry<'_>)
 
 /// Puts the line of the entry, with its line feed, behind the others. Takes no memory.
 ///
-/// A line has at most [`MOST_LINE`] bytes: so much room there has to be.
+/// A line has at most [`MOST_LINE`] bytes: so much room there has to be. A call that is the next one
+/// of its caller by `steps` is put fastest.
+// Inlined, so that no entry is copied on its way into a line.
+#[inline(always)]
 #[tactic(auto, using(crate::proofs::LinesOf::length_put))]
-pub fn put_line(lines: &mut Lines, table: &Table, entry: &LentEntry<'_>)
+pub fn put_line(lines: &mut Lines, table: &Table, steps: &mut NextSteps, entry: &LentEntry<'_>)
     requires printable { IsPrintable table.now entry.now }
     requires room { array_vec_len lines.old + most_line ≤ LINES_ROOM }
     ensures text { lines.new.items ≡ lines.old.items ++ line_of table.now entry.entry.now }
     ensures short { length (line_of table.now entry.entry.now) ≤ most_line }
 {
-    put_entry(lines, table, entry);
+    put_entry(lines, table, steps, entry);
 }

@@ -59,6 +59,7 @@ impl LinkSet {
             None => self.push_back(list, process),
         }
     }
+
     /// The process, which is in no list, goes into this one by a test that all pass who come behind
     /// one that passes it: right before the first that passes, or behind all others if none does.
     /// Nothing is walked if the last one does not pass.

@@ -1,43 +1,68 @@
 -- Each column says what holds after its entry.
-use Rattle.std.proofs.Common.{◌≡◌, ◌∙◌, ℕ, zero, suc, List, [], ◌∷◌, None, Some, refl, sym, ap, arith, length}
+use Rattle.std.proofs.Common.{◌≡◌, ◌∙◌, ℕ, zero, suc, List, [], ◌∷◌, ◌++◌, None, Some, refl, sym, ap, arith, length, take, add-one, append-nil, append_assoc}
 use Rattle.std.specs.Prelude.{slice_get, slice_index_or}
-use Rattle.apex_types.specs.Machine.{Machine, opening, run}
+use Rattle.apex_types.specs.Machine.{Machine, objects_after, opening, run}
 use Rattle.apex_types.specs.Roster.{Roster, opening_roster}
 use Rattle.apex_types.specs.Running.{chosen}
 use Rattle.apex_types.specs.Table.{Table}
-use Rattle.apex_pictures.specs.Laws.{ArePictures, Says}
-use Rattle.apex_pictures.specs.Moments.{Column, Shown, cell_of, columns_from, moment_of, no_cell, picture}
+use Rattle.apex_pictures.specs.Counts.{Counts, content_of, counts_after, counts_of, value_of}
+use Rattle.apex_pictures.specs.Laws.{ArePictures, CountsAll, Says}
+use Rattle.apex_pictures.specs.Moments.{Column, Shown, cell_of, column_of, columns_from, moment_of, no_cell, picture}
 use Rattle.apex_pictures.specs.Terms.{Cell, Entry}
 use Rattle.apex_pictures.proofs.Pictured.{pictured_opening, pictured_run}
-use Rattle.apex_pictures.proofs.Places.{place_of}
+use Rattle.apex_pictures.proofs.Places.{found_at, place_of}
 
--- the entry and the roster of column k
-record IsColumn (entries : List Entry) (rosters : List Roster) (k : ℕ) (column : Column) : Type 0 where
+-- the entry, the roster and the counts of column k, by the entries before the first
+record IsColumn (table : Table) (done entries : List Entry) (rosters : List Roster) (k : ℕ) (column : Column) : Type 0 where
   entry : slice_get entries k ≡ Some column.entry
   roster : Roster
   after : slice_get rosters k ≡ Some roster
-  shown : column.after ≡ moment_of roster
+  shown : column.after ≡ moment_of roster (counts_after table (done ++ take (suc k) entries))
+  counts : column.before.counts ≡ counts_after table (done ++ take k entries)
 
-column_at : (before : Shown) (entries : List Entry) (rosters : List Roster) (k : ℕ) (column : Column)
-    → slice_get (columns_from before entries rosters) k ≡ Some column → IsColumn entries rosters k column
-column_at before [] rosters k column is = absurd cc
-column_at before (entry ∷ entries) [] k column is = absurd cc
-column_at before (entry ∷ entries) (roster ∷ rosters) zero column is =
-    let same : record { before = before; entry = entry; after = moment_of roster } ≡ column = cc in
+column_at : (table : Table) (done : List Entry) (before : Roster) (entries : List Entry) (rosters : List Roster)
+    (k : ℕ) (column : Column) → slice_get (columns_from table done before entries rosters) k ≡ Some column
+    → IsColumn table done entries rosters k column
+column_at table done before [] rosters k column is = absurd cc
+column_at table done before (entry ∷ entries) [] k column is = absurd cc
+column_at table done before (entry ∷ entries) (roster ∷ rosters) zero column is =
+    let same : column_of table done before entry roster ≡ column = cc in
     record {
       entry = ap (λ (c : Column). Some c.entry) same;
       roster = roster;
       after = refl;
       shown = ap (λ (c : Column). c.after) (sym same);
+      counts = ap (λ (c : Column). c.before.counts) (sym same)
+          ∙ ap (counts_after table) (sym (append-nil done));
     }
-column_at before (entry ∷ entries) (roster ∷ rosters) (suc k) column is =
-    let rest = column_at (moment_of roster) entries rosters k column is in
-    record { entry = rest.entry; roster = rest.roster; after = rest.after; shown = rest.shown }
+column_at table done before (entry ∷ entries) (roster ∷ rosters) (suc k) column is =
+    let rest = column_at table (done ++ entry ∷ []) roster entries rosters k column is in
+    record {
+      entry = rest.entry;
+      roster = rest.roster;
+      after = rest.after;
+      shown = rest.shown ∙ ap (λ (l : List Entry). moment_of rest.roster (counts_after table l))
+          (append_assoc done (entry ∷ []) (take (suc k) entries));
+      counts = rest.counts ∙ ap (counts_after table) (append_assoc done (entry ∷ []) (take k entries));
+    }
+
+-- the counts after these entries are those of all objects
+counts_all : (table : Table) (done : List Entry) (counts : Counts) → counts ≡ counts_after table done
+    → CountsAll table done counts
+unfolding counts_of
+counts_all table done counts is =
+    let objects = objects_after table done in
+    record {
+      values = λ s within. ap (λ (c : Counts). slice_get c.values s) is
+          ∙ found_at (value_of objects) (length table.semaphores) s within;
+      contents = λ b within. ap (λ (c : Counts). slice_get c.contents b) is
+          ∙ found_at (content_of objects) (length table.buffers) b within;
+    }
 
 column_says : (table : Table) (machine : Machine) (k : ℕ) (column : Column)
-    → slice_get (picture table machine) k ≡ Some column → Says machine k column
+    → slice_get (picture table machine) k ≡ Some column → Says table machine k column
 column_says table machine k column is =
-    let found = column_at (moment_of (opening_roster table)) machine.history machine.past k column is in
+    let found = column_at table [] (opening_roster table) machine.history machine.past k column is in
     let roster = found.roster in
     record {
       entry = found.entry;
@@ -51,18 +76,20 @@ column_says table machine k column is =
           ∙ ap (λ (c : Cell). c.owned) (place_of (cell_of roster) (length roster.records) p no_cell within);
       running = λ core within. ap (λ (s : Shown). slice_index_or s.running core None) found.shown
           ∙ place_of (chosen roster) 8 core None within;
+      counts_after = rw (add-one k) (counts_all table _ _ (ap (λ (s : Shown). s.counts) found.shown));
+      counts_before = counts_all table _ _ found.counts;
     }
 
-columns_many : (before : Shown) (entries : List Entry) (rosters : List Roster) → length rosters ≡ length entries
-    → length (columns_from before entries rosters) ≡ length entries
-columns_many before [] rosters same = refl
-columns_many before (entry ∷ entries) [] same = absurd (omega (arith, same))
-columns_many before (entry ∷ entries) (roster ∷ rosters) same =
-    ap suc (columns_many (moment_of roster) entries rosters (omega (arith, same)))
+columns_many : (table : Table) (done : List Entry) (before : Roster) (entries : List Entry) (rosters : List Roster)
+    → length rosters ≡ length entries → length (columns_from table done before entries rosters) ≡ length entries
+columns_many table done before [] rosters same = refl
+columns_many table done before (entry ∷ entries) [] same = absurd (omega (arith, same))
+columns_many table done before (entry ∷ entries) (roster ∷ rosters) same =
+    ap suc (columns_many table (done ++ entry ∷ []) roster entries rosters (omega (arith, same)))
 
 pub pictures : ArePictures
 pictures = record {
-  many = λ table events. columns_many (moment_of (opening_roster table)) (run table (opening table) events).history
+  many = λ table events. columns_many table [] (opening_roster table) (run table (opening table) events).history
       (run table (opening table) events).past (pictured_run table events (opening table) (pictured_opening table)).many;
   says = column_says;
 }

@@ -1,5 +1,5 @@
 -- The picture of a run, one column more each time.
-use Rattle.std.proofs.Common.{◌≡◌, ◌∙◌, ◌+◌, ◌<◌, List, [], ◌∷◌, ◌++◌, Option, None, Some, refl, sym, ap, arith, get_or, length, subst, append-nil, append_assoc, length-append, inl, inr}
+use Rattle.std.proofs.Common.{◌≡◌, ◌∙◌, ◌<◌, List, [], ◌∷◌, ◌++◌, Option, None, Some, refl, sym, ap, arith, get_or, length, subst, append-nil, append_assoc, length-append, inl, inr}
 use Rattle.std.specs.List.{All, last_or}
 use Rattle.std.proofs.Math.Seq.{get_or-append_seam}
 use Rattle.std.proofs.lemmas.Bool.{cases_lt}
@@ -8,26 +8,29 @@ use Rattle.apex_types.specs.Machine.{Machine, accept, events_of, happen, opening
 use Rattle.apex_types.specs.Roster.{Roster, opening_roster}
 use Rattle.apex_types.specs.Table.{Table}
 use Rattle.apex_dispatch.proofs.Runs.{accept-full, accept-room}
-use Rattle.apex_pictures.specs.Moments.{Column, Shown, columns_from, moment_of, picture}
-use Rattle.apex_pictures.specs.Drawing.{IsPictured, last_shown}
+use Rattle.apex_pictures.specs.Moments.{Column, Shown, column_of, columns_from, moment_in, picture}
+use Rattle.apex_pictures.specs.Drawing.{IsPictured, last_roster}
 use Rattle.apex_pictures.specs.Terms.{Entry, Event}
 
-last_push : (before : Shown) (rosters : List Roster) (roster : Roster)
-    → last_shown before (rosters ++ roster ∷ []) ≡ moment_of roster
+last_push : (before : Roster) (rosters : List Roster) (roster : Roster)
+    → last_roster before (rosters ++ roster ∷ []) ≡ roster
 last_push before [] roster = refl
-last_push before (r ∷ rosters) roster = last_push (moment_of r) rosters roster
+last_push before (r ∷ rosters) roster = last_push r rosters roster
 
-columns_push : (before : Shown) (entries : List Entry) (rosters : List Roster) (entry : Entry) (roster : Roster)
-    → length rosters ≡ length entries
-    → columns_from before (entries ++ entry ∷ []) (rosters ++ roster ∷ [])
-    ≡ columns_from before entries rosters
-    ++ record { before = last_shown before rosters; entry = entry; after = moment_of roster } ∷ []
-columns_push before [] [] entry roster same = refl
-columns_push before [] (r ∷ rosters) entry roster same = absurd (omega (arith, same))
-columns_push before (e ∷ entries) [] entry roster same = absurd (omega (arith, same))
-columns_push before (e ∷ entries) (r ∷ rosters) entry roster same =
-    ap (λ (columns : List Column). record { before = before; entry = e; after = moment_of r } ∷ columns)
-    (columns_push (moment_of r) entries rosters entry roster (omega (arith, same)))
+columns_push : (table : Table) (done : List Entry) (before : Roster) (entries : List Entry) (rosters : List Roster)
+    (entry : Entry) (roster : Roster) → length rosters ≡ length entries
+    → columns_from table done before (entries ++ entry ∷ []) (rosters ++ roster ∷ [])
+    ≡ columns_from table done before entries rosters
+    ++ column_of table (done ++ entries) (last_roster before rosters) entry roster ∷ []
+columns_push table done before [] [] entry roster same =
+    ap (λ (l : List Entry). column_of table l before entry roster ∷ []) (sym (append-nil done))
+columns_push table done before [] (r ∷ rosters) entry roster same = absurd (omega (arith, same))
+columns_push table done before (e ∷ entries) [] entry roster same = absurd (omega (arith, same))
+columns_push table done before (e ∷ entries) (r ∷ rosters) entry roster same =
+    ap (λ (columns : List Column). column_of table done before e r ∷ columns)
+    (columns_push table (done ++ e ∷ []) r entries rosters entry roster (omega (arith, same))
+    ∙ ap (λ (l : List Entry). columns_from table (done ++ e ∷ []) r entries rosters
+    ++ column_of table l (last_roster r rosters) entry roster ∷ []) (append_assoc done (e ∷ []) entries))
 
 last_put : {A : Type 0} (o : Option A) (xs : List A) (x : A) → last_or o (xs ++ x ∷ []) ≡ Some x
 last_put o [] x = refl
@@ -63,32 +66,29 @@ module _ (table : Table) (machine : Machine) (pictured : IsPictured table machin
     | inr full ↦ subst (IsPictured table) (sym (accept-full table machine event full)) pictured
   ]
 
-  column_of : Entry → Roster → Column
-  column_of entry roster = record { before = moment_of machine.roster; entry = entry; after = moment_of roster }
-
-  column_longer : (entry : Entry) (roster : Roster)
-      → picture table (longer machine entry roster) ≡ picture table machine ++ column_of entry roster ∷ []
-  unfolding column_of
+  column_longer : (entry : Entry) (roster : Roster) → picture table (longer machine entry roster)
+      ≡ picture table machine ++ column_of table machine.history machine.roster entry roster ∷ []
   column_longer entry roster =
-      columns_push (moment_of (opening_roster table)) machine.history machine.past entry roster pictured.many
-      ∙ ap (λ (shown : Shown). picture table machine ++ record { before = shown; entry = entry; after = moment_of roster } ∷ []) pictured.last
+      columns_push table [] (opening_roster table) machine.history machine.past entry roster pictured.many
+      ∙ ap (λ (before : Roster). picture table machine ++ column_of table machine.history before entry roster ∷ []) pictured.last
 
   -- the column that an event adds, for which there was room
   pub column_more : (event : Event) (new : Machine) (found : Entry) → length machine.history < table.limit
       → new ≡ accept table machine event → last_or None new.history ≡ Some found
-      → picture table new
-      ≡ picture table machine ++ record { before = moment_of machine.roster; entry = found; after = moment_of new.roster } ∷ []
-  unfolding column_of
+      → picture table new ≡ picture table machine
+      ++ record { before = moment_in table machine; entry = found; after = moment_in table new } ∷ []
   column_more event new found room is latest =
       let (entry, roster, adds) = event_adds table machine event in
       let whole : new ≡ longer machine entry roster = is ∙ accept-room table machine event room ∙ adds in
       let some : Some entry ≡ Some found =
       sym (last_put None machine.history entry) ∙ ap (λ (m : Machine). last_or None m.history) (sym whole) ∙ latest in
       let same : entry ≡ found = cc in
-      let here : new.roster ≡ roster = ap (λ (m : Machine). m.roster) whole in
+      let after : moment_in table (longer machine entry roster) ≡ moment_in table new = ap (moment_in table) (sym whole) in
       ap (picture table) whole ∙ column_longer entry roster
-      ∙ ap (λ (e : Entry). picture table machine ++ column_of e roster ∷ []) same
-      ∙ ap (λ (r : Roster). picture table machine ++ column_of found r ∷ []) (sym here)
+      ∙ ap (λ (shown : Shown). picture table machine
+      ++ record { before = moment_in table machine; entry = entry; after = shown } ∷ []) after
+      ∙ ap (λ (e : Entry). picture table machine
+      ++ record { before = moment_in table machine; entry = e; after = moment_in table new } ∷ []) same
 
   -- an event for which there was room has a latest entry
   pub latest_some : (event : Event) (new : Machine) → length machine.history < table.limit
@@ -105,7 +105,7 @@ module _ (table : Table) (machine : Machine) (pictured : IsPictured table machin
   accept_more event = elim (cases_lt (length machine.history) table.limit) [
     | inl room ↦
         let (entry, roster, adds) = event_adds table machine event in
-        (column_of entry roster ∷ [], ap (picture table) (accept-room table machine event room ∙ adds) ∙ column_longer entry roster)
+        (column_of table machine.history machine.roster entry roster ∷ [], ap (picture table) (accept-room table machine event room ∙ adds) ∙ column_longer entry roster)
     | inr full ↦ ([], ap (picture table) (accept-full table machine event full) ∙ sym (append-nil (picture table machine)))
   ]
 

@@ -4,7 +4,7 @@ use Rattle.apex_types.specs.Machine.{Machine}
 use Rattle.apex_types.specs.Roster.{Roster, opening_roster}
 use Rattle.apex_types.specs.Table.{Table}
 use Rattle.apex_history.specs.Counted.{one_more}
-use Rattle.apex_pictures.specs.Moments.{Column, Shown, moment_of, picture}
+use Rattle.apex_pictures.specs.Moments.{Column, picture}
 use Rattle.apex_pictures.specs.Pictures.{column_text}
 use Rattle.apex_pictures.specs.declared.drawing.DrawFault.{DrawFault}
 use Rattle.apex_pictures.specs.declared.drawing.DrawFault.TheVariants.{Memory, Write}
@@ -16,15 +16,15 @@ Grows style table old new before after =
     (columns : List Column) × (picture table new ≡ picture table old ++ columns)
     × (after ≡ before ++ flat_map (column_text style table) columns)
 
--- the moment after the last roster, or this one if there is none
-abbrev pub last_shown : Shown → List Roster → Shown
-last_shown before [] = before
-last_shown before (roster ∷ rosters) = last_shown (moment_of roster) rosters
+-- the last roster, or this one if there is none
+abbrev pub last_roster : Roster → List Roster → Roster
+last_roster before [] = before
+last_roster before (roster ∷ rosters) = last_roster roster rosters
 
 -- the machine's past has a roster for each entry, and the last of them is the machine's
 pub record IsPictured (table : Table) (machine : Machine) : Type 0 where
   pub many : length machine.past ≡ length machine.history
-  pub last : last_shown (moment_of (opening_roster table)) machine.past ≡ moment_of machine.roster
+  pub last : last_roster (opening_roster table) machine.past ≡ machine.roster
 
 -- a fault of drawing counts if a write failed, and not if memory was refused
 abbrev pub CountsDrawFault : DrawFault → ℕ → ℕ → Type 0

@@ -1,20 +1,30 @@
 -- What the columns of a picture say.
-use Rattle.std.specs.Prelude.{◌≡◌, ◌<◌, ℕ, List, Some, None, length, slice_get, slice_index_or}
+use Rattle.std.specs.Prelude.{◌≡◌, ◌+◌, ◌<◌, ℕ, List, Some, None, length, slice_get, slice_index_or, take}
 use Rattle.apex_types.specs.Limits.{most_cores}
-use Rattle.apex_types.specs.Machine.{Machine, opening, run}
+use Rattle.apex_types.specs.Machine.{Machine, objects_after, opening, run}
 use Rattle.apex_types.specs.Roster.{Roster, record_at}
 use Rattle.apex_types.specs.Running.{chosen, process_state}
 use Rattle.apex_types.specs.Table.{Table}
+use Rattle.apex_pictures.specs.Counts.{Counts, content_of, value_of}
 use Rattle.apex_pictures.specs.Moments.{Column, no_cell, picture}
-use Rattle.apex_pictures.specs.Terms.{Cell, Event}
+use Rattle.apex_pictures.specs.Terms.{Cell, Entry, Event}
 
 -- the cell of process p in a column
 abbrev pub cell_in : Column → ℕ → Cell
 cell_in column p = slice_index_or column.after.cells p no_cell
 
+-- the counts are those after these entries: the value of each semaphore, and the number of messages in each
+-- buffer
+pub record CountsAll (table : Table) (done : List Entry) (counts : Counts) : Type 0 where
+  pub values : (s : ℕ) → s < length table.semaphores
+      → slice_get counts.values s ≡ Some (value_of (objects_after table done) s)
+  pub contents : (b : ℕ) → b < length table.buffers
+      → slice_get counts.contents b ≡ Some (content_of (objects_after table done) b)
+
 -- Column k has entry k of the machine's history, and what holds in the roster after that entry: the state of
--- each process, what it waits for and owns, and the process that each core runs.
-pub record Says (machine : Machine) (k : ℕ) (column : Column) : Type 0 where
+-- each process, what it waits for and owns, and the process that each core runs. It has the counts of the
+-- objects before the entry and after it.
+pub record Says (table : Table) (machine : Machine) (k : ℕ) (column : Column) : Type 0 where
   pub entry : slice_get machine.history k ≡ Some column.entry
   pub roster : Roster
   pub after : slice_get machine.past k ≡ Some roster
@@ -22,10 +32,12 @@ pub record Says (machine : Machine) (k : ℕ) (column : Column) : Type 0 where
   pub wait : (p : ℕ) → p < length roster.records → (cell_in column p).wait ≡ (record_at roster p).wait
   pub owned : (p : ℕ) → p < length roster.records → (cell_in column p).owned ≡ (record_at roster p).owned
   pub running : (core : ℕ) → core < most_cores → slice_index_or column.after.running core None ≡ chosen roster core
+  pub counts_after : CountsAll table (take (k + 1) machine.history) column.after.counts
+  pub counts_before : CountsAll table (take k machine.history) column.before.counts
 
 -- the picture of every run has a column for each entry, and each column says what holds
 pub record ArePictures : Type 0 where
   pub many : (table : Table) (events : List Event)
       → length (picture table (run table (opening table) events)) ≡ length (run table (opening table) events).history
   pub says : (table : Table) (machine : Machine) (k : ℕ) (column : Column)
-      → slice_get (picture table machine) k ≡ Some column → Says machine k column
+      → slice_get (picture table machine) k ≡ Some column → Says table machine k column

@@ -1,7 +1,10 @@
 pub mod Terms
 pub mod Texts
+pub mod Places
+pub mod Counts
 pub mod Moments
 pub mod Svg
+pub mod Counters
 pub mod Trace
 pub mod Pictures
 pub mod Drawing

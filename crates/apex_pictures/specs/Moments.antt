@@ -1,5 +1,7 @@
--- The processes after an entry, as a picture shows them, and the columns of a picture.
-use Rattle.std.specs.Prelude.{ℕ, zero, suc, List, [], ◌∷◌, ◌++◌, length, Option, None}
+-- The processes and the counts after an entry, as a picture shows them, and the columns of a picture.
+use Rattle.std.specs.Prelude.{ℕ, List, [], ◌∷◌, ◌++◌, length, Option, None}
+use Rattle.apex_pictures.specs.Counts.{Counts, counts_after, no_counts}
+use Rattle.apex_pictures.specs.Places.{of_places}
 use Rattle.apex_pictures.specs.Terms.{Cell, Entry}
 use Rattle.apex_types.specs.declared.State.TheVariants.{Dormant}
 use Rattle.apex_types.specs.Limits.{most_cores}
@@ -7,11 +9,6 @@ use Rattle.apex_types.specs.Machine.{Machine}
 use Rattle.apex_types.specs.Roster.{Roster, record_at, opening_roster}
 use Rattle.apex_types.specs.Running.{chosen, process_state}
 use Rattle.apex_types.specs.Table.{Table}
-
--- the values of the first n places
-abbrev pub of_places : {A : Type 0} → (ℕ → A) → ℕ → List A
-of_places f zero = []
-of_places f (suc n) = of_places f n ++ f n ∷ []
 
 -- the cell of process p: its state, what it waits for and the mutexes that it owns
 abbrev pub cell_of : Roster → ℕ → Cell
@@ -29,21 +26,27 @@ no_cell = record { state = Dormant; wait = None; owned = [] }
 abbrev pub running_in : Roster → List (Option ℕ)
 running_in roster = of_places (chosen roster) most_cores
 
--- a cell for each process, and the process that each core runs
+-- a cell for each process, the process that each core runs, and the counts of the objects
 pub record Shown : Type 0 where
   pub cells : List Cell
   pub running : List (Option ℕ)
+  pub counts : Counts
 
--- no process is shown
+-- nothing is shown
 abbrev pub none_shown : Shown
-none_shown = record { cells = []; running = [] }
+none_shown = record { cells = []; running = []; counts = no_counts }
 
--- the moment of the processes
-abbrev pub moment_of : Roster → Shown
-moment_of roster = record {
+-- the moment of these processes and counts
+abbrev pub moment_of : Roster → Counts → Shown
+moment_of roster counts = record {
   cells = of_places (cell_of roster) (length roster.records);
   running = running_in roster;
+  counts = counts;
 }
+
+-- the moment of a machine
+abbrev pub moment_in : Table → Machine → Shown
+moment_in table machine = moment_of machine.roster (counts_after table machine.history)
 
 -- a column of a picture: an entry, and the moments before and after it
 pub record Column : Type 0 where
@@ -51,14 +54,22 @@ pub record Column : Type 0 where
   pub entry : Entry
   pub after : Shown
 
--- the columns of entries, by the moment before the first and the roster after each
-abbrev pub columns_from : Shown → List Entry → List Roster → List Column
-columns_from before [] rosters = []
-columns_from before (entry ∷ entries) [] = []
-columns_from before (entry ∷ entries) (roster ∷ rosters) =
-    record { before = before; entry = entry; after = moment_of roster }
-    ∷ columns_from (moment_of roster) entries rosters
+-- the column of an entry, by the entries and the roster before it, and the roster after it
+abbrev pub column_of : Table → List Entry → Roster → Entry → Roster → Column
+column_of table done before entry after = record {
+  before = moment_of before (counts_after table done);
+  entry = entry;
+  after = moment_of after (counts_after table (done ++ entry ∷ []));
+}
+
+-- the columns of entries, by the entries and the roster before the first, and the roster after each
+abbrev pub columns_from : Table → List Entry → Roster → List Entry → List Roster → List Column
+columns_from table done before [] rosters = []
+columns_from table done before (entry ∷ entries) [] = []
+columns_from table done before (entry ∷ entries) (roster ∷ rosters) =
+    column_of table done before entry roster
+    ∷ columns_from table (done ++ entry ∷ []) roster entries rosters
 
 -- the picture of a machine: a column for each entry, with the roster after it
 abbrev pub picture : Table → Machine → List Column
-picture table machine = columns_from (moment_of (opening_roster table)) machine.history machine.past
+picture table machine = columns_from table [] (opening_roster table) machine.history machine.past

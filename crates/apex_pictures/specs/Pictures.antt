@@ -1,8 +1,8 @@
 -- The text of a picture of a machine.
 use Rattle.std.specs.Prelude.{ℕ, ◌+◌, List, ◌++◌, flat_map, length}
-use Rattle.apex_types.specs.Machine.{Machine}
+use Rattle.apex_types.specs.Machine.{Machine, opening}
 use Rattle.apex_types.specs.Table.{Table}
-use Rattle.apex_pictures.specs.Moments.{Column, moment_of, picture}
+use Rattle.apex_pictures.specs.Moments.{Column, moment_in, picture}
 use Rattle.apex_pictures.specs.Svg as svg
 use Rattle.apex_pictures.specs.Trace as trace
 use Rattle.apex_pictures.specs.declared.styles.Style.{Style}
@@ -11,7 +11,7 @@ use Rattle.apex_pictures.specs.declared.styles.Style.TheVariants.{Svg, Trace}
 -- what comes before the columns
 abbrev pub head_text : Style → Table → List ℕ
 head_text (Svg frame) table = svg.head_text table frame
-head_text Trace table = trace.head_text table
+head_text Trace table = trace.head_text table (moment_in table (opening table))
 
 -- a column
 abbrev pub column_text : Style → Table → Column → List ℕ
@@ -22,7 +22,7 @@ column_text Trace table column = trace.column_text table column.before column.en
 abbrev pub foot_text : Style → Table → Machine → List ℕ
 foot_text (Svg frame) table machine = svg.key_text frame
 foot_text Trace table machine =
-    trace.foot_text table (length machine.history + 1) machine.roster.now (moment_of machine.roster)
+    trace.foot_text table (length machine.history + 1) machine.roster.now (moment_in table machine)
 
 -- the columns of a machine's picture
 abbrev pub columns_text : Style → Table → Machine → List ℕ

@@ -1,5 +1,5 @@
--- A picture as a trace in the Trace Event Format, which is JSON. The groups of tracks are the cores (1) and
--- the processes (2); an entry's number is its time, and the partition's time is an argument.
+-- A picture as a trace in the Trace Event Format, which is JSON. The groups of tracks are the cores (1), the
+-- processes (2) and the objects (3); an entry's number is its time, and the partition's time is an argument.
 use Rattle.std.specs.Prelude.{ℕ, ◌+◌, Bool, true, false, List, [], ◌∷◌, ◌++◌, Option, None, Some, is_some, codes, decimal, flat_map, length, slice_index_or, if◌then◌else◌, ◌==◌}
 use Rattle.apex_types.specs.Texts.{id_text, process_name}
 use Rattle.apex_calls.specs.Lines.{deadline_text}
@@ -8,6 +8,8 @@ use Rattle.apex_types.specs.Status.{state_text}
 use Rattle.apex_types.specs.Table.{Table}
 use Rattle.apex_types.specs.declared.Notice.TheVariants.{Woken, Released, Missed}
 use Rattle.apex_types.specs.declared.State.TheVariants.{Dormant, Ready, Running, Waiting}
+use Rattle.apex_pictures.specs.Counters.{counters_text}
+use Rattle.apex_pictures.specs.Counts.{no_counts}
 use Rattle.apex_pictures.specs.Moments.{Shown, no_cell, none_shown}
 use Rattle.apex_pictures.specs.Svg.{texts}
 use Rattle.apex_types.specs.declared.DeadlineType.{DeadlineType}
@@ -27,16 +29,17 @@ process_name_text table p = texts (
     codes ",\n{\"ph\":\"M\",\"pid\":2,\"tid\":" ∷ id_text p
     ∷ codes ",\"name\":\"thread_name\",\"args\":{\"name\":\"" ∷ json_text (process_name table p) ∷ codes "\"}}" ∷ [])
 
--- the beginning of the file: the names of the two groups
+-- the beginning of the file: the names of the groups
 unfoldable pub opening_text : List ℕ
 opening_text =
-    codes "{\"traceEvents\":[\n{\"ph\":\"M\",\"pid\":1,\"name\":\"process_name\",\"args\":{\"name\":\"cores\"}},\n{\"ph\":\"M\",\"pid\":2,\"name\":\"process_name\",\"args\":{\"name\":\"processes\"}}"
+    codes "{\"traceEvents\":[\n{\"ph\":\"M\",\"pid\":1,\"name\":\"process_name\",\"args\":{\"name\":\"cores\"}},\n{\"ph\":\"M\",\"pid\":2,\"name\":\"process_name\",\"args\":{\"name\":\"processes\"}},\n{\"ph\":\"M\",\"pid\":3,\"name\":\"process_name\",\"args\":{\"name\":\"objects\"}}"
 
--- what comes before the columns: the names of the tracks
-abbrev pub head_text : Table → List ℕ
-head_text table =
+-- what comes before the columns: the names of the tracks, and all counts of the moment before the first entry
+abbrev pub head_text : Table → Shown → List ℕ
+head_text table first =
     opening_text ++ texts_of core_name_text table.cores
     ++ texts_of (process_name_text table) (length table.processes)
+    ++ counters_text table 0 no_counts first.counts
 
 -- the end of a slice
 unfoldable pub end_text : Spot → List ℕ
@@ -151,10 +154,11 @@ changes_text table time now before after =
     texts_of (core_at table time now before after) table.cores
     ++ texts_of (process_at time now before after) (length table.processes)
 
--- the changes by an entry on the tracks, and the marks of the deadlines that were missed
+-- the changes by an entry on the tracks and of the counters, and the marks of the deadlines that were missed
 abbrev pub column_text : Table → Shown → Entry → Shown → List ℕ
 column_text table before entry after =
     changes_text table entry.number entry.now before after
+    ++ counters_text table entry.number before.counts after.counts
     ++ flat_map (missed_text entry.number entry.now) entry.notices
 
 -- what comes after the columns: the ends of all slices

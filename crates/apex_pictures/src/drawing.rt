@@ -7,11 +7,12 @@ ghost use Rattle.apex_dispatch.specs.Events.{IsWithin};
 ghost use Rattle.apex_dispatch.specs.Kernel.{kernel_in};
 ghost use Rattle.apex_history.specs.Counted.{inner_of, failures_of, AppendsBeginning};
 ghost use Rattle.apex_history.specs.Page.{Passes};
-ghost use Rattle.apex_pictures.specs.Moments.{moment_of};
+ghost use Rattle.apex_pictures.specs.Moments.{moment_in};
 ghost use Rattle.apex_pictures.specs.declared.drawing.DrawFault.TheVariants.{Memory};
 ghost use Rattle.apex_pictures.specs.Drawing.{CountsDrawing, Grows};
 ghost use Rattle.apex_pictures.specs.Pictures.{column_text, foot_text, head_text, picture_text};
 
+use crate::counts::counts_of;
 use crate::moments::{Moment, moment_of};
 use crate::styles::Style;
 use crate::{svg, trace};
@@ -44,12 +45,19 @@ impl From<AllocError> for DrawFault {
     }
 }
 
-fn put_head(text: &mut Vec<u8>, style: &Style, table: &Table) -> Result<(), AllocError>
+/// Puts what comes before the columns, of which the first has this moment before it.
+fn put_head(
+    text: &mut Vec<u8>,
+    style: &Style,
+    table: &Table,
+    first: &Moment,
+) -> Result<(), AllocError>
+    requires { first.now ≡ moment_in table.now (opening table.now) }
     ensures { OnOk result (text.new.items ≡ text.old.items ++ head_text style.now table.now) }
 {
     match style {
         Style::Svg(frame) => svg::put_head(text, table, frame),
-        Style::Trace => trace::put_head(text, table),
+        Style::Trace => trace::put_head(text, table, first),
     }
 }
 
@@ -78,7 +86,7 @@ fn put_foot<S: Store>(
     kernel: &Kernel<S>,
     last: &Moment,
 ) -> Result<(), AllocError>
-    requires { last.now ≡ moment_of kernel.now.machine.roster }
+    requires { last.now ≡ moment_in kernel.now.table kernel.now.machine }
     ensures { OnOk result (text.new.items ≡ text.old.items
         ++ foot_text style.now kernel.now.table kernel.now.machine) }
 {
@@ -103,12 +111,12 @@ fn make<S: Store>(kernel: &mut Kernel<S>, event: Event) -> Result<(), Full>
     kernel.run(&[event])
 }
 
-/// The moment of the processes of a kernel.
+/// The moment of a kernel.
 fn moment_in<S: Store>(kernel: &Kernel<S>) -> Moment
-    ensures { result ≡ moment_of kernel.now.machine.roster }
+    ensures { result ≡ moment_in kernel.now.table kernel.now.machine }
 {
     kernel.holds();
-    moment_of(kernel.store())
+    moment_of(kernel.store(), counts_of(kernel))
 }
 
 /// Makes the event, and puts its column; `shown` is the moment before it, and then the one after
@@ -121,10 +129,10 @@ fn draw_event<S: Store>(
     shown: &mut Moment,
 ) -> Result<(), AllocError>
     requires within { IsWithin kernel.old.table.cores event }
-    requires shown { shown.old ≡ moment_of kernel.old.machine.roster }
+    requires shown { shown.old ≡ moment_in kernel.old.table kernel.old.machine }
     ensures done { kernel.new ≡ kernel_in kernel.old.table
         (accept kernel.old.table kernel.old.machine event) }
-    ensures shown { OnOk result (shown.new ≡ moment_of kernel.new.machine.roster) }
+    ensures shown { OnOk result (shown.new ≡ moment_in kernel.old.table kernel.new.machine) }
     ensures drawn { OnOk result (Grows style.now kernel.old.table kernel.old.machine
         kernel.new.machine text.old.items text.new.items) }
 {
@@ -193,12 +201,12 @@ pub fn draw<S: Store, W: Sink>(
         (picture_text style.now kernel.old.table (run kernel.old.table (opening kernel.old.table) events.now))) }
     ensures counted { CountsDrawing result (failures_of writer.old) (failures_of writer.new) }
 {
+    kernel.holds();
     let mut text = Vec::new(alloc);
-    let Ok(()) = put_head(&mut text, style, kernel.table()) else {
+    let mut shown = moment_in(kernel);
+    let Ok(()) = put_head(&mut text, style, kernel.table(), &shown) else {
         return Err(DrawFault::Memory);
     };
-    kernel.holds();
-    let mut shown = moment_in(kernel);
     for event in events {
         let Ok(()) = draw_event(&mut text, style, kernel, *event, &mut shown) else {
             return Err(DrawFault::Memory);

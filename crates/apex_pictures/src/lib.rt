@@ -1,7 +1,10 @@
 //! Pictures of a partition's history: the state of each process after each entry, drawn as SVG, or
-//! written as a trace in the Trace Event Format.
+//! written as a trace in the Trace Event Format, with the value of each semaphore and the content
+//! of each buffer.
 #![tactic(auto)]
 
+mod counters;
+mod counts;
 mod drawing;
 mod frames;
 mod laws;
@@ -12,6 +15,7 @@ mod texts;
 mod trace;
 mod words;
 
+pub use counts::Counts;
 pub use drawing::{DrawFault, draw};
 pub use frames::Frame;
 pub use laws::{columns_say_entries, texts_are_read_back};

@@ -1,10 +1,11 @@
-//! The processes after an entry, as a picture shows them.
+//! The processes and the counts after an entry, as a picture shows them.
 ghost use Rattle.std.specs.Prelude.{◌≡◌, ◌<◌, ◌≤◌, length, not, if◌then◌else◌, slice_index_or, None};
 ghost use Rattle.apex_types.specs.Limits.{most_cores, most_processes};
 ghost use Rattle.apex_types.specs.Running.{chosen, is_eligible, is_process};
 ghost use Rattle.apex_types.specs.declared.State.TheVariants.{Dormant, Ready, Running, Waiting};
 ghost use Rattle.apex_pictures.specs.Moments.{cell_of, moment_of, no_cell, none_shown, running_in};
 
+use crate::counts::Counts;
 use apex_store::Store;
 use apex_types::{
     CoreId, Holdings, MOST_CORES, MOST_PROCESSES, Mode, ProcessId, Record, State, Wait,
@@ -38,11 +39,12 @@ impl Default for Cell {
 }
 
 /// All processes after an entry, as a picture shows them: a cell for each of them, and the process
-/// that each core runs.
+/// that each core runs. It has the counts of the objects too.
 #[derive(Drop)]
 pub struct Moment {
     cells: ArrayVec<Cell, MOST_PROCESSES>,
     running: ArrayVec<Option<ProcessId>, CORES>,
+    counts: Counts,
 }
 
 impl Model for Moment {
@@ -50,7 +52,11 @@ impl Model for Moment {
 
     ghost Value = { Shown };
 
-    ghost view = { λ m. record { cells = m.cells.items; running = m.running.items } };
+    ghost view = { λ m. record {
+      cells = m.cells.items;
+      running = m.running.items;
+      counts = m.counts;
+    } };
 }
 
 fn is_process(process: ProcessId, chosen: Option<ProcessId>) -> bool
@@ -116,27 +122,32 @@ fn cell_of<S: Store>(store: &S, process: ProcessId, running: &[Option<ProcessId>
     }
 }
 
-/// The moment of the processes of a store.
-pub(crate) fn moment_of<S: Store>(store: &S) -> Moment
+/// The moment of the processes of a store, and of these counts.
+pub(crate) fn moment_of<S: Store>(store: &S, counts: Counts) -> Moment
     requires { length (S.roster store.now).records ≤ most_processes }
-    ensures { result ≡ moment_of (S.roster store.now) }
+    ensures { result ≡ moment_of (S.roster store.now) counts }
 {
     let running = running_of(store);
     let mut cells = ArrayVec::new();
     for place in 0..store.process_count() {
         cells.push(cell_of(store, ProcessId::at(place as u8), running.as_slice()));
     }
-    Moment { cells, running }
+    Moment {
+        cells,
+        running,
+        counts,
+    }
 }
 
 impl Moment {
-    /// The moment that shows no process.
+    /// The moment that shows nothing.
     pub(crate) fn none() -> Moment
         ensures { result ≡ none_shown }
     {
         Moment {
             cells: ArrayVec::new(),
             running: ArrayVec::new(),
+            counts: Counts::none(),
         }
     }
 
@@ -162,5 +173,12 @@ impl Moment {
         ensures { result ≡ slice_index_or self.now.running core None }
     {
         running_at(self.running.as_slice(), core)
+    }
+
+    /// The counts of the objects.
+    pub fn counts(&self) -> &Counts
+        ensures { result.now ≡ self.now.counts }
+    {
+        &self.counts
     }
 }

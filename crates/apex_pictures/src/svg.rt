@@ -8,7 +8,7 @@ use crate::frames::Frame;
 use crate::moments::{Cell, Moment};
 use crate::texts::{Part, put, put_all, put_xml};
 use crate::words::{id_part, name_of, notice_word, put_wait, state_word};
-use apex_history::{Lines, put_line};
+use apex_history::{Lines, NextSteps, put_line};
 use apex_table::Table;
 use apex_types::{Caller, CoreId, LentEntry, MutexId, Notice, ProcessId, Reply, Who};
 use std::alloc::AllocError;
@@ -144,7 +144,7 @@ fn line_of(table: &Table, entry: &LentEntry<'_>) -> Lines
     ensures { result.items ≡ line_of table.now entry.entry.now }
 {
     let mut line = Lines::new();
-    put_line(&mut line, table, entry);
+    put_line(&mut line, table, &mut NextSteps::new(), entry);
     line
 }
 

@@ -1,9 +1,12 @@
 //! A picture as a trace in the Trace Event Format, which is JSON: tracks of the cores and of the
-//! processes. An entry's number is its time in microseconds; the partition's time is an argument.
+//! processes, and counters of the objects. An entry's number is its time in microseconds; the
+//! partition's time is an argument.
 ghost use Rattle.std.specs.Prelude.{◌≡◌, ◌++◌, flat_map, length, OnOk};
 ghost use Rattle.apex_types.specs.Listing.{texts_of};
 ghost use Rattle.apex_pictures.specs.Trace as trace;
 
+use crate::counters::put_counters;
+use crate::counts::Counts;
 use crate::moments::Moment;
 use crate::texts::{Part, put, put_all};
 use crate::words::{deadline_word, id_part, name_of};
@@ -78,18 +81,20 @@ fn put_opening(text: &mut Vec<u8>) -> Result<(), AllocError>
 {
     put(
         text,
-        "{\"traceEvents\":[\n{\"ph\":\"M\",\"pid\":1,\"name\":\"process_name\",\"args\":{\"name\":\"cores\"}},\n{\"ph\":\"M\",\"pid\":2,\"name\":\"process_name\",\"args\":{\"name\":\"processes\"}}",
+        "{\"traceEvents\":[\n{\"ph\":\"M\",\"pid\":1,\"name\":\"process_name\",\"args\":{\"name\":\"cores\"}},\n{\"ph\":\"M\",\"pid\":2,\"name\":\"process_name\",\"args\":{\"name\":\"processes\"}},\n{\"ph\":\"M\",\"pid\":3,\"name\":\"process_name\",\"args\":{\"name\":\"objects\"}}",
     )
 }
 
-/// Puts what comes before the columns: the names of the tracks.
+/// Puts what comes before the columns: the names of the tracks, and all counts of the moment before
+/// the first entry.
 #[tactic(auto, using(std::proofs::Common::append_assoc))]
-pub(crate) fn put_head(text: &mut Vec<u8>, table: &Table) -> Result<(), AllocError>
-    ensures { OnOk result (text.new.items ≡ text.old.items ++ trace.head_text table.now) }
+pub(crate) fn put_head(text: &mut Vec<u8>, table: &Table, first: &Moment) -> Result<(), AllocError>
+    ensures { OnOk result (text.new.items ≡ text.old.items ++ trace.head_text table.now first.now) }
 {
     put_opening(text)?;
     put_core_names(text, table)?;
-    put_process_names(text, table)
+    put_process_names(text, table)?;
+    put_counters(text, table, 0, &Counts::none(), first.counts())
 }
 
 /// Puts the end of a slice.
@@ -388,7 +393,8 @@ fn put_misses(text: &mut Vec<u8>, time: u64, now: u64, notices: &[Notice]) -> Re
     Ok(())
 }
 
-/// Puts the changes by an entry on the tracks, and the marks of the deadlines that were missed.
+/// Puts the changes by an entry on the tracks and of the counters, and the marks of the deadlines
+/// that were missed.
 #[tactic(auto, using(std::proofs::Common::append_assoc))]
 pub(crate) fn put_column(
     text: &mut Vec<u8>,
@@ -403,6 +409,7 @@ pub(crate) fn put_column(
     let time = u64::from(entry.number);
     put_cores(text, table, time, entry.now, before, after)?;
     put_processes(text, table, time, entry.now, before, after)?;
+    put_counters(text, table, time, before.counts(), after.counts())?;
     put_misses(text, time, entry.now, entry.notices)
 }
 

@@ -149,7 +149,7 @@ pub trait Store: Drop {
         ensures { roster self.new ≡ stamps.set_priority (roster self.old) process base };
 
     /// The process, which is eligible, owns these mutexes from now on. It goes before all others of
-    /// its priority where its current priority changes.
+    /// its priority if its current priority changes.
     fn own(&mut self, process: ProcessId, owned: Holdings)
         requires known { process < length (roster self.old).records }
         requires eligible { IsEligible (roster self.old) process }

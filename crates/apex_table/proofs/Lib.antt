@@ -20,3 +20,4 @@ pub mod ObjectLaws
 pub mod ScriptLaws
 pub mod Law
 pub mod TextLaws
+pub mod KeptTexts

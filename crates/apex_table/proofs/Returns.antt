@@ -1,7 +1,7 @@
 -- The words of a default init list's steps are read as the steps.
-use Rattle.std.proofs.Common.{◌≡◌, ◌≢◌, ℕ, zero, suc, ◌+◌, ◌^◌, ◌<◌, ◌≤◌, ◌==◌, ◌&&◌, nat_le, slice_index_or, Bool, true, false, cond, if◌then◌else◌, List, [], ◌∷◌, ◌++◌, length, Option, Some, None, Result, Ok, Err, IsTrue, refl, sym, ap, subst, ◌∙◌, arith}
-use Rattle.std.specs.Prelude.{codes, decimal, not}
-use Rattle.std.specs.List.{All, AllByRecursion, IsDistinct, list_all, position_from, slice_split}
+use Rattle.std.proofs.Common.{◌≡◌, ℕ, zero, suc, ◌+◌, ◌^◌, ◌<◌, ◌==◌, ◌&&◌, nat_le, slice_index_or, true, false, List, [], ◌∷◌, length, Some, Ok, refl, sym, ap, subst, ◌∙◌, arith}
+use Rattle.std.specs.Prelude.{codes, decimal}
+use Rattle.std.specs.List.{AllByRecursion, IsDistinct, list_all, position_from}
 use Rattle.std.specs.Char.{is_ascii_digit}
 use Rattle.std.specs.Str.{bytes_eq, all_ascii_digits}
 use Rattle.std.proofs.lemmas.Bool.{false_from_ne_true}
@@ -18,15 +18,12 @@ use Rattle.apex_types.specs.declared.calls.ObjectCall.TheVariants.{Own}
 use Rattle.apex_types.specs.declared.calls.PartitionCall.TheVariants.{SetPartitionMode}
 use Rattle.apex_types.specs.declared.calls.ProcessService.TheVariants.{InitializeCoreAffinity, Start}
 use Rattle.apex_types.specs.declared.calls.RequestedMode.TheVariants.{Normal}
-use Rattle.apex_calls.specs.Catalogue.{row_of}
 use Rattle.apex_calls.specs.CallText.{spaced}
 use Rattle.apex_calls.specs.declared.catalogue.Kind.TheVariants.{Process, Semaphore, Buffer, Blackboard, Event, Mutex}
-use Rattle.apex_calls.specs.declared.catalogue.Service.TheVariants as services
-use Rattle.apex_calls.proofs.Rows.{found_by_word}
-use Rattle.apex_table.specs.Terms.{Kind, Origin, Place, Service}
+use Rattle.apex_table.specs.Terms.{Kind, Origin, Place}
 use Rattle.apex_table.specs.DefaultInit.{bare, create}
 use Rattle.apex_table.specs.Names.{Names, names_in}
-use Rattle.apex_table.specs.Words.{words, is_empty, number}
+use Rattle.apex_table.specs.Words.{words, is_empty}
 use Rattle.apex_table.specs.Steps.{step, step_of, row_step, with_word}
 use Rattle.apex_table.proofs.Spelling.{number_model, true-false}
 use Rattle.apex_table.proofs.Slots.{and_true}

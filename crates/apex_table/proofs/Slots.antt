@@ -1,26 +1,25 @@
 -- What each word says still holds at the end: the later words of a row fill other fields.
 use Rattle.std.proofs.lemmas.Bool.Decides.{nat_tests}
-use Rattle.std.proofs.Common.{◌≡◌, ℕ, ◌<◌, ◌≤◌, ◌&&◌, ◌||◌, nat_le, if◌then◌else◌, arith, slice_index_or, Bool, true, false, List, [], ◌∷◌, length, map, Option, Some, None, Result, Ok, Err, refl, sym, ap, subst, ◌∙◌}
-use Rattle.std.specs.Prelude.{not, decimal}
-use Rattle.std.specs.List.{AllByRecursion, list_all, list_any, position_from}
+use Rattle.std.proofs.Common.{◌≡◌, ℕ, ◌&&◌, ◌||◌, nat_le, if◌then◌else◌, arith, slice_index_or, Bool, true, false, List, [], ◌∷◌, length, Option, Some, None, Result, Ok, Err, refl, sym, ap, subst, ◌∙◌}
+use Rattle.std.specs.Prelude.{not}
+use Rattle.std.specs.List.{list_all, list_any, position_from}
 use Rattle.std.specs.Str.{bytes_eq}
 use Rattle.apex_types.specs.Name.{is_name}
 use Rattle.apex_types.specs.Table.{IsKnownName, IsLiteral, IsMessageOf}
 use Rattle.apex_types.specs.Calls.{unknown}
 use Rattle.apex_types.specs.Texts.{bytes_text}
-use Rattle.apex_types.specs.declared.calls.Named.TheVariants.{Known, Unknown}
 use Rattle.apex_calls.specs.Catalogue.{row_of}
 use Rattle.apex_calls.specs.CallText.{timeout_text, mode_text, named_text}
 use Rattle.apex_calls.specs.declared.catalogue.Service.TheVariants.{SetPartitionMode}
 use Rattle.apex_calls.specs.declared.catalogue.Shape.TheVariants.{Entry, Named, Number, Timeout, Message, Mode}
 use Rattle.apex_table.specs.Terms.{Kind, Message as MessageOf, Named as NameOf, Origin, Place, RequestedMode, Service, Shape, TableFault, Timeout as TimeoutOf}
 use Rattle.apex_table.specs.declared.fault.TableFault.TheVariants.{BadName, BadStep}
-use Rattle.apex_table.specs.Outcome.{◌>>=◌, made, some_or}
+use Rattle.apex_table.specs.Outcome.{◌>>=◌}
 use Rattle.apex_table.specs.Keys.{well_formed}
 use Rattle.apex_table.specs.Names.{Names, names_in}
-use Rattle.apex_table.specs.Words.{is_empty, number, timeout, message_bytes, requested_mode, entry_of}
+use Rattle.apex_table.specs.Words.{is_empty}
 use Rattle.apex_table.specs.Steps.{Given, has_form, have_forms, with_entry, with_number, with_timeout, with_mode, with_name, with_message, with_word, with_words}
-use Rattle.apex_table.proofs.Spelling.{some_or_ok, made_ok, true-false, IsNumber, number_law, timeout_law, mode_law, AreBytes, message_law, IsPlaceOf, place_law, entry_law}
+use Rattle.apex_table.proofs.Spelling.{some_or_ok, made_ok, true-false, IsNumber, number_law, timeout_law, mode_law, message_law, IsPlaceOf, place_law, entry_law}
 
 -- the two shapes fill the same field
 abbrev pub clash : Shape → Shape → Bool

@@ -1,11 +1,11 @@
 -- Each step that is read is lawful: it names entries of the table, or its own literal. And its call,
 -- written again, is its text.
-use Rattle.std.proofs.Common.{◌≡◌, ℕ, ◌<◌, ◌==◌, Bool, true, false, if◌then◌else◌, List, [], ◌∷◌, length, map, Option, Some, None, IfSome, Result, Ok, Err, IfOk, refl, sym, ap, subst, ◌∙◌, arith}
-use Rattle.std.specs.List.{AllByRecursion, find, list_any, list_all}
+use Rattle.std.proofs.Common.{◌≡◌, ℕ, ◌<◌, Bool, true, false, if◌then◌else◌, List, [], ◌∷◌, length, map, Option, Some, None, IfSome, Result, Ok, Err, IfOk, refl, sym, ap, subst, ◌∙◌, arith}
+use Rattle.std.specs.List.{AllByRecursion, list_any, list_all}
 use Rattle.std.specs.Str.{bytes_eq}
 use Rattle.std.proofs.lemmas.List.Splits.{join_with_byte-slice_split}
 use Rattle.std.proofs.lemmas.Option.{none-some, same_Some}
-use Rattle.std.proofs.lemmas.Result.{IfOk-at_ok, IfOk-weaker}
+use Rattle.std.proofs.lemmas.Result.{IfOk-weaker}
 use Rattle.std.proofs.lemmas.Slice.Eq.{bytes_eq-Decides}
 use Rattle.apex_types.specs.Calls.{origin_of, message_in, unknown}
 use Rattle.apex_types.specs.Table.{IsKnown, IsLawfulStep, IsLiteral, IsMessageOf, Step, Table}
@@ -13,7 +13,7 @@ use Rattle.apex_types.specs.Texts.{bytes_text}
 use Rattle.apex_types.specs.declared.calls.Named.TheVariants.{Known, Unknown}
 use Rattle.apex_types.specs.declared.calls.Origin.TheVariants.{Script}
 use Rattle.apex_calls.specs.Catalogue.{Row, IsRow, rows, row_in, row_of}
-use Rattle.apex_calls.specs.Parts.{IsInRange, call_of, parts_of}
+use Rattle.apex_calls.specs.Parts.{IsInRange, call_of}
 use Rattle.apex_calls.specs.CallText.{IsKnownWord, call_words, count_of, named_text, row_words, spaced, word_text}
 use Rattle.apex_calls.specs.declared.catalogue.Kind.TheVariants.{Process, Semaphore, Buffer, Blackboard, Event, Mutex}
 use Rattle.apex_calls.specs.declared.catalogue.Service.TheVariants as services
@@ -21,7 +21,7 @@ use Rattle.apex_calls.specs.declared.catalogue.Shape.TheVariants.{Entry, Named, 
 use Rattle.apex_calls.proofs.Rows.{row_of_word_law}
 use Rattle.apex_table.specs.Terms.{Arguments, Kind, Named as NameOf, Origin, Place, Service, Shape, TableFault}
 use Rattle.apex_table.specs.declared.fault.TableFault.TheVariants.{BadStep}
-use Rattle.apex_table.specs.Outcome.{◌>>=◌, made, some_or}
+use Rattle.apex_table.specs.Outcome.{made, some_or}
 use Rattle.apex_table.specs.Names.{Names, names_in}
 use Rattle.apex_table.specs.Words.{words}
 use Rattle.apex_table.specs.Steps.{Given, nothing, have_forms, with_words, step_with, row_step, step_of, step}

@@ -16,7 +16,7 @@ use Rattle.apex_calls.specs.declared.catalogue.Kind.TheVariants.{Process, Semaph
 use Rattle.apex_table.specs.declared.fault.Section.TheVariants as sections
 use Rattle.apex_table.specs.declared.fault.TableFault.TheVariants.{BadInitStep}
 use Rattle.apex_table.specs.Terms.{Kind, Origin, Place, Profile, TableFault}
-use Rattle.apex_table.specs.Outcome.{◌>>=◌, each, place, Gives}
+use Rattle.apex_table.specs.Outcome.{place, Gives}
 use Rattle.apex_table.specs.Keys.{known, number_at, number_or}
 use Rattle.apex_table.specs.Sections.{section}
 use Rattle.apex_table.specs.Processes.{ProcessDraft, process_names, some_process, processes}
@@ -38,7 +38,7 @@ use Rattle.apex_table.proofs.Law.{lawful_of}
 
 -- the names of a table
 
-name_anywhere : {E : Type 0} (name : E → List ℕ) (default : E) → name default ≡ [] → (entries : List E) (i : ℕ) → slice_index_or (map name entries) i [] ≡ name (slice_index_or entries i default)
+pub name_anywhere : {E N : Type 0} (name : E → List N) (default : E) → name default ≡ [] → (entries : List E) (i : ℕ) → slice_index_or (map name entries) i [] ≡ name (slice_index_or entries i default)
 name_anywhere name default bare [] i = sym bare
 name_anywhere name default bare (e ∷ entries) zero = refl
 name_anywhere name default bare (e ∷ entries) (suc i) = name_anywhere name default bare entries i
@@ -55,7 +55,7 @@ module _ (table : Table) where
   names_same : name_at (table_names table) ≡ name_of table
   names_same = λ j k i. name_same k i j
 
-  own_names : AreNamesOf table (table_names table)
+  pub own_names : AreNamesOf table (table_names table)
   own_names = record {
     processes = length-map table.processes (λ (e : ProcessConfig). e.name);
     semaphores = length-map table.semaphores (λ (e : SemaphoreConfig). e.name);
@@ -168,7 +168,7 @@ module _ (profile : Profile) (cores limit : ℕ) (drafts : List ProcessDraft) (p
   Whole = table_with profile cores limit procs things steps
 
   -- the names by which steps are read are the table's
-  same_names : entry_names procs ≡ process_names drafts → names_of drafts things ≡ table_names Whole
+  pub same_names : entry_names procs ≡ process_names drafts → names_of drafts things ≡ table_names Whole
   same_names same = ap (λ (names : List (List ℕ)). record (table_names Whole) { processes = names }) (sym same)
 
   list_written : IsLawful Whole → (texts : Option (List (List ℕ))) → IfOk (init_list (table_names Whole) procs things texts) (InitWritten (table_names Whole))
@@ -198,7 +198,7 @@ module _ (profile : Profile) (cores limit : ℕ) (drafts : List ProcessDraft) (p
         (all_from_start (λ k s. IsWritten (place sections.Init (k + 1)) (origin.Init k) (table_names Whole) s) steps init k no_step below);
   }
 
-  whole_texts : IsLawful Whole → (texts : Option (List (List ℕ))) → with_scripts (names_of drafts things) drafts ≡ Ok procs → init_list (names_of drafts things) procs things texts ≡ Ok steps → HaveTexts Whole
+  pub whole_texts : IsLawful Whole → (texts : Option (List (List ℕ))) → with_scripts (names_of drafts things) drafts ≡ Ok procs → init_list (names_of drafts things) procs things texts ≡ Ok steps → HaveTexts Whole
   whole_texts lawful texts ew ei =
       let same : names_of drafts things ≡ table_names Whole =
       same_names (IfOk-at_ok (λ ps. entry_names ps ≡ process_names drafts) ew (with_scripts_names (names_of drafts things) drafts)) in

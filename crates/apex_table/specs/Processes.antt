@@ -68,7 +68,7 @@ process_keys =
     ∷ codes "period" ∷ codes "capacity" ∷ codes "deadline"
     ∷ codes "loop" ∷ codes "start" ∷ codes "script" ∷ []
 
--- the kind of processes, in a profile and on so many cores
+-- the kind of processes, in a profile and on `cores` cores
 abbrev pub processes : Profile → ℕ → KindOf ProcessDraft
 processes profile cores = record {
   head = record { section = Process; most = processes_of profile; keys = process_keys };

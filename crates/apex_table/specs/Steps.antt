@@ -8,7 +8,7 @@ use Rattle.apex_types.specs.declared.calls.Named.TheVariants.{Known, Unknown}
 use Rattle.apex_calls.specs.Catalogue.{Row, rows, row_in}
 use Rattle.apex_calls.specs.Parts.{none, call_of}
 use Rattle.apex_calls.specs.declared.catalogue.Shape.TheVariants.{Entry, Named, Number, Timeout, Message, Mode}
-use Rattle.apex_table.specs.Terms.{Arguments, Named as NameOf, Origin, Place, RequestedMode, Shape, TableFault, Timeout as TimeoutOf}
+use Rattle.apex_table.specs.Terms.{Arguments, Origin, Place, RequestedMode, Shape, TableFault, Timeout as TimeoutOf}
 use Rattle.apex_table.specs.declared.fault.TableFault.TheVariants.{BadStep}
 use Rattle.apex_table.specs.Outcome.{◌>>=◌, made, some_or}
 use Rattle.apex_table.specs.Keys.{well_formed}

@@ -21,6 +21,7 @@ mod sections;
 mod semaphores;
 mod steps;
 mod table;
+mod texts;
 
 pub use configs::{
     BlackboardConfig, BufferConfig, EventConfig, MutexConfig, ProcessConfig, SemaphoreConfig,

@@ -88,7 +88,7 @@ const PROCESS_KEYS: &[&str] = &[
     "name", "priority", "core", "period", "capacity", "deadline", "loop", "start", "script",
 ];
 
-/// The kind of processes, in a profile and on so many cores.
+/// The kind of processes, in a profile and on `cores` cores.
 #[derive(Drop)]
 pub struct Processes {
     pub profile: Profile,

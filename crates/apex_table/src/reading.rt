@@ -14,6 +14,7 @@ use crate::processes::{Processes, some_process};
 use crate::scripts::with_scripts;
 use crate::sections::read_section;
 use crate::table::Table;
+use crate::texts::script_texts;
 use apex_types::{MOST_CORES, MOST_ENTRIES, MOST_PROFILE, Profile, USUAL_ENTRIES};
 use std::alloc::Global;
 
@@ -46,7 +47,16 @@ fn read_tree(alloc: Global, tree: &toml::Table) -> Result<Table, TableFault>
     let names = Names::of(alloc, &drafts, &objects)?;
     let processes = with_scripts(alloc, &names, &drafts)?;
     let init = init_list(alloc, &names, &processes, &objects, texts)?;
-    Ok(Table::new(profile, cores as u8, limit, processes, objects, init))
+    let script_texts = script_texts(alloc, &drafts)?;
+    Ok(Table::new(
+        profile,
+        cores as u8,
+        limit,
+        processes,
+        objects,
+        init,
+        script_texts,
+    ))
 }
 
 fn document(alloc: Global, text: &[u8]) -> Result<toml::Table, TableFault>

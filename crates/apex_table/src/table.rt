@@ -1,14 +1,16 @@
 //! A partition's table.
-ghost use Rattle.std.specs.Prelude.{◌≡◌, ◌<◌, ◌≤◌, length, slice_get};
+ghost use Rattle.std.specs.Prelude.{◌≡◌, ◌<◌, ◌≤◌, length, option_map, slice_get};
 ghost use Rattle.apex_types.specs.Limits.{most_cores, most_entries, most_literal, most_objects, most_processes};
 ghost use Rattle.apex_types.specs.Table.{IsLawful, process_config, semaphore_config, buffer_config, blackboard_config, event_config, mutex_config, call_in, literal_text};
 ghost use Rattle.apex_table.specs.Reading.{table_with};
+ghost use Rattle.apex_table.specs.StepTexts.{step_text, IsWithTexts};
 
 use crate::configs::{
     BlackboardConfig, BufferConfig, EventConfig, MutexConfig, ProcessConfig, SemaphoreConfig,
 };
 use crate::listed::{call_in, literal_in};
 use crate::objects::Objects;
+use crate::texts::ScriptTexts;
 use apex_types::{
     BlackboardId, BufferId, Call, EventId, MutexId, Origin, ProcessId, Profile, SemaphoreId, Step,
 };
@@ -23,17 +25,20 @@ pub struct Table {
     processes: Vec<ProcessConfig>,
     objects: Objects,
     init: Vec<Step>,
+    /// The texts of the steps of all scripts, by process.
+    texts: Vec<ScriptTexts>,
 }
 
 impl Model for Table {
-    ghost use Rattle.apex_types.specs.Table.{Table, IsLawful};
+    ghost use Rattle.apex_types.specs.Table.{Table};
     ghost use Rattle.apex_table.specs.Reading.{table_with};
+    ghost use Rattle.apex_table.specs.StepTexts.{IsWithTexts};
 
     ghost Value = { Table };
 
     ghost view = { λ t. table_with t.profile t.cores t.limit t.processes.items t.objects t.init.items };
 
-    ghost invariant = { λ t. IsLawful (table_with t.profile t.cores t.limit t.processes.items t.objects t.init.items) };
+    ghost invariant = { λ t. IsWithTexts t.texts.items (table_with t.profile t.cores t.limit t.processes.items t.objects t.init.items) };
 }
 
 impl Table {
@@ -44,8 +49,9 @@ impl Table {
         processes: Vec<ProcessConfig>,
         objects: Objects,
         init: Vec<Step>,
+        texts: Vec<ScriptTexts>,
     ) -> Table
-        requires { IsLawful (table_with profile cores limit processes.items objects init.items) }
+        requires { IsWithTexts texts.items (table_with profile cores limit processes.items objects init.items) }
         ensures { result ≡ table_with profile cores limit processes.items objects init.items }
     {
         Table {
@@ -55,6 +61,7 @@ impl Table {
             processes,
             objects,
             init,
+            texts,
         }
     }
 
@@ -183,6 +190,29 @@ impl Table {
         ensures { result ≡ call_in self.now.init place }
     {
         call_in(&self.init, place)
+    }
+
+    /// The call of the step at this place of the process's script, counted from 0, or none past its
+    /// end.
+    pub fn step_call(&self, process: ProcessId, place: usize) -> Option<Call>
+        ensures { result ≡ call_in (process_config self.now process).script place }
+    {
+        match self.processes.get(process.place()) {
+            Some(process) => process.call(place),
+            None => None,
+        }
+    }
+
+    /// The text of the step at this place of the process's script, counted from 0, or none past its
+    /// end: its call, as a line writes it.
+    #[tactic(auto, using(crate::proofs::KeptTexts::text_at))]
+    pub fn step_text(&self, process: ProcessId, place: usize) -> Option<&[u8]>
+        ensures { option_map (λ text. text.now) result ≡ step_text self.now process place }
+    {
+        match self.texts.get(process.place()) {
+            Some(texts) => texts.get(place),
+            None => None,
+        }
     }
 
     /// The literal of the step of this origin, which has no byte if there is no such step.

@@ -115,6 +115,9 @@ impl Timeline {
         requires { process < length self.old.instants }
         ensures { IsReset self.old self.new process instant }
     {
+        if instant.is_none() && self.first().is_none() {
+            return;
+        }
         if self.instant_on(process) != instant {
             self.reset(process, instant);
         }

@@ -94,6 +94,7 @@ impl WaitQueues {
 
     /// The process, which is in no list, waits in the queue from now on: behind all others, or with
     /// the discipline PRIORITY before those of a lower priority than its own.
+    #[inline(always)]
     pub fn join(
         &mut self,
         links: &mut LinkSet,

@@ -1,6 +1,6 @@
 //! The parts of the lines of the status listing.
 ghost use Rattle.std.specs.Prelude.{◌≡◌, ◌+◌, ◌*◌, ◌<◌, ◌≤◌, ◌++◌, length, flat_map, codes, decimal};
-ghost use Rattle.apex_history.specs.declared.puts.TheConstants.{LINES_ROOM};
+ghost use Rattle.apex_history.specs.declared.puts.TheConstants.{ARGUMENT_ROOM, LINES_ROOM};
 ghost use Rattle.arrayvec.specs.ArrayVec.{array_vec_len};
 ghost use Rattle.apex_types.specs.Limits.{most_messages, most_owned, most_processes};
 ghost use Rattle.apex_types.specs.Texts.{id_text, message_text};
@@ -116,9 +116,9 @@ pub(super) fn put_owned(line: &mut Lines, owned: &Holdings)
 }
 
 pub(super) fn put_optional_message(line: &mut Lines, table: &Table, message: &Option<Message>)
-    requires { array_vec_len line.old + 128 ≤ LINES_ROOM }
+    requires { array_vec_len line.old + ARGUMENT_ROOM ≤ LINES_ROOM }
     ensures text { line.new.items ≡ line.old.items ++ status.optional_message_text table.now message.now }
-    ensures short { array_vec_len line.new ≤ array_vec_len line.old + 128 }
+    ensures short { array_vec_len line.new ≤ array_vec_len line.old + ARGUMENT_ROOM }
 {
     match message {
         Some(message) => put_message(line, table, message),
@@ -207,9 +207,9 @@ fn put_ids(line: &mut Lines, ids: &[ProcessId])
 
 #[tactic(auto, using(std::proofs::Common::append_assoc))]
 fn put_message_behind(line: &mut Lines, table: &Table, message: &Message)
-    requires { array_vec_len line.old + 129 ≤ LINES_ROOM }
+    requires { array_vec_len line.old + ARGUMENT_ROOM + 1 ≤ LINES_ROOM }
     ensures text { line.new.items ≡ line.old.items ++ status.behind_text (message_text table.now) message.now }
-    ensures short { array_vec_len line.new ≤ array_vec_len line.old + 129 }
+    ensures short { array_vec_len line.new ≤ array_vec_len line.old + ARGUMENT_ROOM + 1 }
 {
     put(line, ",");
     put_message(line, table, message);
@@ -217,9 +217,9 @@ fn put_message_behind(line: &mut Lines, table: &Table, message: &Message)
 
 fn put_messages_behind(line: &mut Lines, table: &Table, messages: &[Message])
     requires few { length messages.now ≤ most_messages }
-    requires room { array_vec_len line.old + 129 * most_messages ≤ LINES_ROOM }
+    requires room { array_vec_len line.old + (ARGUMENT_ROOM + 1) * most_messages ≤ LINES_ROOM }
     ensures text { line.new.items ≡ line.old.items ++ flat_map (status.behind_text (message_text table.now)) messages.now }
-    ensures short { array_vec_len line.new ≤ array_vec_len line.old + 129 * most_messages }
+    ensures short { array_vec_len line.new ≤ array_vec_len line.old + (ARGUMENT_ROOM + 1) * most_messages }
 {
     for message in messages {
         put_message_behind(line, table, message);
@@ -230,9 +230,9 @@ fn put_messages_behind(line: &mut Lines, table: &Table, messages: &[Message])
 #[tactic(auto, using(std::proofs::Common::append_assoc))]
 pub(super) fn put_messages(line: &mut Lines, table: &Table, messages: &[Message])
     requires few { length messages.now ≤ most_messages }
-    requires room { array_vec_len line.old + 128 + 129 * most_messages ≤ LINES_ROOM }
+    requires room { array_vec_len line.old + ARGUMENT_ROOM + (ARGUMENT_ROOM + 1) * most_messages ≤ LINES_ROOM }
     ensures text { line.new.items ≡ line.old.items ++ status.messages_text table.now messages.now }
-    ensures short { array_vec_len line.new ≤ array_vec_len line.old + 128 + 129 * most_messages }
+    ensures short { array_vec_len line.new ≤ array_vec_len line.old + ARGUMENT_ROOM + (ARGUMENT_ROOM + 1) * most_messages }
 {
     match messages.split_first() {
         Some((first, others)) => {

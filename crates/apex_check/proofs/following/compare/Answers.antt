@@ -13,8 +13,8 @@ returns-in_default-latest-clause-answers c =
     absurd (latest_some old.table old.machine c.args.event c.make.new.kernel.machine.history room
     (ap (λ (k : KernelState). k.machine.history) c.make.ensures.done) none)
 
-pub put_line-requires-clause-printable : goal.put_line-requires-clause-printable
-put_line-requires-clause-printable c =
+pub line-requires : goal.line-requires
+line-requires c =
     let old = c.args.kernel.now in
     let new = c.make.new.kernel in
     let room : length old.machine.history < old.table.limit = search rules in

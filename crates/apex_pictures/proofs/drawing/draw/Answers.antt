@@ -1,15 +1,20 @@
 -- The writer has a prefix of the picture at any time.
 use Rattle.std.proofs.Common.{◌≡◌, ◌∙◌, ◌+◌, ap, arith, drop, refl, subst, sym}
-use Rattle.std.proofs.lemmas.Result.{on_err_weaker}
+use Rattle.std.proofs.lemmas.Result.{on_err_weaker, on_ok_weaker}
 use Rattle.apex_types.specs.Machine.{Machine, accept, opening, run}
 use Rattle.apex_dispatch.specs.Kernel.{KernelState, kernel_in}
 use Rattle.apex_history.proofs.Outcomes.{OnErr-always}
-use Rattle.apex_history.proofs.Passing.{beginning_after}
+use Rattle.apex_history.proofs.Passing.{beginning_after, passes_all}
 use Rattle.apex_pictures.specs.Drawing.{Grows, IsPictured}
+use Rattle.apex_pictures.specs.Moments.{moment_in}
 use Rattle.apex_pictures.specs.Pictures.{foot_text, picture_text}
 use Rattle.apex_pictures.proofs.Drawn.{beginning_of_picture, drawn_more, passes_foot, passes_on, run_ended, run_next, unwritten}
 use Rattle.apex_pictures.proofs.Pictured.{pictured_accept}
 use Rattle.apex_pictures.proofs.drawing.draw.Goals as goal
+
+pub put_head-requires : goal.put_head-requires
+put_head-requires g c =
+    rw c.table.ensures (c.moment_in-shown.ensures ∙ ap (moment_in c.args.kernel.now.table) c.requires.opened)
 
 pub returns-in_default-draw_event-clause-err : goal.returns-in_default-draw_event-clause-err
 returns-in_default-draw_event-clause-err g c =
@@ -56,7 +61,7 @@ loop-event-preserved g c =
       rest = run_next table machine next c.args.events.now c.loop-event.event-index c.event-item.result _
           (omega arith) c.event-item.is new at.rest;
       pictured = subst (IsPictured table) (sym new) (pictured_accept table machine at.pictured c.event-item.result);
-      shown = c.in-Ok-draw_event.ensures.shown;
+      shown = rw at.table at c.in-Ok-draw_event.ensures.shown;
       text = passes_on _ _ _ _ _ _ passes c.in_ok-make_room.ensures.ok;
       failures = c.in_ok-make_room.ensures.counted ∙ at.failures;
     }
@@ -66,6 +71,20 @@ returns-in_default-put_foot-clause-err g c =
     let at = c.loop-event.invariant in
     beginning_of_picture _ _ c.args.style.now c.args.kernel.now.table c.loop-event.kernel.machine _
     (drop c.loop-event.event-index c.args.events.now) at.pictured at.rest (unwritten _ _ _ _ at.text)
+
+pub returns-clause-ok : goal.returns-clause-ok
+returns-clause-ok g c =
+    let at = c.loop-event.invariant in
+    let style = c.args.style.now in
+    let table = c.args.kernel.now.table in
+    let machine = c.loop-event.kernel.machine in
+    let end = run table (opening table) c.args.events.now in
+    let ended : machine ≡ end = run_ended table machine c.args.events.now c.loop-event.event-index end c.loop-event-test.false at.rest in
+    let stands = rw at.table at c.in-Ok-put_foot.ensures in
+    let passes = passes_foot _ _ style table machine c.loop-event.text.items (foot_text style table machine) _ at.text refl stands in
+    on_ok_weaker c.hand_on.result
+    (λ done. rw (← ended) (passes_all _ _ _ (picture_text style table machine) _ passes done))
+    c.hand_on.ensures.ok
 
 pub returns-clause-err : goal.returns-clause-err
 returns-clause-err g c =

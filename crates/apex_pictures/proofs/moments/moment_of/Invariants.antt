@@ -1,7 +1,8 @@
 -- The cells of the processes so far.
 use Rattle.std.proofs.Common.{◌≡◌, length}
 use Rattle.arrayvec.specs.ArrayVec.{array_vec_len}
-use Rattle.apex_pictures.specs.Moments.{cell_of, of_places, running_in}
+use Rattle.apex_pictures.specs.Moments.{cell_of, running_in}
+use Rattle.apex_pictures.specs.Places.{of_places}
 use Rattle.apex_pictures.proofs.moments.moment_of.Given as goal
 
 abbrev pub invariant-loop-place : goal.invariant-loop-place

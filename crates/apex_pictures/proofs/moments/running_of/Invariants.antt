@@ -2,7 +2,7 @@
 use Rattle.std.proofs.Common.{◌≡◌}
 use Rattle.arrayvec.specs.ArrayVec.{array_vec_len}
 use Rattle.apex_types.specs.Running.{chosen}
-use Rattle.apex_pictures.specs.Moments.{of_places}
+use Rattle.apex_pictures.specs.Places.{of_places}
 use Rattle.apex_pictures.proofs.moments.running_of.Given as goal
 
 abbrev pub invariant-loop-core : goal.invariant-loop-core

@@ -1,9 +1,10 @@
--- The words so far are behind the old text of the line, with at most 129 bytes each.
+-- The words so far are behind the old text of the line, with at most a space and an argument's bytes each.
 use Rattle.std.proofs.Common.{◌≡◌, ◌+◌, ◌*◌, ◌≤◌, ◌∷◌, ◌++◌, take}
 use Rattle.std.specs.Prelude.{flat_map}
 use Rattle.arrayvec.specs.ArrayVec.{array_vec_len}
 use Rattle.apex_types.specs.Table.{literal_text}
 use Rattle.apex_calls.specs.CallText.{name_of, word_text}
+use Rattle.apex_history.specs.declared.puts.TheConstants.{ARGUMENT_ROOM}
 use Rattle.apex_history.proofs.puts.call.put_words.Given as goal
 
 abbrev pub invariant-loop-shape : goal.invariant-loop-shape
@@ -12,5 +13,5 @@ invariant-loop-shape l = record {
       l.line.items
       ≡ l.fn.line.items
       ++ flat_map (λ s. 32 ∷ word_text (name_of l.table) (literal_text l.table) l.arguments s) (take l.shape-index l.shapes);
-  short : array_vec_len l.line ≤ array_vec_len l.fn.line + 129 * l.shape-index;
+  short : array_vec_len l.line ≤ array_vec_len l.fn.line + (ARGUMENT_ROOM + 1) * l.shape-index;
 }

@@ -1,0 +1,37 @@
+-- What the objects of a partition hold: the value of each semaphore, and the number of messages in each buffer.
+use Rattle.std.specs.Prelude.{ℕ, List, [], length}
+use Rattle.apex_types.specs.BufferServices.{buffer_kind}
+use Rattle.apex_types.specs.Listing.{object_in}
+use Rattle.apex_types.specs.Machine.{Objects, objects_after}
+use Rattle.apex_types.specs.SemaphoreServices.{semaphore_kind}
+use Rattle.apex_types.specs.Table.{Table}
+use Rattle.apex_pictures.specs.Places.{of_places}
+use Rattle.apex_pictures.specs.Terms.{Entry}
+
+-- the value of semaphore s
+abbrev pub value_of : Objects → ℕ → ℕ
+value_of objects s = (object_in semaphore_kind objects.semaphores s).value
+
+-- the number of messages in buffer b
+abbrev pub content_of : Objects → ℕ → ℕ
+content_of objects b = length (object_in buffer_kind objects.buffers b).messages
+
+-- a value for each semaphore, and a number of messages for each buffer
+pub record Counts : Type 0 where
+  pub values : List ℕ
+  pub contents : List ℕ
+
+-- the counts of no object
+abbrev pub no_counts : Counts
+no_counts = record { values = []; contents = [] }
+
+-- the counts of the objects of a table
+unfoldable pub counts_of : Table → Objects → Counts
+counts_of table objects = record {
+  values = of_places (value_of objects) (length table.semaphores);
+  contents = of_places (content_of objects) (length table.buffers);
+}
+
+-- the counts after these entries
+abbrev pub counts_after : Table → List Entry → Counts
+counts_after table done = counts_of table (objects_after table done)
