@@ -1,0 +1,4 @@
+pub mod CommandLemmas
+pub mod Lines
+pub mod Endings
+pub mod Plans

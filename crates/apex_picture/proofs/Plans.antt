@@ -1,0 +1,46 @@
+-- What is drawn for the items of a schedule.
+use Rattle.std.proofs.Common.{◌≡◌, ◌∙◌, ℕ, List, Option, Ok, true, refl, sym, ap, subst}
+use Rattle.std.specs.List.{All}
+use Rattle.apex_types.specs.Machine.{Machine, events_of, opening, replay, run}
+use Rattle.apex_types.specs.Table.{Table}
+use Rattle.apex_types.specs.declared.Event.{Event}
+use Rattle.apex_table.specs.Reading.{table_of}
+use Rattle.apex_dispatch.specs.Events.{IsWithin}
+use Rattle.apex_cli.specs.Reports.{fault_of_events}
+use Rattle.apex_cli.specs.Schedule.{are_cores_below, events_of_items}
+use Rattle.apex_cli.specs.declared.CliFault.{CliFault}
+use Rattle.apex_cli.specs.declared.Item.{Item}
+use Rattle.apex_picture.specs.Answers.{IsPlanOf, IsRunOf, answer_of, draws}
+use Rattle.apex_picture.specs.Histories.{IsHistoryOf}
+
+-- the events of the history of a run of the items run like those of the items
+pub run_is : (items : List Item) (table : Table) (machine : Machine) (events : List Event) (fault : Option CliFault)
+    → machine ≡ run table (opening table) (events_of_items items) → replay table machine.history ≡ machine
+    → events ≡ events_of machine.history → fault ≡ fault_of_events table (events_of_items items)
+    → All (IsWithin table.cores) (events_of machine.history) → IsRunOf items table events fault
+run_is items table machine events fault ran replays are told within = record {
+  same = sym ran ∙ sym replays ∙ ap (λ (l : List Event). run table (opening table) l) (sym are);
+  told = told;
+  within = subst (All (IsWithin table.cores)) (sym are) within;
+}
+
+-- the events of such a run are the ones to draw, if the table is read again
+pub plan_is : (items : List Item) (bytes : List ℕ) (table again : Table) (events : List Event) (fault : Option CliFault)
+    → table_of bytes ≡ Ok table → table_of bytes ≡ Ok again → are_cores_below table.cores items ≡ true
+    → IsRunOf items table events fault → IsPlanOf items bytes again events fault
+plan_is items bytes table again events fault read anew below made =
+    let same : table ≡ again = cc in
+    let drawn : answer_of items bytes ≡ draws table (run table (opening table) (events_of_items items)) (fault_of_events table (events_of_items items)) =
+    rw (read, below) refl in
+    subst (λ (t : Table). IsPlanOf items bytes t events fault) same (record {
+      answer = drawn ∙ ap (λ (m : Machine). draws table m (fault_of_events table (events_of_items items))) made.same
+          ∙ ap (draws table (run table (opening table) events)) (sym made.told);
+      within = made.within;
+    })
+
+-- the table of a history may be read again
+pub history_again : (text front : List ℕ) (table again : Table) (events : List Event) → IsHistoryOf text table events
+    → table_of front ≡ Ok table → table_of front ≡ Ok again → IsHistoryOf text again events
+history_again text front table again events history read anew =
+    let same : table ≡ again = cc in
+    subst (λ (t : Table). IsHistoryOf text t events) same history

@@ -1,0 +1,9 @@
+use Rattle.std.proofs.Common.{sym}
+use Rattle.apex_picture.proofs.Lines.{first_one, first_whole}
+use Rattle.apex_picture.proofs.histories.first_line.Goals as goal
+
+pub returns-clause-line : goal.returns-clause-line
+returns-clause-line c = first_one c.args.text.now c.in_ok-end.end (sym c.in_ok-end.ensures.place)
+
+pub returns-clause-whole : goal.returns-clause-whole
+returns-clause-whole c = first_whole c.args.text.now c.in_ok-end.end (sym c.in_ok-end.ensures.place)

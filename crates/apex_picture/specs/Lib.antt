@@ -1,0 +1,5 @@
+pub mod Words
+pub mod Tasks
+pub mod Answers
+pub mod Histories
+pub mod Exits

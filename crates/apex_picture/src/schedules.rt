@@ -1,0 +1,217 @@
+//! The events of a history, and their picture.
+ghost use Rattle.std.specs.Prelude.{◌≡◌, true, All, IfOk, IfErr, OnErr, OnOk, Ok};
+ghost use Rattle.std.specs.Io.KnownBytes.{Appends};
+ghost use Rattle.apex_types.specs.Machine.{asked_ticks, event_of, events_of, opening, run};
+ghost use Rattle.apex_dispatch.specs.Events.{IsWithin};
+ghost use Rattle.apex_history.specs.Counted.{inner_of, failures_of, AppendsBeginning};
+ghost use Rattle.apex_table.specs.Reading.{table_of};
+ghost use Rattle.apex_pictures.specs.Drawing.{CountsDrawing};
+ghost use Rattle.apex_pictures.specs.Pictures.{picture_text};
+ghost use Rattle.apex_cli.specs.Schedule.{are_cores_below};
+ghost use Rattle.apex_cli.specs.declared.CliFault.TheVariants.{Memory};
+ghost use Rattle.apex_picture.specs.Histories.{IsHistoryOf};
+ghost use Rattle.apex_picture.specs.Tasks.{IsOfEntries, task_said};
+ghost use Rattle.apex_picture.specs.Answers.{answer_of, IsAskedStyle, IsPlanOf, IsRunOf, RefusesItems};
+
+use crate::histories::{History, history_in};
+use crate::tasks::Task;
+use crate::words::Kind;
+use apex_cli::{CliFault, Item, are_cores_below, run_items};
+use apex_dispatch::Kernel;
+use apex_history::{Counted, Sink};
+use apex_pictures::{DrawFault, Frame, Style, draw};
+use apex_process::QueueStore;
+use apex_store::Store;
+use apex_table::{Table, read_table};
+use apex_types::{Event, LentEntry, Reply, Who};
+use std::alloc::{AllocError, Global};
+
+/// A picture that is to be drawn: its style, and the events of which it is.
+#[derive(Drop)]
+pub struct Plan {
+    pub style: Style,
+    pub table: Table,
+    pub events: Vec<Event>,
+    /// `HistoryFull` if there were more events.
+    pub fault: Option<CliFault>,
+}
+
+/// How many ticks a tick asked for.
+fn asked_ticks(reply: &Reply) -> u32
+    ensures { result ≡ asked_ticks reply.now }
+{
+    match reply {
+        Reply::Advanced(asked, _) => *asked,
+        _ => 0,
+    }
+}
+
+/// The event of an entry.
+fn event_of(entry: &LentEntry<'_>) -> Event
+    ensures { result ≡ event_of entry.entry.now }
+{
+    match entry.who {
+        Who::Core(core) => Event::Turn(core),
+        Who::Ticker => Event::Tick(asked_ticks(&entry.reply)),
+    }
+}
+
+/// The events of a kernel's history.
+fn events_in<S: Store>(alloc: Global, kernel: &Kernel<S>) -> Result<Vec<Event>, AllocError>
+    ensures { IfOk result (λ events. events.items ≡ events_of kernel.now.machine.history) }
+{
+    let mut events = Vec::new(alloc);
+    for entry in kernel.entries() {
+        events.push(event_of(&entry))?;
+    }
+    Ok(events)
+}
+
+/// How the picture of a kernel's history is drawn that a task asks for.
+fn style_for<S: Store>(task: &Task, kernel: &Kernel<S>) -> Style
+    requires { IsOfEntries task.now }
+    ensures { IsAskedStyle (task_said task.now) result }
+{
+    match task.kind {
+        Kind::Svg => Style::Svg(Frame::new(kernel, task.first, task.last)),
+        Kind::Trace => Style::Trace,
+    }
+}
+
+/// The table of a text from which it was read before.
+fn read_again(alloc: Global, text: &[u8]) -> Result<Table, AllocError>
+    ensures { IfOk result (λ table. table_of text.now ≡ Ok table) }
+{
+    match read_table(alloc, text) {
+        Ok(table) => Ok(table),
+        Err(_) => Err(AllocError),
+    }
+}
+
+/// A run that is to be drawn.
+#[derive(Drop)]
+struct Run {
+    style: Style,
+    events: Vec<Event>,
+    /// `HistoryFull` if there were more events.
+    fault: Option<CliFault>,
+}
+
+/// The run of the items on the table.
+fn run_of(alloc: Global, task: &Task, items: &[Item], table: Table) -> Result<Run, AllocError>
+    requires entries { IsOfEntries task.now }
+    requires below { are_cores_below table.cores items.now ≡ true }
+    ensures made { IfOk result (λ run. IsRunOf items.now table run.events.items run.fault) }
+    ensures style { IfOk result (λ run. IsAskedStyle (task_said task.now) run.style) }
+{
+    table.lawful();
+    let store = QueueStore::new(alloc, &table)?;
+    let mut kernel = Kernel::boot(alloc, table, store)?;
+    let fault = match run_items(&mut kernel, items) {
+        Ok(()) => None,
+        Err(full) => Some(CliFault::HistoryFull(full.entries)),
+    };
+    kernel.holds();
+    let events = events_in(alloc, &kernel)?;
+    let style = style_for(task, &kernel);
+    Ok(Run {
+        style,
+        events,
+        fault,
+    })
+}
+
+/// The plan for the items on the table of this text.
+///
+/// The errors in the order of the checks: the table's fault, `Usage` if an item is of a core that
+/// the table lacks; `Memory` whenever memory is refused.
+pub fn plan_of(alloc: Global, task: &Task, items: &[Item], text: &[u8]) -> Result<Plan, CliFault>
+    requires { IsOfEntries task.now }
+    ensures ok { IfOk result (λ plan.
+        IsPlanOf items.now text.now plan.table plan.events.items plan.fault) }
+    ensures style { IfOk result (λ plan. IsAskedStyle (task_said task.now) plan.style) }
+    ensures err { IfErr result (λ fault. RefusesItems fault (answer_of items.now text.now)) }
+{
+    let table = read_table(alloc, text)?;
+    if !are_cores_below(table.cores(), items) {
+        return Err(CliFault::Usage);
+    }
+    let again = read_again(alloc, text)?;
+    let made = run_of(alloc, task, items, table)?;
+    let Run {
+        style,
+        events,
+        fault,
+    } = made;
+    Ok(Plan {
+        style,
+        table: again,
+        events,
+        fault,
+    })
+}
+
+/// The style in which a task's picture of the events of this table is drawn.
+fn style_of(alloc: Global, task: &Task, table: Table, events: &[Event]) -> Result<Style, AllocError>
+    requires asked { IsOfEntries task.now }
+    requires within { All (IsWithin table.cores) events.now }
+    ensures { IfOk result (IsAskedStyle (task_said task.now)) }
+{
+    let store = QueueStore::new(alloc, &table)?;
+    let mut kernel = Kernel::boot(alloc, table, store)?;
+    // Events for which the history has no room are not drawn.
+    let _ = kernel.run(events);
+    Ok(style_for(task, &kernel))
+}
+
+/// The plan for the history that a text has; `Memory` if memory is refused.
+#[tactic(auto, using(crate::proofs::Plans::history_again))]
+pub fn plan_of_history(alloc: Global, task: &Task, text: &[u8]) -> Result<Plan, CliFault>
+    requires { IsOfEntries task.now }
+    ensures ok { IfOk result (λ plan. IsHistoryOf text.now plan.table plan.events.items) }
+    ensures style { IfOk result (λ plan. IsAskedStyle (task_said task.now) plan.style) }
+    ensures err { IfErr result (λ fault. fault ≡ Memory) }
+{
+    let Some(history) = history_in(alloc, text)? else {
+        return Err(CliFault::Memory);
+    };
+    let History {
+        front,
+        table,
+        events,
+    } = history;
+    let again = read_again(alloc, front)?;
+    let style = style_of(alloc, task, table, events.as_slice())?;
+    Ok(Plan {
+        style,
+        table: again,
+        events,
+        fault: None,
+    })
+}
+
+/// Draws the picture of the events of a table.
+pub fn draw_events<W: Sink>(
+    alloc: Global,
+    style: &Style,
+    table: Table,
+    events: &[Event],
+    writer: &mut Counted<W>,
+) -> Result<(), DrawFault>
+    requires { All (IsWithin table.cores) events.now }
+    ensures ok { OnOk result (Appends (W.contents (inner_of writer.old))
+        (W.contents (inner_of writer.new))
+        (picture_text style.now table (run table (opening table) events.now))) }
+    ensures err { OnErr result (AppendsBeginning (W.contents (inner_of writer.old))
+        (W.contents (inner_of writer.new))
+        (picture_text style.now table (run table (opening table) events.now))) }
+    ensures counted { CountsDrawing result (failures_of writer.old) (failures_of writer.new) }
+{
+    let Ok(store) = QueueStore::new(alloc, &table) else {
+        return Err(DrawFault::Memory);
+    };
+    let Ok(mut kernel) = Kernel::boot(alloc, table, store) else {
+        return Err(DrawFault::Memory);
+    };
+    draw(alloc, style, &mut kernel, events, writer)
+}
