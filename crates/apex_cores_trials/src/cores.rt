@@ -8,3 +8,6 @@ mod reading;
 mod refusals;
 mod values;
 mod workers;
+
+pub use contention::{Storm, weather};
+pub use reading::hold_the_lock;

@@ -3,9 +3,11 @@
 #![tactic(auto)]
 
 #[cfg(test)]
+mod closings;
+#[cfg(test)]
 mod cores;
 #[cfg(test)]
-mod lines;
+mod openings;
 #[cfg(test)]
 mod partition;
 #[cfg(test)]

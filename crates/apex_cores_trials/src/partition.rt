@@ -1,5 +1,7 @@
 //! Partitions by hand, and by the seats that share them.
 
 mod alone;
-mod open;
 mod scenes;
+mod steps;
+
+pub use scenes::{Scene, act_out};

@@ -1,15 +1,4 @@
 //! The tables that several tests read.
-use std::alloc::Global;
-use std::test::Fail;
-
-/// The texts, one behind the other.
-pub fn joined(alloc: Global, pieces: &[&str]) -> Result<String, Fail> {
-    let mut text = String::new(alloc);
-    for piece in pieces {
-        text.push_str(piece)?;
-    }
-    Ok(text)
-}
 
 /// Two cores, a process that waits for a semaphore on the one, and one that signals it on the other.
 pub const WAITER_AND_SIGNALLER: &str = r#"

@@ -1,23 +1,27 @@
 //! Eight cores in contention, by threads of their own.
-ghost use Rattle.std.specs.Prelude.{◌≡◌, length, vec_len};
-ghost use Rattle.apex_receipts.specs.Receipts.{voice_of};
-ghost use Rattle.apex_partition.specs.Seats.{IsSeated};
+ghost use Rattle.std.specs.Prelude.{◌≡◌};
 
-use super::crews::{Crew, Pauses, Reports, TICKS, TURNS, run_all};
-use super::reading::HasRead;
+use super::crews::{Report, TICKS, TURNS, Task, run_all};
 use super::values::{is_value_by_run, value_by_entries, value_by_lines};
-use crate::lines::lines_of;
+use crate::closings::{close, lines_of};
+use crate::openings::{Open, Play, open_and_play};
+use apex_cores::CoreReport;
 use apex_history::Entries;
-use apex_partition::{Closed, Naming, NewBoard, Opened, Receipt, Shared, open_read};
-use apex_table::{Table, read_table};
+use apex_partition::{Closed, Naming, Reader, Receipt, Seat, Shared, Ticker};
 use apex_types::{MOST_CORES, Who};
 use std::alloc::{AllocError, Global};
-use std::marker::Brand;
 use std::process::Abort;
 use std::str;
 use std::sync::Wait;
 use std::test::Fail;
 use std::thread::Threads;
+
+/// A storm on this table, in which the gate backs off `pauses` times in each work.
+#[derive(Clone, Copy)]
+pub struct Storm<'a> {
+    table: &'a str,
+    pauses: u32,
+}
 
 /// The objects of a storm.
 const OBJECTS: &str = r#"
@@ -39,47 +43,64 @@ capacity = 2
 discipline = "PRIORITY"
 "#;
 
-/// On each core a process that takes a semaphore, a mutex and a place of a buffer, and one that stops, starts
-/// and moves the processes of the two cores behind it.
-fn storm(alloc: Global) -> Result<String, Fail> {
-    let mut text = format!(in alloc; "cores = {MOST_CORES}\nhistory = 8192\n")?;
-    for core in 0..MOST_CORES {
-        let (next, after) = ((core + 1) % MOST_CORES, (core + 2) % MOST_CORES);
-        push_worker(&mut text, core)?;
-        push_mover(&mut text, core, next, after)?;
+/// Each core, the next one and the one after it.
+const NEIGHBOURS: [[&str; 3]; 8] = [
+    ["0", "1", "2"],
+    ["1", "2", "3"],
+    ["2", "3", "4"],
+    ["3", "4", "5"],
+    ["4", "5", "6"],
+    ["5", "6", "7"],
+    ["6", "7", "0"],
+    ["7", "0", "1"],
+];
+
+/// The keys of a process that works, behind its core.
+const WORK: &str = r#"
+loop = true
+start = true
+script = ["WAIT_SEMAPHORE S 2", "ACQUIRE_MUTEX M 0", "RELEASE_MUTEX M", "SEND_BUFFER B 01 0",
+    "RECEIVE_BUFFER B 0", "SIGNAL_SEMAPHORE S", "work 1"]
+"#;
+
+/// Adds to a table, on this core, a process that takes a semaphore, a mutex and a place of a buffer, and one that
+/// stops, starts and moves the processes of the two cores behind it.
+fn push_processes(text: &mut String, cores: [&str; 3]) -> Result<(), AllocError> {
+    let [core, next, after] = cores;
+    for piece in [
+        "\n[[process]]\nname = \"W",
+        core,
+        "\"\npriority = 10\ncore = ",
+        core,
+        WORK,
+        "\n[[process]]\nname = \"K",
+        core,
+        "\"\npriority = 20\ncore = ",
+        core,
+        "\nloop = true\nstart = true\nscript = [\"STOP W",
+        next,
+        "\", \"START W",
+        next,
+        "\", \"SET_PRIORITY W",
+        after,
+        " 30\", \"SET_PRIORITY W",
+        after,
+        " 10\", \"TIMED_WAIT 1\"]\n",
+    ] {
+        text.push_str(piece)?;
+    }
+    Ok(())
+}
+
+/// The table of a storm.
+fn storm_table(alloc: Global) -> Result<String, AllocError> {
+    let mut text = String::new(alloc);
+    text.push_str("cores = 8\nhistory = 8192\n")?;
+    for cores in NEIGHBOURS {
+        push_processes(&mut text, cores)?;
     }
     text.push_str(OBJECTS)?;
     Ok(text)
-}
-
-/// The keys of a process that works.
-const WORK: &str = "loop = true\nstart = true\nscript = [\"WAIT_SEMAPHORE S 2\", \
-\"ACQUIRE_MUTEX M 0\", \"RELEASE_MUTEX M\", \"SEND_BUFFER B 01 0\", \"RECEIVE_BUFFER B 0\", \
-\"SIGNAL_SEMAPHORE S\", \"work 1\"]\n";
-
-/// The process of a core that works.
-fn push_worker(text: &mut String, core: u32) -> Result<(), AllocError> {
-    write!(
-        text,
-        "[[process]]\nname = \"W{core}\"\npriority = 10\ncore = {core}\n{WORK}"
-    )
-}
-
-/// The process of a core that stops, starts and moves the workers of the next core and of the one after it.
-fn push_mover(text: &mut String, core: u32, next: u32, after: u32) -> Result<(), AllocError> {
-    write!(
-        text,
-        "[[process]]\nname = \"K{core}\"\npriority = 20\ncore = {core}\nloop = true\nstart = true\n\
-script = [\"STOP W{next}\", \"START W{next}\", \"SET_PRIORITY W{after} 30\", \
-\"SET_PRIORITY W{after} 10\", \"TIMED_WAIT 1\"]\n"
-    )
-}
-
-/// The results of a storm: the lines of its history, and the value of S by its entries.
-#[derive(Drop)]
-struct Aftermath {
-    lines: Vec<u8>,
-    value: Option<u64>,
 }
 
 /// The number of the last entry of a core or of the ticker.
@@ -102,118 +123,257 @@ fn confirm_last<P: Naming, R: Abort>(rt: &R, closed: &Closed<P>, receipts: &[Rec
     }
 }
 
+/// The tasks of a storm: those of the reader, if there is one, of the cores and of the ticker.
+fn tasks_of<P: Naming>(
+    alloc: Global,
+    seats: Vec<Seat<P>>,
+    ticker: Ticker<P>,
+    reader: Option<Reader<P>>,
+) -> Result<Vec<Task<P>>, Fail> {
+    let mut tasks = Vec::new(alloc);
+    if let Some(reader) = reader {
+        tasks.push(Task::Reader(reader))?;
+    }
+    for seat in seats {
+        tasks.push(Task::Core(seat))?;
+    }
+    tasks.push(Task::Ticker(ticker))?;
+    Ok(tasks)
+}
+
+/// What the threads of a storm gave back: the seats in the order of their cores with the receipts of their
+/// last turns, the ticker, and the reader, if there is one.
+#[derive(Drop)]
+struct Found<P: Naming> {
+    seats: Vec<Seat<P>>,
+    receipts: Vec<Receipt<P>>,
+    ticker: Option<Ticker<P>>,
+    reader: Option<Reader<P>>,
+}
+
+impl<P: Naming> Found<P> {
+    /// A core made all its turns.
+    fn put_core<R: Abort>(&mut self, rt: &R, report: CoreReport<P>) -> Result<(), Fail> {
+        assert!(rt; report.turns == TURNS && !report.full);
+        let receipt = report.last.expect(rt, "there were turns");
+        self.receipts.push(receipt)?;
+        self.seats.push(report.seat)?;
+        Ok(())
+    }
+
+    /// The ticker made all its ticks.
+    fn put_ticker<R: Abort>(&mut self, rt: &R, ticker: Ticker<P>) {
+        assert!(rt; ticker.count() == TICKS);
+        self.ticker = Some(ticker);
+    }
+
+    fn put<R: Abort>(&mut self, rt: &R, report: Report<P>) -> Result<(), Fail> {
+        match report {
+            Report::Core(report) => self.put_core(rt, report),
+            Report::Ticker(report) => {
+                self.put_ticker(rt, report.ticker);
+                Ok(())
+            }
+            Report::Reader(read) => {
+                assert!(rt; read.backwards == 0);
+                self.reader = Some(read.reader);
+                Ok(())
+            }
+            Report::Beside(_) => Err(Fail::from("a storm has no holder")),
+        }
+    }
+}
+
+/// What these threads gave back. The reader saw neither the entries nor the time go back.
+fn found_in<P: Naming, R: Abort>(
+    rt: &R,
+    alloc: Global,
+    reports: Vec<Report<P>>,
+) -> Result<Found<P>, Fail> {
+    let mut found = Found {
+        seats: Vec::new(alloc),
+        receipts: Vec::new(alloc),
+        ticker: None,
+        reader: None,
+    };
+    for report in reports {
+        found.put(rt, report)?;
+    }
+    Ok(found)
+}
+
 /// The entries of the whole crew.
 const ALL: u32 = MOST_CORES * TURNS + TICKS;
 
-/// The reader, if there is one, saw neither the entries nor the time go back, and is told of all entries.
-fn tell<P: Naming, R: Abort + Wait>(rt: &R, closed: &mut Closed<P>, read: Option<HasRead<P>>) {
-    if let Some(read) = read {
-        assert!(rt; read.backwards == 0);
-        let (last, _reader) = closed.tell(rt, read.reader);
+/// The reader, if there is one, is told of all entries.
+fn tell<P: Naming, R: Abort + Wait>(rt: &R, closed: &mut Closed<P>, reader: Option<Reader<P>>) {
+    if let Some(reader) = reader {
+        let (last, _reader) = closed.tell(rt, reader);
         assert!(rt; last.entries == ALL);
     }
 }
 
-/// Closes the partition of these threads, and confirms the receipts.
-fn close<P: Naming, R: Abort + Wait>(rt: &R, shared: Shared<P>, reports: Reports<P>) -> Closed<P>
-    requires seated { IsSeated reports.seats.items }
-    requires each { vec_len reports.seats ≡ P.table.cores }
-{
-    let mut closed = shared.close(reports.seats, reports.ticker);
-    confirm_last(rt, &closed, reports.receipts.as_slice());
-    tell(rt, &mut closed, reports.read);
-    closed
-}
-
-fn aftermath_of<P: Naming>(alloc: Global, closed: &Closed<P>) -> Result<Aftermath, Fail> {
-    let value = value_by_entries(closed.entries());
-    let lines = lines_of(alloc, closed)?;
-    Ok(Aftermath { lines, value })
-}
-
-/// Opens the partition, runs it by threads, and closes it.
-fn run_storm<P: Naming + Send + Sync, R: Abort + Threads + Wait + Sync>(
+/// All ways to read the value of S from these lines of a storm on this table agree with its value by the entries.
+fn agrees<R: Abort>(
     rt: &R,
     alloc: Global,
-    table: Table,
-    opened: Opened,
-    board: NewBoard,
-    gate: Pauses,
-) -> Result<Aftermath, Fail>
-    requires table { P.table ≡ table }
-    requires book { P.book ≡ opened.book }
-    requires scribe { P.scribe ≡ opened.scribe }
-    requires voice { P.voice ≡ voice_of opened.cores opened.ticker }
-    requires cores { length opened.cores ≡ table.cores }
-    requires cell { P.cell ≡ board.cell }
-{
-    let cores = usize::from(table.cores());
-    let (shared, seats, ticker, mut board) = open_read::<P>(alloc, table, opened, board)?;
-    let crew = Crew {
-        seats,
-        ticker,
-        reader: board.take(),
-    };
-    let reports = run_all(rt, alloc, &shared, crew, &gate)?;
-    let is_whole = reports.seats.len() == cores;
-    assert!(rt; is_whole);
-    let closed = close(rt, shared, reports);
-    aftermath_of(alloc, &closed)
-}
-
-/// All ways to read the value of S from what a storm leaves of this table agree.
-fn agrees<R: Abort>(rt: &R, alloc: Global, text: &str, aftermath: &Aftermath) -> Result<(), Fail> {
-    let history = str::from_utf8(aftermath.lines.as_slice())?;
+    text: &str,
+    lines: &[u8],
+    value: u64,
+) -> Result<(), Fail> {
+    let history = str::from_utf8(lines)?;
     assert!(rt; history.lines().count() == ALL as usize);
-    let value = aftermath.value.expect(rt, "no more waits than units");
     assert!(rt; value_by_lines(history) == Some(value));
     assert!(rt; is_value_by_run(alloc, text, history, value)?);
     Ok(())
 }
 
-/// The history of a storm has all entries that were planned, and the value of S is the same by its lines, by
-/// its entries, and in the listing of a kernel that makes its events anew.
-fn weather<R: Abort + Threads + Wait + Sync>(
-    rt: &R,
-    alloc: Global,
-    board: NewBoard,
-    gate: Pauses,
-) -> Result<(), Fail> {
-    let text = storm(alloc)?;
-    let table = read_table(alloc, text.as_str().as_bytes())?;
-    table.lawful();
-    let opened = Opened::new(alloc, u32::from(table.cores()))?;
-    let aftermath = run_storm::<Brand, R>(rt, alloc, table, opened, board, gate)?;
-    agrees(rt, alloc, text.as_str(), &aftermath)
+/// What is left of a storm: the closed partition, the receipts of the cores' last turns, and the reader, if
+/// there is one.
+#[derive(Drop)]
+struct Ended<P: Naming> {
+    closed: Closed<P>,
+    receipts: Vec<Receipt<P>>,
+    reader: Option<Reader<P>>,
 }
 
-#[test]
-fn twenty_storms_are_weathered(rt: HostRuntime) -> Result<(), Fail> {
-    for _time in 0..20 {
-        weather(
-            &rt,
-            rt.alloc(),
-            NewBoard::without_readers(),
-            Pauses { times: 0 },
+/// Closes the partition, whose ticker is there.
+fn close_with<P: Naming, R: Abort>(
+    rt: &R,
+    alloc: Global,
+    shared: Shared<P>,
+    seats: Vec<Seat<P>>,
+    ticker: Option<Ticker<P>>,
+    cores: usize,
+) -> Result<Closed<P>, Fail>
+    requires { cores ≡ P.table.cores }
+{
+    let ticker = ticker.expect(rt, "the ticker came back");
+    close(rt, alloc, shared, seats, ticker, cores)
+}
+
+/// Closes the partition of these threads.
+fn end<P: Naming, R: Abort>(
+    rt: &R,
+    alloc: Global,
+    shared: Shared<P>,
+    found: Found<P>,
+    cores: usize,
+) -> Result<Ended<P>, Fail>
+    requires { cores ≡ P.table.cores }
+{
+    let Found {
+        seats,
+        receipts,
+        ticker,
+        reader,
+    } = found;
+    let closed = close_with(rt, alloc, shared, seats, ticker, cores)?;
+    Ok(Ended {
+        closed,
+        receipts,
+        reader,
+    })
+}
+
+/// Confirms the receipts, and tells the reader.
+fn confirm_and_tell<P: Naming, R: Abort + Wait>(rt: &R, ended: Ended<P>) -> Closed<P> {
+    let Ended {
+        mut closed,
+        receipts,
+        reader,
+    } = ended;
+    confirm_last(rt, &closed, receipts.as_slice());
+    tell(rt, &mut closed, reader);
+    closed
+}
+
+/// The history has all entries that were planned, and the value of S is the same by its lines, by its
+/// entries, and in the listing of a kernel that makes its events anew.
+fn look_at<P: Naming, R: Abort>(
+    rt: &R,
+    alloc: Global,
+    closed: Closed<P>,
+    text: &str,
+) -> Result<(), Fail> {
+    let value = value_by_entries(closed.entries()).expect(rt, "no more waits than units");
+    let lines = lines_of(alloc, closed)?;
+    agrees(rt, alloc, text, lines.as_slice(), value)
+}
+
+/// Closes the partition of these threads, and looks at what is left.
+fn settle<P: Naming, R: Abort + Wait>(
+    rt: &R,
+    alloc: Global,
+    shared: Shared<P>,
+    found: Found<P>,
+    cores: usize,
+    text: &str,
+) -> Result<(), Fail>
+    requires { cores ≡ P.table.cores }
+{
+    let ended = end(rt, alloc, shared, found, cores)?;
+    let closed = confirm_and_tell(rt, ended);
+    look_at(rt, alloc, closed, text)
+}
+
+/// Runs a storm on this partition, whose table has `cores` cores, by threads, and closes it.
+pub fn weather<P: Naming + Send + Sync, R: Abort + Threads + Wait + Sync>(
+    rt: &R,
+    alloc: Global,
+    open: Open<P>,
+    cores: usize,
+    storm: Storm<'_>,
+) -> Result<(), Fail>
+    requires { cores ≡ P.table.cores }
+{
+    let Open {
+        shared,
+        seats,
+        ticker,
+        reader,
+    } = open;
+    let tasks = tasks_of(alloc, seats, ticker, reader)?;
+    let (reports, shared) = run_all(rt, alloc, shared, storm.pauses, tasks);
+    let found = found_in(rt, alloc, reports?)?;
+    settle(rt, alloc, shared, found, cores, storm.table)
+}
+
+/// Weathers this number of storms, one after the other.
+fn weather_all<R: Abort + Threads + Wait + Sync>(
+    rt: &R,
+    alloc: Global,
+    storms: u32,
+    pauses: u32,
+    has_reader: bool,
+) -> Result<(), Fail> {
+    let text = storm_table(alloc)?;
+    let table = text.as_str();
+    for _time in 0..storms {
+        open_and_play(
+            rt,
+            alloc,
+            table,
+            has_reader,
+            Play::Storm(Storm { table, pauses }),
         )?;
     }
     Ok(())
 }
 
+#[test]
+fn twenty_storms_are_weathered(rt: HostRuntime) -> Result<(), Fail> {
+    weather_all(&rt, rt.alloc(), 20, 0, false)
+}
+
 // While a process backs off at the gate, others move it and stop it, so that much of its work is lost.
 #[test]
 fn a_storm_is_weathered_where_work_takes_time(rt: HostRuntime) -> Result<(), Fail> {
-    weather(
-        &rt,
-        rt.alloc(),
-        NewBoard::without_readers(),
-        Pauses { times: 10 },
-    )
+    weather_all(&rt, rt.alloc(), 1, 10, false)
 }
 
 // Neither the entries nor the time go back while eight cores and the ticker are at work.
 #[test]
 fn ten_thousand_reads_beside_a_storm(rt: HostRuntime) -> Result<(), Fail> {
-    let board = NewBoard::new(rt.alloc(), 1)?;
-    weather(&rt, rt.alloc(), board, Pauses { times: 0 })
+    weather_all(&rt, rt.alloc(), 1, 0, true)
 }

@@ -1,14 +1,11 @@
-//! Threads: one for each seat, one for the ticker, and one for a reader.
-ghost use Rattle.std.specs.Prelude.{◌++◌, ◌∷◌, [], IfOk, OnOk};
-ghost use Rattle.apex_partition.specs.Seats.{IsSeated};
+//! Threads: one for each seat, one for the ticker, and those of readers.
 
-use super::reading::{HasRead, start_reading};
+use super::reading::{HasRead, Told, hold, read_many, read_twice};
 use apex_cores::{CoreReport, Gate, TickerReport, run_core, run_ticker};
-use apex_partition::{Naming, Reader, Receipt, Seat, Shared, Ticker};
+use apex_partition::{Naming, Reader, Seat, Shared, Ticker};
 use apex_types::{CoreId, ProcessId};
 use crossbeam_utils::Backoff;
 use std::alloc::Global;
-use std::process::Abort;
 use std::sync::Wait;
 use std::test::Fail;
 use std::thread;
@@ -22,8 +19,8 @@ pub const TICKS: u32 = 100;
 
 /// A gate that backs off `times` times in each work.
 #[derive(Clone, Copy)]
-pub struct Pauses {
-    pub times: u32,
+struct Pauses {
+    times: u32,
 }
 
 impl Gate for Pauses {
@@ -35,182 +32,134 @@ impl Gate for Pauses {
     }
 }
 
-fn start_core<'s, E, P: Naming + Send + Sync, G: Gate + Sync, R: Threads + Wait + Sync>(
+/// The task of a thread, with all that it takes and gives back.
+#[derive(Drop)]
+pub enum Task<P: Naming> {
+    /// The turns of a core.
+    Core(Seat<P>),
+    /// The ticks.
+    Ticker(Ticker<P>),
+    /// Many reads.
+    Reader(Reader<P>),
+    /// To hold the lock until a reader has read.
+    Holder,
+    /// Two reads while another thread holds the lock.
+    ReaderBesideHolder(Reader<P>),
+}
+
+/// What a thread reports when it has come to its end.
+#[derive(Drop)]
+pub enum Report<P: Naming> {
+    Core(CoreReport<P>),
+    Ticker(TickerReport<P>),
+    Reader(HasRead<P>),
+    /// Whether the lock was held while a reader read.
+    Beside(bool),
+}
+
+/// What the threads share beside the partition.
+#[derive(Drop)]
+struct Common {
+    gate: Pauses,
+    told: Told,
+}
+
+fn work<P: Naming, R: Wait>(
+    rt: &R,
+    shared: &Shared<P>,
+    common: &Common,
+    task: Task<P>,
+) -> Report<P> {
+    match task {
+        Task::Core(seat) => Report::Core(run_core(rt, shared, seat, TURNS, &common.gate)),
+        Task::Ticker(ticker) => Report::Ticker(run_ticker(rt, shared, ticker, TICKS)),
+        Task::Reader(reader) => Report::Reader(read_many(rt, reader)),
+        Task::Holder => Report::Beside(hold(rt, shared, &common.told)),
+        Task::ReaderBesideHolder(mut reader) => {
+            Report::Beside(read_twice(rt, &mut reader, &common.told))
+        }
+    }
+}
+
+fn start<'s, E, P: Naming + Send + Sync + 's, R: Threads + Wait + Sync>(
     rt: &'s R,
     scope: &'s Scope<'s, E>,
     shared: &'s Shared<P>,
-    seat: Seat<P>,
-    gate: &'s G,
-) -> Result<JoinHandle<CoreReport<P>>, Fail> {
-    match scope.spawn(move || run_core(rt, shared, seat, TURNS, gate)) {
+    common: &'s Common,
+    task: Task<P>,
+) -> Result<JoinHandle<Report<P>>, Fail> {
+    match scope.spawn(move || work(rt, shared, common, task)) {
         Ok(handle) => Ok(handle),
         Err(_refused) => Err(Fail::from("no thread")),
     }
 }
 
-fn start_ticker<'s, E, P: Naming + Send + Sync, R: Threads + Wait + Sync>(
+/// Starts a thread for each task, in their order.
+fn start_all<'s, E, P: Naming + Send + Sync + 's, R: Threads + Wait + Sync>(
     rt: &'s R,
+    alloc: Global,
     scope: &'s Scope<'s, E>,
     shared: &'s Shared<P>,
-    ticker: Ticker<P>,
-) -> Result<JoinHandle<TickerReport<P>>, Fail> {
-    match scope.spawn(move || run_ticker(rt, shared, ticker, TICKS)) {
-        Ok(handle) => Ok(handle),
-        Err(_refused) => Err(Fail::from("no thread")),
+    common: &'s Common,
+    tasks: Vec<Task<P>>,
+) -> Result<Vec<JoinHandle<Report<P>>>, Fail> {
+    let mut started = Vec::new(alloc);
+    for task in tasks {
+        started.push(start(rt, scope, shared, common, task)?)?;
     }
+    Ok(started)
 }
 
-/// The values that the threads take: the seats, the ticker, and the reader, if there is one.
-#[derive(Drop)]
-pub struct Crew<P: Naming> {
-    pub seats: Vec<Seat<P>>,
-    pub ticker: Ticker<P>,
-    pub reader: Option<Reader<P>>,
-}
-
-/// The threads of a crew.
-#[derive(Drop)]
-struct Started<P: Naming> {
-    cores: Vec<JoinHandle<CoreReport<P>>>,
-    ticking: JoinHandle<TickerReport<P>>,
-    reading: Option<JoinHandle<HasRead<P>>>,
-}
-
-/// The results of the threads: the seats in the order of their cores, the ticker, the receipts of the cores'
-/// last turns, and what was read.
-#[derive(Drop)]
-pub struct Reports<P: Naming> {
-    pub seats: Vec<Seat<P>>,
-    pub ticker: Ticker<P>,
-    pub receipts: Vec<Receipt<P>>,
-    pub read: Option<HasRead<P>>,
-}
-
-/// Puts back the seat of the next core.
-#[tactic(auto, using(crate::proofs::Seating::seat_next))]
-fn put_seat<P: Naming, R: Abort>(
-    rt: &R,
-    seats: &mut Vec<Seat<P>>,
-    seat: Seat<P>,
-) -> Result<(), Fail>
-    requires { IsSeated seats.old.items }
-    ensures { OnOk result (IsSeated seats.new.items) }
-{
-    let core = seat.core().number();
-    let is_next = usize::from(core) == seats.len();
-    assert!(rt; is_next);
-    seats.push(seat)?;
-    Ok(())
-}
-
-/// Joins the cores in the order in which they were started.
-fn join_cores<P: Naming, R: Abort + Threads>(
+/// Joins the threads in the order in which they were started.
+fn join_all<P: Naming, R: Threads>(
     rt: &R,
     alloc: Global,
-    cores: Vec<JoinHandle<CoreReport<P>>>,
-    receipts: &mut Vec<Receipt<P>>,
-) -> Result<Vec<Seat<P>>, Fail>
-    ensures { IfOk result (λ seats. IsSeated seats.items) }
-{
-    let mut seats = Vec::new(alloc);
-    for handle in cores {
-        let report = handle.join(rt);
-        assert!(rt; report.turns == TURNS && !report.full);
-        receipts.push(report.last.expect(rt, "there were turns"))?;
-        put_seat(rt, &mut seats, report.seat)?;
+    started: Vec<JoinHandle<Report<P>>>,
+) -> Result<Vec<Report<P>>, Fail> {
+    let mut reports = Vec::new(alloc);
+    for handle in started {
+        reports.push(handle.join(rt))?;
     }
-    Ok(seats)
+    Ok(reports)
 }
 
-fn start_cores<'s, E, P: Naming + Send + Sync, G: Gate + Sync, R: Threads + Wait + Sync>(
+fn run_in<'s, E, P: Naming + Send + Sync + 's, R: Threads + Wait + Sync>(
     rt: &'s R,
     alloc: Global,
     scope: &'s Scope<'s, E>,
     shared: &'s Shared<P>,
-    seats: Vec<Seat<P>>,
-    gate: &'s G,
-) -> Result<Vec<JoinHandle<CoreReport<P>>>, Fail> {
-    let mut cores = Vec::new(alloc);
-    for seat in seats {
-        cores.push(start_core(rt, scope, shared, seat, gate)?)?;
-    }
-    Ok(cores)
+    common: &'s Common,
+    tasks: Vec<Task<P>>,
+) -> Result<Vec<Report<P>>, Fail> {
+    let started = start_all(rt, alloc, scope, shared, common, tasks)?;
+    join_all(rt, alloc, started)
 }
 
-/// Starts the reader, if there is one, the cores and the ticker.
-fn start<'s, E, P: Naming + Send + Sync, G: Gate + Sync, R: Threads + Wait + Sync>(
-    rt: &'s R,
-    alloc: Global,
-    scope: &'s Scope<'s, E>,
-    shared: &'s Shared<P>,
-    crew: Crew<P>,
-    gate: &'s G,
-) -> Result<Started<P>, Fail> {
-    let Crew {
-        seats,
-        ticker,
-        reader,
-    } = crew;
-    let reading = start_reading(rt, scope, reader)?;
-    let cores = start_cores(rt, alloc, scope, shared, seats, gate)?;
-    let ticking = start_ticker(rt, scope, shared, ticker)?;
-    Ok(Started {
-        cores,
-        ticking,
-        reading,
-    })
-}
-
-/// Joins the threads.
-fn join<P: Naming, R: Abort + Threads>(
-    rt: &R,
-    alloc: Global,
-    started: Started<P>,
-) -> Result<Reports<P>, Fail>
-    ensures { IfOk result (λ all. IsSeated all.seats.items) }
-{
-    let Started {
-        cores,
-        ticking,
-        reading,
-    } = started;
-    let mut receipts = Vec::new(alloc);
-    let seats = join_cores(rt, alloc, cores, &mut receipts)?;
-    let ticker = ticking.join(rt).ticker;
-    assert!(rt; ticker.count() == TICKS);
-    Ok(Reports {
-        seats,
-        ticker,
-        receipts,
-        read: reading.map(|reading| reading.join(rt)),
-    })
-}
-
-fn run_in<'s, E, P: Naming + Send + Sync, R: Abort + Threads + Wait + Sync>(
-    rt: &'s R,
-    alloc: Global,
-    scope: &'s Scope<'s, E>,
-    shared: &'s Shared<P>,
-    crew: Crew<P>,
-    gate: &'s Pauses,
-) -> Result<Reports<P>, Fail>
-    ensures { IfOk result (λ all. IsSeated all.seats.items) }
-{
-    let started = start(rt, alloc, scope, shared, crew, gate)?;
-    join(rt, alloc, started)
-}
-
-/// Runs the whole crew, each of it in a thread of its own, and joins the threads.
-pub fn run_all<'x, P: Naming + Send + Sync, R: Abort + Threads + Wait + Sync>(
+fn run_on<'x, P: Naming + Send + Sync, R: Threads + Wait + Sync>(
     rt: &'x R,
     alloc: Global,
     shared: &'x Shared<P>,
-    crew: Crew<P>,
-    gate: &'x Pauses,
-) -> Result<Reports<P>, Fail>
-    ensures { IfOk result (λ all. IsSeated all.seats.items) }
-{
+    common: &'x Common,
+    tasks: Vec<Task<P>>,
+) -> Result<Vec<Report<P>>, Fail> {
     thread::scope(thread::scope_env(), rt, move |scope| {
-        run_in(rt, alloc, scope, shared, crew, gate)
+        run_in(rt, alloc, scope, shared, common, tasks)
     })
+}
+
+/// Has each task done in a thread of its own, with a gate that backs off `pauses` times in each work, and joins
+/// the threads: the reports in the order of the tasks, and the partition.
+pub fn run_all<P: Naming + Send + Sync, R: Threads + Wait + Sync>(
+    rt: &R,
+    alloc: Global,
+    shared: Shared<P>,
+    pauses: u32,
+    tasks: Vec<Task<P>>,
+) -> (Result<Vec<Report<P>>, Fail>, Shared<P>) {
+    let common = Common {
+        gate: Pauses { times: pauses },
+        told: Told::new(),
+    };
+    let reports = run_on(rt, alloc, &shared, &common, tasks);
+    (reports, shared)
 }

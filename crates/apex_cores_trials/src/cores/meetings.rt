@@ -1,5 +1,6 @@
 //! Two cores, each of which works only if the other one does, too.
 
+use crate::closings::entry_count;
 use apex_cores::{Gate, RunPlan, run_partition};
 use apex_table::read_table;
 use apex_types::{CoreId, ProcessId};
@@ -74,7 +75,7 @@ fn run_over<R: Threads + Wait + Sync>(
         ticks: 0,
     };
     let closed = run_partition(rt, alloc, table, plan, gate)?;
-    Ok(closed.entries().len())
+    Ok(entry_count(closed))
 }
 
 // If one thread served both cores, or held the lock while it worked, or never came to the gate,

@@ -1,19 +1,17 @@
 //! Readers in threads of their own, beside a storm and beside a holder of the lock.
-ghost use Rattle.std.specs.Prelude.{◌≡◌, length};
-ghost use Rattle.apex_receipts.specs.Receipts.{voice_of};
 
+use super::crews::{Report, Task, run_all};
+use crate::openings::{Open, Play, open_and_play};
 use crate::tables::WAITER_AND_SIGNALLER;
-use apex_partition::{Naming, NewBoard, Opened, Partition, Reader, Receipt, Shared, open_read};
-use apex_table::{Table, read_table};
+use apex_partition::{Naming, Partition, Reader, Receipt, Shared};
 use crossbeam_utils::Backoff;
 use std::alloc::Global;
-use std::marker::Brand;
+use std::mem::drop;
 use std::process::Abort;
 use std::sync::Wait;
 use std::sync::atomic::{AtomicU64, Ordering};
 use std::test::Fail;
-use std::thread;
-use std::thread::{JoinHandle, Scope, Threads};
+use std::thread::Threads;
 
 /// The reads of a reader beside a storm.
 const READS: u32 = 10_000;
@@ -49,40 +47,28 @@ fn read_all<P: Naming, R: Wait>(rt: &R, reader: &mut Reader<P>) -> u32 {
     backwards
 }
 
-fn read_many<P: Naming, R: Wait>(rt: &R, mut reader: Reader<P>) -> HasRead<P> {
+/// Reads many times.
+pub fn read_many<P: Naming, R: Wait>(rt: &R, mut reader: Reader<P>) -> HasRead<P> {
     let backwards = read_all(rt, &mut reader);
     HasRead { reader, backwards }
-}
-
-fn start_reader<'s, E, P: Naming + Send + Sync + 's, R: Threads + Wait + Sync>(
-    rt: &'s R,
-    scope: &'s Scope<'s, E>,
-    reader: Reader<P>,
-) -> Result<JoinHandle<HasRead<P>>, Fail> {
-    match scope.spawn(move || read_many(rt, reader)) {
-        Ok(handle) => Ok(handle),
-        Err(_refused) => Err(Fail::from("no thread")),
-    }
-}
-
-/// Starts the thread of the reader, if there is one.
-pub fn start_reading<'s, E, P: Naming + Send + Sync + 's, R: Threads + Wait + Sync>(
-    rt: &'s R,
-    scope: &'s Scope<'s, E>,
-    reader: Option<Reader<P>>,
-) -> Result<Option<JoinHandle<HasRead<P>>>, Fail> {
-    match reader {
-        Some(reader) => Ok(Some(start_reader(rt, scope, reader)?)),
-        None => Ok(None),
-    }
 }
 
 /// The words between the holder of the lock and the reader's thread: whether the lock is held, and the
 /// number of reads since then.
 #[derive(Drop)]
-struct Told {
+pub struct Told {
     held: AtomicU64,
     reads: AtomicU64,
+}
+
+impl Told {
+    /// The lock is not held.
+    pub fn new() -> Told {
+        Told {
+            held: AtomicU64::new(0),
+            reads: AtomicU64::new(0),
+        }
+    }
 }
 
 /// Waits until the word has this value, at most for all polls; whether it has.
@@ -98,10 +84,10 @@ fn await_told(word: &AtomicU64, wanted: u64) -> bool {
 }
 
 /// Reads twice as soon as the lock is held; whether it was held.
-fn read_twice<P: Naming, R: Wait>(rt: &R, mut reader: Reader<P>, told: &Told) -> bool {
+pub fn read_twice<P: Naming, R: Wait>(rt: &R, reader: &mut Reader<P>, told: &Told) -> bool {
     let is_held = await_told(&told.held, 1);
     for reads in 1..3u64 {
-        let _seen = read_once(rt, &mut reader);
+        let _seen = read_once(rt, reader);
         told.reads.store(reads, Ordering::SeqCst);
     }
     is_held
@@ -114,66 +100,41 @@ fn hold_until_read(_partition: &Partition, told: &Told) -> bool {
 }
 
 /// Holds the lock of the partition; whether a reader has read meanwhile.
-fn look<'a, P: Naming, R: Wait>(rt: &'a R, shared: &'a Shared<P>, told: &'a Told) -> bool {
+pub fn hold<'a, P: Naming, R: Wait>(rt: &'a R, shared: &'a Shared<P>, told: &'a Told) -> bool {
     let unseen: Option<&'a Receipt<P>> = None;
     shared.look(rt, unseen, |partition| hold_until_read(partition, told))
 }
 
-fn look_in<'s, E, P: Naming + Send + Sync, R: Threads + Wait + Sync>(
-    rt: &'s R,
-    scope: &'s Scope<'s, E>,
-    shared: &'s Shared<P>,
-    reader: Reader<P>,
-    told: &'s Told,
-) -> Result<(bool, bool), Fail> {
-    let Ok(reading) = scope.spawn(move || read_twice(rt, reader, told)) else {
-        return Err(Fail::from("no thread"));
-    };
-    let was_read = look(rt, shared, told);
-    Ok((was_read, reading.join(rt)))
+/// Whether there are two reports of threads beside each other, both of which met the other one.
+fn have_met<P: Naming>(reports: &[Report<P>]) -> bool {
+    matches!(reports, [Report::Beside(true), Report::Beside(true)])
 }
 
-fn look_while_reading<'x, P: Naming + Send + Sync, R: Threads + Wait + Sync>(
-    rt: &'x R,
-    shared: &'x Shared<P>,
-    reader: Reader<P>,
-    told: &'x Told,
-) -> Result<(bool, bool), Fail> {
-    thread::scope(thread::scope_env(), rt, move |scope| {
-        look_in(rt, scope, shared, reader, told)
-    })
+/// The holder's task and the reader's.
+fn beside<P: Naming>(alloc: Global, reader: Reader<P>) -> Result<Vec<Task<P>>, Fail> {
+    let mut tasks = Vec::new(alloc);
+    tasks.push(Task::ReaderBesideHolder(reader))?;
+    tasks.push(Task::Holder)?;
+    Ok(tasks)
 }
 
-fn hold_the_lock<P: Naming + Send + Sync, R: Abort + Threads + Wait + Sync>(
+/// The partition's reader reads while another thread holds the lock.
+pub fn hold_the_lock<P: Naming + Send + Sync, R: Abort + Threads + Wait + Sync>(
     rt: &R,
     alloc: Global,
-    table: Table,
-    opened: Opened,
-    board: NewBoard,
-) -> Result<(), Fail>
-    requires table { P.table ≡ table }
-    requires book { P.book ≡ opened.book }
-    requires scribe { P.scribe ≡ opened.scribe }
-    requires voice { P.voice ≡ voice_of opened.cores opened.ticker }
-    requires cores { length opened.cores ≡ table.cores }
-    requires cell { P.cell ≡ board.cell }
-{
-    let (shared, _seats, _ticker, mut board) = open_read::<P>(alloc, table, opened, board)?;
-    let reader = board.take().expect(rt, "the board has one reader");
-    let told = Told {
-        held: AtomicU64::new(0),
-        reads: AtomicU64::new(0),
-    };
-    let (was_read, was_held) = look_while_reading(rt, &shared, reader, &told)?;
-    assert!(rt; was_read && was_held);
+    open: Open<P>,
+) -> Result<(), Fail> {
+    let Open { shared, reader, .. } = open;
+    let reader = reader.expect(rt, "the partition has one reader");
+    let tasks = beside(alloc, reader)?;
+    let (reports, shared) = run_all(rt, alloc, shared, 0, tasks);
+    drop(shared);
+    assert!(rt; have_met(reports?.as_slice()));
     Ok(())
 }
 
 // If a reader took the lock, it could not read while another thread holds it.
 #[test]
 fn a_reader_reads_while_another_thread_holds_the_lock(rt: HostRuntime) -> Result<(), Fail> {
-    let table = read_table(rt.alloc(), WAITER_AND_SIGNALLER.as_bytes())?;
-    let opened = Opened::new(rt.alloc(), u32::from(table.cores()))?;
-    let board = NewBoard::new(rt.alloc(), 1)?;
-    hold_the_lock::<Brand, _>(&rt, rt.alloc(), table, opened, board)
+    open_and_play(&rt, rt.alloc(), WAITER_AND_SIGNALLER, true, Play::HeldLock)
 }

@@ -1,5 +1,6 @@
 //! Runs of which a thread is refused, and the ticker's thread beside the cores.
 
+use crate::closings::entry_count;
 use apex_cores::{Gate, RunFault, RunPlan, Starts, run_partition_with};
 use apex_table::read_table;
 use apex_types::{CoreId, ProcessId};
@@ -100,7 +101,7 @@ fn run_without<R: Threads + Wait + Sync>(
         is_in_turn: true,
     };
     let entries = match run_partition_with(rt, alloc, table, plan, &mut starts, &gate) {
-        Ok(closed) => Ok(closed.entries().len()),
+        Ok(closed) => Ok(entry_count(closed)),
         Err(fault) => Err(fault),
     };
     Ok(Outcome {

@@ -11,6 +11,7 @@ use apex_types::{
     Reply, ReturnCode, SemaphoreService,
 };
 use std::alloc::Global;
+use std::mem::drop;
 use std::str;
 use std::test::Fail;
 
@@ -163,11 +164,18 @@ fn run_again(alloc: Global, table: Table, history: &str) -> Result<Kernel<PlainS
     Ok(kernel)
 }
 
-fn listing_of(alloc: Global, kernel: &Kernel<PlainStore>) -> Result<Vec<u8>, Fail> {
+fn print_listing(alloc: Global, kernel: &Kernel<PlainStore>) -> Result<Vec<u8>, Fail> {
     let mut listing = Vec::new(alloc);
     let mut page = Page::new(alloc)?;
     kernel.print_status(&mut page, &mut Counted::new(&mut listing))?;
     Ok(listing)
+}
+
+/// The listing of the kernel, which is let go.
+fn listing_of(alloc: Global, kernel: Kernel<PlainStore>) -> Result<Vec<u8>, Fail> {
+    let listing = print_listing(alloc, &kernel);
+    drop(kernel);
+    listing
 }
 
 /// Whether a listing shows this value.
@@ -180,6 +188,6 @@ fn shows(alloc: Global, listing: &[u8], value: u64) -> Result<bool, Fail> {
 pub fn is_value_by_run(alloc: Global, text: &str, history: &str, value: u64) -> Result<bool, Fail> {
     let table = read_table(alloc, text.as_bytes())?;
     let kernel = run_again(alloc, table, history)?;
-    let listing = listing_of(alloc, &kernel)?;
+    let listing = listing_of(alloc, kernel)?;
     shows(alloc, listing.as_slice(), value)
 }

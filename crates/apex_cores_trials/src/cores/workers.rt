@@ -2,12 +2,14 @@
 ghost use Rattle.std.specs.Prelude.{◌≡◌, None, length};
 ghost use Rattle.apex_receipts.specs.Receipts.{voice_of};
 
-use apex_cores::{Gate, run_core, run_ticker};
-use apex_partition::{Naming, Opened, Seat, Shared, Ticker, open};
-use apex_table::{Table, read_table};
+use crate::openings::read;
+use apex_cores::{CoreReport, Gate, TickerReport, run_core, run_ticker};
+use apex_partition::{Naming, Opened, Receipt, Seat, Shared, Ticker, open};
+use apex_table::Table;
 use apex_types::{CoreId, ProcessId, Reply};
 use std::alloc::Global;
 use std::marker::Brand;
+use std::mem::drop;
 use std::process::Abort;
 use std::sync::Wait;
 use std::sync::atomic::{AtomicU64, Ordering};
@@ -103,6 +105,25 @@ const IDLE: Shift = Shift {
     count: 8,
 };
 
+/// Whether the worker of a core made these turns.
+fn is_made<P: Naming>(report: &CoreReport<P>, shift: Shift) -> bool {
+    let is_full = shift.is_cut_short();
+    let seat = &report.seat;
+    is_last(&report.last, shift)
+        && report.turns == shift.made
+        && report.full == is_full
+        && seat.count() == shift.count
+        && seat.told_full() == is_full
+}
+
+/// Whether this is the receipt of the last of these turns.
+fn is_last<P: Naming>(last: &Option<Receipt<P>>, shift: Shift) -> bool {
+    match last {
+        Some(last) => last.place() == shift.count && last.entry().reply == shift.reply,
+        None => false,
+    }
+}
+
 /// The work is done at the gate before the worker that began it ends, and by no other one.
 fn take_turns<P: Naming, R: Abort + Wait>(
     rt: &R,
@@ -112,16 +133,20 @@ fn take_turns<P: Naming, R: Abort + Wait>(
     shift: Shift,
 ) -> Seat<P> {
     let report = run_core(rt, shared, seat, shift.asked, gate);
-    assert!(rt; report.turns == shift.made && report.full == shift.is_cut_short());
-    let last = report.last.expect(rt, "there was a turn");
-    assert!(rt; last.place() == shift.count && last.entry().reply == shift.reply);
-    let seat = report.seat;
-    assert!(rt; seat.count() == shift.count && seat.told_full() == shift.is_cut_short());
-    assert!(rt; gate.is_called_once());
-    seat
+    assert!(rt; is_made(&report, shift) && gate.is_called_once());
+    report.seat
 }
 
-/// Asks for `asked` ticks, of which `made` are made; the ticker has made two in all.
+/// Whether the ticker's worker was asked for `asked` ticks and made `made`. The ticker has made two in all.
+fn is_ticked<P: Naming>(report: &TickerReport<P>, asked: u32, made: u32) -> bool {
+    let is_full = made < asked;
+    let ticker = &report.ticker;
+    report.ticks == made
+        && report.full == is_full
+        && (ticker.count(), ticker.sum(), ticker.told_full()) == (2, 2, is_full)
+}
+
+/// Asks for `asked` ticks, of which `made` are made.
 fn tick<P: Naming, R: Abort + Wait>(
     rt: &R,
     shared: &Shared<P>,
@@ -130,25 +155,24 @@ fn tick<P: Naming, R: Abort + Wait>(
     made: u32,
 ) -> Ticker<P> {
     let report = run_ticker(rt, shared, ticker, asked);
-    assert!(rt; report.ticks == made && report.full == (made < asked));
-    let ticker = report.ticker;
-    assert!(rt; ticker.count() == 2 && ticker.sum() == 2 && ticker.told_full() == (made < asked));
-    ticker
+    assert!(rt; is_ticked(&report, asked, made));
+    report.ticker
 }
 
-/// Eight turns and two ticks fill the history.
+/// Eight turns and two ticks fill the history of the partition, which the caller lets go.
 fn work_until_full<P: Naming, R: Abort + Wait>(
     rt: &R,
-    shared: &Shared<P>,
+    shared: Shared<P>,
     seat: Seat<P>,
     ticker: Ticker<P>,
-) {
+) -> Shared<P> {
     let gate = Counter::new();
-    let seat = take_turns(rt, shared, seat, &gate, BEGIN);
-    let seat = take_turns(rt, shared, seat, &gate, END);
-    let ticker = tick(rt, shared, ticker, 2, 2);
-    let _seat = take_turns(rt, shared, seat, &gate, IDLE);
-    let _ticker = tick(rt, shared, ticker, 5, 0);
+    let seat = take_turns(rt, &shared, seat, &gate, BEGIN);
+    let seat = take_turns(rt, &shared, seat, &gate, END);
+    let ticker = tick(rt, &shared, ticker, 2, 2);
+    let _seat = take_turns(rt, &shared, seat, &gate, IDLE);
+    let _ticker = tick(rt, &shared, ticker, 5, 0);
+    shared
 }
 
 fn open_and_work<P: Naming, R: Abort + Wait>(
@@ -166,14 +190,12 @@ fn open_and_work<P: Naming, R: Abort + Wait>(
 {
     let (shared, mut seats, ticker) = open::<P>(alloc, table, opened)?;
     let seat = seats.pop().expect(rt, "the core has a seat");
-    work_until_full(rt, &shared, seat, ticker);
+    drop(work_until_full(rt, shared, seat, ticker));
     Ok(())
 }
 
 #[test]
 fn workers_stop_at_a_full_history(rt: HostRuntime) -> Result<(), Fail> {
-    let table = read_table(rt.alloc(), WORKER.as_bytes())?;
-    table.lawful();
-    let opened = Opened::new(rt.alloc(), u32::from(table.cores()))?;
+    let (table, opened) = read(rt.alloc(), WORKER)?;
     open_and_work::<Brand, HostRuntime>(&rt, rt.alloc(), table, opened)
 }

@@ -4,6 +4,7 @@ ghost use Rattle.std.specs.Prelude.{◌<◌};
 use apex_partition::Partition;
 use apex_table::read_table;
 use apex_types::{CoreId, Full};
+use std::mem::drop;
 use std::process::Abort;
 use std::test::Fail;
 
@@ -49,5 +50,6 @@ fn a_full_history_refuses_both_events(rt: HostRuntime) -> Result<(), Fail> {
     fill(&rt, &mut partition);
     assert!(rt; is_full(&rt, &mut partition));
     assert!(rt; partition.entries().len() == MOST_ALONE as usize);
+    drop(partition);
     Ok(())
 }

@@ -1,42 +1,20 @@
 //! Scenes: the steps of two seats and a ticker that share a partition, each with the answer that it must have.
-ghost use Rattle.std.specs.Prelude.{◌≡◌, length};
-ghost use Rattle.apex_receipts.specs.Receipts.{voice_of};
+ghost use Rattle.std.specs.Prelude.{◌≡◌};
 
-use super::alone::{ALONE, MOST_ALONE};
-use super::open::Open;
-use crate::lines::lines_of;
-use crate::tables::{STARTED, WAITER_AND_SIGNALLER, joined};
-use apex_partition::{Closed, Front, Naming, NewBoard, Opened, Receipt, Seat, Ticker};
-use apex_table::{Table, read_table};
-use apex_types::{Full, ProcessId};
+use super::alone::ALONE;
+use super::steps::{Shown, Step, take_step};
+use crate::closings::{close, lines_of};
+use crate::openings::{Open, Play, open_and_play};
+use crate::tables::{STARTED, WAITER_AND_SIGNALLER};
+use apex_partition::{Closed, Naming, Reader, Receipt, Seat, Ticker};
 use std::alloc::Global;
-use std::marker::Brand;
 use std::process::Abort;
 use std::sync::Wait;
 use std::test::Fail;
 
-/// What the front of two cores shows: the entries, the time, and the number of the process that each core runs,
-/// which is 0 if it runs none.
-struct Shown {
-    entries: u32,
-    now: u64,
-    running: [u32; 2],
-}
-
-/// A step, with its answer.
-enum Step {
-    /// A turn of the seat at this place, and the place of its receipt; none if the history is full.
-    Turn(usize, Option<u32>),
-    /// A tick, and the place of its receipt; none if the history is full.
-    Tick(u32, Option<u32>),
-    /// A look, with the last receipt and without one, and the number of entries that it sees.
-    Look(usize),
-    /// A reading, and what it shows.
-    Read(Shown),
-}
-
 /// The steps on a table of two cores, and what they leave.
-struct Scene<'a> {
+#[derive(Clone, Copy)]
+pub struct Scene<'a> {
     table: &'a str,
     steps: &'a [Step],
     /// The core of each seat, the number of entries that it made, and whether it knows that the history is full.
@@ -49,34 +27,13 @@ struct Scene<'a> {
     lines: &'a [&'a str],
 }
 
-impl Shown {
-    fn is_in(&self, front: &Front) -> bool {
-        let chosen = front.chosen.as_slice();
-        let [first, second] = self.running;
-        let is_there = runs(chosen.get(0), first)
-            && runs(chosen.get(1), second)
-            && chosen.len() == 2;
-        front.entries == self.entries && front.now == self.now && is_there
-    }
-}
-
-/// Whether a core runs the process of this number, or none if it is 0.
-fn runs(running: Option<&Option<ProcessId>>, number: u32) -> bool {
-    match running {
-        Some(Some(process)) => process.number() == number,
-        Some(None) => number == 0,
-        None => false,
-    }
-}
-
 fn is_seat<P: Naming>(seat: &Seat<P>, wanted: (u8, u32, bool)) -> bool {
     (seat.core().number(), seat.count(), seat.told_full()) == wanted
 }
 
-fn are_seats<P: Naming>(seats: &[Seat<P>], wanted: [(u8, u32, bool); 2]) -> bool {
-    let [first, second] = wanted;
-    match seats {
-        [one, two] => is_seat(one, first) && is_seat(two, second),
+fn are_seats<P: Naming>(seats: &[Seat<P>], wanted: &[(u8, u32, bool); 2]) -> bool {
+    match (seats, wanted) {
+        ([one, two], [first, second]) => is_seat(one, *first) && is_seat(two, *second),
         _ => false,
     }
 }
@@ -85,60 +42,13 @@ fn is_ticker<P: Naming>(ticker: &Ticker<P>, wanted: (u32, u64, bool)) -> bool {
     (ticker.count(), ticker.sum(), ticker.told_full()) == wanted
 }
 
-/// The place of the receipt; none if the history is full.
-fn place_of<P: Naming, R: Abort>(rt: &R, got: &Result<Receipt<P>, Full>) -> Option<u32> {
-    match got {
-        Ok(receipt) => Some(receipt.place()),
-        Err(full) => {
-            assert!(rt; full.entries == MOST_ALONE);
-            None
-        }
-    }
-}
-
-/// Keeps the receipt, if there is one, which has this place.
-fn keep<P: Naming, R: Abort>(
-    rt: &R,
-    receipts: &mut Vec<Receipt<P>>,
-    got: Result<Receipt<P>, Full>,
-    place: Option<u32>,
-) -> Result<(), Fail> {
-    assert!(rt; place_of(rt, &got) == place);
-    if let Ok(receipt) = got {
-        receipts.push(receipt)?;
-    }
-    Ok(())
-}
-
-/// Whether a look sees this number of entries, with the last of these receipts and without one.
-fn is_seen<'a, P: Naming, R: Wait>(
-    rt: &'a R,
-    open: &'a Open<P>,
-    receipts: &'a [Receipt<P>],
-    entries: usize,
-) -> bool {
-    open.look(rt, receipts.last()) == entries && open.look(rt, None) == entries
-}
-
-fn play_step<P: Naming, R: Abort + Wait>(
-    rt: &R,
-    open: &mut Open<P>,
-    receipts: &mut Vec<Receipt<P>>,
-    step: &Step,
-) -> Result<(), Fail> {
-    match step {
-        Step::Turn(seat, place) => keep(rt, receipts, open.turn(rt, *seat), *place)?,
-        Step::Tick(ticks, place) => keep(rt, receipts, open.tick(rt, *ticks), *place)?,
-        Step::Look(entries) => {
-            assert!(rt; is_seen(rt, open, receipts.as_slice(), *entries));
-        }
-        Step::Read(shown) => assert!(rt; shown.is_in(&open.read(rt))),
-    }
-    Ok(())
+/// Whether the seats and the ticker are as the scene leaves them.
+fn is_left<P: Naming>(open: &Open<P>, scene: &Scene<'_>) -> bool {
+    are_seats(open.seats.as_slice(), &scene.seats) && is_ticker(&open.ticker, scene.ticker)
 }
 
 /// The receipts of the events of these steps.
-fn play<P: Naming, R: Abort + Wait>(
+fn take_steps<P: Naming, R: Abort + Wait>(
     rt: &R,
     alloc: Global,
     open: &mut Open<P>,
@@ -146,7 +56,7 @@ fn play<P: Naming, R: Abort + Wait>(
 ) -> Result<Vec<Receipt<P>>, Fail> {
     let mut receipts = Vec::new(alloc);
     for step in steps {
-        play_step(rt, open, &mut receipts, step)?;
+        take_step(rt, open, &mut receipts, step)?;
     }
     Ok(receipts)
 }
@@ -161,65 +71,94 @@ fn confirm_in_order<P: Naming, R: Abort>(rt: &R, closed: &Closed<P>, receipts: &
     }
 }
 
-/// Closes the partition, whose reader is told of the whole history.
-fn close<P: Naming, R: Abort + Wait>(rt: &R, open: Open<P>, last: &Shown) -> Closed<P> {
-    let (closed, told, seen) = open.close(rt);
-    assert!(rt; last.is_in(&told) && last.is_in(&seen));
-    closed
-}
-
-fn assert_lines<P: Naming, R: Abort>(
+/// Whether the reader is told of the whole history, and sees it from then on.
+fn is_told<P: Naming, R: Wait>(
     rt: &R,
-    alloc: Global,
-    closed: &Closed<P>,
-    lines: &[&str],
-) -> Result<(), Fail> {
-    let wanted = joined(alloc, lines)?;
-    let got = lines_of(alloc, closed)?;
-    assert!(rt; got.as_slice() == wanted.as_bytes());
-    Ok(())
+    closed: &mut Closed<P>,
+    reader: Reader<P>,
+    last: &Shown,
+) -> bool {
+    let (told, mut reader) = closed.tell(rt, reader);
+    last.is_in(&told) && last.is_in(&reader.read(rt))
 }
 
-/// Plays the steps on an open partition, closes it, and looks at what they leave.
-fn act_out<P: Naming, R: Abort + Wait>(
+/// Whether the bytes are these texts, one behind the other.
+fn are_texts(bytes: &[u8], texts: &[&str]) -> bool {
+    let mut rest = bytes;
+    for text in texts {
+        match rest.strip_prefix(text.as_bytes()) {
+            Some(behind) => rest = behind,
+            None => return false,
+        }
+    }
+    rest.is_empty()
+}
+
+/// Closes the partition, whose reader is told of the whole history.
+fn close_and_tell<P: Naming, R: Abort + Wait>(
     rt: &R,
     alloc: Global,
     open: Open<P>,
-    scene: &Scene<'_>,
-) -> Result<(), Fail> {
-    let mut open = open;
-    let receipts = play(rt, alloc, &mut open, scene.steps)?;
-    assert!(rt; are_seats(open.seats(), scene.seats) && is_ticker(open.ticker(), scene.ticker));
-    let closed = close(rt, open, &scene.last);
-    assert!(rt; closed.table().cores() == 2);
-    confirm_in_order(rt, &closed, receipts.as_slice());
-    assert_lines(rt, alloc, &closed, scene.lines)
+    cores: usize,
+    last: &Shown,
+) -> Result<Closed<P>, Fail>
+    requires { cores ≡ P.table.cores }
+{
+    let Open {
+        shared,
+        seats,
+        ticker,
+        reader,
+    } = open;
+    let mut closed = close(rt, alloc, shared, seats, ticker, cores)?;
+    let reader = reader.expect(rt, "the partition has one reader");
+    assert!(rt; is_told(rt, &mut closed, reader, last));
+    Ok(closed)
 }
 
-fn open_and_act_out<P: Naming, R: Abort + Wait>(
+/// Confirms the receipts: the lines of the history.
+fn look_at<P: Naming, R: Abort>(
     rt: &R,
     alloc: Global,
-    table: Table,
-    opened: Opened,
-    board: NewBoard,
-    scene: &Scene<'_>,
-) -> Result<(), Fail>
-    requires table { P.table ≡ table }
-    requires book { P.book ≡ opened.book }
-    requires scribe { P.scribe ≡ opened.scribe }
-    requires voice { P.voice ≡ voice_of opened.cores opened.ticker }
-    requires cores { length opened.cores ≡ table.cores }
-    requires cell { P.cell ≡ board.cell }
-{
-    let open = Open::<P>::new(rt, alloc, table, opened, board)?;
-    act_out(rt, alloc, open, scene)
+    closed: Closed<P>,
+    receipts: &[Receipt<P>],
+) -> Result<Vec<u8>, Fail> {
+    assert!(rt; closed.table().cores() == 2);
+    confirm_in_order(rt, &closed, receipts);
+    lines_of(alloc, closed)
 }
 
-fn play_scene<R: Abort + Wait>(rt: &R, alloc: Global, scene: &Scene<'_>) -> Result<(), Fail> {
-    let table = read_table(alloc, scene.table.as_bytes())?;
-    let opened = Opened::new(alloc, u32::from(table.cores()))?;
-    let board = NewBoard::new(alloc, 1)?;
-    open_and_act_out::<Brand, R>(rt, alloc, table, opened, board, scene)
+/// Closes the partition, and looks at what the steps leave.
+fn end<P: Naming, R: Abort + Wait>(
+    rt: &R,
+    alloc: Global,
+    open: Open<P>,
+    cores: usize,
+    receipts: &[Receipt<P>],
+    scene: &Scene<'_>,
+) -> Result<(), Fail>
+    requires { cores ≡ P.table.cores }
+{
+    let closed = close_and_tell(rt, alloc, open, cores, &scene.last)?;
+    let lines = look_at(rt, alloc, closed, receipts)?;
+    assert!(rt; are_texts(lines.as_slice(), scene.lines));
+    Ok(())
+}
+
+/// Plays the steps on an open partition, whose table has `cores` cores, closes it, and looks at what they
+/// leave.
+pub fn act_out<P: Naming, R: Abort + Wait>(
+    rt: &R,
+    alloc: Global,
+    mut open: Open<P>,
+    cores: usize,
+    scene: &Scene<'_>,
+) -> Result<(), Fail>
+    requires { cores ≡ P.table.cores }
+{
+    let receipts = take_steps(rt, alloc, &mut open, scene.steps)?;
+    assert!(rt; is_left(&open, scene));
+    end(rt, alloc, open, cores, receipts.as_slice(), scene)
 }
 
 /// Nine turns of core 0, and one of core 1, in which the signal wakes the waiter.
@@ -254,7 +193,13 @@ const TEN_TURNS: Scene<'static> = Scene {
 
 #[test]
 fn look_sees_the_ten_turns_of_two_seats(rt: HostRuntime) -> Result<(), Fail> {
-    play_scene(&rt, rt.alloc(), &TEN_TURNS)
+    open_and_play(
+        &rt,
+        rt.alloc(),
+        TEN_TURNS.table,
+        true,
+        Play::Scene(&TEN_TURNS),
+    )
 }
 
 /// A turn, a tick and a turn fill the history. Core 1 and the ticker ask twice for more; core 0 does not.
@@ -285,7 +230,7 @@ const FILLED: Scene<'static> = Scene {
 
 #[test]
 fn a_seat_that_was_told_full_is_told_so_again(rt: HostRuntime) -> Result<(), Fail> {
-    play_scene(&rt, rt.alloc(), &FILLED)
+    open_and_play(&rt, rt.alloc(), FILLED.table, true, Play::Scene(&FILLED))
 }
 
 /// The steps of `TEN_TURNS`, with what the reader sees before them, before the last one and after it.
@@ -334,5 +279,11 @@ const READ_BETWEEN: Scene<'static> = Scene {
 
 #[test]
 fn front_of_two_seats(rt: HostRuntime) -> Result<(), Fail> {
-    play_scene(&rt, rt.alloc(), &READ_BETWEEN)
+    open_and_play(
+        &rt,
+        rt.alloc(),
+        READ_BETWEEN.table,
+        true,
+        Play::Scene(&READ_BETWEEN),
+    )
 }
