@@ -3,11 +3,11 @@ use Rattle.std.proofs.Common.{◌≡◌, ℕ, zero, suc, ◌<◌, ◌≤◌, fal
 use Rattle.std.specs.Int.{w64, from_le_bytes}
 use Rattle.std.specs.List.{range_with_len}
 use Rattle.std.proofs.lemmas.List.FromFn.{length-map-range_with_len}
-use Rattle.apex_types.specs.Limits.{most_cores}
-use Rattle.apex_types.specs.Machine.{opening}
-use Rattle.apex_types.specs.Roster.{Roster, is_normal, opening_roster}
-use Rattle.apex_types.specs.Running.{chosen}
-use Rattle.apex_types.specs.Table.{Table}
+use Rattle.apex_types.specs.values.Limits.{most_cores}
+use Rattle.apex_types.specs.machine.Machine.{opening}
+use Rattle.apex_types.specs.processes.Roster.{Roster, is_normal, opening_roster}
+use Rattle.apex_types.specs.processes.Running.{chosen}
+use Rattle.apex_types.specs.table.Table.{Table}
 use Rattle.apex_types.proofs.Starts.{chosen_ready, early_ineligible}
 use Rattle.apex_board.specs.Fronts.{FitsWords, IsSmallId, Shows, byte_of, core_byte, front_of, words_of}
 

@@ -4,7 +4,7 @@ use mathlib.Core.List.{IsPrefix}
 use mathlib.Core.Option.{some}
 use lib.ListN.{get_elem?}
 use Rattle.apex_types.specs.declared.entries.Entry.{Entry}
-use Rattle.apex_types.specs.Table.{Table}
+use Rattle.apex_types.specs.table.Table.{Table}
 use Rattle.apex_board.specs.declared.law.View.{View}
 use Rattle.apex_board.specs.declared.law.View.TheVariants.{Blank, Publishes, Reads, Spent}
 use Rattle.apex_board.specs.Fronts.{Shows}
@@ -24,7 +24,8 @@ pub record IsPublished (words : List ℕ) (views : List View) : Type 0 where
   pub history : List Entry
   pub publisher : ℕ
   pub shows : Shows table history words
-  pub each : (pass : ℕ) (view : View) → get_elem? views pass ≡ some view → Knows table history publisher pass view
+  pub each : (pass : ℕ) (view : View) → get_elem? views pass ≡ some view
+      → Knows table history publisher pass view
 
 -- before the cell is one of a partition, its words are 0, which are those of the front of any partition that opens
 abbrev pub IsUnnamed : List ℕ → List View → Type 0
@@ -66,7 +67,8 @@ abbrev pub told_of : View → View → View
 told_of view other = with_told (known_in other) view
 
 -- a read: the reader has seen a history of which the one before is a prefix, and the words show the front after it
-pub record HasSeen (table : Table) (before : List Entry) (words : List ℕ) (after : View) : Type 0 where
+pub record HasSeen (table : Table) (before : List Entry) (words : List ℕ)
+    (after : View) : Type 0 where
   pub history : List Entry
   pub view : after ≡ Reads table history
   pub later : IsPrefix before history
@@ -79,7 +81,8 @@ Sees (Reads table history) words after = HasSeen table history words after
 Sees Spent words after = ⊤
 
 -- a read by the publisher, which finds that the reader had seen a prefix
-pub record HasFound (table : Table) (history told : List Entry) (words : List ℕ) (after : View) : Type 0 where
+pub record HasFound (table : Table) (history told : List Entry) (words : List ℕ)
+    (after : View) : Type 0 where
   pub view : after ≡ Publishes table history told
   pub saw : IsPrefix told history
   pub shows : Shows table history words

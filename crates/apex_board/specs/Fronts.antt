@@ -4,10 +4,10 @@ use Rattle.std.specs.Int.{w64, from_le_bytes}
 use Rattle.std.specs.List.{range_with_len}
 use Rattle.apex_types.specs.declared.entries.Entry.{Entry}
 use Rattle.apex_types.specs.declared.entries.Event.{Event}
-use Rattle.apex_types.specs.Limits.{most_cores}
-use Rattle.apex_types.specs.Machine.{Machine, opening, run}
-use Rattle.apex_types.specs.Running.{chosen}
-use Rattle.apex_types.specs.Table.{Table}
+use Rattle.apex_types.specs.values.Limits.{most_cores}
+use Rattle.apex_types.specs.machine.Machine.{Machine, opening, run}
+use Rattle.apex_types.specs.processes.Running.{chosen}
+use Rattle.apex_types.specs.table.Table.{Table}
 
 -- what a front shows of a state: the number of entries, the time, and the chosen process of each core
 pub record Front : Type 0 where

@@ -1,7 +1,7 @@
 //! The board: a new one, and the readers of a partition that opens.
 ghost use Rattle.std.specs.Prelude.{◌≡◌, ◌+◌, ◌≤◌, [], None, IfOk, IfSome, MatchOption};
-ghost use Rattle.apex_types.specs.Limits.{most_cores};
-ghost use Rattle.apex_board.specs.Boards.{most_readers};
+ghost use Rattle.apex_types.specs.values.Limits.{most_cores};
+ghost use Rattle.apex_board.specs.Boards.{HasPublished, most_readers};
 
 use crate::law::{Cell, Mark};
 use crate::publishers::Publisher;
@@ -32,7 +32,8 @@ impl Model for Unnamed {
 
     ghost view = { λ u. u.mark.table_id };
 
-    ghost invariant = { λ u. (u.mark.table_id ≡ (arc_value u.cell).table.shared.table_id) × (cell_view u.mark ≡ Blank) };
+    ghost invariant = { λ u. (u.mark.table_id ≡ (arc_value u.cell).table.shared.table_id)
+        × (cell_view u.mark ≡ Blank) };
 }
 
 impl Unnamed {
@@ -98,8 +99,8 @@ impl NewBoard {
     ) -> Result<(Option<Publisher<P>>, Board<P>), AllocError>
         requires cell { P.cell ≡ self.cell }
         requires cores { cores ≡ P.table.cores }
-        requires few { P.table.cores ≤ most_cores }
-        ensures publisher { IfOk result (λ parts. MatchOption parts.0 (P.cell ≡ None) (λ publisher. publisher ≡ [])) }
+        requires few_cores { P.table.cores ≤ most_cores }
+        ensures publisher { IfOk result (λ parts. HasPublished P.cell [] parts.0) }
         ensures board { IfOk result (λ parts. parts.1 ≡ self.readers) }
     {
         let NewBoard { cell, readers } = self;

@@ -72,8 +72,10 @@ impl Front {
 
     /// The front of a partition of n cores that these words show.
     pub(crate) fn from_words(words: &[u64; 3], cores: usize) -> Front
-        requires { (front : FrontValue) × (words.now ≡ words_of front) × FitsWords front × (length front.chosen ≡ cores) }
-        ensures { (front : FrontValue) → words.entry.now ≡ words_of front → FitsWords front → length front.chosen ≡ cores → result ≡ front }
+        requires { (front : FrontValue) × (words.now ≡ words_of front) × FitsWords front
+            × (length front.chosen ≡ cores) }
+        ensures { (front : FrontValue) → words.entry.now ≡ words_of front → FitsWords front
+            → length front.chosen ≡ cores → result ≡ front }
     {
         let bytes = words[2].to_le_bytes();
         let mut chosen = ArrayVec::new();

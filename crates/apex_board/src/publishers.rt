@@ -1,6 +1,6 @@
 //! The publisher of a partition's fronts, under its lock.
 ghost use Rattle.std.specs.Prelude.{◌≡◌, ◌≤◌, [], ◌∷◌, ◌++◌, IfOk, Some};
-ghost use Rattle.apex_types.specs.Limits.{most_cores};
+ghost use Rattle.apex_types.specs.values.Limits.{most_cores};
 ghost use Rattle.std.specs.Arc.{arc_value};
 ghost use mathlib.Core.List.{IsPrefix};
 ghost use Rattle.crossbeam_utils.specs.Seq.{cell_view};
@@ -37,8 +37,10 @@ impl<P: Naming> Model for Publisher<P> {
 
     ghost view = { λ p. known_in (cell_view p.mark) };
 
-    ghost invariant = { λ p. (P.cell ≡ Some p.mark.table_id) × (p.mark.table_id ≡ (arc_value p.cell).table.shared.table_id)
-        × (cell_view p.mark ≡ Publishes P.table (known_in (cell_view p.mark)) (told_in (cell_view p.mark))) };
+    ghost invariant = { λ p. (P.cell ≡ Some p.mark.table_id)
+        × (p.mark.table_id ≡ (arc_value p.cell).table.shared.table_id)
+        × (cell_view p.mark
+        ≡ Publishes P.table (known_in (cell_view p.mark)) (told_in (cell_view p.mark))) };
 }
 
 /// Publishes the words of the front after one entry more. `X` names the history with it.
@@ -63,7 +65,7 @@ impl<P: Naming> Publisher<P> {
         requires cell { mark.table_id ≡ (arc_value cell).table.shared.table_id }
         requires name { P.cell ≡ Some mark.table_id }
         requires blank { cell_view mark ≡ Blank }
-        requires few { P.table.cores ≤ most_cores }
+        requires few_cores { P.table.cores ≤ most_cores }
         ensures { result ≡ [] }
     {
         let _nobody = cell.split_pass::<Opening<P>>(&mut mark);

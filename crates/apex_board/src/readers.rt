@@ -36,8 +36,10 @@ impl<P: Naming> Model for Reader<P> {
 
     ghost view = { λ r. known_in (cell_view r.mark) };
 
-    ghost invariant = { λ r. (P.cell ≡ Some r.mark.table_id) × (r.mark.table_id ≡ (arc_value r.cell).table.shared.table_id)
-        × (cell_view r.mark ≡ Reads P.table (known_in (cell_view r.mark))) × (r.cores ≡ P.table.cores) };
+    ghost invariant = { λ r. (P.cell ≡ Some r.mark.table_id)
+        × (r.mark.table_id ≡ (arc_value r.cell).table.shared.table_id)
+        × (cell_view r.mark ≡ Reads P.table (known_in (cell_view r.mark)))
+        × (r.cores ≡ P.table.cores) };
 }
 
 impl<P: Naming> Reader<P> {

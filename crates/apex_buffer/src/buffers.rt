@@ -1,13 +1,14 @@
 //! The buffer as its services see it, with its messages and the services that buffers alone have.
 ghost use Rattle.std.specs.Prelude.{◌≡◌, ◌<◌, ◌≤◌, [], ◌∷◌, length, false, IfNone, IfSome, OnSome};
-ghost use Rattle.apex_types.specs.Limits.{most_messages, most_processes};
-ghost use Rattle.apex_types.specs.BufferServices as services;
-ghost use Rattle.apex_types.specs.Callers.{IsReady, IsReadyCaller};
-ghost use Rattle.apex_types.specs.Dues.{HasTime};
-ghost use Rattle.apex_types.specs.Roster.{Roster};
-ghost use Rattle.apex_types.specs.Rows.{Leaves};
-ghost use Rattle.apex_types.specs.Stamps.{HasManyStamps};
-ghost use Rattle.apex_types.specs.Waiters.{first_waiter};
+ghost use Rattle.apex_types.specs.values.Limits.{most_messages, most_processes};
+ghost use Rattle.apex_types.specs.services.BufferServices as services;
+ghost use Rattle.apex_types.specs.services.Callers.{IsReady, IsReadyCaller};
+ghost use Rattle.apex_types.specs.processes.Dues.{HasTime};
+ghost use Rattle.apex_types.specs.processes.Roster.{Roster};
+ghost use Rattle.apex_types.specs.services.Rows.{Leaves};
+ghost use Rattle.apex_types.specs.services.Premises.{CanServe};
+ghost use Rattle.apex_types.specs.processes.Stamps.{HasManyStamps};
+ghost use Rattle.apex_types.specs.processes.Waiters.{first_waiter};
 ghost use Rattle.apex_types.specs.declared.records.Queue.TheVariants as queues;
 
 use apex_store::{Object, Store, grant, is_unfit, is_waiting_owner, wait_for};
@@ -29,12 +30,17 @@ pub struct Buffer {
 
 impl Model for Buffer {
     ghost use Rattle.std.specs.Prelude.{◌≤◌};
-    ghost use Rattle.apex_types.specs.Limits.{most_messages};
-    ghost use Rattle.apex_types.specs.BufferServices.{BufferObject};
+    ghost use Rattle.apex_types.specs.values.Limits.{most_messages};
+    ghost use Rattle.apex_types.specs.services.BufferServices.{BufferObject};
 
     ghost Value = { BufferObject };
 
-    ghost view = { λ b. record { longest = b.longest; capacity = b.capacity; created = b.created; messages = b.messages.items } };
+    ghost view = { λ b. record {
+      longest = b.longest;
+      capacity = b.capacity;
+      created = b.created;
+      messages = b.messages.items;
+    } };
 
     ghost invariant = { λ b. b.capacity ≤ most_messages };
 }
@@ -64,7 +70,12 @@ impl Buffer {
     /// them as its capacity.
     pub fn new(longest: u8, capacity: u8) -> Buffer
         requires { capacity ≤ most_messages }
-        ensures { result ≡ record { longest = longest; capacity = capacity; created = false; messages = [] } }
+        ensures { result ≡ record {
+          longest = longest;
+          capacity = capacity;
+          created = false;
+          messages = [];
+        } }
     {
         Buffer {
             longest,
@@ -77,7 +88,7 @@ impl Buffer {
     /// The messages that it holds, the first one first.
     pub fn messages(&self) -> &[Message]
         ensures value { result.now ≡ self.now.messages }
-        ensures few { length result.now ≤ most_messages }
+        ensures few_messages { length result.now ≤ most_messages }
     {
         self.messages.as_slice()
     }
@@ -95,7 +106,8 @@ impl Buffer {
         requires ready { IsReady (S.roster store.old) process }
         requires stamps { HasManyStamps (S.roster store.old) }
         requires time { HasTime (S.roster store.old) }
-        ensures { Leaves (services.send_last (S.roster store.old) self.old id process message timeout)
+        ensures { Leaves (services.send_last
+            (S.roster store.old) self.old id process message timeout)
             (S.roster store.new) self.new result [] [] }
     {
         if self.messages.len() < usize::from(self.capacity) {
@@ -120,10 +132,9 @@ impl Buffer {
         notices: &mut Notices,
     ) -> Reply
         requires caller { IsReadyCaller (S.roster store.old) caller.now }
-        requires stamps { HasManyStamps (S.roster store.old) }
-        requires time { HasTime (S.roster store.old) }
-        requires room { length notices.old ≤ most_processes }
-        ensures { Leaves (services.send_buffer (S.roster store.old) self.old id caller.now message timeout)
+        requires can { CanServe (S.roster store.old) notices.old }
+        ensures { Leaves (services.send_buffer
+            (S.roster store.old) self.old id caller.now message timeout)
             (S.roster store.new) self.new result notices.old notices.new }
     {
         if !self.created || is_unfit(self.longest, &message) {
@@ -146,7 +157,8 @@ impl Buffer {
 
     /// Takes the first message out, if there is one.
     fn take_first(&mut self) -> Option<Message>
-        ensures taken { OnSome result (self.new ≡ record self.old { messages = self.new.messages }) }
+        ensures taken { OnSome result
+            (self.new ≡ record self.old { messages = self.new.messages }) }
         ensures first { IfSome result (λ m. self.old.messages ≡ m ∷ self.new.messages) }
         ensures room { OnSome result (length self.new.messages < most_messages) }
         ensures empty { IfNone result (self.old.messages ≡ []) }
@@ -197,10 +209,9 @@ impl Buffer {
         notices: &mut Notices,
     ) -> Reply
         requires caller { IsReadyCaller (S.roster store.old) caller.now }
-        requires stamps { HasManyStamps (S.roster store.old) }
-        requires time { HasTime (S.roster store.old) }
-        requires room { length notices.old ≤ most_processes }
-        ensures { Leaves (services.receive_buffer (S.roster store.old) self.old id caller.now timeout)
+        requires can { CanServe (S.roster store.old) notices.old }
+        ensures { Leaves (services.receive_buffer
+            (S.roster store.old) self.old id caller.now timeout)
             (S.roster store.new) self.new result notices.old notices.new }
     {
         if !self.created {
@@ -223,13 +234,13 @@ impl Buffer {
 }
 
 impl Object for Buffer {
-    type Kind = BufferKind;
+    type IdKind = BufferKind;
 
-    type Own = BufferService;
+    type KindService = BufferService;
 
-    ghost use Rattle.apex_types.specs.Roster.{Roster};
-    ghost use Rattle.apex_types.specs.BufferServices.{buffer_kind};
-    ghost use Rattle.apex_types.specs.Table.{BufferConfig};
+    ghost use Rattle.apex_types.specs.processes.Roster.{Roster};
+    ghost use Rattle.apex_types.specs.services.BufferServices.{buffer_kind};
+    ghost use Rattle.apex_types.specs.table.Table.{BufferConfig};
 
     ghost Config = { BufferConfig };
 
@@ -262,12 +273,10 @@ impl Object for Buffer {
         notices: &mut Notices,
     ) -> Reply
         requires stands { Unit {0} }
-        requires few { length (S.roster store.old).records ≤ most_processes }
         requires caller { IsReadyCaller (S.roster store.old) caller.now }
-        requires stamps { HasManyStamps (S.roster store.old) }
-        requires time { HasTime (S.roster store.old) }
-        requires room { length notices.old ≤ most_processes }
-        ensures { Leaves (services.buffer_own (S.roster store.old) self.old id caller.now service.now)
+        requires can { CanServe (S.roster store.old) notices.old }
+        ensures { Leaves (services.buffer_service
+            (S.roster store.old) self.old id caller.now service.now)
             (S.roster store.new) self.new result notices.old notices.new }
     {
         match service {

@@ -4,10 +4,10 @@ use Rattle.std.specs.List.{join_with_byte}
 use Rattle.apex_types.specs.declared.calls.Named.TheVariants.{Known, Unknown}
 use Rattle.apex_types.specs.declared.calls.RequestedMode.TheVariants.{Idle, Normal}
 use Rattle.apex_types.specs.declared.calls.Timeout.TheVariants.{Poll, Ticks, Infinite}
-use Rattle.apex_types.specs.Table.{Table, IsKnownName, literal_text}
-use Rattle.apex_types.specs.Texts.{process_name, semaphore_name, buffer_name, blackboard_name, event_name, mutex_name, bytes_text}
+use Rattle.apex_types.specs.table.Table.{Table, IsKnownName, literal_text}
+use Rattle.apex_types.specs.text.Texts.{process_name, semaphore_name, buffer_name, blackboard_name, event_flag_name, mutex_name, bytes_text}
 use Rattle.apex_calls.specs.Terms.{Arguments, Call, Kind, Named as NameOf, Origin, RequestedMode, Shape, Timeout as TimeoutOf}
-use Rattle.apex_calls.specs.declared.catalogue.Kind.TheVariants.{Process, Semaphore, Buffer, Blackboard, Event, Mutex}
+use Rattle.apex_calls.specs.declared.catalogue.Kind.TheVariants.{Process, Semaphore, Buffer, Blackboard, EventFlag, Mutex}
 use Rattle.apex_calls.specs.declared.catalogue.Shape.TheVariants.{Entry, Named, Number, Timeout, Message, Mode}
 use Rattle.apex_calls.specs.Catalogue.{Row, row_of}
 use Rattle.apex_calls.specs.Parts.{parts_of}
@@ -43,7 +43,8 @@ row_words names literals row a = row.word ∷ map (word_text names literals a) r
 
 -- the words of a call
 abbrev pub call_words : (Kind → ℕ → List ℕ) → (Origin → List ℕ) → Call → List (List ℕ)
-call_words names literals call = row_words names literals (row_of (parts_of call).0) (parts_of call).1
+call_words names literals call =
+    row_words names literals (row_of (parts_of call).0) (parts_of call).1
 
 -- the words with a space between each two
 abbrev pub spaced : List (List ℕ) → List ℕ
@@ -55,7 +56,7 @@ name_of table Process p = process_name table p
 name_of table Semaphore s = semaphore_name table s
 name_of table Buffer b = buffer_name table b
 name_of table Blackboard b = blackboard_name table b
-name_of table Event e = event_name table e
+name_of table EventFlag e = event_flag_name table e
 name_of table Mutex m = mutex_name table m
 
 -- a step as the table writes it
@@ -68,7 +69,7 @@ count_of table Process = length table.processes
 count_of table Semaphore = length table.semaphores
 count_of table Buffer = length table.buffers
 count_of table Blackboard = length table.blackboards
-count_of table Event = length table.events
+count_of table EventFlag = length table.event_flags
 count_of table Mutex = length table.mutexes
 
 -- the entry of the argument is the table's

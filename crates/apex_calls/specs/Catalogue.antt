@@ -4,8 +4,8 @@ use Rattle.std.specs.Prelude.{◌≡◌, ℕ, codes, Bool, true, false, List, []
 use Rattle.std.specs.Borrow.{Bor}
 use Rattle.std.specs.List.{find}
 use Rattle.std.specs.Str.{bytes_eq}
-use Rattle.apex_types.specs.Limits.{most_span, most_work}
-use Rattle.apex_calls.specs.declared.catalogue.Kind.TheVariants.{Process, Semaphore, Buffer, Blackboard, Event, Mutex}
+use Rattle.apex_types.specs.values.Limits.{most_span, most_work}
+use Rattle.apex_calls.specs.declared.catalogue.Kind.TheVariants.{Process, Semaphore, Buffer, Blackboard, EventFlag, Mutex}
 use Rattle.apex_calls.specs.Terms.{Service, Shape}
 use Rattle.apex_calls.specs.declared.catalogue.Service.TheVariants as services
 use Rattle.apex_calls.specs.declared.catalogue.Shape.TheVariants.{Entry, Named, Number, Timeout, Message, Mode}
@@ -20,7 +20,8 @@ pub record Row : Type 0 where
 
 -- a row, by its parts
 abbrev pub row : Service → List ℕ → List Shape → Bool → Row
-row service word shapes init = record { service = service; word = word; shapes = shapes; init = init }
+row service word shapes init =
+    record { service = service; word = word; shapes = shapes; init = init }
 
 -- a row of the code, as a call sees it
 abbrev pub view : Service × Bor (List ℕ) × Bor (List Shape) × Bool → Row
@@ -40,54 +41,91 @@ row_in rows word = find (λ (r : Row). bytes_eq r.word word) rows
 
 -- the row of each service
 abbrev pub row_of : Service → Row
-row_of services.SetPartitionMode = row services.SetPartitionMode (codes "SET_PARTITION_MODE") (Mode ∷ []) true
-row_of services.GetPartitionStatus = row services.GetPartitionStatus (codes "GET_PARTITION_STATUS") [] true
-row_of services.CreateProcess = row services.CreateProcess (codes "CREATE_PROCESS") (Named Process ∷ []) true
-row_of services.GetProcessId = row services.GetProcessId (codes "GET_PROCESS_ID") (Named Process ∷ []) true
-row_of services.GetProcessStatus = row services.GetProcessStatus (codes "GET_PROCESS_STATUS") (Entry Process ∷ []) true
-row_of services.InitializeProcessCoreAffinity = row services.InitializeProcessCoreAffinity (codes "INITIALIZE_PROCESS_CORE_AFFINITY") (Entry Process ∷ Number 0 255 ∷ []) true
-row_of services.SetPriority = row services.SetPriority (codes "SET_PRIORITY") (Entry Process ∷ Number 0 65535 ∷ []) true
+row_of services.SetPartitionMode =
+    row services.SetPartitionMode (codes "SET_PARTITION_MODE") (Mode ∷ []) true
+row_of services.GetPartitionStatus =
+    row services.GetPartitionStatus (codes "GET_PARTITION_STATUS") [] true
+row_of services.CreateProcess =
+    row services.CreateProcess (codes "CREATE_PROCESS") (Named Process ∷ []) true
+row_of services.GetProcessId =
+    row services.GetProcessId (codes "GET_PROCESS_ID") (Named Process ∷ []) true
+row_of services.GetProcessStatus =
+    row services.GetProcessStatus (codes "GET_PROCESS_STATUS") (Entry Process ∷ []) true
+row_of services.InitializeProcessCoreAffinity =
+    row services.InitializeProcessCoreAffinity (codes "INITIALIZE_PROCESS_CORE_AFFINITY")
+    (Entry Process ∷ Number 0 255 ∷ []) true
+row_of services.SetPriority =
+    row services.SetPriority (codes "SET_PRIORITY") (Entry Process ∷ Number 0 65535 ∷ []) true
 row_of services.Start = row services.Start (codes "START") (Entry Process ∷ []) true
-row_of services.DelayedStart = row services.DelayedStart (codes "DELAYED_START") (Entry Process ∷ Timeout ∷ []) true
+row_of services.DelayedStart =
+    row services.DelayedStart (codes "DELAYED_START") (Entry Process ∷ Timeout ∷ []) true
 row_of services.Stop = row services.Stop (codes "STOP") (Entry Process ∷ []) true
 row_of services.Suspend = row services.Suspend (codes "SUSPEND") (Entry Process ∷ []) false
 row_of services.Resume = row services.Resume (codes "RESUME") (Entry Process ∷ []) false
 row_of services.StopSelf = row services.StopSelf (codes "STOP_SELF") [] false
 row_of services.SuspendSelf = row services.SuspendSelf (codes "SUSPEND_SELF") (Timeout ∷ []) false
 row_of services.GetMyId = row services.GetMyId (codes "GET_MY_ID") [] false
-row_of services.GetMyProcessorCoreId = row services.GetMyProcessorCoreId (codes "GET_MY_PROCESSOR_CORE_ID") [] false
+row_of services.GetMyProcessorCoreId =
+    row services.GetMyProcessorCoreId (codes "GET_MY_PROCESSOR_CORE_ID") [] false
 row_of services.TimedWait = row services.TimedWait (codes "TIMED_WAIT") (Timeout ∷ []) false
 row_of services.PeriodicWait = row services.PeriodicWait (codes "PERIODIC_WAIT") [] false
-row_of services.Replenish = row services.Replenish (codes "REPLENISH") (Number 1 most_span ∷ []) false
+row_of services.Replenish =
+    row services.Replenish (codes "REPLENISH") (Number 1 most_span ∷ []) false
 row_of services.GetTime = row services.GetTime (codes "GET_TIME") [] true
 row_of services.Work = row services.Work (codes "work") (Number 1 most_work ∷ []) false
-row_of services.CreateSemaphore = row services.CreateSemaphore (codes "CREATE_SEMAPHORE") (Named Semaphore ∷ []) true
-row_of services.GetSemaphoreId = row services.GetSemaphoreId (codes "GET_SEMAPHORE_ID") (Named Semaphore ∷ []) true
-row_of services.GetSemaphoreStatus = row services.GetSemaphoreStatus (codes "GET_SEMAPHORE_STATUS") (Entry Semaphore ∷ []) true
-row_of services.WaitSemaphore = row services.WaitSemaphore (codes "WAIT_SEMAPHORE") (Entry Semaphore ∷ Timeout ∷ []) false
-row_of services.SignalSemaphore = row services.SignalSemaphore (codes "SIGNAL_SEMAPHORE") (Entry Semaphore ∷ []) true
-row_of services.CreateBuffer = row services.CreateBuffer (codes "CREATE_BUFFER") (Named Buffer ∷ []) true
-row_of services.GetBufferId = row services.GetBufferId (codes "GET_BUFFER_ID") (Named Buffer ∷ []) true
-row_of services.GetBufferStatus = row services.GetBufferStatus (codes "GET_BUFFER_STATUS") (Entry Buffer ∷ []) true
-row_of services.SendBuffer = row services.SendBuffer (codes "SEND_BUFFER") (Entry Buffer ∷ Message ∷ Timeout ∷ []) false
-row_of services.ReceiveBuffer = row services.ReceiveBuffer (codes "RECEIVE_BUFFER") (Entry Buffer ∷ Timeout ∷ []) false
-row_of services.CreateBlackboard = row services.CreateBlackboard (codes "CREATE_BLACKBOARD") (Named Blackboard ∷ []) true
-row_of services.GetBlackboardId = row services.GetBlackboardId (codes "GET_BLACKBOARD_ID") (Named Blackboard ∷ []) true
-row_of services.GetBlackboardStatus = row services.GetBlackboardStatus (codes "GET_BLACKBOARD_STATUS") (Entry Blackboard ∷ []) true
-row_of services.DisplayBlackboard = row services.DisplayBlackboard (codes "DISPLAY_BLACKBOARD") (Entry Blackboard ∷ Message ∷ []) true
-row_of services.ReadBlackboard = row services.ReadBlackboard (codes "READ_BLACKBOARD") (Entry Blackboard ∷ Timeout ∷ []) false
-row_of services.ClearBlackboard = row services.ClearBlackboard (codes "CLEAR_BLACKBOARD") (Entry Blackboard ∷ []) true
-row_of services.CreateEvent = row services.CreateEvent (codes "CREATE_EVENT") (Named Event ∷ []) true
-row_of services.GetEventId = row services.GetEventId (codes "GET_EVENT_ID") (Named Event ∷ []) true
-row_of services.GetEventStatus = row services.GetEventStatus (codes "GET_EVENT_STATUS") (Entry Event ∷ []) true
-row_of services.SetEvent = row services.SetEvent (codes "SET_EVENT") (Entry Event ∷ []) true
-row_of services.ResetEvent = row services.ResetEvent (codes "RESET_EVENT") (Entry Event ∷ []) true
-row_of services.WaitEvent = row services.WaitEvent (codes "WAIT_EVENT") (Entry Event ∷ Timeout ∷ []) false
-row_of services.CreateMutex = row services.CreateMutex (codes "CREATE_MUTEX") (Named Mutex ∷ []) true
+row_of services.CreateSemaphore =
+    row services.CreateSemaphore (codes "CREATE_SEMAPHORE") (Named Semaphore ∷ []) true
+row_of services.GetSemaphoreId =
+    row services.GetSemaphoreId (codes "GET_SEMAPHORE_ID") (Named Semaphore ∷ []) true
+row_of services.GetSemaphoreStatus =
+    row services.GetSemaphoreStatus (codes "GET_SEMAPHORE_STATUS") (Entry Semaphore ∷ []) true
+row_of services.WaitSemaphore =
+    row services.WaitSemaphore (codes "WAIT_SEMAPHORE") (Entry Semaphore ∷ Timeout ∷ []) false
+row_of services.SignalSemaphore =
+    row services.SignalSemaphore (codes "SIGNAL_SEMAPHORE") (Entry Semaphore ∷ []) true
+row_of services.CreateBuffer =
+    row services.CreateBuffer (codes "CREATE_BUFFER") (Named Buffer ∷ []) true
+row_of services.GetBufferId =
+    row services.GetBufferId (codes "GET_BUFFER_ID") (Named Buffer ∷ []) true
+row_of services.GetBufferStatus =
+    row services.GetBufferStatus (codes "GET_BUFFER_STATUS") (Entry Buffer ∷ []) true
+row_of services.SendBuffer =
+    row services.SendBuffer (codes "SEND_BUFFER") (Entry Buffer ∷ Message ∷ Timeout ∷ []) false
+row_of services.ReceiveBuffer =
+    row services.ReceiveBuffer (codes "RECEIVE_BUFFER") (Entry Buffer ∷ Timeout ∷ []) false
+row_of services.CreateBlackboard =
+    row services.CreateBlackboard (codes "CREATE_BLACKBOARD") (Named Blackboard ∷ []) true
+row_of services.GetBlackboardId =
+    row services.GetBlackboardId (codes "GET_BLACKBOARD_ID") (Named Blackboard ∷ []) true
+row_of services.GetBlackboardStatus =
+    row services.GetBlackboardStatus (codes "GET_BLACKBOARD_STATUS") (Entry Blackboard ∷ []) true
+row_of services.DisplayBlackboard =
+    row services.DisplayBlackboard (codes "DISPLAY_BLACKBOARD")
+    (Entry Blackboard ∷ Message ∷ []) true
+row_of services.ReadBlackboard =
+    row services.ReadBlackboard (codes "READ_BLACKBOARD") (Entry Blackboard ∷ Timeout ∷ []) false
+row_of services.ClearBlackboard =
+    row services.ClearBlackboard (codes "CLEAR_BLACKBOARD") (Entry Blackboard ∷ []) true
+row_of services.CreateEvent =
+    row services.CreateEvent (codes "CREATE_EVENT") (Named EventFlag ∷ []) true
+row_of services.GetEventId =
+    row services.GetEventId (codes "GET_EVENT_ID") (Named EventFlag ∷ []) true
+row_of services.GetEventStatus =
+    row services.GetEventStatus (codes "GET_EVENT_STATUS") (Entry EventFlag ∷ []) true
+row_of services.SetEvent = row services.SetEvent (codes "SET_EVENT") (Entry EventFlag ∷ []) true
+row_of services.ResetEvent =
+    row services.ResetEvent (codes "RESET_EVENT") (Entry EventFlag ∷ []) true
+row_of services.WaitEvent =
+    row services.WaitEvent (codes "WAIT_EVENT") (Entry EventFlag ∷ Timeout ∷ []) false
+row_of services.CreateMutex =
+    row services.CreateMutex (codes "CREATE_MUTEX") (Named Mutex ∷ []) true
 row_of services.GetMutexId = row services.GetMutexId (codes "GET_MUTEX_ID") (Named Mutex ∷ []) true
-row_of services.GetMutexStatus = row services.GetMutexStatus (codes "GET_MUTEX_STATUS") (Entry Mutex ∷ []) true
-row_of services.AcquireMutex = row services.AcquireMutex (codes "ACQUIRE_MUTEX") (Entry Mutex ∷ Timeout ∷ []) false
-row_of services.ReleaseMutex = row services.ReleaseMutex (codes "RELEASE_MUTEX") (Entry Mutex ∷ []) false
+row_of services.GetMutexStatus =
+    row services.GetMutexStatus (codes "GET_MUTEX_STATUS") (Entry Mutex ∷ []) true
+row_of services.AcquireMutex =
+    row services.AcquireMutex (codes "ACQUIRE_MUTEX") (Entry Mutex ∷ Timeout ∷ []) false
+row_of services.ReleaseMutex =
+    row services.ReleaseMutex (codes "RELEASE_MUTEX") (Entry Mutex ∷ []) false
 
 -- the row is that of its service
 pub record IsRow (r : Row) : Type 0 where

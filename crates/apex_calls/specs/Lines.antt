@@ -7,8 +7,8 @@ use Rattle.apex_types.specs.declared.entries.Reply.TheVariants.{Code, Value, Sta
 use Rattle.apex_types.specs.declared.entries.ReturnCode.TheVariants.{NoError, NoAction, NotAvailable, InvalidParam, InvalidConfig, InvalidMode, TimedOut}
 use Rattle.apex_types.specs.declared.entries.Who.TheVariants.{Core, Ticker}
 use Rattle.apex_types.specs.declared.records.DeadlineType.TheVariants.{Soft, Hard}
-use Rattle.apex_types.specs.Table.{Table, IsKnown}
-use Rattle.apex_types.specs.Texts.{id_text, message_text}
+use Rattle.apex_types.specs.table.Table.{Table, IsKnown}
+use Rattle.apex_types.specs.text.Texts.{id_text, message_text}
 use Rattle.apex_calls.specs.CallText.{call_text}
 
 -- the name of a return code
@@ -46,7 +46,8 @@ caller_text Nobody = codes "-"
 abbrev pub reply_text : Table → Reply → List ℕ
 reply_text table (Code code) = code_text code
 reply_text table (Value value) = codes "VALUE " ++ decimal value
-reply_text table (Status first second) = codes "STATUS " ++ decimal first ++ codes " " ++ decimal second
+reply_text table (Status first second) =
+    codes "STATUS " ++ decimal first ++ codes " " ++ decimal second
 reply_text table (Gets message) = codes "MESSAGE " ++ message_text table message
 reply_text table Blocked = codes "BLOCKED"
 reply_text table Gone = codes "GONE"
@@ -76,8 +77,10 @@ noticed_text notice = codes " | " ++ notice_text notice
 abbrev pub line_of : Table → Entry → List ℕ
 line_of table entry =
     decimal entry.number ++ codes " " ++ decimal entry.now ++ codes " " ++ who_text entry.who
-    ++ codes " " ++ caller_text entry.process ++ codes " " ++ asked_text table entry.call entry.reply
-    ++ codes " -> " ++ reply_text table entry.reply ++ flat_map noticed_text entry.notices ++ codes "\n"
+    ++ codes " " ++ caller_text entry.process ++ codes " "
+    ++ asked_text table entry.call entry.reply
+    ++ codes " -> " ++ reply_text table entry.reply ++ flat_map noticed_text entry.notices
+    ++ codes "\n"
 
 -- the lines of a history, one behind the other
 abbrev pub lines_of : Table → List Entry → List ℕ

@@ -3,7 +3,7 @@ pub use Rattle.apex_types.specs.declared.BlackboardService.{BlackboardService}
 pub use Rattle.apex_types.specs.declared.BufferService.{BufferService}
 pub use Rattle.apex_types.specs.declared.Call.{Call}
 pub use Rattle.apex_types.specs.declared.CallerCall.{CallerCall}
-pub use Rattle.apex_types.specs.declared.EventService.{EventService}
+pub use Rattle.apex_types.specs.declared.EventFlagService.{EventFlagService}
 pub use Rattle.apex_types.specs.declared.Message.{Message}
 pub use Rattle.apex_types.specs.declared.MutexService.{MutexService}
 pub use Rattle.apex_types.specs.declared.Named.{Named}

@@ -21,7 +21,7 @@ pub enum Kind {
     Semaphore,
     Buffer,
     Blackboard,
-    Event,
+    EventFlag,
     Mutex,
 }
 
@@ -143,12 +143,12 @@ pub static CATALOGUE: [Row; 48] = rows! {
     DisplayBlackboard "DISPLAY_BLACKBOARD" [Entry(Blackboard), Message] true;
     ReadBlackboard "READ_BLACKBOARD" [Entry(Blackboard), Timeout] false;
     ClearBlackboard "CLEAR_BLACKBOARD" [Entry(Blackboard)] true;
-    CreateEvent "CREATE_EVENT" [Named(Event)] true;
-    GetEventId "GET_EVENT_ID" [Named(Event)] true;
-    GetEventStatus "GET_EVENT_STATUS" [Entry(Event)] true;
-    SetEvent "SET_EVENT" [Entry(Event)] true;
-    ResetEvent "RESET_EVENT" [Entry(Event)] true;
-    WaitEvent "WAIT_EVENT" [Entry(Event), Timeout] false;
+    CreateEvent "CREATE_EVENT" [Named(EventFlag)] true;
+    GetEventId "GET_EVENT_ID" [Named(EventFlag)] true;
+    GetEventStatus "GET_EVENT_STATUS" [Entry(EventFlag)] true;
+    SetEvent "SET_EVENT" [Entry(EventFlag)] true;
+    ResetEvent "RESET_EVENT" [Entry(EventFlag)] true;
+    WaitEvent "WAIT_EVENT" [Entry(EventFlag), Timeout] false;
     CreateMutex "CREATE_MUTEX" [Named(Mutex)] true;
     GetMutexId "GET_MUTEX_ID" [Named(Mutex)] true;
     GetMutexStatus "GET_MUTEX_STATUS" [Entry(Mutex)] true;

@@ -1,16 +1,16 @@
 //! A call as the arguments of its service, and back.
 ghost use Rattle.std.specs.Prelude.{◌≡◌, ◌≤◌};
 ghost use Rattle.std.specs.List.{AllByRecursion};
-ghost use Rattle.apex_types.specs.declared.calls.ObjectCall.TheVariants.{Create, GetId, GetStatus, Own};
+ghost use Rattle.apex_types.specs.declared.calls.ObjectCall.TheVariants.{Create, GetId, GetStatus, KindService};
 ghost use Rattle.apex_calls.specs.Catalogue.{row_of};
-ghost use Rattle.apex_calls.specs.Parts.{IsInRange, call_of, parts_of, none, of_entry, of_named, blackboard_parts, blackboard_service_parts, buffer_parts, buffer_service_parts, caller_parts, event_parts, event_service_parts, mutex_parts, mutex_service_parts, partition_parts, process_parts, process_service_parts, semaphore_parts, semaphore_service_parts, time_parts};
+ghost use Rattle.apex_calls.specs.Parts.{IsInRange, call_of, parts_of, none, of_entry, of_named, blackboard_parts, blackboard_service_parts, buffer_parts, buffer_service_parts, caller_parts, event_flag_parts, event_flag_service_parts, mutex_parts, mutex_service_parts, partition_parts, process_parts, process_service_parts, semaphore_parts, semaphore_service_parts, time_parts};
 
 use crate::catalogue::Service;
 use apex_types::{
-    BlackboardCall, BlackboardService, BufferCall, BufferService, Call, CallerCall, EventCall,
-    EventService, Id, Message, MutexCall, MutexService, Named, ObjectCall, Origin, PartitionCall,
-    ProcessCall, ProcessService, RequestedMode, SemaphoreCall, SemaphoreService, Span, TimeCall,
-    Timeout,
+    BlackboardCall, BlackboardService, BufferCall, BufferService, Call, CallerCall, EventFlagCall,
+    EventFlagService, Id, Message, MutexCall, MutexService, Named, ObjectCall, Origin,
+    PartitionCall, ProcessCall, ProcessService, RequestedMode, SemaphoreCall, SemaphoreService,
+    Span, TimeCall, Timeout,
 };
 
 /// The arguments that the words behind a service give, each in the field of its shape. A field that
@@ -129,10 +129,10 @@ fn get_status<K, W>(arguments: &Arguments) -> ObjectCall<Id<K>, W>
     ObjectCall::GetStatus(Id::at(arguments.entry))
 }
 
-fn own<K, W>(arguments: &Arguments, service: W) -> ObjectCall<Id<K>, W>
-    ensures { result ≡ Own arguments.now.entry service }
+fn kind_service<K, W>(arguments: &Arguments, service: W) -> ObjectCall<Id<K>, W>
+    ensures { result ≡ KindService arguments.now.entry service }
 {
-    ObjectCall::Own(Id::at(arguments.entry), service)
+    ObjectCall::KindService(Id::at(arguments.entry), service)
 }
 
 /// The call of a service with these arguments. The numbers of these are in the ranges of the
@@ -155,16 +155,22 @@ pub fn call_of(service: Service, arguments: &Arguments) -> Call
         CreateProcess => Call::Process(create(arguments)),
         GetProcessId => Call::Process(get_id(arguments)),
         GetProcessStatus => Call::Process(get_status(arguments)),
-        InitializeProcessCoreAffinity => Call::Process(own(
+        InitializeProcessCoreAffinity => Call::Process(kind_service(
             arguments,
             ProcessService::InitializeCoreAffinity(number as u8),
         )),
-        SetPriority => Call::Process(own(arguments, ProcessService::SetPriority(number as u16))),
-        Start => Call::Process(own(arguments, ProcessService::Start)),
-        DelayedStart => Call::Process(own(arguments, ProcessService::DelayedStart(timeout))),
-        Stop => Call::Process(own(arguments, ProcessService::Stop)),
-        Suspend => Call::Process(own(arguments, ProcessService::Suspend)),
-        Resume => Call::Process(own(arguments, ProcessService::Resume)),
+        SetPriority => Call::Process(kind_service(
+            arguments,
+            ProcessService::SetPriority(number as u16),
+        )),
+        Start => Call::Process(kind_service(arguments, ProcessService::Start)),
+        DelayedStart => Call::Process(kind_service(
+            arguments,
+            ProcessService::DelayedStart(timeout),
+        )),
+        Stop => Call::Process(kind_service(arguments, ProcessService::Stop)),
+        Suspend => Call::Process(kind_service(arguments, ProcessService::Suspend)),
+        Resume => Call::Process(kind_service(arguments, ProcessService::Resume)),
         StopSelf => Call::Caller(CallerCall::StopSelf),
         SuspendSelf => Call::Caller(CallerCall::SuspendSelf(timeout)),
         GetMyId => Call::Caller(CallerCall::GetMyId),
@@ -177,30 +183,36 @@ pub fn call_of(service: Service, arguments: &Arguments) -> Call
         CreateSemaphore => Call::Semaphore(create(arguments)),
         GetSemaphoreId => Call::Semaphore(get_id(arguments)),
         GetSemaphoreStatus => Call::Semaphore(get_status(arguments)),
-        WaitSemaphore => Call::Semaphore(own(arguments, SemaphoreService::Wait(timeout))),
-        SignalSemaphore => Call::Semaphore(own(arguments, SemaphoreService::Signal)),
+        WaitSemaphore => Call::Semaphore(kind_service(arguments, SemaphoreService::Wait(timeout))),
+        SignalSemaphore => Call::Semaphore(kind_service(arguments, SemaphoreService::Signal)),
         CreateBuffer => Call::Buffer(create(arguments)),
         GetBufferId => Call::Buffer(get_id(arguments)),
         GetBufferStatus => Call::Buffer(get_status(arguments)),
-        SendBuffer => Call::Buffer(own(arguments, BufferService::Send(message, timeout))),
-        ReceiveBuffer => Call::Buffer(own(arguments, BufferService::Receive(timeout))),
+        SendBuffer => Call::Buffer(kind_service(arguments, BufferService::Send(message, timeout))),
+        ReceiveBuffer => Call::Buffer(kind_service(arguments, BufferService::Receive(timeout))),
         CreateBlackboard => Call::Blackboard(create(arguments)),
         GetBlackboardId => Call::Blackboard(get_id(arguments)),
         GetBlackboardStatus => Call::Blackboard(get_status(arguments)),
-        DisplayBlackboard => Call::Blackboard(own(arguments, BlackboardService::Display(message))),
-        ReadBlackboard => Call::Blackboard(own(arguments, BlackboardService::Read(timeout))),
-        ClearBlackboard => Call::Blackboard(own(arguments, BlackboardService::Clear)),
-        CreateEvent => Call::Event(create(arguments)),
-        GetEventId => Call::Event(get_id(arguments)),
-        GetEventStatus => Call::Event(get_status(arguments)),
-        SetEvent => Call::Event(own(arguments, EventService::Set)),
-        ResetEvent => Call::Event(own(arguments, EventService::Reset)),
-        WaitEvent => Call::Event(own(arguments, EventService::Wait(timeout))),
+        DisplayBlackboard => Call::Blackboard(kind_service(
+            arguments,
+            BlackboardService::Display(message),
+        )),
+        ReadBlackboard => Call::Blackboard(kind_service(
+            arguments,
+            BlackboardService::Read(timeout),
+        )),
+        ClearBlackboard => Call::Blackboard(kind_service(arguments, BlackboardService::Clear)),
+        CreateEvent => Call::EventFlag(create(arguments)),
+        GetEventId => Call::EventFlag(get_id(arguments)),
+        GetEventStatus => Call::EventFlag(get_status(arguments)),
+        SetEvent => Call::EventFlag(kind_service(arguments, EventFlagService::Set)),
+        ResetEvent => Call::EventFlag(kind_service(arguments, EventFlagService::Reset)),
+        WaitEvent => Call::EventFlag(kind_service(arguments, EventFlagService::Wait(timeout))),
         CreateMutex => Call::Mutex(create(arguments)),
         GetMutexId => Call::Mutex(get_id(arguments)),
         GetMutexStatus => Call::Mutex(get_status(arguments)),
-        AcquireMutex => Call::Mutex(own(arguments, MutexService::Acquire(timeout))),
-        ReleaseMutex => Call::Mutex(own(arguments, MutexService::Release)),
+        AcquireMutex => Call::Mutex(kind_service(arguments, MutexService::Acquire(timeout))),
+        ReleaseMutex => Call::Mutex(kind_service(arguments, MutexService::Release)),
     }
 }
 
@@ -231,7 +243,10 @@ fn process_parts(call: &ProcessCall) -> (Service, Arguments)
         ObjectCall::Create(named) => (Service::CreateProcess, Arguments::of_named(named)),
         ObjectCall::GetId(named) => (Service::GetProcessId, Arguments::of_named(named)),
         ObjectCall::GetStatus(id) => (Service::GetProcessStatus, Arguments::of_entry(*id)),
-        ObjectCall::Own(id, service) => process_service_parts(service, Arguments::of_entry(*id)),
+        ObjectCall::KindService(id, service) => process_service_parts(
+            service,
+            Arguments::of_entry(*id),
+        ),
     }
 }
 
@@ -251,7 +266,10 @@ fn semaphore_parts(call: &SemaphoreCall) -> (Service, Arguments)
         ObjectCall::Create(named) => (Service::CreateSemaphore, Arguments::of_named(named)),
         ObjectCall::GetId(named) => (Service::GetSemaphoreId, Arguments::of_named(named)),
         ObjectCall::GetStatus(id) => (Service::GetSemaphoreStatus, Arguments::of_entry(*id)),
-        ObjectCall::Own(id, service) => semaphore_service_parts(service, Arguments::of_entry(*id)),
+        ObjectCall::KindService(id, service) => semaphore_service_parts(
+            service,
+            Arguments::of_entry(*id),
+        ),
     }
 }
 
@@ -274,7 +292,10 @@ fn buffer_parts(call: &BufferCall) -> (Service, Arguments)
         ObjectCall::Create(named) => (Service::CreateBuffer, Arguments::of_named(named)),
         ObjectCall::GetId(named) => (Service::GetBufferId, Arguments::of_named(named)),
         ObjectCall::GetStatus(id) => (Service::GetBufferStatus, Arguments::of_entry(*id)),
-        ObjectCall::Own(id, service) => buffer_service_parts(service, Arguments::of_entry(*id)),
+        ObjectCall::KindService(id, service) => buffer_service_parts(
+            service,
+            Arguments::of_entry(*id),
+        ),
     }
 }
 
@@ -298,28 +319,34 @@ fn blackboard_parts(call: &BlackboardCall) -> (Service, Arguments)
         ObjectCall::Create(named) => (Service::CreateBlackboard, Arguments::of_named(named)),
         ObjectCall::GetId(named) => (Service::GetBlackboardId, Arguments::of_named(named)),
         ObjectCall::GetStatus(id) => (Service::GetBlackboardStatus, Arguments::of_entry(*id)),
-        ObjectCall::Own(id, service) => blackboard_service_parts(service, Arguments::of_entry(*id)),
+        ObjectCall::KindService(id, service) => blackboard_service_parts(
+            service,
+            Arguments::of_entry(*id),
+        ),
     }
 }
 
-fn event_service_parts(service: &EventService, entry: Arguments) -> (Service, Arguments)
-    ensures { result ≡ event_service_parts service.now entry }
+fn event_flag_service_parts(service: &EventFlagService, entry: Arguments) -> (Service, Arguments)
+    ensures { result ≡ event_flag_service_parts service.now entry }
 {
     match service {
-        EventService::Set => (Service::SetEvent, entry),
-        EventService::Reset => (Service::ResetEvent, entry),
-        EventService::Wait(timeout) => (Service::WaitEvent, entry.timed(timeout)),
+        EventFlagService::Set => (Service::SetEvent, entry),
+        EventFlagService::Reset => (Service::ResetEvent, entry),
+        EventFlagService::Wait(timeout) => (Service::WaitEvent, entry.timed(timeout)),
     }
 }
 
-fn event_parts(call: &EventCall) -> (Service, Arguments)
-    ensures { result ≡ event_parts call.now }
+fn event_flag_parts(call: &EventFlagCall) -> (Service, Arguments)
+    ensures { result ≡ event_flag_parts call.now }
 {
     match call {
         ObjectCall::Create(named) => (Service::CreateEvent, Arguments::of_named(named)),
         ObjectCall::GetId(named) => (Service::GetEventId, Arguments::of_named(named)),
         ObjectCall::GetStatus(id) => (Service::GetEventStatus, Arguments::of_entry(*id)),
-        ObjectCall::Own(id, service) => event_service_parts(service, Arguments::of_entry(*id)),
+        ObjectCall::KindService(id, service) => event_flag_service_parts(
+            service,
+            Arguments::of_entry(*id),
+        ),
     }
 }
 
@@ -339,7 +366,10 @@ fn mutex_parts(call: &MutexCall) -> (Service, Arguments)
         ObjectCall::Create(named) => (Service::CreateMutex, Arguments::of_named(named)),
         ObjectCall::GetId(named) => (Service::GetMutexId, Arguments::of_named(named)),
         ObjectCall::GetStatus(id) => (Service::GetMutexStatus, Arguments::of_entry(*id)),
-        ObjectCall::Own(id, service) => mutex_service_parts(service, Arguments::of_entry(*id)),
+        ObjectCall::KindService(id, service) => mutex_service_parts(
+            service,
+            Arguments::of_entry(*id),
+        ),
     }
 }
 
@@ -391,7 +421,7 @@ pub fn parts_of(call: &Call) -> (Service, Arguments)
         Call::Semaphore(call) => semaphore_parts(call),
         Call::Buffer(call) => buffer_parts(call),
         Call::Blackboard(call) => blackboard_parts(call),
-        Call::Event(call) => event_parts(call),
+        Call::EventFlag(call) => event_flag_parts(call),
         Call::Mutex(call) => mutex_parts(call),
         Call::Work(amount) => (Service::Work, Arguments::none().numbered(amount.ticks())),
     }

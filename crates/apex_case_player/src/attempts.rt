@@ -4,7 +4,7 @@ use crate::devices::Devices;
 use crate::differences::{difference_in, found, is_beginning};
 use crate::faults::CaseFault;
 use crate::programs::{Player, Program, Request, Telling, bytes_of};
-use crate::tellings::{Asked, Kind, Trial};
+use crate::tellings::{Asked, Trial, TrialKind};
 use std::alloc::{AllocError, Global};
 use std::sync::Wait;
 use std::thread::Threads;
@@ -365,10 +365,10 @@ fn complaint_of_trial<R: Threads + Wait + Sync, P: Program>(
 ) -> Result<Option<String>, CaseFault> {
     let count = trial.count;
     match trial.kind {
-        Kind::Reads => each_call(player, asked, Calls::Reads, count, whole),
-        Kind::Writes => each_call(player, asked, Calls::Writes, count, whole),
-        Kind::Cuts => each_cut(player, asked, count),
-        Kind::Changes => each_change(player, asked, count),
+        TrialKind::Reads => each_call(player, asked, Calls::Reads, count, whole),
+        TrialKind::Writes => each_call(player, asked, Calls::Writes, count, whole),
+        TrialKind::Cuts => each_cut(player, asked, count),
+        TrialKind::Changes => each_change(player, asked, count),
     }
 }
 

@@ -30,7 +30,7 @@ pub enum Part<'a> {
 
 /// The kind of a further trial.
 #[derive(Clone, Copy)]
-pub enum Kind {
+pub enum TrialKind {
     /// Each read fails in turn.
     Reads,
     /// Each write fails in turn.
@@ -45,7 +45,7 @@ pub enum Kind {
 /// A further trial of the case, again and again.
 #[derive(Drop)]
 pub struct Trial {
-    pub kind: Kind,
+    pub kind: TrialKind,
     /// The number of the reads, the writes, the prefixes or the lines.
     pub count: u64,
 }
@@ -118,7 +118,7 @@ fn put_size(size: &mut usize, word: &str) -> Result<bool, CaseFault> {
 
 /// Takes the line if it is about a further trial, and answers whether it is.
 fn put_trial(trials: &mut Vec<Trial>, field: &str, rest: &str) -> Result<bool, CaseFault> {
-    let Some(kind) = Kind::named(field) else {
+    let Some(kind) = TrialKind::named(field) else {
         return Ok(false);
     };
     let count = number_of(rest)?;
@@ -295,14 +295,14 @@ impl<'a> Asked<'a> {
     }
 }
 
-impl Kind {
+impl TrialKind {
     /// The kind of trial that a line asks for by this word.
-    fn named(field: &str) -> Option<Kind> {
+    fn named(field: &str) -> Option<TrialKind> {
         match field {
-            "reads" => Some(Kind::Reads),
-            "writes" => Some(Kind::Writes),
-            "cuts" => Some(Kind::Cuts),
-            "changes" => Some(Kind::Changes),
+            "reads" => Some(TrialKind::Reads),
+            "writes" => Some(TrialKind::Writes),
+            "cuts" => Some(TrialKind::Cuts),
+            "changes" => Some(TrialKind::Changes),
             _ => None,
         }
     }

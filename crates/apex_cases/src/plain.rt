@@ -45,7 +45,7 @@ fn event_of(cores: u8, line: &str) -> Result<Event, CaseFault>
 fn make(kernel: &mut Kernel<PlainStore>, line: &str) -> Result<(), CaseFault> {
     kernel.holds();
     let event = event_of(kernel.table().cores(), line)?;
-    match kernel.run(&[event]) {
+    match kernel.accept(event) {
         Ok(()) => Ok(()),
         Err(_) => Err(CaseFault::Plain),
     }

@@ -4,11 +4,11 @@ use Rattle.std.specs.List.{AllByRecursion}
 use Rattle.std.proofs.lemmas.Bool.{cases_lt, lt-ltb}
 use Rattle.std.proofs.lemmas.Grind.{flat_map-append}
 use Rattle.std.proofs.lemmas.List.{append_cancel_left, length-map, map-append}
-use Rattle.apex_types.specs.Limits.{most_line}
+use Rattle.apex_types.specs.values.Limits.{most_line}
 use Rattle.apex_check.specs.Terms.{Entry, Event}
-use Rattle.apex_types.specs.Table.{Table}
+use Rattle.apex_types.specs.table.Table.{Table}
 use Rattle.apex_calls.specs.Lines.{line_of, lines_of}
-use Rattle.apex_types.specs.Machine.{Machine, accept, happen, opening, run}
+use Rattle.apex_types.specs.machine.Machine.{Machine, accept, happen, opening, run}
 use Rattle.apex_dispatch.proofs.Runs.{accept-full, accept-room, length-happen, run-append}
 use Rattle.apex_history.specs.declared.LineFault.{LineFault}
 use Rattle.apex_history.specs.declared.LineFault.TheVariants.{TooLong}

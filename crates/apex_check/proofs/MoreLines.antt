@@ -6,14 +6,14 @@ use Rattle.std.proofs.lemmas.Bool.{ltb-true}
 use Rattle.std.proofs.lemmas.Grind.{flat_map-append}
 use Rattle.std.proofs.lemmas.List.{length-map, map-append}
 use Rattle.std.proofs.Math.Seq.{take-append_seam, get_or-append_seam}
-use Rattle.apex_types.specs.Limits.{most_line}
+use Rattle.apex_types.specs.values.Limits.{most_line}
 use Rattle.apex_check.specs.Terms.{Entry, Event}
 use Rattle.apex_table.proofs.Results.{all_append}
 use Rattle.apex_types.specs.declared.Event.TheVariants.{Turn, Tick}
-use Rattle.apex_types.specs.Table.{Table}
+use Rattle.apex_types.specs.table.Table.{Table}
 use Rattle.apex_calls.specs.Lines.{line_of, lines_of}
-use Rattle.apex_types.specs.Machine.{Machine, accept, happen, event_of, events_of, opening, replay, run, tick, turn}
-use Rattle.apex_dispatch.proofs.Runs.{accept-room, run-append}
+use Rattle.apex_types.specs.machine.Machine.{Machine, accept, happen, event_of, events_of, replay, run, tick, turn}
+use Rattle.apex_dispatch.proofs.Runs.{accept-room}
 use Rattle.apex_history.specs.declared.LineFault.{LineFault}
 use Rattle.apex_history.specs.declared.LineFault.TheVariants as line_fault
 use Rattle.apex_history.specs.ReadLines as words
@@ -72,13 +72,6 @@ module _ (table : Table) (machine : Machine) (event : Event) (entries : List Ent
       let at : get_or entries (length machine.history) found ≡ found =
       ap (λ (l : List Entry). get_or l (length machine.history) found) whole ∙ get_or-append_seam machine.history found [] found in
       subst P at (all (length machine.history) found n)
-
--- one event after those of the history
-pub one_more : (table : Table) (machine : Machine) (event : Event) → replay table machine.history ≡ machine
-    → run table (opening table) (events_of machine.history ++ event ∷ []) ≡ accept table machine event
-one_more table machine event again =
-    run-append table (opening table) (events_of machine.history) (event ∷ [])
-    ∙ ap (λ (m : Machine). run table m (event ∷ [])) again
 
 -- ---- one line more
 

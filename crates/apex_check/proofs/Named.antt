@@ -2,8 +2,8 @@
 use Rattle.std.proofs.Common.{◌≡◌, ℕ, ◌≤◌, Bool, true, false, List, [], ◌∷◌, Option, None, Some, Ok, Err, refl, take, drop, length, nat_lt, ltb-true, leb-true, codes}
 use Rattle.std.specs.Prelude.{IfOk, IfSome, nat_le, if◌then◌else◌, option_map, ◌&&◌}
 use Rattle.std.specs.Str.{bytes_eq}
-use Rattle.apex_types.specs.Limits.{most_line, most_ticks}
-use Rattle.apex_types.specs.Numbers.{number_of, at_least, at_most}
+use Rattle.apex_types.specs.values.Limits.{most_line, most_ticks}
+use Rattle.apex_types.specs.values.Numbers.{number_of, at_least, at_most}
 use Rattle.apex_check.specs.Terms.{Event}
 use Rattle.apex_types.specs.declared.Event.TheVariants.{Turn, Tick}
 use Rattle.apex_dispatch.specs.Events.{IsWithin}

@@ -2,7 +2,7 @@
 -- has left.
 use Rattle.std.specs.Prelude.{◌≡◌, ℕ, ◌+◌, ◌*◌, ◌<◌, ◌≤◌, List, [], length, take, Option, IfSome}
 use Rattle.std.specs.Io.KnownBytes.{IsAtEnd}
-use Rattle.apex_types.specs.Limits.{most_line}
+use Rattle.apex_types.specs.values.Limits.{most_line}
 use Rattle.apex_check.specs.declared.pending.Next.{Next}
 use Rattle.apex_check.specs.declared.pending.Next.TheVariants.{Line, Part, Rest, End}
 use Rattle.apex_check.specs.Texts.{IsOneLine, ended}
@@ -14,13 +14,15 @@ IsAhead text known = IfSome known (λ xs. text ≡ xs)
 -- the bytes begin with a line of `end` bytes, and its line feed
 abbrev pub IsFirstLine : ℕ → List ℕ → Type 0
 IsFirstLine end bytes =
-    IsOneLine (take end bytes) × (take (end + 1) bytes ≡ ended (take end bytes)) × (end < length bytes)
+    IsOneLine (take end bytes) × (take (end + 1) bytes ≡ ended (take end bytes))
+    × (end < length bytes)
 
 -- the next part of a text, by the bytes that were read ahead and those that are left
 abbrev pub Comes : Next → List ℕ → Option (List ℕ) → Type 0
 Comes (Line end) pending left = IsFirstLine end pending
 Comes Part pending left = IsOneLine pending × (most_line < length pending)
-Comes Rest pending left = IsOneLine pending × (0 < length pending) × (length pending ≤ most_line) × IsAtEnd left
+Comes Rest pending left =
+    IsOneLine pending × (0 < length pending) × (length pending ≤ most_line) × IsAtEnd left
 Comes End pending left = (pending ≡ []) × IsAtEnd left
 
 -- a bound of the bytes that can still be taken: those that were read ahead, and 4,096 for each read

@@ -1,7 +1,7 @@
 -- The ends of a check.
 use Rattle.std.specs.Prelude.{ℕ, List, Result, Ok, Err}
 use Rattle.std.specs.Io.KnownBytes.{Appends, Keeps}
-use Rattle.apex_types.specs.Table.{Table}
+use Rattle.apex_types.specs.table.Table.{Table}
 use Rattle.apex_history.specs.Counted.{AppendsBeginning}
 use Rattle.apex_history.specs.Ports.{Ports, NoneFails, AReadFails, AWriteFails, IsLeft}
 use Rattle.apex_check.specs.declared.verdicts.Verdict.{Verdict}
@@ -23,10 +23,13 @@ pub data Checks (before : Ports) : Result Verdict CheckFault → Ports → Type 
       → IsAtFault text fault → Keeps before.held after.held → NoneFails before after
       → Checks before (Err fault) after
   -- the verdict was written
-  written : (text : List ℕ) (table : Table) → {verdict : Verdict} {after : Ports} → IsLeft text before
+  written : (text : List ℕ) (table : Table) → {verdict : Verdict} {after : Ports}
+      → IsLeft text before
       → Judges text table verdict → Appends before.held after.held (verdict_text table verdict)
       → NoneFails before after → Checks before (Ok verdict) after
   -- a write failed: a prefix of the verdict's text was written
-  unwritten : (text : List ℕ) (table : Table) (verdict : Verdict) → {after : Ports} → IsLeft text before
-      → Judges text table verdict → AppendsBeginning before.held after.held (verdict_text table verdict)
+  unwritten : (text : List ℕ) (table : Table) (verdict : Verdict) → {after : Ports}
+      → IsLeft text before
+      → Judges text table verdict
+      → AppendsBeginning before.held after.held (verdict_text table verdict)
       → AWriteFails before after → Checks before (Err Write) after

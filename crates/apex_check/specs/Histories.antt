@@ -3,8 +3,8 @@ use Rattle.std.specs.Prelude.{◌≡◌, ℕ, ◌≤◌, Bool, true, nat_lt, if�
 use Rattle.std.specs.List.{AllByRecursion}
 use Rattle.apex_check.specs.Terms.{Entry, Event}
 use Rattle.apex_types.specs.declared.Event.TheVariants.{Turn, Tick}
-use Rattle.apex_types.specs.Table.{Table}
-use Rattle.apex_types.specs.Machine.{run, opening}
+use Rattle.apex_types.specs.table.Table.{Table}
+use Rattle.apex_types.specs.machine.Machine.{run, opening}
 use Rattle.apex_calls.specs.Lines.{lines_of}
 use Rattle.apex_history.specs.ReadLines.{line_result}
 use Rattle.apex_history.specs.declared.LineFault.{LineFault}
@@ -41,7 +41,8 @@ pub record AreLines (table : Table) (bytes : List ℕ) (events : List Event) : T
 
 -- the text begins with the lines of *run* for these events, and these bytes follow
 abbrev pub Follows : Table → List ℕ → List Event → List ℕ → Type 0
-Follows table text events behind = (bytes : List ℕ) × (text ≡ bytes ++ behind) × AreLines table bytes events
+Follows table text events behind =
+    (bytes : List ℕ) × (text ≡ bytes ++ behind) × AreLines table bytes events
 
 -- this entry is the machine's for one event more
 abbrev pub IsNext : Table → List Event → Event → Entry → Type 0

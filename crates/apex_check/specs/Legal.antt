@@ -1,7 +1,7 @@
 -- Legal texts.
 use Rattle.std.specs.Prelude.{◌≡◌, ◌↔◌, ℕ, List, [], length, Option, Some, Result, Ok, Err}
 use Rattle.apex_check.specs.Terms.{Event}
-use Rattle.apex_types.specs.Table.{Table}
+use Rattle.apex_types.specs.table.Table.{Table}
 use Rattle.apex_check.specs.declared.verdicts.Verdict.{Verdict}
 use Rattle.apex_check.specs.declared.verdicts.Verdict.TheVariants.{Legal}
 use Rattle.apex_check.specs.declared.verdicts.CheckFault.{CheckFault}
@@ -30,4 +30,5 @@ IsOfText answer = Unit {0}
 -- or a write failed
 abbrev pub TellsLegal : Option (List ℕ) → Result Verdict CheckFault → Type 0
 TellsLegal known answer =
-    (text : List ℕ) (n : ℕ) → known ≡ Some text → IsOfText answer → (answer ≡ Ok (Legal n)) ↔ IsLegal text n
+    (text : List ℕ) (n : ℕ) → known ≡ Some text → IsOfText answer → (answer ≡ Ok (Legal n))
+    ↔ IsLegal text n

@@ -1,8 +1,8 @@
 -- The answer of the machine to a line.
 use Rattle.std.specs.Prelude.{◌≡◌, ◌≢◌, ◌≤◌, ℕ, List, [], ◌∷◌, ◌++◌, length, Option, None, Some, Result, Ok, Err}
 use Rattle.apex_check.specs.Terms.{Entry, Event}
-use Rattle.apex_types.specs.Table.{Table}
-use Rattle.apex_types.specs.Machine.{Machine, accept, event_of, events_of}
+use Rattle.apex_types.specs.table.Table.{Table}
+use Rattle.apex_types.specs.machine.Machine.{Machine, accept, event_of, events_of}
 use Rattle.apex_calls.specs.Lines.{line_of, IsPrintable}
 use Rattle.apex_check.specs.declared.following.Answer.{Answer}
 use Rattle.apex_check.specs.declared.following.Answer.TheVariants.{Same, Differs, Beyond}
@@ -20,18 +20,21 @@ use Rattle.apex_check.specs.Verdicts.{JudgesLines, LineIsAtFault}
 -- the event adds this entry to the history
 abbrev pub Adds : Table → Machine → Event → Entry → Type 0
 Adds table machine event entry =
-    ((accept table machine event).history ≡ machine.history ++ entry ∷ []) × (event_of entry ≡ event)
+    ((accept table machine event).history ≡ machine.history ++ entry ∷ [])
+    × (event_of entry ≡ event)
 
 -- the comparison of the line of the entry that the event adds with this one
 abbrev pub Answers : Table → Machine → Event → List ℕ → Answer → Type 0
-Answers table machine event line Same = (entry : Entry) × Adds table machine event entry × (line ≡ line_of table entry)
+Answers table machine event line Same =
+    (entry : Entry) × Adds table machine event entry × (line ≡ line_of table entry)
 Answers table machine event line (Differs entry) =
     Adds table machine event entry × (line ≢ line_of table entry) × IsPrintable table entry
 Answers table machine event line Beyond = table.limit ≤ length machine.history
 
 -- the judgement on a line behind bytes that are the text's first lines: it is one more of them, or
 -- there is a verdict or a fault, whatever follows
-abbrev pub Judged : Table → List ℕ → List ℕ → List Entry → Result (Option Verdict) CheckFault → Type 0
+abbrev pub Judged : Table → List ℕ → List ℕ → List Entry → Result (Option Verdict) CheckFault
+    → Type 0
 Judged table bytes line history (Ok None) = AreLines table (bytes ++ ended line) (events_of history)
 Judged table bytes line history (Ok (Some verdict)) =
     (behind : List ℕ) → JudgesLines table (bytes ++ (ended line ++ behind)) verdict
@@ -47,7 +50,8 @@ IsTellable table (DepartsAt n None) = Unit {0}
 -- the part that is still to come has this line at fault, or a read failed
 abbrev pub IsLineFaultOf : Table → Option (List ℕ) → CheckFault → Type 0
 IsLineFaultOf table known Read = Unit {0}
-IsLineFaultOf table known fault = (text : List ℕ) × IsAhead text known × LineIsAtFault table text fault
+IsLineFaultOf table known fault =
+    (text : List ℕ) × IsAhead text known × LineIsAtFault table text fault
 
 -- the fault of a line
 abbrev pub fault_at : ℕ → LineFault → CheckFault

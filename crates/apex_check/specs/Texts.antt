@@ -2,7 +2,7 @@
 -- of a history.
 use Rattle.std.specs.Prelude.{◌≡◌, ◌≢◌, ◌==◌, ℕ, Bool, List, ◌++◌, codes, count_by, flat_map}
 use Rattle.std.specs.List.{AllByRecursion}
-use Rattle.apex_types.specs.Table.{Table}
+use Rattle.apex_types.specs.table.Table.{Table}
 use Rattle.apex_table.specs.Reading.{table_of}
 use Rattle.std.specs.declared.result.Result.TheVariants.{Ok}
 
@@ -53,4 +53,5 @@ IsParted text front behind = IsTableText front × (text ≡ front ++ ended separ
 
 -- the text begins with this table, by *reading*, and these bytes follow the separator
 abbrev pub BeginsWithTable : List ℕ → Table → List ℕ → Type 0
-BeginsWithTable text table behind = (front : List ℕ) × IsParted text front behind × (table_of front ≡ Ok table)
+BeginsWithTable text table behind =
+    (front : List ℕ) × IsParted text front behind × (table_of front ≡ Ok table)

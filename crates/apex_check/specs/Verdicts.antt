@@ -1,8 +1,8 @@
 -- The verdict on the history of a text, or the first fault.
 use Rattle.std.specs.Prelude.{◌≡◌, ◌≢◌, ℕ, ◌+◌, ◌<◌, ◌≤◌, List, [], ◌++◌, length, codes, decimal, Option, None, Some, Ok, Err}
-use Rattle.apex_types.specs.Limits.{most_line}
+use Rattle.apex_types.specs.values.Limits.{most_line}
 use Rattle.apex_check.specs.Terms.{Entry, Event}
-use Rattle.apex_types.specs.Table.{Table}
+use Rattle.apex_types.specs.table.Table.{Table}
 use Rattle.apex_calls.specs.Lines.{line_of}
 use Rattle.apex_table.specs.Reading.{table_of}
 use Rattle.apex_table.specs.declared.TableFault.{TableFault}
@@ -30,11 +30,13 @@ verdict_text table (DepartsAt n expected) =
 -- for the events that they name.
 pub data JudgesLines (table : Table) (text : List ℕ) : Verdict → Type 0 where
   -- all lines are
-  legal : {events : List Event} → Follows table text events [] → JudgesLines table text (Legal (length events))
+  legal : {events : List Event} → Follows table text events []
+      → JudgesLines table text (Legal (length events))
   -- the next line names an event, and is not the line of the machine's entry
   departs : {events : List Event} (behind line : List ℕ) (event : Event) (entry : Entry)
       → Follows table text events (ended line ++ behind) → IsOneLine line
-      → event_named table.cores line ≡ Ok event → IsNext table events event entry → ended line ≢ line_of table entry
+      → event_named table.cores line ≡ Ok event → IsNext table events event entry
+      → ended line ≢ line_of table entry
       → JudgesLines table text (DepartsAt (length events + 1) (Some entry))
   -- the next line names an event, and the history is full
   beyond : {events : List Event} (behind line : List ℕ) (event : Event)
@@ -68,5 +70,6 @@ pub data IsAtFault (text : List ℕ) : CheckFault → Type 0 where
   no_separator : HasNoSeparator text → IsAtFault text NoSeparator
   no_table : (front behind : List ℕ) → {fault : TableFault} → IsParted text front behind
       → table_of front ≡ Err fault → fault ≢ table_fault.Memory → IsAtFault text (BadTable fault)
-  at_line : (table : Table) (behind : List ℕ) → {fault : CheckFault} → BeginsWithTable text table behind
+  at_line : (table : Table) (behind : List ℕ) → {fault : CheckFault}
+      → BeginsWithTable text table behind
       → LineIsAtFault table behind fault → IsAtFault text fault

@@ -22,8 +22,12 @@ use std::io::{self, Write};
 /// Writes the text of the verdict on a history of the table.
 fn tell<W: Sink>(table: &Table, verdict: &Verdict, writer: &mut Counted<W>) -> io::Result<()>
     requires { IsTellable table.now verdict.now }
-    ensures bytes { OnOk result (Appends (W.contents (inner_of writer.old)) (W.contents (inner_of writer.new)) (verdict_text table.now verdict.now)) }
-    ensures beginning { OnErr result (AppendsBeginning (W.contents (inner_of writer.old)) (W.contents (inner_of writer.new)) (verdict_text table.now verdict.now)) }
+    ensures bytes { OnOk result
+        (Appends (W.contents (inner_of writer.old)) (W.contents (inner_of writer.new))
+        (verdict_text table.now verdict.now)) }
+    ensures beginning { OnErr result
+        (AppendsBeginning (W.contents (inner_of writer.old)) (W.contents (inner_of writer.new))
+        (verdict_text table.now verdict.now)) }
     ensures counted { CountsFailure result (failures_of writer.old) (failures_of writer.new) }
 {
     writer.write_all(verdict_text(table, verdict).as_slice())
@@ -44,9 +48,11 @@ pub fn check<R: Source, W: Sink>(
     writer: &mut Counted<W>,
 ) -> Result<Verdict, CheckFault>
     ensures ends { Checks
-        (ports (R.remaining (inner_of reader.old)) (W.contents (inner_of writer.old)) (failures_of reader.old) (failures_of writer.old))
+        (ports (R.remaining (inner_of reader.old)) (W.contents (inner_of writer.old))
+        (failures_of reader.old) (failures_of writer.old))
         result
-        (ports (R.remaining (inner_of reader.new)) (W.contents (inner_of writer.new)) (failures_of reader.new) (failures_of writer.new)) }
+        (ports (R.remaining (inner_of reader.new)) (W.contents (inner_of writer.new))
+        (failures_of reader.new) (failures_of writer.new)) }
     ensures legal { TellsLegal (R.remaining (inner_of reader.old)) result }
 {
     let mut pending = Pending::new();

@@ -1,8 +1,8 @@
 //! The lines of a text beside the machine's.
 ghost use Rattle.std.specs.Prelude.{◌≡◌, ◌↔◌, ◌+◌, ◌<◌, ◌≤◌, ◌++◌, ℕ, List, length, IfOk, IfErr, IfSome, IsOk, None};
 ghost use Rattle.std.specs.Io.KnownBytes.{prepend_known};
-ghost use Rattle.apex_types.specs.Limits.{most_entries};
-ghost use Rattle.apex_types.specs.Machine.{opening, accept, events_of};
+ghost use Rattle.apex_types.specs.values.Limits.{most_entries};
+ghost use Rattle.apex_types.specs.machine.Machine.{opening, accept, events_of};
 ghost use Rattle.apex_dispatch.specs.Events.{IsWithin};
 ghost use Rattle.apex_dispatch.specs.Kernel.{kernel_in};
 ghost use Rattle.apex_history.specs.Counted.{inner_of, failures_of};
@@ -19,7 +19,7 @@ use crate::verdicts::{CheckFault, Verdict};
 use apex_dispatch::Kernel;
 use apex_history::{Counted, LineFault, Source, read_line};
 use apex_store::PlainStore;
-use apex_types::{Entry, Event, Full};
+use apex_types::{Entry, Event};
 
 /// The comparison of the machine's line for an event with a line.
 #[derive(Drop)]
@@ -53,22 +53,13 @@ fn named(cores: u8, line: &[u8]) -> Result<Event, LineFault>
     }
 }
 
-/// The event that the line names, which a kernel with `cores` cores may be asked for.
-fn event_named(cores: u8, line: &[u8]) -> Result<Event, LineFault>
+/// The event that the line, which is given without its line feed, names in the history of a partition
+/// with `cores` cores. The line is at fault if it names none, or a core that the partition lacks.
+pub fn event_named(cores: u8, line: &[u8]) -> Result<Event, LineFault>
     ensures value { result ≡ event_named cores line.now }
     ensures within { IfOk result (IsWithin cores) }
 {
     named(cores, line)
-}
-
-/// Makes the event, if the history has room for it.
-fn make(kernel: &mut Kernel<PlainStore>, event: Event) -> Result<(), Full>
-    requires { IsWithin kernel.old.table.cores event }
-    ensures done { kernel.new ≡ kernel_in kernel.old.table (accept kernel.old.table kernel.old.machine event) }
-    ensures accepted { IsOk result ↔ (length kernel.old.machine.history < kernel.old.table.limit) }
-{
-    kernel.holds();
-    kernel.run(&[event])
 }
 
 /// Makes the event, and compares the machine's line with this one, which has its line feed.
@@ -79,10 +70,11 @@ fn compare(
     line: &[u8],
 ) -> Answer
     requires { IsWithin kernel.old.table.cores event }
-    ensures new { kernel.new ≡ kernel_in kernel.old.table (accept kernel.old.table kernel.old.machine event) }
+    ensures new { kernel.new
+        ≡ kernel_in kernel.old.table (accept kernel.old.table kernel.old.machine event) }
     ensures answers { Answers kernel.old.table kernel.old.machine event line.now result }
 {
-    let Ok(()) = make(kernel, event) else {
+    let Ok(()) = kernel.accept(event) else {
         return Answer::Beyond;
     };
     kernel.holds();
@@ -125,8 +117,10 @@ fn judge_line(
 ) -> Result<Option<Verdict>, CheckFault>
     requires { 0 < length line.now }
     ensures table { kernel.new.table ≡ kernel.old.table }
-    ensures more { IfOk result (λ verdict. verdict ≡ None → length kernel.new.machine.history ≡ length kernel.old.machine.history + 1) }
-    ensures judged { (bytes found : List ℕ) → AreLines kernel.old.table bytes (events_of kernel.old.machine.history)
+    ensures more { IfOk result (λ verdict. verdict ≡ None
+        → length kernel.new.machine.history ≡ length kernel.old.machine.history + 1) }
+    ensures judged { (bytes found : List ℕ)
+        → AreLines kernel.old.table bytes (events_of kernel.old.machine.history)
         → IsOneLine found → line.now ≡ ended found
         → Judged kernel.old.table bytes found kernel.new.machine.history result }
     ensures tellable { IfOk result (λ verdict. IfSome verdict (IsTellable kernel.old.table)) }
@@ -155,10 +149,13 @@ pub(crate) fn judge<R: Source>(
 ) -> Result<Verdict, CheckFault>
     requires { kernel.old.machine ≡ opening kernel.old.table }
     ensures table { kernel.new.table ≡ kernel.old.table }
-    ensures ok { IfOk result (λ verdict. (text : List ℕ) × IsAhead text (prepend_known pending.old (R.remaining (inner_of reader.old)))
+    ensures ok { IfOk result (λ verdict. (text : List ℕ)
+        × IsAhead text (prepend_known pending.old (R.remaining (inner_of reader.old)))
         × JudgesLines kernel.old.table text verdict) }
     ensures tellable { IfOk result (IsTellable kernel.old.table) }
-    ensures err { IfErr result (IsLineFaultOf kernel.old.table (prepend_known pending.old (R.remaining (inner_of reader.old)))) }
+    ensures err { IfErr result
+        (IsLineFaultOf kernel.old.table
+        (prepend_known pending.old (R.remaining (inner_of reader.old)))) }
     ensures counted { CountsCheck result (failures_of reader.old) (failures_of reader.new) }
 {
     kernel.holds();

@@ -9,4 +9,5 @@ mod tables;
 mod verdicts;
 
 pub use checking::check;
+pub use following::event_named;
 pub use verdicts::{CheckFault, Verdict};

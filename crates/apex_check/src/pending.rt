@@ -1,7 +1,7 @@
 //! The bytes that were read ahead of the line that is looked at, in a buffer of fixed size.
 ghost use Rattle.std.specs.Prelude.{◌≡◌, ◌+◌, ◌*◌, ◌≤◌, ◌<◌, ◌++◌, length, drop, IfOk, IfSome, None, OnOk};
 ghost use Rattle.std.specs.Io.KnownBytes.{IsAtEnd, Keeps, prepend_known};
-ghost use Rattle.apex_types.specs.Limits.{most_line};
+ghost use Rattle.apex_types.specs.values.Limits.{most_line};
 ghost use Rattle.apex_history.specs.Counted.{inner_of, failures_of, reads_left_of, CountsFailure};
 ghost use Rattle.apex_check.specs.declared.pending.TheConstants.{PENDING_ROOM};
 ghost use Rattle.apex_check.specs.Ahead.{Comes, IsFirstLine, fuel};
@@ -109,10 +109,12 @@ impl Pending {
     /// Reads once, up to [`MOST_LINE`] bytes, and says how many.
     fn fill<R: Source>(&mut self, reader: &mut Counted<R>) -> Result<usize>
         requires { length self.old ≤ most_line }
-        ensures kept { OnOk result (Keeps (prepend_known self.old (R.remaining (inner_of reader.old)))
+        ensures kept { OnOk result
+            (Keeps (prepend_known self.old (R.remaining (inner_of reader.old)))
             (prepend_known self.new (R.remaining (inner_of reader.new)))) }
         ensures more { IfOk result (λ count. length self.new ≡ length self.old + count) }
-        ensures end { IfOk result (λ count. count ≡ 0 → IsAtEnd (R.remaining (inner_of reader.new)) × (self.new ≡ self.old)) }
+        ensures end { IfOk result (λ count. count ≡ 0
+            → IsAtEnd (R.remaining (inner_of reader.new)) × (self.new ≡ self.old)) }
         ensures bound { IfOk result (λ count. count ≤ most_line) }
         ensures counted { CountsFailure result (failures_of reader.old) (failures_of reader.new) }
         ensures reads { OnOk result (reads_left_of reader.new + 1 ≡ reads_left_of reader.old) }
@@ -125,11 +127,14 @@ impl Pending {
 
     /// The next part of the text. It reads only if no line feed was read ahead.
     pub(crate) fn next<R: Source>(&mut self, reader: &mut Counted<R>) -> Result<Next>
-        ensures kept { OnOk result (Keeps (prepend_known self.old (R.remaining (inner_of reader.old)))
+        ensures kept { OnOk result
+            (Keeps (prepend_known self.old (R.remaining (inner_of reader.old)))
             (prepend_known self.new (R.remaining (inner_of reader.new)))) }
-        ensures comes { IfOk result (λ next. Comes next self.new (R.remaining (inner_of reader.new))) }
+        ensures comes { IfOk result
+            (λ next. Comes next self.new (R.remaining (inner_of reader.new))) }
         ensures counted { CountsFailure result (failures_of reader.old) (failures_of reader.new) }
-        ensures fuel { OnOk result (fuel self.new (reads_left_of reader.new) ≤ fuel self.old (reads_left_of reader.old)) }
+        ensures fuel { OnOk result (fuel self.new (reads_left_of reader.new)
+            ≤ fuel self.old (reads_left_of reader.old)) }
     {
         loop {
             if let Some(end) = first_line(self.bytes()) {

@@ -38,9 +38,12 @@ fn table_text<R: Source>(
     reader: &mut Counted<R>,
 ) -> Result<Vec<u8>, CheckFault>
     ensures lines { IfOk result (λ text. IsTableText text.items) }
-    ensures taken { IfOk result (λ text. Consumes (prepend_known pending.old (R.remaining (inner_of reader.old)))
-        (prepend_known pending.new (R.remaining (inner_of reader.new))) (text.items ++ ended separator)) }
-    ensures err { IfErr result (IsFaultOf (prepend_known pending.old (R.remaining (inner_of reader.old)))) }
+    ensures taken { IfOk result
+        (λ text. Consumes (prepend_known pending.old (R.remaining (inner_of reader.old)))
+        (prepend_known pending.new (R.remaining (inner_of reader.new)))
+        (text.items ++ ended separator)) }
+    ensures err { IfErr result
+        (IsFaultOf (prepend_known pending.old (R.remaining (inner_of reader.old)))) }
     ensures counted { CountsCheck result (failures_of reader.old) (failures_of reader.new) }
 {
     let mut text = Vec::new(alloc);
@@ -74,10 +77,13 @@ pub(crate) fn leading_table<R: Source>(
     pending: &mut Pending,
     reader: &mut Counted<R>,
 ) -> Result<Table, CheckFault>
-    ensures ok { IfOk result (λ table. (front : List ℕ) × IsTableText front × (table_of front ≡ Ok table)
+    ensures ok { IfOk result (λ table. (front : List ℕ) × IsTableText front
+        × (table_of front ≡ Ok table)
         × Consumes (prepend_known pending.old (R.remaining (inner_of reader.old)))
-        (prepend_known pending.new (R.remaining (inner_of reader.new))) (front ++ ended separator)) }
-    ensures err { IfErr result (IsFaultOf (prepend_known pending.old (R.remaining (inner_of reader.old)))) }
+        (prepend_known pending.new (R.remaining (inner_of reader.new)))
+        (front ++ ended separator)) }
+    ensures err { IfErr result
+        (IsFaultOf (prepend_known pending.old (R.remaining (inner_of reader.old)))) }
     ensures counted { CountsCheck result (failures_of reader.old) (failures_of reader.new) }
 {
     let text = table_text(alloc, pending, reader)?;

@@ -5,8 +5,8 @@ use Rattle.std.proofs.Math.Seq.{drop-cons}
 use Rattle.std.proofs.lemmas.Bool.{both_ways, cases_Bool, cases_lt, le-leb, lt-leb}
 use Rattle.std.proofs.lemmas.List.Folds.{list_all_at}
 use Rattle.apex_cli.specs.Terms.{Event}
-use Rattle.apex_types.specs.Machine.{Machine, accept, run, opening, events_of, replay}
-use Rattle.apex_types.specs.Table.{Table}
+use Rattle.apex_types.specs.machine.Machine.{Machine, accept, run, opening}
+use Rattle.apex_types.specs.table.Table.{Table}
 use Rattle.apex_table.specs.Reading.{table_of}
 use Rattle.apex_dispatch.proofs.Runs.{accept-room, length-happen, run-append}
 use Rattle.apex_cli.specs.declared.schedule.Item.{Item}
@@ -15,13 +15,6 @@ use Rattle.apex_cli.specs.declared.faults.CliFault.TheVariants.{HistoryFull}
 use Rattle.apex_cli.specs.declared.words.Report.{Report}
 use Rattle.apex_cli.specs.Reports.{answer_of, fault_of_events, report_text, writes}
 use Rattle.apex_cli.specs.Schedule.{is_core_below, are_cores_below, events_of_item, events_of_items}
-
--- one event after those of the history
-pub one_more : (table : Table) (machine : Machine) (event : Event) → replay table machine.history ≡ machine
-    → run table (opening table) (events_of machine.history ++ event ∷ []) ≡ accept table machine event
-one_more table machine event again =
-    run-append table (opening table) (events_of machine.history) (event ∷ [])
-    ∙ ap (λ (m : Machine). run table m (event ∷ [])) again
 
 -- there is no room if room leads to a contradiction
 pub no_room : (n limit : ℕ) → (n < limit → false ≡ true) → limit ≤ n

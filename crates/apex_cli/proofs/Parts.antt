@@ -5,7 +5,7 @@ use Rattle.std.specs.Char.{is_ascii_digit}
 use Rattle.std.specs.List.{count_by, join_with_byte}
 use Rattle.std.specs.Str.{all_ascii_digits}
 use Rattle.std.proofs.lemmas.List.Splits.{join_with_byte-slice_split, length-slice_split}
-use Rattle.apex_types.specs.Numbers.{number_of}
+use Rattle.apex_types.specs.values.Numbers.{number_of}
 use Rattle.apex_history.specs.Words.{parts}
 use Rattle.apex_cli.specs.Schedule.{times_after, times_of}
 

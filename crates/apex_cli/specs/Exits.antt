@@ -18,7 +18,8 @@ use Rattle.apex_cli.specs.Runs.{Runs}
 
 -- The ways in which a report of a run ends: by the items, the reader and the writer before, the
 -- fault, and the reader and the writer afterwards.
-pub data Reports (report : Report) (items : List Item) (before : Ports) : Option CliFault → Ports → Type 0 where
+pub data Reports (report : Report) (items : List Item) (before : Ports) : Option CliFault → Ports
+    → Type 0 where
   -- memory was refused: nothing was written
   no_room : {after : Ports} → Keeps before.held after.held → NoneFails before after
       → Reports report items before (Some Memory) after
@@ -30,12 +31,15 @@ pub data Reports (report : Report) (items : List Item) (before : Ports) : Option
       → answer_of report items bytes ≡ refuses fault → Keeps before.held after.held
       → NoneFails before after → Reports report items before (Some fault) after
   -- the whole text was written
-  written : (bytes : List ℕ) → {text : List ℕ} {fault : Option CliFault} {after : Ports} → IsLeft bytes before
+  written : (bytes : List ℕ) → {text : List ℕ} {fault : Option CliFault} {after : Ports}
+      → IsLeft bytes before
       → answer_of report items bytes ≡ writes text fault → Appends before.held after.held text
       → NoneFails before after → Reports report items before fault after
   -- a write failed: a prefix of the text was written
-  unwritten : (bytes : List ℕ) → {text : List ℕ} {fault : Option CliFault} {after : Ports} → IsLeft bytes before
-      → answer_of report items bytes ≡ writes text fault → AppendsBeginning before.held after.held text
+  unwritten : (bytes : List ℕ) → {text : List ℕ} {fault : Option CliFault} {after : Ports}
+      → IsLeft bytes before
+      → answer_of report items bytes ≡ writes text fault
+      → AppendsBeginning before.held after.held text
       → AWriteFails before after → Reports report items before (Some Write) after
 
 -- The ways in which the program ends: by its task, the reader and the writer before, the exit
@@ -45,7 +49,8 @@ pub data Ends (asked : Option Asked) (before : Ports) : ℕ → Option CliFault 
   no_memory : {after : Ports} → Keeps before.held after.held → NoneFails before after
       → Ends asked before (status_of (Some Memory)) (Some Memory) after
   -- the words or the schedule are ill-formed: nothing was read and nothing written
-  usage : {after : Ports} → asked ≡ None → Keeps before.left after.left → Keeps before.held after.held
+  usage : {after : Ports} → asked ≡ None → Keeps before.left after.left
+      → Keeps before.held after.held
       → NoneFails before after → Ends asked before (status_of (Some Usage)) (Some Usage) after
   -- a run is reported
   reported : {report : Report} {items : List Item} {fault : Option CliFault} {after : Ports}

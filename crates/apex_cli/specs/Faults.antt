@@ -96,12 +96,14 @@ fault_in (Err fault) = Some fault
 
 -- the text of a fault
 abbrev pub fault_text : CliFault → List ℕ
-fault_text Usage = codes "apex: usage: apex replay|status --schedule S, apex run --turns N --ticks K, apex check"
+fault_text Usage =
+    codes "apex: usage: apex replay|status --schedule S, apex run --turns N --ticks K, apex check"
 fault_text (Table fault) = codes "apex: table refused: " ++ tables.fault_text fault
 fault_text NoSeparator = codes "apex: no separator"
 fault_text (BadLine line) = codes "apex: history refused: BadLine at line " ++ decimal line
 fault_text (TooLong line) = codes "apex: history refused: TooLong at line " ++ decimal line
-fault_text (HistoryFull entries) = codes "apex: history full after " ++ decimal entries ++ codes " entries"
+fault_text (HistoryFull entries) =
+    codes "apex: history full after " ++ decimal entries ++ codes " entries"
 fault_text Memory = codes "apex: out of memory"
 fault_text NoThread = codes "apex: no thread"
 fault_text Read = codes "apex: read failed"

@@ -7,3 +7,4 @@ pub mod Requests
 pub mod Runs
 pub mod Schedule
 pub mod Words
+pub mod Streams

@@ -1,9 +1,9 @@
 -- The answer of `replay` and of `status`: a refusal, or the report of a run.
 use Rattle.std.specs.Prelude.{◌≡◌, ◌⊎◌, ℕ, List, Option, Some, None, Result, Ok, Err, length, nat_le, if◌then◌else◌}
 use Rattle.apex_cli.specs.Terms.{Event}
-use Rattle.apex_types.specs.Table as tables
-use Rattle.apex_types.specs.Listing.{listing}
-use Rattle.apex_types.specs.Machine.{Machine, run, opening}
+use Rattle.apex_types.specs.table.Table as tables
+use Rattle.apex_types.specs.text.Listing.{listing}
+use Rattle.apex_types.specs.machine.Machine.{Machine, run, opening}
 use Rattle.apex_calls.specs.Lines.{lines_of}
 use Rattle.apex_table.specs.declared.TableFault.{TableFault}
 use Rattle.apex_table.specs.Reading.{table_of}
@@ -32,13 +32,15 @@ fault_of_events table events =
 -- the answer to the events on an accepted table
 abbrev pub answer_to_events : Report → tables.Table → List Event → Answer
 answer_to_events report table events =
-    writes (report_text report table (run table (opening table) events)) (fault_of_events table events)
+    writes (report_text report table (run table (opening table) events))
+    (fault_of_events table events)
 
 -- the answer to the items, by the result of reading the bytes
 abbrev pub answer_to : Report → List Item → Result tables.Table TableFault → Answer
 answer_to report items (Err fault) = refuses (Table fault)
 answer_to report items (Ok table) =
-    if are_cores_below table.cores items then answer_to_events report table (events_of_items items) else refuses Usage
+    if are_cores_below table.cores items then answer_to_events report table (events_of_items items)
+    else refuses Usage
 
 -- the answer to the items and the bytes of a table, memory aside
 abbrev pub answer_of : Report → List Item → List ℕ → Answer

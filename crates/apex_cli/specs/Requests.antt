@@ -1,7 +1,7 @@
 -- The task of the program: by the words of the command line, and by the items of a schedule.
 use Rattle.std.specs.Prelude.{ℕ, Bool, List, Option, Some, option_and_then, option_map}
-use Rattle.apex_types.specs.Limits.{most_entries}
-use Rattle.apex_types.specs.Numbers.{at_most, number_of}
+use Rattle.apex_types.specs.values.Limits.{most_entries}
+use Rattle.apex_types.specs.values.Numbers.{at_most, number_of}
 use Rattle.apex_cli.specs.declared.schedule.Item.{Item}
 use Rattle.apex_cli.specs.declared.tasks.Task.{Task}
 use Rattle.apex_cli.specs.declared.tasks.Task.TheVariants as task

@@ -1,14 +1,16 @@
 -- The items of a schedule's text, and their events.
-use Rattle.std.specs.Prelude.{ℕ, Bool, true, List, [], ◌∷◌, Option, Some, None, map, option_map, option_and_then}
+use Rattle.std.specs.Prelude.{ℕ, ◌+◌, ◌≤◌, Bool, true, List, [], ◌∷◌, Option, Some, None, length, map, option_map, option_and_then}
 use Rattle.std.specs.Prelude.{◌==◌, nat_lt, if◌then◌else◌, replicate}
 use Rattle.std.specs.List.{list_all, flat_map}
-use Rattle.apex_types.specs.Limits.{most_entries}
+use Rattle.apex_types.specs.values.Limits.{most_entries}
+use Rattle.apex_types.specs.machine.Machine.{run}
 use Rattle.apex_cli.specs.Terms.{Event}
 use Rattle.apex_types.specs.declared.Event.TheVariants as event
 use Rattle.apex_cli.specs.declared.schedule.Item.{Item}
 use Rattle.apex_cli.specs.declared.schedule.Item.TheVariants.{Turns, Tick}
-use Rattle.apex_types.specs.Numbers.{number_of, at_least, at_most}
+use Rattle.apex_types.specs.values.Numbers.{number_of, at_least, at_most}
 use Rattle.apex_history.specs.Words.{parts, core_of, ticks_of}
+use Rattle.apex_dispatch.specs.Kernel.{KernelState, kernel_in}
 
 -- the values, if each is there
 abbrev pub all_some : {X : Type 0} → List (Option X) → Option (List X)
@@ -37,7 +39,8 @@ turns_of_parts (core ∷ after) =
 abbrev pub item_of : List ℕ → Option Item
 item_of [] = None
 item_of (first ∷ rest) =
-    if first == 116 then option_map Tick (ticks_of rest) else turns_of_parts (parts 42 (first ∷ rest))
+    if first == 116 then option_map Tick (ticks_of rest)
+    else turns_of_parts (parts 42 (first ∷ rest))
 
 -- the items of a schedule's text, with one space (32) between two; none if one is ill-formed
 abbrev pub items_of : List ℕ → Option (List Item)
@@ -60,3 +63,11 @@ is_core_below cores (Tick ticks) = true
 -- the turns of every item are of a core below `cores`
 abbrev pub are_cores_below : ℕ → List Item → Bool
 are_cores_below cores items = list_all (is_core_below cores) items
+
+-- the kernel after these events, up to the first for which its history has no room
+abbrev pub after_events : KernelState → List Event → KernelState
+after_events kernel events = kernel_in kernel.table (run kernel.table kernel.machine events)
+
+-- the history has room for n entries more
+abbrev pub HasRoomFor : ℕ → KernelState → Type 0
+HasRoomFor n kernel = length kernel.machine.history + n ≤ kernel.table.limit

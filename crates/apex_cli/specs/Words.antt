@@ -33,7 +33,9 @@ check = new_app (codes "check")
 -- `run --turns N --ticks K`, with or without `--front`
 abbrev pub run : App
 run =
-    with_rule (with_rule (with_rule (new_app (codes "run")) (required_rule (codes "turns"))) (required_rule (codes "ticks")))
+    with_rule
+    (with_rule (with_rule (new_app (codes "run")) (required_rule (codes "turns")))
+    (required_rule (codes "ticks")))
     (flag_rule (codes "front"))
 
 -- `apex`, which wants a command
@@ -45,7 +47,9 @@ apex_alone =
 -- the program's command line, with its commands
 abbrev pub apex : App
 apex =
-    with_subcommand (with_subcommand (with_subcommand (with_subcommand apex_alone replay.top) status.top) check.top) run.top
+    with_subcommand
+    (with_subcommand
+    (with_subcommand (with_subcommand apex_alone replay.top) status.top) check.top) run.top
 
 -- the request of the words of a command line
 pub data Request : Type 0 where
@@ -70,7 +74,8 @@ says_given (Some text) = bytes_eq text (codes "true")
 abbrev pub run_in : List Row → Option Request
 run_in rows =
     let front = says_given (first_of (codes "front") rows) in
-    option_and_then (λ turns. option_map (λ ticks. runs turns ticks front) (first_of (codes "ticks") rows))
+    option_and_then
+    (λ turns. option_map (λ ticks. runs turns ticks front) (first_of (codes "ticks") rows))
     (first_of (codes "turns") rows)
 
 -- the request of the command of this name, with its rows

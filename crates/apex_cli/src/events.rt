@@ -1,9 +1,7 @@
 //! The events that the items of a schedule ask for, made one after the other.
-ghost use Rattle.std.specs.Prelude.{◌≡◌, ◌↔◌, ◌+◌, ◌<◌, ◌≤◌, ℕ, true, length, replicate, IfErr, IsOk};
-ghost use Rattle.apex_types.specs.Machine.{accept, run};
+ghost use Rattle.std.specs.Prelude.{◌≡◌, ◌↔◌, ◌<◌, ℕ, true, length, replicate, IfErr, IsOk};
 ghost use Rattle.apex_dispatch.specs.Events.{IsWithin};
-ghost use Rattle.apex_dispatch.specs.Kernel.{kernel_in};
-ghost use Rattle.apex_cli.specs.Schedule.{is_core_below, are_cores_below, events_of_item, events_of_items};
+ghost use Rattle.apex_cli.specs.Schedule.{HasRoomFor, after_events, are_cores_below, events_of_item, events_of_items, is_core_below};
 
 use crate::schedule::Item;
 use apex_dispatch::Kernel;
@@ -22,28 +20,16 @@ fn repeated(item: &Item) -> (Event, u32)
     }
 }
 
-/// Runs one event, if the history has room for it.
-fn run_one(kernel: &mut Kernel<QueueStore>, event: &Event) -> Result<(), Full>
-    requires { IsWithin kernel.old.table.cores event.now }
-    ensures done { kernel.new ≡ kernel_in kernel.old.table (accept kernel.old.table kernel.old.machine event.now) }
-    ensures accepted { IsOk result ↔ (length kernel.old.machine.history < kernel.old.table.limit) }
-    ensures full { IfErr result (λ e. e.entries ≡ kernel.old.table.limit) }
-{
-    kernel.holds();
-    kernel.run(&[*event])
-}
-
 /// Runs the event `times` times, up to the first for which the history has no room.
 fn run_repeated(kernel: &mut Kernel<QueueStore>, event: &Event, times: u32) -> Result<(), Full>
     requires { IsWithin kernel.old.table.cores event.now }
-    ensures done { kernel.new ≡ kernel_in kernel.old.table
-        (run kernel.old.table kernel.old.machine (replicate times event.now)) }
-    ensures accepted { IsOk result ↔ (length kernel.old.machine.history + times ≤ kernel.old.table.limit) }
+    ensures done { kernel.new ≡ after_events kernel.old (replicate times event.now) }
+    ensures accepted { IsOk result ↔ HasRoomFor times kernel.old }
     ensures full { IfErr result (λ e. e.entries ≡ kernel.old.table.limit) }
 {
     kernel.holds();
-    for turn in 0..times {
-        run_one(kernel, event)?;
+    for round in 0..times {
+        kernel.accept(*event)?;
     }
     Ok(())
 }
@@ -52,9 +38,8 @@ fn run_repeated(kernel: &mut Kernel<QueueStore>, event: &Event, times: u32) -> R
 /// memory: there is no list of them.
 pub fn run_items(kernel: &mut Kernel<QueueStore>, items: &[Item]) -> Result<(), Full>
     requires { are_cores_below kernel.old.table.cores items.now ≡ true }
-    ensures done { kernel.new ≡ kernel_in kernel.old.table
-        (run kernel.old.table kernel.old.machine (events_of_items items.now)) }
-    ensures accepted { IsOk result ↔ (length kernel.old.machine.history + length (events_of_items items.now) ≤ kernel.old.table.limit) }
+    ensures done { kernel.new ≡ after_events kernel.old (events_of_items items.now) }
+    ensures accepted { IsOk result ↔ HasRoomFor (length (events_of_items items.now)) kernel.old }
     ensures full { IfErr result (λ e. e.entries ≡ kernel.old.table.limit) }
 {
     kernel.holds();

@@ -3,9 +3,9 @@ ghost use Rattle.std.specs.Prelude.{◌≡◌, MatchResult, Option, map, string_
 ghost use Rattle.apex_history.specs.Counted.{inner_of, failures_of};
 ghost use Rattle.apex_cli.specs.declared.faults.CliFault.{CliFault};
 ghost use Rattle.apex_cli.specs.Faults.{fault_in, line_told, status_in};
-ghost use Rattle.apex_history.specs.Ports.{ports};
 ghost use Rattle.apex_cli.specs.Requests.{asked_by};
 ghost use Rattle.apex_cli.specs.Exits.{Ends, EndsAtOnce, Reports, Told};
+ghost use Rattle.apex_cli.specs.Streams.{ports_of};
 
 use crate::faults::{CliFault, line_told};
 use crate::reports::{run_of, write_report};
@@ -69,10 +69,8 @@ fn report_run<R: Source, W: Sink>(
     reader: &mut Counted<R>,
     writer: &mut Counted<W>,
 ) -> Result<(), CliFault>
-    ensures { Reports report items.now
-        (ports (R.remaining (inner_of reader.old)) (W.contents (inner_of writer.old)) (failures_of reader.old) (failures_of writer.old))
-        (fault_in result)
-        (ports (R.remaining (inner_of reader.new)) (W.contents (inner_of writer.new)) (failures_of reader.new) (failures_of writer.new)) }
+    ensures { Reports report items.now (ports_of R.remaining W.contents reader.old writer.old)
+        (fault_in result) (ports_of R.remaining W.contents reader.new writer.new) }
 {
     let text = read_all(alloc, reader)?;
     let mut ran = run_of(alloc, items, text.as_slice())?;
@@ -93,9 +91,9 @@ fn carry_out<T: Threads + Wait + Sync, R: Source, W: Sink>(
     writer: &mut Counted<W>,
 ) -> Result<Ending, CliFault>
     ensures { Ends (asked_by (map string_bytes words.now))
-        (ports (R.remaining (inner_of reader.old)) (W.contents (inner_of writer.old)) (failures_of reader.old) (failures_of writer.old))
+        (ports_of R.remaining W.contents reader.old writer.old)
         (status_in result) (fault_in result)
-        (ports (R.remaining (inner_of reader.new)) (W.contents (inner_of writer.new)) (failures_of reader.new) (failures_of writer.new)) }
+        (ports_of R.remaining W.contents reader.new writer.new) }
 {
     match task_asked(alloc, words)? {
         Task::Report(report, items) => {
@@ -136,9 +134,8 @@ pub fn run_on<T: Threads + Wait + Sync, R: Source, W: Sink>(
     writer: &mut Counted<W>,
 ) -> Exit
     ensures { Ends (asked_by (map string_bytes words.now))
-        (ports (R.remaining (inner_of reader.old)) (W.contents (inner_of writer.old)) (failures_of reader.old) (failures_of writer.old))
-        result.status result.fault
-        (ports (R.remaining (inner_of reader.new)) (W.contents (inner_of writer.new)) (failures_of reader.new) (failures_of writer.new)) }
+        (ports_of R.remaining W.contents reader.old writer.old)
+        result.status result.fault (ports_of R.remaining W.contents reader.new writer.new) }
 {
     Exit::of(carry_out(rt, alloc, words, reader, writer))
 }
@@ -164,12 +161,8 @@ pub fn serve<T: Threads + Wait + Sync, R: Source, W: Sink, E: Sink>(
     writer: &mut Counted<W>,
     error_writer: &mut Counted<E>,
 ) -> u8
-    ensures { let before = ports
-        (R.remaining (inner_of reader.old)) (W.contents (inner_of writer.old))
-        (failures_of reader.old) (failures_of writer.old) in
-        let after = ports
-        (R.remaining (inner_of reader.new)) (W.contents (inner_of writer.new))
-        (failures_of reader.new) (failures_of writer.new) in
+    ensures { let before = ports_of R.remaining W.contents reader.old writer.old in
+        let after = ports_of R.remaining W.contents reader.new writer.new in
         (fault : Option CliFault) × Told (line_told fault)
         (E.contents (inner_of error_writer.old)) (E.contents (inner_of error_writer.new))
         (failures_of error_writer.old) (failures_of error_writer.new)

@@ -1,10 +1,10 @@
 //! A run of a table for the items of a schedule, and its report.
 ghost use Rattle.std.specs.Prelude.{◌≡◌, All, IfOk, IfErr, OnOk, OnErr};
-ghost use Rattle.std.specs.Io.KnownBytes.{Appends};
 ghost use Rattle.apex_calls.specs.Lines.{IsPrintable};
-ghost use Rattle.apex_history.specs.Counted.{inner_of, failures_of, CountsFailure, AppendsBeginning};
+ghost use Rattle.apex_history.specs.Counted.{failures_of, CountsFailure};
 ghost use Rattle.apex_cli.specs.declared.words.Report.{Report as ReportOf};
 ghost use Rattle.apex_cli.specs.Reports.{answer_of, report_text, writes, Refuses};
+ghost use Rattle.apex_cli.specs.Streams.{HasWritten, HasWrittenSome};
 
 use crate::events::run_items;
 use crate::faults::CliFault;
@@ -35,8 +35,10 @@ pub struct Run {
 pub fn run_of(alloc: Global, items: &[Item], text: &[u8]) -> Result<Run, CliFault>
     ensures ok { IfOk result (λ run. (report : ReportOf) → answer_of report items.now text.now
         ≡ writes (report_text report run.kernel.table run.kernel.machine) run.fault) }
-    ensures printable { IfOk result (λ run. All (IsPrintable run.kernel.table) run.kernel.machine.history) }
-    ensures err { IfErr result (λ fault. (report : ReportOf) → Refuses fault (answer_of report items.now text.now)) }
+    ensures printable { IfOk result
+        (λ run. All (IsPrintable run.kernel.table) run.kernel.machine.history) }
+    ensures err { IfErr result (λ fault. (report : ReportOf)
+        → Refuses fault (answer_of report items.now text.now)) }
 {
     let table = read_table(alloc, text)?;
     table.lawful();
@@ -67,8 +69,10 @@ pub fn write_report<W: Sink>(
     writer: &mut Counted<W>,
 ) -> io::Result<()>
     requires { All (IsPrintable run.old.kernel.table) run.old.kernel.machine.history }
-    ensures ok { OnOk result (Appends (W.contents (inner_of writer.old)) (W.contents (inner_of writer.new)) (report_text report run.old.kernel.table run.old.kernel.machine)) }
-    ensures err { OnErr result (AppendsBeginning (W.contents (inner_of writer.old)) (W.contents (inner_of writer.new)) (report_text report run.old.kernel.table run.old.kernel.machine)) }
+    ensures ok { OnOk result (HasWritten W.contents writer.old writer.new
+        (report_text report run.old.kernel.table run.old.kernel.machine)) }
+    ensures err { OnErr result (HasWrittenSome W.contents writer.old writer.new
+        (report_text report run.old.kernel.table run.old.kernel.machine)) }
     ensures fault { run.new.fault ≡ run.old.fault }
     ensures counted { CountsFailure result (failures_of writer.old) (failures_of writer.new) }
 {

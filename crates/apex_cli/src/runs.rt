@@ -1,13 +1,13 @@
 //! A run by threads.
-ghost use Rattle.std.specs.Prelude.{◌≡◌, All, IfOk, IfErr, OnOk, OnErr, Ok};
-ghost use Rattle.std.specs.Io.KnownBytes.{Appends};
+ghost use Rattle.std.specs.Prelude.{◌≡◌, All, IfOk, IfErr, OnOk, OnErr};
 ghost use Rattle.apex_calls.specs.Lines.{IsPrintable};
 ghost use Rattle.apex_table.specs.Reading.{table_of};
-ghost use Rattle.apex_history.specs.Counted.{inner_of, failures_of, CountsFailure, AppendsBeginning};
-ghost use Rattle.apex_history.specs.Ports.{ports};
+ghost use Rattle.apex_history.specs.Counted.{failures_of, CountsFailure};
 ghost use Rattle.apex_cli.specs.Faults.{fault_in};
 ghost use Rattle.apex_cli.specs.FrontLines.{front_text};
-ghost use Rattle.apex_cli.specs.Runs.{FrontAsked, IsRunByThreads, RefusesRun, Runs, fault_of_plan, plan_for, text_of};
+ghost use Rattle.apex_cores.specs.Plans.{HasRunByThreads, plan_of};
+ghost use Rattle.apex_cli.specs.Runs.{FrontAsked, IsRunOf, RefusesRun, Runs, fault_of_plan, text_of};
+ghost use Rattle.apex_cli.specs.Streams.{HasWritten, HasWrittenSome, ports_of};
 
 use crate::faults::CliFault;
 use crate::fronts::front_text;
@@ -43,7 +43,7 @@ struct ThreadRun {
 
 /// `HistoryFull` if more is planned than the history of the table may have.
 fn fault_of_plan(table: &Table, plan: RunPlan) -> Option<CliFault>
-    ensures { result ≡ fault_of_plan table.now (plan_for table.now plan.turns plan.ticks) }
+    ensures { result ≡ fault_of_plan table.now (plan_of table.now.cores plan) }
 {
     let turns = u64::from(table.cores()) * u64::from(plan.turns);
     if turns + u64::from(plan.ticks) <= u64::from(table.limit()) {
@@ -61,8 +61,7 @@ fn run_plan<T: Threads + Wait + Sync>(
     plan: RunPlan,
     with_front: bool,
 ) -> Result<(Partition, Option<Front>), RunFault>
-    ensures table { IfOk result (λ ran. ran.0.table ≡ table) }
-    ensures ran { IfOk result (λ ran. IsRunByThreads table (plan_for table plan.turns plan.ticks) ran.0.machine.history) }
+    ensures ran { IfOk result (λ ran. HasRunByThreads table plan ran.0) }
     ensures front { IfOk result (λ ran. FrontAsked table ran.0.machine.history with_front ran.1) }
 {
     if with_front {
@@ -84,11 +83,12 @@ fn thread_run_of<T: Threads + Wait + Sync>(
     with_front: bool,
     text: &[u8],
 ) -> Result<ThreadRun, CliFault>
-    ensures table { IfOk result (λ run. table_of text.now ≡ Ok run.partition.table) }
-    ensures ran { IfOk result (λ run. IsRunByThreads run.partition.table (plan_for run.partition.table plan.turns plan.ticks) run.partition.machine.history) }
-    ensures front { IfOk result (λ run. FrontAsked run.partition.table run.partition.machine.history with_front run.front) }
-    ensures fault { IfOk result (λ run. run.fault ≡ fault_of_plan run.partition.table (plan_for run.partition.table plan.turns plan.ticks)) }
-    ensures printable { IfOk result (λ run. All (IsPrintable run.partition.table) run.partition.machine.history) }
+    ensures ran { IfOk result (λ run. IsRunOf text.now plan.turns plan.ticks with_front
+        run.partition.table run.partition.machine.history run.front) }
+    ensures fault { IfOk result (λ run. run.fault
+        ≡ fault_of_plan run.partition.table (plan_of run.partition.table.cores plan)) }
+    ensures printable { IfOk result (λ run.
+        All (IsPrintable run.partition.table) run.partition.machine.history) }
     ensures err { IfErr result (λ fault. RefusesRun fault (table_of text.now)) }
 {
     let table = read_table(alloc, text)?;
@@ -108,8 +108,10 @@ fn thread_run_of<T: Threads + Wait + Sync>(
 ///
 /// If the write failed, a prefix of the line was written.
 fn write_front<W: Sink>(front: &Option<Front>, writer: &mut Counted<W>) -> io::Result<()>
-    ensures ok { OnOk result (Appends (W.contents (inner_of writer.old)) (W.contents (inner_of writer.new)) (front_text front.entry.now)) }
-    ensures err { OnErr result (AppendsBeginning (W.contents (inner_of writer.old)) (W.contents (inner_of writer.new)) (front_text front.entry.now)) }
+    ensures ok { OnOk result (HasWritten W.contents writer.old writer.new
+        (front_text front.entry.now)) }
+    ensures err { OnErr result (HasWrittenSome W.contents writer.old writer.new
+        (front_text front.entry.now)) }
     ensures counted { CountsFailure result (failures_of writer.old) (failures_of writer.new) }
 {
     let text = front_text(front);
@@ -122,8 +124,10 @@ fn write_front<W: Sink>(front: &Option<Front>, writer: &mut Counted<W>) -> io::R
 /// If a write failed, a prefix of this text was written.
 fn write_run<W: Sink>(run: &mut ThreadRun, writer: &mut Counted<W>) -> io::Result<()>
     requires { All (IsPrintable run.old.partition.table) run.old.partition.machine.history }
-    ensures ok { OnOk result (Appends (W.contents (inner_of writer.old)) (W.contents (inner_of writer.new)) (text_of run.old.partition.table run.old.partition.machine.history run.old.front)) }
-    ensures err { OnErr result (AppendsBeginning (W.contents (inner_of writer.old)) (W.contents (inner_of writer.new)) (text_of run.old.partition.table run.old.partition.machine.history run.old.front)) }
+    ensures ok { OnOk result (HasWritten W.contents writer.old writer.new
+        (text_of run.old.partition.table run.old.partition.machine.history run.old.front)) }
+    ensures err { OnErr result (HasWrittenSome W.contents writer.old writer.new
+        (text_of run.old.partition.table run.old.partition.machine.history run.old.front)) }
     ensures fault { run.new.fault ≡ run.old.fault }
     ensures counted { CountsFailure result (failures_of writer.old) (failures_of writer.new) }
 {
@@ -148,9 +152,8 @@ pub fn run_threads<T: Threads + Wait + Sync, R: Source, W: Sink>(
     writer: &mut Counted<W>,
 ) -> Result<(), CliFault>
     ensures { Runs plan.turns plan.ticks with_front
-        (ports (R.remaining (inner_of reader.old)) (W.contents (inner_of writer.old)) (failures_of reader.old) (failures_of writer.old))
-        (fault_in result)
-        (ports (R.remaining (inner_of reader.new)) (W.contents (inner_of writer.new)) (failures_of reader.new) (failures_of writer.new)) }
+        (ports_of R.remaining W.contents reader.old writer.old)
+        (fault_in result) (ports_of R.remaining W.contents reader.new writer.new) }
 {
     let text = read_all(alloc, reader)?;
     let mut ran = thread_run_of(rt, alloc, plan, with_front, text.as_slice())?;

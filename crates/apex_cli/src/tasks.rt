@@ -39,7 +39,8 @@ fn read_count(text: &str) -> Result<u32, CliFault>
 
 /// The task of a request. `Usage` if its schedule or a number is ill-formed.
 fn task_in(alloc: Global, request: Request<'_>) -> Result<Task, CliFault>
-    ensures ok { IfOk result (λ task. asked_in (request_said request.entry) ≡ Some (task_said task)) }
+    ensures ok { IfOk result (λ task. asked_in (request_said request.entry)
+        ≡ Some (task_said task)) }
     ensures usage { IsErrOf result CliFault.Usage → asked_in (request_said request.entry) ≡ None }
     ensures faults { IfErr result IsUsageOrMemory }
 {
@@ -64,7 +65,8 @@ fn task_in(alloc: Global, request: Request<'_>) -> Result<Task, CliFault>
 
 /// The task of the words. `Usage` if the words, the schedule or a number are ill-formed.
 pub fn task_asked(alloc: Global, words: &[String]) -> Result<Task, CliFault>
-    ensures ok { IfOk result (λ task. asked_by (map string_bytes words.now) ≡ Some (task_said task)) }
+    ensures ok { IfOk result (λ task. asked_by (map string_bytes words.now)
+        ≡ Some (task_said task)) }
     ensures usage { IsErrOf result CliFault.Usage → asked_by (map string_bytes words.now) ≡ None }
     ensures faults { IfErr result IsUsageOrMemory }
 {

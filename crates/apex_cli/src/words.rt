@@ -78,8 +78,10 @@ fn command<'a>(alloc: Global) -> Result<Command<'a>, AllocError>
 /// The first word is the program's name. Words that `clap` refuses for another cause than memory
 /// are `Usage`, and so are those that ask for help.
 pub fn request_in<'a>(alloc: Global, words: &'a [String]) -> Result<Request<'a>, CliFault>
-    ensures ok { IfOk result (λ r. request_of (map string_bytes words.entry.now) ≡ Some (request_said r)) }
-    ensures usage { IsErrOf result CliFault.Usage → request_of (map string_bytes words.entry.now) ≡ None }
+    ensures ok { IfOk result (λ r. request_of (map string_bytes words.entry.now)
+        ≡ Some (request_said r)) }
+    ensures usage { IsErrOf result CliFault.Usage
+        → request_of (map string_bytes words.entry.now) ≡ None }
     ensures faults { IfErr result IsUsageOrMemory }
 {
     let Ok(command) = command(alloc) else {
@@ -125,7 +127,8 @@ fn run_given<'a>(matches: &ArgMatches<'a>) -> Option<Request<'a>>
 }
 
 fn request_given<'a>(matches: &ArgMatches<'a>) -> Option<Request<'a>>
-    ensures { option_map request_said result ≡ option_and_then request_in (subcommand_rows_of matches.now) }
+    ensures { option_map request_said result
+        ≡ option_and_then request_in (subcommand_rows_of matches.now) }
 {
     match matches.subcommand() {
         Some(("replay", replay)) => report_given(Report::History, replay),

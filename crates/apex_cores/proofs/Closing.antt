@@ -2,13 +2,14 @@
 use Rattle.std.proofs.Common.{Option, None, Some, IsSome, MatchOption, ◌+◌, ◌≡◌, ℕ, suc, ◌<◌, ◌≤◌, Bool, true, false, List, [], ◌∷◌, length, slice_index_or, refl, ap, sym, subst, ◌∙◌, inl, inr, arith}
 use Rattle.std.specs.Prelude.{All}
 use Rattle.std.specs.List.{AllByRecursion}
-use Rattle.apex_types.specs.Table.{Table}
+use Rattle.apex_types.specs.table.Table.{Table}
 use Rattle.apex_types.specs.declared.entries.Entry.{Entry}
 use Rattle.apex_types.specs.declared.entries.Who.{Who}
 use Rattle.apex_types.specs.declared.entries.Who.TheVariants.{Core, Ticker}
+use Rattle.apex_dispatch.specs.Kernel.{KernelState}
 use Rattle.apex_receipts.specs.Receipts.{Spoken, count_who, unspoken}
-use Rattle.apex_partition.specs.Seats.{IsOneOf, IsSettled}
-use Rattle.apex_cores.specs.Plans.{HasNoOthers, HasTicksOfOne, IsDone, IsWithinPlan, plan_of, planned}
+use Rattle.apex_partition.specs.Seats.{IsOneOf, IsRun, IsSettled}
+use Rattle.apex_cores.specs.Plans.{HasNoOthers, HasRunByThreads, IsRunByThreads, plan_of}
 use Rattle.apex_cores.specs.Runs.{HasRun, IsTickOfOne}
 use Rattle.apex_cores.specs.Threads.{HasWorked, HaveWorked}
 use Rattle.apex_cores.specs.declared.plans.RunPlan.{RunPlan}
@@ -35,18 +36,11 @@ worked_in table history who seat wanted made full settled ran = at full refl whe
 
 -- the facts at the close of a run about its history, and about the seats that the workers gave back
 pub record HasClosed (table : Table) (history : List Entry) (seats : List Spoken) (last : Spoken) : Type 0 where
+  pub run : IsRun table history
   pub room : length history ≤ table.limit
   pub others : HasNoOthers table.cores history
   pub settled : (core : ℕ) (d : Spoken) → core < length seats → IsSettled table history (Core core) (slice_index_or seats core d)
   pub ticker : IsSettled table history Ticker last
-
--- and all that a run promises about it
-pub record IsPromised (table : Table) (plan : RunPlan) (history : List Entry) : Type 0 where
-  pub ticks : HasTicksOfOne history
-  pub others : HasNoOthers table.cores history
-  pub done : planned (plan_of table.cores plan) ≤ table.limit → IsDone (plan_of table.cores plan) history
-  pub full : table.limit < planned (plan_of table.cores plan) → length history ≡ table.limit
-  pub few : IsWithinPlan (plan_of table.cores plan) history
 
 all_worked : (table : Table) (plan : RunPlan) (history : List Entry) (seats : List Spoken) (last : Spoken)
     → HasClosed table history seats last → HaveWorked plan table.cores seats last
@@ -63,10 +57,12 @@ all_worked table plan history seats last closed worked = record {
   ticker = worked_in table history Ticker last plan.ticks worked.ticker.made worked.ticker.full closed.ticker worked.ticker.ran.ran;
 }
 
-pub promised : (table : Table) (plan : RunPlan) (history : List Entry) (seats : List Spoken) (last : Spoken)
-    → HasClosed table history seats last → HaveWorked plan table.cores seats last → IsPromised table plan history
-promised table plan history seats last closed worked =
+by_threads : (table : Table) (plan : RunPlan) (history : List Entry) (seats : List Spoken) (last : Spoken)
+    → HasClosed table history seats last → HaveWorked plan table.cores seats last
+    → IsRunByThreads table (plan_of table.cores plan) history
+by_threads table plan history seats last closed worked =
     let all = all_worked table plan history seats last closed worked in record {
+      run = closed.run;
       ticks = subst (λ (es : List Entry). All IsTickOfOne es) (sym (closed.ticker.own ∙ worked.ticker.ran.ran.made.own)) worked.ticker.ran.ones;
       others = closed.others;
       done = is_done (plan_of table.cores plan) table.limit history all;
@@ -74,14 +70,17 @@ promised table plan history seats last closed worked =
       few = stays_within (plan_of table.cores plan) table.limit history all;
     }
 
--- the same of the table that the run is named after, and of the history that it gives back
-pub promised_of : (named table : Table) (plan : RunPlan) (history result : List Entry) (many : ℕ) (seats : List Spoken) (last : Spoken)
-    → named ≡ table → result ≡ history → many ≡ named.cores
-    → HasClosed named history seats last → HaveWorked plan many seats last → IsPromised table plan result
-promised_of named table plan history result many seats last same_table same_history same_many closed worked =
-    subst (λ (es : List Entry). IsPromised table plan es) (sym same_history)
-    (subst (λ (t : Table). IsPromised t plan history) same_table
-    (promised named plan history seats last closed (subst (λ (n : ℕ). HaveWorked plan n seats last) same_many worked)))
+-- so the partition of that history has the run of the table that it is named after
+pub ran_by_threads : (named table : Table) (plan : RunPlan) (partition : KernelState) (history : List Entry) (many : ℕ)
+    (seats : List Spoken) (last : Spoken) → named ≡ table → partition.table ≡ named → partition.machine.history ≡ history
+    → many ≡ named.cores → HasClosed named history seats last → HaveWorked plan many seats last
+    → HasRunByThreads table plan partition
+ran_by_threads named table plan partition history many seats last is same_table same_history same_many closed worked =
+    subst (λ (t : Table). HasRunByThreads t plan partition) is (record {
+      of_table = same_table;
+      history = subst (λ (es : List Entry). IsRunByThreads named (plan_of named.cores plan) es) (sym same_history)
+          (by_threads named plan history seats last closed (subst (λ (n : ℕ). HaveWorked plan n seats last) same_many worked));
+    })
 
 -- of readers that are there one was taken
 pub some_taken : {A : Type 0} (taken : Option A) (old new readers : ℕ) → MatchOption taken (old ≡ 0) (λ _. old ≡ new + 1) → old ≡ readers → 0 < readers → IsSome taken

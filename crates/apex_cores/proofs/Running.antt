@@ -4,8 +4,7 @@ use Rattle.std.specs.Prelude.{MatchOption, Option, None, Some}
 use Rattle.std.specs.List.{All}
 use Rattle.std.proofs.lemmas.List.Elements.{All-append}
 use Rattle.apex_types.specs.declared.entries.Entry.{Entry}
-use Rattle.apex_receipts.specs.Receipts.{Confirmed, Spoken}
-use Rattle.apex_partition.specs.Seats.{told_full, with_entry}
+use Rattle.apex_receipts.specs.Receipts.{Confirmed, Spoken, told_full, with_entry}
 use Rattle.apex_cores.specs.Runs.{HasMade, HasRun, HasTicked, IsLast, IsTickOfOne}
 
 -- n entries were made so far, and no full history was met

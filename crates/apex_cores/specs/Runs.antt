@@ -11,12 +11,14 @@ pub record HasMade (before : Spoken) (entries : List Entry) (after : Spoken) : T
 
 -- all that were wanted were made; or fewer, if the history was full, and then the seat knows that
 -- it is
-pub record HasStopped (before : Spoken) (wanted : ℕ) (after : Spoken) (count : ℕ) (full : Bool) : Type 0 where
+pub record HasStopped (before : Spoken) (wanted : ℕ) (after : Spoken) (count : ℕ)
+    (full : Bool) : Type 0 where
   pub whole : full ≡ false → (count ≡ wanted) × (after.told ≡ before.told)
   pub cut : full ≡ true → (count < wanted) × (after.told ≡ true)
 
 -- a worker that was to make `wanted` turns has made `count`
-pub record HasRun (before : Spoken) (wanted : ℕ) (after : Spoken) (count : ℕ) (full : Bool) : Type 0 where
+pub record HasRun (before : Spoken) (wanted : ℕ) (after : Spoken) (count : ℕ)
+    (full : Bool) : Type 0 where
   pub entries : List Entry
   pub made : HasMade before entries after
   pub counted : length entries ≡ count
@@ -27,7 +29,8 @@ abbrev pub IsTickOfOne : Entry → Type 0
 IsTickOfOne e = asked_ticks e ≡ 1
 
 -- a worker that was to make `wanted` ticks has made `count`, each one of 1
-pub record HasTicked (before : Spoken) (wanted : ℕ) (after : Spoken) (count : ℕ) (full : Bool) : Type 0 where
+pub record HasTicked (before : Spoken) (wanted : ℕ) (after : Spoken) (count : ℕ)
+    (full : Bool) : Type 0 where
   pub ran : HasRun before wanted after count full
   pub ones : All IsTickOfOne ran.entries
 

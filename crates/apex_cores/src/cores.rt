@@ -31,7 +31,8 @@ pub fn run_core<P: Naming, G: Gate, R: Wait>(
     gate: &G,
 ) -> CoreReport<P>
     ensures ran { HasRun seat turns result.seat result.turns result.full }
-    ensures last { MatchOption result.last (result.turns ≡ 0) (λ r. (0 < result.turns) × IsLast result.seat r) }
+    ensures last { MatchOption result.last (result.turns ≡ 0)
+        (λ r. (0 < result.turns) × IsLast result.seat r) }
 {
     let backoff = Backoff::new();
     let core = seat.core();

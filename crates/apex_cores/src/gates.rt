@@ -1,6 +1,6 @@
 //! The gate, at which the work of processes is done outside the lock.
 ghost use Rattle.std.specs.Prelude.{◌≡◌};
-ghost use Rattle.apex_types.specs.Works.{work_begun};
+ghost use Rattle.apex_types.specs.machine.Works.{work_begun};
 
 use apex_types::{Call, Caller, CoreId, Entry, ProcessId, Reply, Work};
 use crossbeam_utils::Backoff;
@@ -14,7 +14,8 @@ pub trait Gate {
 
 /// The work that this entry has begun, if it has.
 fn begun(entry: &Entry) -> Option<Work>
-    ensures { result ≡ work_begun entry.entry.now.process entry.entry.now.call entry.entry.now.reply }
+    ensures { result ≡ work_begun entry.entry.now.process entry.entry.now.call
+        entry.entry.now.reply }
 {
     let Caller::Process(process) = entry.process else {
         return None;

@@ -1,10 +1,10 @@
 //! The threads of a run: one for each core, and one for the ticker.
-ghost use Rattle.std.specs.Prelude.{◌≡◌, ℕ, ◌+◌, ◌^◌, ◌<◌, ◌≤◌, [], IfOk, length, vec_len};
+ghost use Rattle.std.specs.Prelude.{◌≡◌, ℕ, ◌+◌, ◌≤◌, [], IfOk, length, vec_len};
 ghost use Rattle.std.specs.Vec.{vec_capacity};
 ghost use Rattle.apex_types.specs.declared.entries.Who.TheVariants.{Core, Ticker as ToTicker};
 ghost use Rattle.apex_receipts.specs.Receipts.{unspoken, unspoken_cores};
 ghost use Rattle.apex_cores.specs.Starts.{AreAsked, HasAsked, IsAskedFor};
-ghost use Rattle.apex_cores.specs.Threads.{EachFrom, HasWorked, HaveWorked};
+ghost use Rattle.apex_cores.specs.Threads.{AreNew, EachFrom, HasWorked, HaveWorked, IsTaskOf};
 
 use crate::cores::{CoreReport, run_core};
 use crate::faults::RunFault;
@@ -110,7 +110,8 @@ fn start_cores<'s, E, P: Naming + Send + Sync, S: Starts, G: Gate + Sync, R: Thr
     requires seats { seats.items ≡ unspoken_cores (vec_len seats) }
     requires none { started.items ≡ [] }
     requires room { vec_len seats ≤ vec_capacity started }
-    ensures started { IfOk result (λ all. EachFrom (λ core handle. (handle.promise.core ≡ core) × (handle.promise.turns ≡ turns)) 0 all.items) }
+    ensures started { IfOk result (λ all.
+        EachFrom (λ core handle. IsTaskOf turns core handle.promise) 0 all.items) }
     ensures each { IfOk result (λ all. vec_len all ≡ vec_len seats) }
     ensures asked { AreAsked S.asks (vec_len seats) result starts.old starts.new }
 {
@@ -127,7 +128,8 @@ fn join_cores<P: Naming, R: Threads>(
     turns: u32,
     mut seats: Vec<Seat<P>>,
 ) -> Vec<Seat<P>>
-    requires started { EachFrom (λ core handle. (handle.promise.core ≡ core) × (handle.promise.turns ≡ turns)) 0 started.items }
+    requires started { EachFrom
+        (λ core handle. IsTaskOf turns core handle.promise) 0 started.items }
     requires none { seats.items ≡ [] }
     requires room { vec_len started ≤ vec_capacity seats }
     ensures worked { EachFrom (HasWorked turns) 0 result.items }
@@ -170,12 +172,11 @@ fn start_workers<
     gate: &'s G,
     started: Vec<PromisedHandle<CoreReport<P>, WillRun>>,
 ) -> Result<Started<P>, RunFault>
-    requires seats { workers.seats.items ≡ unspoken_cores (vec_len workers.seats) }
-    requires ticker { workers.ticker ≡ unspoken ToTicker }
-    requires few { vec_len workers.seats < 2 ^ 32 }
+    requires workers { AreNew (vec_len workers.seats) workers.seats.items workers.ticker }
     requires none { started.items ≡ [] }
     requires room { vec_len workers.seats ≤ vec_capacity started }
-    ensures started { IfOk result (λ all. EachFrom (λ core handle. (handle.promise.core ≡ core) × (handle.promise.turns ≡ plan.turns)) 0 all.cores.items) }
+    ensures started { IfOk result (λ all.
+        EachFrom (λ core handle. IsTaskOf plan.turns core handle.promise) 0 all.cores.items) }
     ensures each { IfOk result (λ all. vec_len all.cores ≡ vec_len workers.seats) }
     ensures ticks { IfOk result (λ all. all.ticker.promise.ticks ≡ plan.ticks) }
     ensures asked { AreAsked S.asks (vec_len workers.seats + 1) result starts.old starts.new }
@@ -199,10 +200,9 @@ fn run_workers<'s, E, P: Naming + Send + Sync, S: Starts, G: Gate + Sync, R: Thr
     starts: &mut S,
     gate: &'s G,
 ) -> Result<Workers<P>, RunFault>
-    requires seats { workers.seats.items ≡ unspoken_cores (vec_len workers.seats) }
-    requires ticker { workers.ticker ≡ unspoken ToTicker }
-    requires few { vec_len workers.seats < 2 ^ 32 }
-    ensures done { IfOk result (λ done. HaveWorked plan (vec_len workers.seats) done.seats.items done.ticker) }
+    requires workers { AreNew (vec_len workers.seats) workers.seats.items workers.ticker }
+    ensures done { IfOk result
+        (λ done. HaveWorked plan (vec_len workers.seats) done.seats.items done.ticker) }
     ensures asked { AreAsked S.asks (vec_len workers.seats + 1) result starts.old starts.new }
 {
     let room = workers.seats.len();
@@ -241,11 +241,11 @@ fn run_scope<
     starts: &'a mut S,
     gate: &'s G,
 ) -> Asked<'a, P, S>
-    requires seats { workers.seats.items ≡ unspoken_cores (vec_len workers.seats) }
-    requires ticker { workers.ticker ≡ unspoken ToTicker }
-    requires few { vec_len workers.seats < 2 ^ 32 }
-    ensures done { IfOk result.workers (λ done. HaveWorked plan (vec_len workers.seats) done.seats.items done.ticker) }
-    ensures asked { AreAsked S.asks (vec_len workers.seats + 1) result.workers starts.entry.now result.starts.now }
+    requires workers { AreNew (vec_len workers.seats) workers.seats.items workers.ticker }
+    ensures done { IfOk result.workers
+        (λ done. HaveWorked plan (vec_len workers.seats) done.seats.items done.ticker) }
+    ensures asked { AreAsked S.asks
+        (vec_len workers.seats + 1) result.workers starts.entry.now result.starts.now }
     ensures same { result.starts.ghost_name ≡ starts.entry.ghost_name }
 {
     let workers = run_workers(rt, alloc, scope, shared, workers, plan, starts, gate);
@@ -269,18 +269,18 @@ fn run_threads<
     starts: &'a mut S,
     gate: &'x G,
 ) -> Asked<'a, P, S>
-    requires seats { workers.seats.items ≡ unspoken_cores (vec_len workers.seats) }
-    requires ticker { workers.ticker ≡ unspoken ToTicker }
-    requires few { vec_len workers.seats < 2 ^ 32 }
-    ensures done { IfOk result.workers (λ done. HaveWorked plan (vec_len workers.seats) done.seats.items done.ticker) }
-    ensures asked { AreAsked S.asks (vec_len workers.seats + 1) result.workers starts.entry.now result.starts.now }
+    requires workers { AreNew (vec_len workers.seats) workers.seats.items workers.ticker }
+    ensures done { IfOk result.workers
+        (λ done. HaveWorked plan (vec_len workers.seats) done.seats.items done.ticker) }
+    ensures asked { AreAsked S.asks
+        (vec_len workers.seats + 1) result.workers starts.entry.now result.starts.now }
     ensures same { result.starts.ghost_name ≡ starts.entry.ghost_name }
 {
     thread::scope(
         thread::scope_env(),
         rt,
         move |scope|
-            requires { (workers.seats.items ≡ unspoken_cores (vec_len workers.seats)) × (workers.ticker ≡ unspoken ToTicker) × (vec_len workers.seats < 2 ^ 32) }
+            requires { AreNew (vec_len workers.seats) workers.seats.items workers.ticker }
         { run_scope(rt, alloc, scope, shared, workers, plan, starts, gate) },
     )
 }
@@ -297,10 +297,9 @@ pub fn run_all<P: Naming + Send + Sync, S: Starts, G: Gate + Sync, R: Threads + 
     starts: &mut S,
     gate: &G,
 ) -> Result<Workers<P>, RunFault>
-    requires seats { workers.seats.items ≡ unspoken_cores (vec_len workers.seats) }
-    requires ticker { workers.ticker ≡ unspoken ToTicker }
-    requires few { vec_len workers.seats < 2 ^ 32 }
-    ensures done { IfOk result (λ done. HaveWorked plan (vec_len workers.seats) done.seats.items done.ticker) }
+    requires workers { AreNew (vec_len workers.seats) workers.seats.items workers.ticker }
+    ensures done { IfOk result
+        (λ done. HaveWorked plan (vec_len workers.seats) done.seats.items done.ticker) }
     ensures asked { HasAsked S.asks (vec_len workers.seats + 1) result starts.old }
 {
     let asked = run_threads(rt, alloc, shared, workers, plan, starts, gate);

@@ -1,9 +1,8 @@
 //! A partition that is opened, run and closed.
-ghost use Rattle.std.specs.Prelude.{◌≡◌, ℕ, ◌+◌, ◌<◌, ◌≤◌, IfOk, IfSome, IsSome, length};
-ghost use Rattle.apex_receipts.specs.Receipts.{voice_of};
+ghost use Rattle.std.specs.Prelude.{◌≡◌, ◌+◌, ◌<◌, IfOk, IfSome, IsSome, length};
+ghost use Rattle.apex_receipts.specs.Receipts.{IsNamedAfter};
 ghost use Rattle.apex_board.specs.Fronts.{IsFrontAfter};
-ghost use Rattle.apex_partition.specs.Seats.{IsRun};
-ghost use Rattle.apex_cores.specs.Plans.{HasNoOthers, HasTicksOfOne, IsDone, IsWithinPlan, plan_of, planned};
+ghost use Rattle.apex_cores.specs.Plans.{HasRunByThreads};
 ghost use Rattle.apex_cores.specs.Starts.{HasAsked};
 
 use crate::faults::RunFault;
@@ -49,21 +48,12 @@ fn run_named<P: Naming + Send + Sync, S: Starts, G: Gate + Sync, R: Threads + Wa
     gate: &G,
 ) -> Result<(Partition, Option<Front>), RunFault>
     requires table { P.table ≡ table }
-    requires book { P.book ≡ opened.book }
-    requires scribe { P.scribe ≡ opened.scribe }
-    requires voice { P.voice ≡ voice_of opened.cores opened.ticker }
+    requires named { IsNamedAfter P.book P.scribe P.voice opened }
     requires cores { length opened.cores ≡ table.cores }
     requires cell { P.cell ≡ board.cell }
-    ensures table { IfOk result (λ ran. ran.0.table ≡ table) }
-    ensures run { IfOk result (λ ran. IsRun table ran.0.machine.history) }
-    ensures ticks { IfOk result (λ ran. HasTicksOfOne ran.0.machine.history) }
-    ensures others { IfOk result (λ ran. HasNoOthers table.cores ran.0.machine.history) }
-    ensures done { IfOk result (λ ran. planned (plan_of table.cores plan) ≤ table.limit
-        → IsDone (plan_of table.cores plan) ran.0.machine.history) }
-    ensures full { IfOk result (λ ran. table.limit < planned (plan_of table.cores plan)
-        → length ran.0.machine.history ≡ table.limit) }
-    ensures few { IfOk result (λ ran. IsWithinPlan (plan_of table.cores plan) ran.0.machine.history) }
-    ensures front { IfOk result (λ ran. IfSome ran.1 (λ front. IsFrontAfter table ran.0.machine.history front)) }
+    ensures ran { IfOk result (λ ran. HasRunByThreads table plan ran.0) }
+    ensures front { IfOk result
+        (λ ran. IfSome ran.1 (λ front. IsFrontAfter table ran.0.machine.history front)) }
     ensures told { IfOk result (λ ran. 0 < board.readers → IsSome ran.1) }
     ensures asked { HasAsked S.asks (table.cores + 1) result starts.old }
 {
@@ -91,15 +81,7 @@ pub fn run_partition_with<S: Starts, G: Gate + Sync, R: Threads + Wait + Sync>(
     starts: &mut S,
     gate: &G,
 ) -> Result<Partition, RunFault>
-    ensures table { IfOk result (λ closed. closed.table ≡ table) }
-    ensures run { IfOk result (λ closed. IsRun table closed.machine.history) }
-    ensures ticks { IfOk result (λ closed. HasTicksOfOne closed.machine.history) }
-    ensures others { IfOk result (λ closed. HasNoOthers table.cores closed.machine.history) }
-    ensures done { IfOk result (λ closed. planned (plan_of table.cores plan) ≤ table.limit
-        → IsDone (plan_of table.cores plan) closed.machine.history) }
-    ensures full { IfOk result (λ closed. table.limit < planned (plan_of table.cores plan)
-        → length closed.machine.history ≡ table.limit) }
-    ensures few { IfOk result (λ closed. IsWithinPlan (plan_of table.cores plan) closed.machine.history) }
+    ensures ran { IfOk result (λ closed. HasRunByThreads table plan closed) }
     ensures asked { HasAsked S.asks (table.cores + 1) result starts.old }
 {
     table.lawful();
@@ -119,15 +101,7 @@ pub fn run_partition<G: Gate + Sync, R: Threads + Wait + Sync>(
     plan: RunPlan,
     gate: &G,
 ) -> Result<Partition, RunFault>
-    ensures table { IfOk result (λ closed. closed.table ≡ table) }
-    ensures run { IfOk result (λ closed. IsRun table closed.machine.history) }
-    ensures ticks { IfOk result (λ closed. HasTicksOfOne closed.machine.history) }
-    ensures others { IfOk result (λ closed. HasNoOthers table.cores closed.machine.history) }
-    ensures done { IfOk result (λ closed. planned (plan_of table.cores plan) ≤ table.limit
-        → IsDone (plan_of table.cores plan) closed.machine.history) }
-    ensures full { IfOk result (λ closed. table.limit < planned (plan_of table.cores plan)
-        → length closed.machine.history ≡ table.limit) }
-    ensures few { IfOk result (λ closed. IsWithinPlan (plan_of table.cores plan) closed.machine.history) }
+    ensures ran { IfOk result (λ closed. HasRunByThreads table plan closed) }
 {
     run_partition_with(rt, alloc, table, plan, &mut EveryThread, gate)
 }
@@ -142,15 +116,7 @@ pub fn run_partition_read<G: Gate + Sync, R: Threads + Wait + Sync>(
     plan: RunPlan,
     gate: &G,
 ) -> Result<(Partition, Front), RunFault>
-    ensures table { IfOk result (λ ran. ran.0.table ≡ table) }
-    ensures run { IfOk result (λ ran. IsRun table ran.0.machine.history) }
-    ensures ticks { IfOk result (λ ran. HasTicksOfOne ran.0.machine.history) }
-    ensures others { IfOk result (λ ran. HasNoOthers table.cores ran.0.machine.history) }
-    ensures done { IfOk result (λ ran. planned (plan_of table.cores plan) ≤ table.limit
-        → IsDone (plan_of table.cores plan) ran.0.machine.history) }
-    ensures full { IfOk result (λ ran. table.limit < planned (plan_of table.cores plan)
-        → length ran.0.machine.history ≡ table.limit) }
-    ensures few { IfOk result (λ ran. IsWithinPlan (plan_of table.cores plan) ran.0.machine.history) }
+    ensures ran { IfOk result (λ ran. HasRunByThreads table plan ran.0) }
     ensures front { IfOk result (λ ran. IsFrontAfter table ran.0.machine.history ran.1) }
 {
     table.lawful();

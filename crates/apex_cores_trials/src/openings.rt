@@ -1,6 +1,6 @@
 //! Partitions that tests open.
-ghost use Rattle.std.specs.Prelude.{◌≡◌, IfOk, length};
-ghost use Rattle.apex_receipts.specs.Receipts.{voice_of};
+ghost use Rattle.std.specs.Prelude.{◌≡◌, length};
+ghost use Rattle.apex_receipts.specs.Receipts.{IsNamedAfter};
 
 use crate::cores::{Storm, hold_the_lock, weather};
 use crate::partition::{Scene, act_out};
@@ -10,7 +10,6 @@ use std::alloc::Global;
 use std::marker::Brand;
 use std::process::Abort;
 use std::sync::Wait;
-use std::test::Fail;
 use std::thread::Threads;
 
 /// A partition before any event: what threads share, the seats in the order of their cores, the ticker, and
@@ -33,12 +32,12 @@ pub enum Play<'a> {
 }
 
 /// The table of this text, and a book for its cores.
-pub fn read(alloc: Global, text: &str) -> Result<(Table, Opened), Fail>
-    ensures { IfOk result (λ all. length all.1.cores ≡ all.0.cores) }
+pub fn read<R: Abort>(rt: &R, alloc: Global, text: &str) -> (Table, Opened)
+    ensures { length result.1.cores ≡ result.0.cores }
 {
-    let table = read_table(alloc, text.as_bytes())?;
-    let opened = Opened::new(alloc, u32::from(table.cores()))?;
-    Ok((table, opened))
+    let table = read_table(alloc, text.as_bytes()).expect(rt, "the table is lawful");
+    let opened = Opened::new(alloc, u32::from(table.cores())).expect(rt, "memory");
+    (table, opened)
 }
 
 /// Opens a partition of this table, with one reader or with none, and plays.
@@ -48,10 +47,10 @@ pub fn open_and_play<R: Abort + Threads + Wait + Sync>(
     text: &str,
     has_reader: bool,
     play: Play<'_>,
-) -> Result<(), Fail> {
-    let (table, opened) = read(alloc, text)?;
-    let board = NewBoard::new(alloc, u32::from(has_reader))?;
-    play_named::<Brand, R>(rt, alloc, table, opened, board, play)
+) {
+    let (table, opened) = read(rt, alloc, text);
+    let board = NewBoard::new(alloc, u32::from(has_reader)).expect(rt, "memory");
+    play_named::<Brand, R>(rt, alloc, table, opened, board, play);
 }
 
 fn play_named<P: Naming + Send + Sync, R: Abort + Threads + Wait + Sync>(
@@ -61,16 +60,15 @@ fn play_named<P: Naming + Send + Sync, R: Abort + Threads + Wait + Sync>(
     opened: Opened,
     board: NewBoard,
     play: Play<'_>,
-) -> Result<(), Fail>
+)
     requires table { P.table ≡ table }
-    requires book { P.book ≡ opened.book }
-    requires scribe { P.scribe ≡ opened.scribe }
-    requires voice { P.voice ≡ voice_of opened.cores opened.ticker }
+    requires named { IsNamedAfter P.book P.scribe P.voice opened }
     requires cores { length opened.cores ≡ table.cores }
     requires cell { P.cell ≡ board.cell }
 {
     let cores = usize::from(table.cores());
-    let (shared, seats, ticker, mut board) = open_read::<P>(alloc, table, opened, board)?;
+    let opened = open_read::<P>(alloc, table, opened, board);
+    let (shared, seats, ticker, mut board) = opened.expect(rt, "memory");
     let reader = board.take();
     assert!(rt; board.take().is_none());
     let open = Open {
@@ -79,19 +77,6 @@ fn play_named<P: Naming + Send + Sync, R: Abort + Threads + Wait + Sync>(
         ticker,
         reader,
     };
-    play_on(rt, alloc, open, cores, play)
-}
-
-/// Plays on this partition, whose table has `cores` cores.
-fn play_on<P: Naming + Send + Sync, R: Abort + Threads + Wait + Sync>(
-    rt: &R,
-    alloc: Global,
-    open: Open<P>,
-    cores: usize,
-    play: Play<'_>,
-) -> Result<(), Fail>
-    requires { cores ≡ P.table.cores }
-{
     match play {
         Play::Scene(scene) => act_out(rt, alloc, open, cores, scene),
         Play::Storm(storm) => weather(rt, alloc, open, cores, storm),

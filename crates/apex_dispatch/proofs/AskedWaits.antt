@@ -10,14 +10,14 @@ use Rattle.apex_dispatch.specs.Terms.{Call, Caller, Message, Queue, Record, Susp
 use Rattle.apex_types.specs.declared.Caller.TheVariants.{Process}
 use Rattle.apex_types.specs.declared.Suspender.TheVariants.{Itself, Other}
 use Rattle.apex_types.specs.declared.Queue.TheVariants as queues
-use Rattle.apex_types.specs.declared.Wait.TheVariants.{Normal, Start, Time, Period, Semaphore, Receive, Send, Blackboard, Event, Mutex}
-use Rattle.apex_types.specs.Roster.{Roster, nobody, record_at, with_record}
-use Rattle.apex_types.specs.Stamps.{is_by_itself, suspension_awake, awake, waiting, block, unblock, release, released_at, newest, readied, receive}
-use Rattle.apex_types.specs.Waking.{first_in, granted, grant_all}
-use Rattle.apex_types.specs.Calls.{queue_named}
-use Rattle.apex_types.specs.Queues.{queue_of, is_same_queue, is_queue}
-use Rattle.apex_types.specs.Waiters.{first_waiter, waits_in}
-use Rattle.apex_types.specs.Running.{is_eligible}
+use Rattle.apex_types.specs.declared.Wait.TheVariants.{Normal, Start, Time, Period}
+use Rattle.apex_types.specs.processes.Roster.{Roster, nobody, record_at, with_record}
+use Rattle.apex_types.specs.processes.Stamps.{is_by_itself, suspension_awake, awake, waiting, block, unblock, release, released_at, newest, readied, receive}
+use Rattle.apex_types.specs.services.Waking.{first_in, granted, grant_all}
+use Rattle.apex_types.specs.services.Calls.{queue_named}
+use Rattle.apex_types.specs.processes.Queues.{queue_of, is_same_queue, is_queue}
+use Rattle.apex_types.specs.processes.Waiters.{first_waiter, waits_in}
+use Rattle.apex_types.specs.processes.Running.{is_eligible}
 use Rattle.apex_types.proofs.InTurn.{holds_in_turn}
 use Rattle.apex_types.proofs.Starts.{first_stands, queue_itself, waits_there}
 use Rattle.apex_dispatch.specs.AskedWaits.{begins, asked_of, or_suspended, awaited, AreHeldBack}
@@ -62,12 +62,7 @@ stands_by queue apart r (Some (Normal delay)) is h =
 stands_by queue apart r (Some Start) is h = absurd (none-some queue h)
 stands_by queue apart r (Some Time) is h = absurd (none-some queue h)
 stands_by queue apart r (Some Period) is h = absurd (none-some queue h)
-stands_by queue apart r (Some (Semaphore s)) is h = stands_for queue r (Semaphore s) refl is h
-stands_by queue apart r (Some (Receive b)) is h = stands_for queue r (Receive b) refl is h
-stands_by queue apart r (Some (Send b message)) is h = stands_for queue r (Send b message) refl is h
-stands_by queue apart r (Some (Blackboard b)) is h = stands_for queue r (Blackboard b) refl is h
-stands_by queue apart r (Some (Event e)) is h = stands_for queue r (Event e) refl is h
-stands_by queue apart r (Some (Mutex m)) is h = stands_for queue r (Mutex m) refl is h
+stands_by queue apart r (Some w) is h = stands_for queue r w refl is h
 
 -- the first waiter for an object waits for it
 pub first_awaits : (roster : Roster) (queue : Queue) (p : ℕ) → is_same_queue queues.Normal queue ≡ false
@@ -88,14 +83,9 @@ awaited_stands : (wait : Option Wait) (by_itself : Bool) (w : Wait) (queue : Que
 awaited_stands None by_itself w queue h is = absurd (stands_suspended by_itself w queue h is)
 awaited_stands (Some (Normal delay)) by_itself w queue h is = absurd (stands_suspended by_itself w queue h is)
 awaited_stands (Some Start) by_itself w queue h is = absurd (stands_suspended by_itself w queue h is)
-awaited_stands (Some Time) by_itself w queue h is = absurd (none-some queue (ap queue_of (same_Some Time w h) ∙ is))
 awaited_stands (Some Period) by_itself w queue h is = absurd (stands_suspended by_itself w queue h is)
-awaited_stands (Some (Semaphore s)) by_itself w queue h is = ap queue_of (same_Some (Semaphore s) w h) ∙ is
-awaited_stands (Some (Receive b)) by_itself w queue h is = ap queue_of (same_Some (Receive b) w h) ∙ is
-awaited_stands (Some (Send b message)) by_itself w queue h is = ap queue_of (same_Some (Send b message) w h) ∙ is
-awaited_stands (Some (Blackboard b)) by_itself w queue h is = ap queue_of (same_Some (Blackboard b) w h) ∙ is
-awaited_stands (Some (Event e)) by_itself w queue h is = ap queue_of (same_Some (Event e) w h) ∙ is
-awaited_stands (Some (Mutex m)) by_itself w queue h is = ap queue_of (same_Some (Mutex m) w h) ∙ is
+awaited_stands (Some Time) by_itself w queue h is = absurd (none-some queue (ap queue_of (same_Some Time w h) ∙ is))
+awaited_stands (Some v) by_itself w queue h is = ap queue_of (same_Some v w h) ∙ is
 
 -- a process in a wait that it asked for was in it before
 pub record Frees (old new : Roster) : Type 0 where

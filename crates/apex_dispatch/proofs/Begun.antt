@@ -1,15 +1,15 @@
 -- The entry into NORMAL: the starts that it begins.
 use Rattle.std.proofs.Common.{◌≡◌, ℕ, ◌+◌, ◌≤◌, Bool, true, false, cond, List, [], ◌∷◌, length, Some, refl, ap, ◌∙◌, arith, ◌==◌}
 use Rattle.std.proofs.lemmas.Bool.{both_ways}
-use Rattle.apex_types.specs.Limits.{most_processes}
+use Rattle.apex_types.specs.values.Limits.{most_processes}
 use Rattle.apex_types.specs.declared.Mode.TheVariants as mode
 use Rattle.apex_dispatch.specs.Premises.{most_given}
 use Rattle.apex_dispatch.specs.Terms.{Notice}
 use Rattle.apex_types.specs.declared.Notice.TheVariants.{Released}
 use Rattle.apex_types.specs.declared.Queue.TheVariants as queues
-use Rattle.apex_types.specs.PartitionServices.{first_to_start, begin_waiter, delay_of, enter_normal}
-use Rattle.apex_types.specs.Roster.{Roster, record_at, is_normal}
-use Rattle.apex_types.specs.Stamps.{HasOrderlyStarts, set_mode}
+use Rattle.apex_types.specs.services.PartitionServices.{first_to_start, begin_waiter, delay_of, enter_normal}
+use Rattle.apex_types.specs.processes.Roster.{Roster, record_at, is_normal}
+use Rattle.apex_types.specs.processes.Stamps.{HasOrderlyStarts, set_mode}
 use Rattle.apex_types.proofs.Reaches.{Reaches, reaches_then, reaches_more, reaches_begin, reaches_in_turn}
 use Rattle.apex_types.proofs.Modes.{mode_begin, reaches_set_mode}
 use Rattle.apex_types.proofs.Starts.{first_awaits, first_stands, first_within, queued_started}
@@ -30,7 +30,7 @@ pub stays_begun : (roster : Roster) (p : ℕ) → IsBegun roster → first_to_st
     → IsBegun (begin_waiter roster p).roster
 stays_begun roster p begun is = record {
   normal = ap is_normal (mode_begin roster p (delay_of (record_at roster p).wait)) ∙ begun.normal;
-  starts = (reach_begin_waiter roster p begun is).starts begun.starts;
+  starts = (reach_begin_waiter roster p begun is).moves.starts begun.starts;
 }
 
 -- it gives one notice at the most
@@ -41,7 +41,7 @@ few_starts roster p = few_by (delay_of (record_at roster p).wait == 0) where
   few_by false = omega arith
 
 pub begun_normal : (roster : Roster) → HasOrderlyStarts roster → IsBegun (set_mode roster mode.Normal)
-begun_normal roster starts = record { normal = refl; starts = (reaches_set_mode roster mode.Normal refl).starts starts }
+begun_normal roster starts = record { normal = refl; starts = (reaches_set_mode roster mode.Normal refl).moves.starts starts }
 
 pub reach_enter_normal : (roster : Roster) → HasOrderlyStarts roster → length roster.records ≤ most_processes
     → Reaches most_given roster (enter_normal roster).roster

@@ -3,9 +3,9 @@ use Rattle.std.proofs.Common.{◌≡◌, ℕ, ◌+◌, ◌<◌, ◌≤◌, Bool,
 use Rattle.std.proofs.lemmas.Bool.{cases_Bool, cond_both}
 use Rattle.std.proofs.lemmas.List.Sums.{sum_by-le-sum_by, sum_by-set}
 use Rattle.apex_dispatch.specs.Terms.{Record}
-use Rattle.apex_types.specs.Roster.{Roster, nobody, record_at, with_record}
-use Rattle.apex_types.specs.Running.{is_eligible}
-use Rattle.apex_types.specs.Stamps.{newest, readied}
+use Rattle.apex_types.specs.processes.Roster.{Roster, nobody, record_at, with_record}
+use Rattle.apex_types.specs.processes.Running.{is_eligible}
+use Rattle.apex_types.specs.processes.Stamps.{newest, readied}
 
 -- 1 if it is so, else 0
 abbrev pub one_if : Bool → ℕ

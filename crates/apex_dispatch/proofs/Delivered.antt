@@ -5,7 +5,7 @@ use Rattle.std.proofs.Math.Seq.{drop-append_seam}
 use Rattle.std.proofs.lemmas.List.Elements.{filter_map-append}
 use Rattle.std.proofs.lemmas.List.Sums.{sum_by-append}
 use Rattle.apex_dispatch.specs.Terms.{Call, Message}
-use Rattle.apex_types.specs.Calls.{is_receive, sent_message}
+use Rattle.apex_types.specs.services.Calls.{is_receive, sent_message}
 
 -- the messages that were sent are those that were delivered, one for each receive, and then those
 -- that it holds

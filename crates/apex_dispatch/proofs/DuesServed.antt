@@ -5,11 +5,11 @@ use Rattle.std.proofs.lemmas.Option.{none-some}
 use Rattle.apex_dispatch.specs.Premises.{due_count}
 use Rattle.apex_dispatch.specs.Terms.{Record, Wait}
 use Rattle.apex_types.specs.declared.Wait.TheVariants as wait
-use Rattle.apex_types.specs.Dues.{first_due, is_due_at}
-use Rattle.apex_types.specs.Periods.{AreInTime, IsWholePeriodsAfter, awaits_first}
-use Rattle.apex_types.specs.Roster.{Roster, record_at, is_normal}
-use Rattle.apex_types.specs.Stamps.{HasOrderlyStarts, awake, release, released_at, without_due}
-use Rattle.apex_types.specs.Ticks.{wait_over, serve_due, serve_dues}
+use Rattle.apex_types.specs.processes.Dues.{first_due, is_due_at}
+use Rattle.apex_types.specs.processes.Periods.{AreInTime, IsWholePeriodsAfter, awaits_first}
+use Rattle.apex_types.specs.processes.Roster.{Roster, record_at, is_normal}
+use Rattle.apex_types.specs.processes.Stamps.{HasOrderlyStarts, awake, readied, release, released_at, without_due}
+use Rattle.apex_types.specs.machine.Ticks.{wait_over, serve_due, serve_dues}
 use Rattle.apex_types.proofs.Dues.{first_due_now, first_due_within}
 use Rattle.apex_types.proofs.Reaches.{Reaches, reaches_then, reaches_unblock, reaches_release, reaches_without_due, reaches_in_turn}
 use Rattle.apex_types.proofs.Rosters.{at_without_due}
@@ -42,10 +42,10 @@ module _ (roster : Roster) (p : ℕ) (before : IsServable roster) (is : first_du
   ends_released : (awaits_first (record_at free p).wait ≡ false
       → IsWholePeriodsAfter (record_at free p).attributes.period (record_at free p).release roster.now)
       → Reaches 1 free (release free p)
-  ends_released later = reaches_release free p (rw freed.many known) (due_normal roster before.starts p is) later
+  ends_released later = reaches_release free p (rw freed.moves.many known) (due_normal roster before.starts p is) later
 
   ends_woken : Reaches 1 free (wait_over free p None).roster
-  ends_woken = reaches_unblock free p (rw freed.many known) (due_normal roster before.starts p is)
+  ends_woken = reaches_unblock free p (rw freed.moves.many known) (due_normal roster before.starts p is)
 
   ends : (w : Option Wait) → (record_at roster p).wait ≡ w → Reaches 1 free (wait_over free p w).roster
   ends (Some wait.Time) waits = ends_woken
@@ -61,15 +61,13 @@ module _ (roster : Roster) (p : ℕ) (before : IsServable roster) (is : first_du
   reach_serve_due = reaches_then 0 1 freed (ends (record_at roster p).wait refl)
 
   pub served_stays : IsServable (serve_due roster p).roster
-  served_stays = record { starts = reach_serve_due.starts before.starts; times = reach_serve_due.times before.times }
+  served_stays = record { starts = reach_serve_due.moves.starts before.starts; times = reach_serve_due.moves.times before.times }
 
 -- it gives one notice
 pub one_due : (roster : Roster) (p : ℕ) → length (serve_due roster p).notices ≡ 1
 one_due roster p = one_by (record_at roster p).wait where
   one_by : (w : Option Wait) → length (wait_over (without_due roster p) p w).notices ≡ 1
   one_by (Some wait.Time) = refl
-  one_by (Some wait.Start) = refl
-  one_by (Some wait.Period) = refl
   one_by _ = refl
 
 -- and one process less is due now
@@ -86,17 +84,19 @@ unfolding is_due_at
 ageless t r since = refl
 
 module _ (roster : Roster) (p : ℕ) (known : p < length roster.records) (now : ℕ) where
+  -- a record without a due, for one without a due
+  ends_in : (r : Record) → r.due ≡ None → (record_at roster p).due ≡ None
+      → count (is_due_at now) (readied roster p r) ≡ count (is_due_at now) roster
+  unfolding is_due_at
+  ends_in r none free =
+      let all = counted_readied (is_due_at now) (λ r since. refl) roster p known r in
+      omega (arith, rw (undue now (record_at roster p) free, undue now r none) at all)
+
   ends_count : (w : Option Wait) → (record_at roster p).due ≡ None
       → count (is_due_at now) (wait_over roster p w).roster ≡ count (is_due_at now) roster
-  unfolding is_due_at
-  ends_count (Some wait.Time) free =
-      let all = counted_readied (is_due_at now) (λ r since. refl) roster p known (awake (record_at roster p)) in omega (arith, rw free at all)
-  ends_count (Some wait.Start) free =
-      let all = counted_readied (is_due_at now) (λ r since. refl) roster p known (released_at roster.now (record_at roster p)) in omega (arith, rw free at all)
-  ends_count (Some wait.Period) free =
-      let all = counted_readied (is_due_at now) (λ r since. refl) roster p known (released_at roster.now (record_at roster p)) in omega (arith, rw free at all)
-  ends_count _ free =
-      let all = counted_readied (is_due_at now) (λ r since. refl) roster p known (awake (record_at roster p)) in omega (arith, rw free at all)
+  ends_count (Some wait.Start) = ends_in (released_at roster.now (record_at roster p)) refl
+  ends_count (Some wait.Period) = ends_in (released_at roster.now (record_at roster p)) refl
+  ends_count _ = ends_in (awake (record_at roster p)) refl
 
 pub one_less : (roster : Roster) (p : ℕ) → IsServable roster → first_due roster ≡ Some p → due_count (serve_due roster p).roster + 1 ≡ due_count roster
 one_less roster p before is =
@@ -108,9 +108,9 @@ one_less roster p before is =
     let all = counted (is_due_at roster.now) (ageless roster.now) roster p known r in
     let cleared : count (is_due_at roster.now) free + 1 ≡ count (is_due_at roster.now) roster =
     omega (arith, rw (due, undue roster.now r refl) at all) in
-    let many : p < length free.records = rw (reaches_without_due roster p known).many known in
+    let many : p < length free.records = rw (reaches_without_due roster p known).moves.many known in
     let ended = ends_count free p many roster.now (record_at roster p).wait (ap (λ (x : Record). x.due) here) in
-    rw (reach_serve_due roster p before is).time (omega (arith, cleared, ended))
+    rw (reach_serve_due roster p before is).moves.time (omega (arith, cleared, ended))
 
 pub reach_serve_dues : (roster : Roster) → IsServable roster → Reaches (length roster.records) roster (serve_dues roster).roster
 reach_serve_dues roster before =

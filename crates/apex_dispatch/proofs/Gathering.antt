@@ -5,12 +5,12 @@ use Rattle.std.proofs.KnownBytes.{Appends-nil, Appends-trans}
 use Rattle.std.specs.Prelude.{flat_map}
 use Rattle.std.proofs.lemmas.List.{take_more}
 use Rattle.std.proofs.lemmas.List.Concat.{flat_map-append}
-use Rattle.apex_types.specs.Listing.{listing_of, texts_of}
-use Rattle.apex_types.specs.Status.{time_line, mode_line, history_line}
+use Rattle.apex_types.specs.text.Listing.{listing_of, texts_of}
+use Rattle.apex_types.specs.text.Status.{time_line, mode_line, history_line}
 use Rattle.apex_history.specs.Counted.{AppendsBeginning}
 use Rattle.apex_history.specs.Page.{Passes}
 use Rattle.apex_history.proofs.Passing.{beginning_after, beginning_longer, passes_with}
-use Rattle.apex_dispatch.specs.declared.listing.Section.TheVariants.{Cores, Processes, Semaphores, Buffers, Blackboards, Events, Mutexes}
+use Rattle.apex_dispatch.specs.declared.listing.Section.TheVariants.{Cores, Processes, Semaphores, Buffers, Blackboards, EventFlags, Mutexes}
 use Rattle.apex_dispatch.specs.Sections.{Listed, sections, section_text}
 
 -- nothing is gathered behind the text of the page
@@ -85,4 +85,4 @@ pub sections_listed : (listed : Listed)
 sections_listed listed =
     joined (time_line listed.roster.now) (mode_line listed.roster.mode) (history_line listed.entries)
     (section_text listed Cores) (section_text listed Processes) (section_text listed Semaphores)
-    (section_text listed Buffers) (section_text listed Blackboards) (section_text listed Events) (section_text listed Mutexes)
+    (section_text listed Buffers) (section_text listed Blackboards) (section_text listed EventFlags) (section_text listed Mutexes)

@@ -5,11 +5,11 @@ use Rattle.std.proofs.lemmas.List.Folds.{list_any-append}
 use Rattle.std.proofs.lemmas.Option.{none-some}
 use Rattle.apex_dispatch.specs.Terms.{Holding, Notice, Record}
 use Rattle.apex_types.specs.declared.Queue.TheVariants as queues
-use Rattle.apex_types.specs.Handovers.{halted, hand_on, hand_over, hand_to}
-use Rattle.apex_types.specs.Held.{in_order}
-use Rattle.apex_types.specs.Roster.{Roster, record_at, with_record}
-use Rattle.apex_types.specs.Stamps.{awake, is_level, oldest, own, stop, stopped}
-use Rattle.apex_types.specs.Waiters.{first_waiter}
+use Rattle.apex_types.specs.services.Handovers.{halted, hand_on, hand_over, hand_to}
+use Rattle.apex_types.specs.processes.Held.{in_order}
+use Rattle.apex_types.specs.processes.Roster.{Roster, record_at, with_record}
+use Rattle.apex_types.specs.processes.Stamps.{awake, is_level, oldest, own, stop, stopped}
+use Rattle.apex_types.specs.processes.Waiters.{first_waiter}
 use Rattle.apex_dispatch.proofs.AskedWaits.{Frees, awaits_at, awake_free, first_awaits, frees_changed, frees_lessened, frees_moved, frees_none, frees_then}
 use Rattle.apex_dispatch.proofs.Satisfied.{AwaitsAt, WokenAt, is_waking, wakes, woken_alone}
 

@@ -1,26 +1,25 @@
 -- A process whose deadline is HARD, and passes at a tick, is dormant after that tick.
 use Rattle.std.proofs.Common.{◌≡◌, ◌≢◌, ℕ, zero, suc, ◌<◌, ◌≤◌, ◌⊎◌, false, List, [], ◌∷◌, Option, None, Some, length, refl, sym, ◌∙◌, ap, inl, inr, subst, arith}
-use Rattle.std.proofs.lemmas.Bool.{cases_eq, cond_both}
+use Rattle.std.proofs.lemmas.Bool.{cases_eq}
 use Rattle.std.proofs.lemmas.List.Sums.{count_by-le-length}
 use Rattle.apex_dispatch.specs.Laws.{HardMissesStop}
 use Rattle.apex_dispatch.specs.Terms.{DeadlineType, Holding, Record}
 use Rattle.apex_types.specs.declared.DeadlineType.TheVariants.{Soft, Hard}
 use Rattle.apex_types.specs.declared.Event.TheVariants.{Tick}
 use Rattle.apex_types.specs.declared.Queue.TheVariants as queues
-use Rattle.apex_types.specs.Dues.{first_missed, is_missed_at}
-use Rattle.apex_types.specs.Handovers.{hand_on, hand_over, hand_to}
-use Rattle.apex_types.specs.Held.{in_order}
-use Rattle.apex_types.specs.InTurn.{Changed, in_turn, next_and}
-use Rattle.apex_types.specs.Machine.{opening, run, tick}
-use Rattle.apex_types.specs.Roster.{Roster, record_at, with_record}
-use Rattle.apex_types.specs.Running.{is_eligible}
-use Rattle.apex_types.specs.Stamps.{HasOrderlyStarts, advance_to, awake, newest, set_deadline, stop, stopped}
-use Rattle.apex_types.specs.Table.{Table, IsLawful}
-use Rattle.apex_types.specs.Ticks.{miss, pass_time, serve_deadlines, serve_instant, serve_missed, tick_goal}
-use Rattle.apex_types.specs.Waiters.{first_waiter}
+use Rattle.apex_types.specs.processes.Dues.{first_missed, is_missed_at}
+use Rattle.apex_types.specs.services.Handovers.{hand_on, hand_over, hand_to}
+use Rattle.apex_types.specs.processes.Held.{in_order}
+use Rattle.apex_types.specs.services.InTurn.{Changed, in_turn, next_and}
+use Rattle.apex_types.specs.machine.Machine.{opening, run, tick}
+use Rattle.apex_types.specs.processes.Roster.{Roster, record_at}
+use Rattle.apex_types.specs.processes.Stamps.{HasOrderlyStarts, advance_to, awake, set_deadline, stop, stopped}
+use Rattle.apex_types.specs.table.Table.{Table, IsLawful}
+use Rattle.apex_types.specs.machine.Ticks.{miss, pass_time, serve_deadlines, serve_instant, serve_missed, tick_goal}
+use Rattle.apex_types.specs.processes.Waiters.{first_waiter}
 use Rattle.apex_types.proofs.Dues.{first_missed_none, first_missed_within, goal_before_deadlines}
 use Rattle.apex_types.proofs.Handovers.{periods_hand_over}
-use Rattle.apex_types.proofs.Reaches.{another_newest, another_record}
+use Rattle.apex_types.proofs.Replaces.{each_stays, replaces_readied}
 use Rattle.apex_types.proofs.Rosters.{at_record, changes_record}
 use Rattle.apex_types.proofs.Starts.{first_within}
 use Rattle.apex_dispatch.proofs.Counts.{count}
@@ -35,16 +34,7 @@ deadline_handed roster holding None is p = refl
 deadline_handed roster holding (Some q) is p =
     let r : Record = awake (record (record_at roster q) { owned = record holding { depth = 1 } ∷ [] }) in
     let known = first_within roster (queues.Mutex holding.mutex) q is in
-    cond_both {A = Roster} (is_eligible roster.mode r) (newest roster q r) (with_record roster q r)
-    (λ (new : Roster). (record_at new p).deadline ≡ (record_at roster p).deadline)
-    (λ _. elim (cases_eq p q) [
-      | inl here ↦ rw here (ap (λ (x : Record). x.deadline) (another_newest roster q known r).here)
-      | inr apart ↦ ap (λ (x : Record). x.deadline) ((another_newest roster q known r).others p apart)
-    ])
-    (λ _. elim (cases_eq p q) [
-      | inl here ↦ rw here (ap (λ (x : Record). x.deadline) (another_record roster q known r).here)
-      | inr apart ↦ ap (λ (x : Record). x.deadline) ((another_record roster q known r).others p apart)
-    ])
+    each_stays (replaces_readied roster q known r refl) (λ s t. t.deadline ≡ s.deadline) (λ _. refl) refl p
 
 deadline_handed_on : (held : List Holding) (roster : Roster) (p : ℕ)
     → (record_at (hand_on held roster).roster p).deadline ≡ (record_at roster p).deadline
@@ -131,11 +121,11 @@ module _ (p : ℕ) where
       → (found : Option ℕ) → first_missed roster ≡ found → (record_at (next_and others serve_missed roster found).roster p).started ≡ false
   stops_and others left rest roster starts few over None is = over_none p roster is over
   stops_and others left rest roster starts few over (Some q) is =
-      let reaches = reach_serve_missed roster q starts is in
+      let moves = (reach_serve_missed roster q starts is).moves in
       let after = (serve_missed roster q).roster in
-      let time : after.now ≡ roster.now = reaches.time in
+      let time : after.now ≡ roster.now = moves.time in
       let fewer = (missed_tells roster q is).misses in
-      rest after (reaches.starts starts) (rw time (omega (arith, few, fewer)))
+      rest after (moves.starts starts) (rw time (omega (arith, few, fewer)))
       (subst (λ now. IsOver p now after) (sym time) (over_missed p roster q starts is over))
 
   stops_none : (roster : Roster) → missing roster ≤ 0 → IsOver p roster.now roster → (found : Option ℕ) → first_missed roster ≡ found
@@ -155,7 +145,7 @@ module _ (p : ℕ) where
   -- the dues then start no process
   stays_stopped : (roster : Roster) → IsServable roster → IsOver p roster.now roster → (record_at (serve_instant roster).roster p).started ≡ false
   stays_stopped roster before over =
-      let first = reach_serve_deadlines roster before.starts in
+      let first = (reach_serve_deadlines roster before.starts).moves in
       let after = serve_deadlines roster in
       let servable : IsServable after.roster = record { starts = first.starts before.starts; times = first.times before.times } in
       ((reach_serve_dues after.roster servable).periods p).dormant (stops roster before.starts over)
@@ -173,10 +163,10 @@ misses_stop table lawful events n p t hard deadline passes =
       starts = record { dormant = starts.dormant; early = starts.early; undue = starts.undue };
       times = (goes table lawful machine sound (Tick n)).times;
     } in
-    let first = reach_serve_deadlines advanced servable.starts in
+    let first = (reach_serve_deadlines advanced servable.starts).moves in
     let between = serve_deadlines advanced in
     let servable_then : IsServable between.roster = record { starts = first.starts servable.starts; times = first.times servable.times } in
-    let second = reach_serve_dues between.roster servable_then in
+    let second = (reach_serve_dues between.roster servable_then).moves in
     let time : (serve_instant advanced).roster.now ≡ goal = second.time ∙ first.time in
     let near : goal ≤ t = goal_before_deadlines roster n p t deadline in
     let now : t ≡ goal = omega (arith, near, passes, time) in

@@ -4,10 +4,10 @@ use Rattle.std.proofs.Common.{◌≡◌, ℕ, List, [], ◌∷◌, ◌++◌, len
 use Rattle.std.proofs.lemmas.Bool.{cond_both}
 use Rattle.apex_dispatch.specs.Laws.{ReleasesLieInPeriods}
 use Rattle.apex_dispatch.specs.Terms.{Event}
-use Rattle.apex_types.specs.Machine.{Machine, accept, happen, opening, run}
-use Rattle.apex_types.specs.Periods.{IsReleased, IsWholePeriodsAfter}
-use Rattle.apex_types.specs.Roster.{record_at}
-use Rattle.apex_types.specs.Table.{Table, IsLawful, process_config}
+use Rattle.apex_types.specs.machine.Machine.{Machine, accept, happen, opening, run}
+use Rattle.apex_types.specs.processes.Periods.{IsReleased, IsWholePeriodsAfter}
+use Rattle.apex_types.specs.processes.Roster.{record_at}
+use Rattle.apex_types.specs.table.Table.{Table, IsLawful, process_config}
 use Rattle.apex_types.proofs.Periods.{no_period, periods_then}
 use Rattle.apex_dispatch.proofs.Runs.{run-append}
 use Rattle.apex_dispatch.proofs.Sound.{IsSound, happened, happens, owes, sound_accept, sound_run}

@@ -1,10 +1,10 @@
 -- No process waits for an object that has what it waits for.
 use Rattle.std.proofs.Common.{◌≡◌, Some, refl}
 use Rattle.apex_dispatch.specs.Terms.{Record, Wait}
-use Rattle.apex_types.specs.declared.Wait.TheVariants.{Receive, Send, Blackboard, Event}
-use Rattle.apex_types.specs.Machine.{Machine}
-use Rattle.apex_types.specs.Roster.{record_at}
-use Rattle.apex_types.specs.Table.{Table}
+use Rattle.apex_types.specs.declared.Wait.TheVariants.{Receive, Send, Blackboard, EventFlag}
+use Rattle.apex_types.specs.machine.Machine.{Machine}
+use Rattle.apex_types.specs.processes.Roster.{record_at}
+use Rattle.apex_types.specs.table.Table.{Table}
 use Rattle.apex_dispatch.specs.AskedWaits.{asked_of, awaited}
 use Rattle.apex_dispatch.specs.Laws.{NobodyWaitsInVain}
 use Rattle.apex_dispatch.proofs.CallsServe.{AreKept}
@@ -18,11 +18,11 @@ none_in_vain table machine kept = record {
   buffers = λ b inside.
       let keeps = kept.buffers b inside in
       record {
-        order = record { delivered = keeps.delivered.taken; many = keeps.delivered.many; sent = keeps.delivered.split };
-        room = keeps.fits;
+        order = record { delivered = keeps.holds.delivered.taken; many = keeps.holds.delivered.many; sent = keeps.holds.delivered.split };
+        room = keeps.holds.fits;
         receivers = λ p is. keeps.held p (Receive b) (asked_for (record_at machine.roster p) (Receive b) is refl) refl;
         senders = λ p message is. keeps.held p (Send b message) (asked_for (record_at machine.roster p) (Send b message) is refl) refl;
       };
   blackboards = λ b inside p is. (kept.blackboards b inside).held p (Blackboard b) (asked_for (record_at machine.roster p) (Blackboard b) is refl) refl;
-  events = λ e inside p is. (kept.events e inside).held p (Event e) (asked_for (record_at machine.roster p) (Event e) is refl) refl;
+  event_flags = λ e inside p is. (kept.event_flags e inside).held p (EventFlag e) (asked_for (record_at machine.roster p) (EventFlag e) is refl) refl;
 }

@@ -1,4 +1,5 @@
 pub mod Truths
+pub mod Filled
 pub mod Known
 pub mod Satisfied
 pub mod AskedWaits
@@ -8,9 +9,9 @@ pub mod DuesServed
 pub mod MissesServed
 pub mod Serving
 pub mod ObjectsServe
-pub mod Values
+pub mod WaitedServe
 pub mod SemaphoresServe
-pub mod EventsServe
+pub mod EventFlagsServe
 pub mod BlackboardsServe
 pub mod Delivered
 pub mod BuffersServe

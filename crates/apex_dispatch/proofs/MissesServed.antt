@@ -8,15 +8,15 @@ use Rattle.apex_dispatch.specs.Terms.{DeadlineType, Holding, Notice, Record, Wai
 use Rattle.apex_types.specs.declared.DeadlineType.TheVariants.{Soft, Hard}
 use Rattle.apex_types.specs.declared.Queue.TheVariants as queues
 use Rattle.apex_types.specs.declared.Wait.TheVariants.{Mutex}
-use Rattle.apex_types.specs.Dues.{first_missed, is_due_at, is_missed_at}
+use Rattle.apex_types.specs.processes.Dues.{first_missed, is_due_at, is_missed_at}
 use Rattle.apex_types.specs.declared.Notice.TheVariants.{Missed}
-use Rattle.apex_types.specs.Handovers.{halted, hand_on, hand_over, hand_to}
-use Rattle.apex_types.specs.Held.{in_order}
-use Rattle.apex_types.specs.InTurn.{behind}
-use Rattle.apex_types.specs.Roster.{Roster, record_at}
-use Rattle.apex_types.specs.Stamps.{HasOrderlyStarts, awake, set_deadline, stop, stopped}
-use Rattle.apex_types.specs.Ticks.{miss, serve_missed, serve_deadlines}
-use Rattle.apex_types.specs.Waiters.{first_waiter}
+use Rattle.apex_types.specs.services.Handovers.{halted, hand_on, hand_over, hand_to}
+use Rattle.apex_types.specs.processes.Held.{in_order}
+use Rattle.apex_types.specs.services.InTurn.{behind}
+use Rattle.apex_types.specs.processes.Roster.{Roster, record_at}
+use Rattle.apex_types.specs.processes.Stamps.{HasOrderlyStarts, awake, set_deadline, stop, stopped}
+use Rattle.apex_types.specs.machine.Ticks.{miss, serve_missed, serve_deadlines}
+use Rattle.apex_types.specs.processes.Waiters.{first_waiter}
 use Rattle.apex_types.proofs.Dues.{first_missed_now, first_missed_within}
 use Rattle.apex_types.proofs.Handovers.{mutex_wait, reaches_halted}
 use Rattle.apex_types.proofs.InTurn.{holds_in_turn}
@@ -40,7 +40,7 @@ module _ (roster : Roster) (p : ℕ) (starts : HasOrderlyStarts roster) (is : fi
   -- a miss stamps at most as often as it tells
   reach_miss : (kind : DeadlineType) → Reaches (length (miss cleared p kind).notices) cleared (miss cleared p kind).roster
   reach_miss Soft = reaches_none 0 cleared
-  reach_miss Hard = reaches_halted cleared p (rw reach_cleared.many known) (reach_cleared.starts starts)
+  reach_miss Hard = reaches_halted cleared p (rw reach_cleared.moves.many known) (reach_cleared.moves.starts starts)
 
   pub reach_serve_missed : Reaches (length (serve_missed roster p).notices) roster (serve_missed roster p).roster
   reach_serve_missed =
@@ -52,7 +52,7 @@ pub reach_serve_deadlines : (roster : Roster) → HasOrderlyStarts roster
     → Reaches (length (serve_deadlines roster).notices) roster (serve_deadlines roster).roster
 reach_serve_deadlines roster starts =
     reaches_told first_missed serve_missed HasOrderlyStarts
-    (λ r p before is. (reach_serve_missed r p before is).starts before) reach_serve_missed
+    (λ r p before is. (reach_serve_missed r p before is).moves.starts before) reach_serve_missed
     (length roster.records) roster starts
 
 -- a process may be woken or released at this instant: it is due then, or waits for a mutex
@@ -183,7 +183,7 @@ missed_tells roster p is =
     let r : Record = record old { deadline = None } in
     let within = first_missed_within roster p is in
     let cleared_so = set_deadline roster p None in
-    let many : p < length cleared_so.records = rw (reaches_set_deadline roster p within None (λ u e. absurd (none-some u e))).many within in
+    let many : p < length cleared_so.records = rw (reaches_set_deadline roster p within None (λ u e. absurd (none-some u e))).moves.many within in
     let woken = counted (may_wake t) (may_wake_ageless t) roster p within r in
     let missed = counted (is_missed_at t) (missed_ageless t) roster p within r in
     let was = misses t old (first_missed_now roster p is) in
@@ -209,7 +209,7 @@ pub room_left : (roster : Roster) → HasOrderlyStarts roster
 room_left roster starts =
     let all = holds_in_turn first_missed serve_missed (Leaves (count (may_wake roster.now) roster + count (is_missed_at roster.now) roster) roster.now)
     (λ r notices p is before.
-    let reaches = reach_serve_missed r p before.starts is in
+    let moves = (reach_serve_missed r p before.starts is).moves in
     let told = serve_missed r p in
     let tells = missed_tells r p is in
     let wakes : length told.notices + count (may_wake roster.now) told.roster ≤ count (may_wake roster.now) r + 1 =
@@ -217,8 +217,8 @@ room_left roster starts =
     let misses : count (is_missed_at roster.now) told.roster + 1 ≤ count (is_missed_at roster.now) r =
     subst (λ t. count (is_missed_at t) told.roster + 1 ≤ count (is_missed_at t) r) before.time tells.misses in
     record {
-      time = reaches.time ∙ before.time;
-      starts = reaches.starts before.starts;
+      time = moves.time ∙ before.time;
+      starts = moves.starts before.starts;
       room = rw length-append (omega (arith, before.room, wakes, misses));
     })
     (length roster.records) roster [] (record { time = refl; starts = starts; room = omega arith }) in

@@ -5,26 +5,27 @@ use Rattle.apex_dispatch.specs.Terms.{Call, Caller, Entry, Holding, MutexService
 use Rattle.apex_types.specs.declared.Call.TheVariants as call
 use Rattle.apex_types.specs.declared.Caller.TheVariants.{Process}
 use Rattle.apex_types.specs.declared.MutexService.TheVariants.{Acquire, Release}
-use Rattle.apex_types.specs.declared.ObjectCall.TheVariants.{Own}
+use Rattle.apex_types.specs.declared.ObjectCall.TheVariants.{KindService}
+use Rattle.apex_types.specs.declared.Queue.TheVariants as queues
 use Rattle.apex_types.specs.declared.Reply.TheVariants.{Code, Blocked}
 use Rattle.apex_types.specs.declared.ReturnCode.TheVariants.{NoError, NotAvailable, InvalidMode}
 use Rattle.apex_types.specs.declared.Timeout.TheVariants.{Poll, Ticks, Infinite}
 use Rattle.apex_types.specs.declared.Wait.TheVariants.{Mutex}
-use Rattle.apex_types.specs.Calls.{created_mutex}
-use Rattle.apex_types.specs.Callers.{IsReady}
-use Rattle.apex_types.specs.Dues.{due_after}
-use Rattle.apex_types.specs.Handovers.{hand_over}
-use Rattle.apex_types.specs.History.{creates, is_created}
-use Rattle.apex_types.specs.Limits.{most_depth}
-use Rattle.apex_types.specs.MutexServices.{MutexObject, acquire_by, acquire_from, mutex_after, mutex_kind, mutex_own, owner_status, release_by}
-use Rattle.apex_types.specs.Owners.{HasOrderlyOwners, ceiling_of, depth_of, is_deepest, is_poll, may_not_wait, owner, owns, owns_most, record_of}
-use Rattle.apex_types.specs.Held.{holding_of, with_depth, without}
-use Rattle.apex_types.specs.Roster.{Roster, record_at}
-use Rattle.apex_types.specs.Rows.{Outcome, refused, accepted}
-use Rattle.apex_types.specs.Satisfied.{is_no_error, is_satisfied}
-use Rattle.apex_types.specs.Stamps.{block, own}
-use Rattle.apex_types.specs.Table.{MutexConfig, no_mutex}
-use Rattle.apex_types.specs.Waiting.{blocked, wait_for}
+use Rattle.apex_types.specs.services.Calls.{created_mutex, object_of}
+use Rattle.apex_types.specs.services.Callers.{IsReady}
+use Rattle.apex_types.specs.processes.Dues.{due_after}
+use Rattle.apex_types.specs.services.Handovers.{hand_over}
+use Rattle.apex_types.specs.machine.History.{creates, is_created}
+use Rattle.apex_types.specs.values.Limits.{most_depth}
+use Rattle.apex_types.specs.services.MutexServices.{MutexObject, acquire_by, acquire_from, mutex_after, mutex_kind, mutex_service, owner_status, release_by}
+use Rattle.apex_types.specs.processes.Owners.{HasOrderlyOwners, ceiling_of, depth_of, is_deepest, is_poll, may_not_wait, owner, owns, owns_most, record_of}
+use Rattle.apex_types.specs.processes.Held.{holding_of, with_depth, without}
+use Rattle.apex_types.specs.processes.Roster.{Roster, record_at}
+use Rattle.apex_types.specs.services.Rows.{Outcome, refused, accepted}
+use Rattle.apex_types.specs.services.Satisfied.{is_no_error, is_satisfied}
+use Rattle.apex_types.specs.processes.Stamps.{block, own}
+use Rattle.apex_types.specs.table.Table.{MutexConfig, no_mutex}
+use Rattle.apex_types.specs.services.Waiting.{blocked, wait_for}
 use Rattle.apex_types.proofs.Dues.{due_later}
 use Rattle.apex_types.proofs.Handovers.{hands_at_depth, hands_more, reaches_await, reaches_give_up, reaches_own}
 use Rattle.apex_types.proofs.Held.{holds_nothing, is_held, none_held}
@@ -33,11 +34,10 @@ use Rattle.apex_types.proofs.Rows.{by_guard, by_caller}
 use Rattle.apex_types.proofs.Starts.{runnable}
 use Rattle.apex_dispatch.proofs.AskedWaits.{asks_freed}
 use Rattle.apex_dispatch.proofs.HandedOver.{gives_up, own_frees}
-use Rattle.apex_dispatch.proofs.ObjectsServe.{LawsOf, ServesOne, IsRead}
-use Rattle.apex_dispatch.proofs.ProcessesServe.{unnamed}
+use Rattle.apex_dispatch.proofs.ObjectsServe.{LawsOf, ServesOne, IsRead, then_some}
+use Rattle.apex_dispatch.proofs.Satisfied.{created-push}
 use Rattle.apex_dispatch.proofs.Serving.{Scene, Serves, few, ready_normal, ready_started, serves_freed, serves_same, serves_waiting, arrives_by}
 use Rattle.apex_dispatch.proofs.Truths.{or_false, or_true}
-use Rattle.apex_dispatch.proofs.Values.{created-push}
 
 -- a history keeps nothing of a mutex but that it is created: its owner's record has the rest
 abbrev pub KeepsMutex : Roster → List Entry → ℕ → MutexConfig → Type 0
@@ -71,7 +71,7 @@ module _ (history : List Entry) (roster : Roster) (caller : Caller) (m : ℕ) (e
   mutex = mutex_after history m entry
 
   abbrev asks_for : MutexService → Call
-  asks_for service = call.Mutex (Own m service)
+  asks_for service = call.Mutex (KindService m service)
 
   abbrev Served : MutexService → Outcome MutexObject → Type 0
   Served service o = ServesOne mutex_after KeepsMutex history roster caller (asks_for service) None m entry o
@@ -176,8 +176,8 @@ module _ (history : List Entry) (roster : Roster) (caller : Caller) (m : ℕ) (e
           woken = λ q woken. inr (holding.mutex, hands.woken q woken);
         }))
 
-  pub served_own : (service : MutexService) → Served service (mutex_own roster mutex m caller service)
-  served_own (Acquire timeout) =
+  pub served_kind_service : (service : MutexService) → Served service (mutex_service roster mutex m caller service)
+  served_kind_service (Acquire timeout) =
       let acquire = Acquire timeout in
       guard acquire (not mutex.created) _ _ refl (λ _.
       guard acquire (may_not_wait m timeout (record_of roster caller)) _ _ refl (λ waits.
@@ -187,7 +187,7 @@ module _ (history : List Entry) (roster : Roster) (caller : Caller) (m : ℕ) (e
       by_caller roster mutex (Served acquire) (served_refused acquire) caller _
       (λ p by. served_acquire p by (rw by at scene.ready) timeout (rw by at waits) (rw by at room) (rw by at shallow)
       (holding_of m (record_at roster p).owned) refl))))))
-  served_own Release =
+  served_kind_service Release =
       guard Release (not mutex.created) _ _ refl (λ _.
       guard Release (not (owns m (record_of roster caller))) _ _ refl (λ _.
       by_caller roster mutex (Served Release) (served_refused Release) caller _
@@ -197,22 +197,22 @@ module _ (history : List Entry) (roster : Roster) (caller : Caller) (m : ℕ) (e
 abbrev pub mutex_laws : LawsOf mutex_kind
 mutex_laws = record {
   to = call.Mutex;
-  names = unnamed;
   creation = created_mutex;
   nothing = no_mutex;
   at = λ m. None;
+  queue = λ m. Some (queues.Mutex m);
   Keeps = KeepsMutex;
   Stands = λ roster m. Unit {0};
   created = λ call. refl;
-  named = λ call j e. refl;
-  apart = λ call j e. tt;
-  awaited = λ c i j answered apart. refl;
+  named = λ call. then_some queues.Mutex (object_of call);
+  differs = λ j i apart. (refl, refl);
+  unlike = λ j m. refl;
   status = λ roster x i. status_plain roster i (owner roster i);
   stays = λ old new history e m entry keeps quiet still. mutex_stays new history e m entry quiet.create;
   makes = λ roster history e m entry keeps alone made. record {
     is = rw (created-push created_mutex m history e, made, or_true (is_created created_mutex m history)) refl;
     kept = tt;
   };
-  own = λ history roster caller m entry service keeps asked scene stands.
-      served_own history roster caller m entry scene service;
+  kind_service = λ history roster caller m entry service keeps asked scene stands.
+      served_kind_service history roster caller m entry scene service;
 }

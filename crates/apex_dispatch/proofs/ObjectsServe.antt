@@ -1,26 +1,26 @@
 -- Objects of any kind: the effect of an entry on them, and the services that each kind has.
-use Rattle.std.proofs.Common.{◌≡◌, ◌≢◌, ℕ, ◌+◌, ◌<◌, ◌==◌, Bool, true, false, not, if◌then◌else◌, List, [], ◌∷◌, ◌++◌, Option, None, Some, option_and_then, option_map, All, length, set, get_or, flat_map, refl, sym, ◌∙◌, arith, inl, inr}
+use Rattle.std.proofs.Common.{◌≡◌, ◌≢◌, ℕ, ◌+◌, ◌<◌, Bool, true, false, not, if◌then◌else◌, List, [], ◌∷◌, ◌++◌, Option, None, Some, option_and_then, option_map, All, length, set, get_or, flat_map, refl, sym, arith, inl, inr}
 use Rattle.std.proofs.lemmas.Bool.{cases_eq, eq-eqb}
 use Rattle.std.proofs.lemmas.List.Elements.{All-nil, All-cons, All-append, All-weaker}
 use Rattle.std.proofs.lemmas.Option.{none-some, same_Some}
 use Rattle.apex_dispatch.specs.Terms.{Call, Caller, Entry, Notice, ObjectCall, Queue, Reply, ReturnCode, Who}
 use Rattle.apex_types.specs.declared.Named.TheVariants.{Known, Unknown}
-use Rattle.apex_types.specs.declared.ObjectCall.TheVariants.{Create, GetId, GetStatus, Own}
+use Rattle.apex_types.specs.declared.ObjectCall.TheVariants.{Create, GetId, GetStatus, KindService}
 use Rattle.apex_types.specs.declared.Reply.TheVariants.{Code, Value, Message as Gets}
+use Rattle.apex_types.specs.declared.Queue.TheVariants as queues
 use Rattle.apex_types.specs.declared.ReturnCode.TheVariants.{NoError, InvalidConfig}
-use Rattle.apex_types.specs.Calls.{object_of, creation_of, is_place}
-use Rattle.apex_types.specs.History.{creates}
-use Rattle.apex_types.specs.Objects.{KindOf, objects_of, object_service, create, no_entry, deed_at}
-use Rattle.apex_types.specs.Queues.{is_queue, is_same_queue}
-use Rattle.apex_types.specs.Roster.{Roster, record_at, is_normal}
-use Rattle.apex_types.specs.Rows.{Outcome, refused, told}
-use Rattle.apex_types.specs.Satisfied.{is_accepted, is_satisfied, is_no_error, own_call, answered_by, satisfied_by}
-use Rattle.apex_types.specs.Table.{IsKnownObject}
+use Rattle.apex_types.specs.services.Calls.{object_of, creation_of, is_place, queue_named}
+use Rattle.apex_types.specs.machine.History.{creates}
+use Rattle.apex_types.specs.services.Objects.{ObjectKind, objects_of, object_service, create, no_entry, deed_at}
+use Rattle.apex_types.specs.processes.Roster.{Roster, record_at, is_normal}
+use Rattle.apex_types.specs.services.Rows.{Outcome, refused, replied}
+use Rattle.apex_types.specs.services.Satisfied.{is_accepted, is_satisfied, is_no_error, own_call, answered_by, satisfied_by}
+use Rattle.apex_types.specs.table.Table.{IsKnownObject}
 use Rattle.apex_types.proofs.Places.{get_or-map_places, map_places_same, set-map_places}
 use Rattle.apex_types.proofs.Rows.{by_guard}
 use Rattle.apex_dispatch.specs.AskedWaits.{AreAsked}
-use Rattle.apex_dispatch.proofs.AskedWaits.{Frees, IsElsewhere, IsStill, still_elsewhere, still_freed}
-use Rattle.apex_dispatch.proofs.Satisfied.{AnsweredAt, Asks, WokenAt, answered_at, wakes}
+use Rattle.apex_dispatch.proofs.AskedWaits.{Frees, IsStill, still_elsewhere, still_freed}
+use Rattle.apex_dispatch.proofs.Satisfied.{AnsweredAt, Asks, WokenAt, answered_at, far_answered, is_near, near_none, wakes}
 use Rattle.apex_dispatch.proofs.Serving.{Scene, Serves, ServesBy, serves_same}
 use Rattle.apex_dispatch.proofs.Truths.{and_false, other}
 
@@ -36,9 +36,10 @@ entry_with number now who caller call reply notices = record {
   notices = notices;
 }
 
--- the entry says nothing of thing i: it satisfies no call that names it, and does not create it
-pub record IsQuiet (names : ℕ → Call → Bool) (created : Call → Option ℕ) (i : ℕ) (history : List Entry) (e : Entry) : Type 0 where
-  pub calls : All (λ c. names i c ≡ false) (satisfied_by history e)
+-- the entry says nothing of thing i, which has this queue or none: it satisfies no call that names
+-- the queue, and does not create the thing
+pub record IsQuiet (own : Option Queue) (created : Call → Option ℕ) (i : ℕ) (history : List Entry) (e : Entry) : Type 0 where
+  pub calls : All (λ c. is_near own (queue_named c) ≡ false) (satisfied_by history e)
   pub create : creates created i e ≡ false
 
 -- after one entry more, which leaves this roster, the i-th object is this one, and the facts that
@@ -62,15 +63,11 @@ abbrev pub IsStillAt : Option Queue → Roster → Roster → Type 0
 IsStillAt None old new = Unit {0}
 IsStillAt (Some queue) old new = IsStill queue old new
 
-abbrev pub IsElsewhereAt : Option Queue → Call → Type 0
-IsElsewhereAt None call = Unit {0}
-IsElsewhereAt (Some queue) call = IsElsewhere queue call
-
 still_same : (at : Option Queue) (roster : Roster) → IsStillAt at roster roster
 still_same None roster = tt
 still_same (Some queue) roster = λ p w waits is. waits
 
-still_at : (at : Option Queue) (caller : Caller) (call : Call) (old new : Roster) → IsElsewhereAt at call
+still_at : (at : Option Queue) (caller : Caller) (call : Call) (old new : Roster) → is_near at (queue_named call) ≡ false
     → Asks caller (Some call) old new → IsStillAt at old new
 still_at None caller call old new elsewhere asks = tt
 still_at (Some queue) caller call old new elsewhere asks = still_elsewhere queue caller call old new elsewhere asks
@@ -79,35 +76,51 @@ pub still_freed_at : (at : Option Queue) (old new : Roster) → Frees old new �
 still_freed_at None old new frees = tt
 still_freed_at (Some queue) old new frees = still_freed queue old new frees
 
+-- the queue that the object of a call has, or none
+pub then_some : (queue : ℕ → Queue) (object : Option ℕ) → option_map queue object ≡ option_and_then (λ i. Some (queue i)) object
+then_some queue None = refl
+then_some queue (Some i) = refl
+
+pub then_none : (object : Option ℕ) → let none : Option Queue = None in none ≡ option_and_then (λ i. none) object
+then_none None = refl
+then_none (Some i) = refl
+
+-- what is far from the queue of each object is far from that of the one that a call names
+pub far_then : (own : Option Queue) (queue : ℕ → Option Queue) → ((i : ℕ) → is_near own (queue i) ≡ false)
+    → (object : Option ℕ) → is_near own (option_and_then queue object) ≡ false
+far_then own queue far None = near_none own
+far_then own queue far (Some i) = far i
+
 -- the facts about a kind that proofs use: its calls among all calls, the queues of its waiters, and
 -- its objects after an entry
-pub record LawsOf {C X W : Type 0} (kind : KindOf C X W) : Type 1 where
+pub record LawsOf {C X W : Type 0} (kind : ObjectKind C X W) : Type 1 where
   pub to : ObjectCall ℕ W → Call
-  pub names : ℕ → Call → Bool
   pub creation : Call → Option ℕ
   -- a configuration past the end of the table
   pub nothing : C
   -- the queue in which processes wait for an object, if the kind has such queues
   pub at : ℕ → Option Queue
+  -- the queue that a call on an object names
+  pub queue : ℕ → Option Queue
   -- the facts that are kept of an object, and of its waiters
   pub Keeps : Roster → List Entry → ℕ → C → Type 0
   -- the premise of its own services about the processes
   pub Stands : Roster → ℕ → Type 0
   pub created : (call : ObjectCall ℕ W) → creation (to call) ≡ creation_of call
-  pub named : (call : ObjectCall ℕ W) (j : ℕ) → is_place j (object_of call) ≡ false → names j (to call) ≡ false
-  pub apart : (call : ObjectCall ℕ W) (j : ℕ) → is_place j (object_of call) ≡ false → IsElsewhereAt (at j) (to call)
-  pub awaited : (c : Call) (i j : ℕ) → AnsweredAt (at i) c → j ≢ i → names j c ≡ false
+  pub named : (call : ObjectCall ℕ W) → queue_named (to call) ≡ option_and_then queue (object_of call)
+  pub differs : (j i : ℕ) → j ≢ i → (is_near (at j) (queue i) ≡ false) × (is_near (at j) (at i) ≡ false)
+  pub unlike : (j m : ℕ) → is_near (at j) (Some (queues.Mutex m)) ≡ false
   pub status : (roster : Roster) (x : X) (i : ℕ) → is_satisfied (kind.status roster x i) ≡ false
   pub stays : (old new : Roster) (history : List Entry) (e : Entry) (i : ℕ) (c : C) → Keeps old history i c
-      → IsQuiet names creation i history e → IsStillAt (at i) old new
+      → IsQuiet (at i) creation i history e → IsStillAt (at i) old new
       → IsRead kind.after Keeps new history e i c (kind.after history i c)
   pub makes : (roster : Roster) (history : List Entry) (e : Entry) (i : ℕ) (c : C) → Keeps roster history i c
       → satisfied_by history e ≡ to (Create (Known i)) ∷ [] → creates creation i e ≡ true
       → IsRead kind.after Keeps roster history e i c (kind.made (kind.after history i c))
-  pub own : (history : List Entry) (roster : Roster) (caller : Caller) (i : ℕ) (c : C) (service : W)
+  pub kind_service : (history : List Entry) (roster : Roster) (caller : Caller) (i : ℕ) (c : C) (service : W)
       → Keeps roster history i c → AreAsked roster history → Scene roster caller → Stands roster i
-      → ServesOne kind.after Keeps history roster caller (to (Own i service)) (at i) i c
-      (kind.own roster (kind.after history i c) i caller service)
+      → ServesOne kind.after Keeps history roster caller (to (KindService i service)) (at i) i c
+      (kind.kind_service roster (kind.after history i c) i caller service)
 
 -- a reply that isn't satisfied isn't accepted
 unaccepted : (reply : Reply) → is_satisfied reply ≡ false → is_accepted reply ≡ false
@@ -116,57 +129,46 @@ unaccepted (Code code) plain = plain
 unaccepted _ plain = refl
 
 -- an entry that isn't satisfied and wakes no process says nothing of anything
-pub quiet_told : (names : ℕ → Call → Bool) (created : Call → Option ℕ) (i : ℕ) (history : List Entry)
+pub quiet_told : (own : Option Queue) (created : Call → Option ℕ) (i : ℕ) (history : List Entry)
     (number now : ℕ) (who : Who) (caller : Caller) (call : Call) (reply : Reply) → is_satisfied reply ≡ false
-    → IsQuiet names created i history (entry_with number now who caller call reply [])
-quiet_told names created i history number now who caller call reply plain = record {
-  calls = rw plain (All-nil (λ c. names i c ≡ false));
+    → IsQuiet own created i history (entry_with number now who caller call reply [])
+quiet_told own created i history number now who caller call reply plain = record {
+  calls = rw plain (All-nil (λ c. is_near own (queue_named c) ≡ false));
   create = rw (unaccepted reply plain) (and_false (is_place i (created call)));
 }
 
--- an entry whose call names another thing, and which wakes with NO_ERROR only processes that waited
--- for another one, says nothing of it
-pub quiet_elsewhere : (names : ℕ → Call → Bool) (created : Call → Option ℕ) (i : ℕ) (history : List Entry) (roster : Roster)
-    (at : Option Queue) (number now : ℕ) (who : Who) (caller : Caller) (call : Call) (reply : Reply) (notices : List Notice)
-    → AreAsked roster history → ((q : ℕ) → wakes q notices ≡ true → WokenAt at (record_at roster q))
-    → names i call ≡ false → is_place i (created call) ≡ false → ((c : Call) → AnsweredAt at c → names i c ≡ false)
-    → IsQuiet names created i history (entry_with number now who caller call reply notices)
-quiet_elsewhere names created i history roster at number now who caller call reply notices asked woken unnamed uncreated far = record {
-  calls = All-append P (own_call (entry_with number now who caller call reply notices)) (flat_map (answered_by history) notices) (here (is_satisfied reply))
-      (All-weaker (AnsweredAt at) P far (flat_map (answered_by history) notices) (answered_at roster history notices at asked woken));
-  create = rw uncreated refl;
-} where
-  P : Call → Type 0
-  P c = names i c ≡ false
+-- no call that an entry answers names the queue, if the processes that it wakes with NO_ERROR waited
+-- in another one
+module _ (own at : Option Queue) (history : List Entry) (roster : Roster) (notices : List Notice) (asked : AreAsked roster history)
+    (woken : (q : ℕ) → wakes q notices ≡ true → WokenAt at (record_at roster q))
+    (unlike : (m : ℕ) → is_near own (Some (queues.Mutex m)) ≡ false) (far : is_near own at ≡ false) where
+  abbrev IsUnnamed : Call → Type 0
+  IsUnnamed c = is_near own (queue_named c) ≡ false
 
-  here : (b : Bool) → All P (if b then call ∷ [] else [])
-  here true = All-cons P call [] unnamed (All-nil P)
-  here false = All-nil P
+  none_named : (calls : List Call) → All IsUnnamed calls → All IsUnnamed (calls ++ flat_map (answered_by history) notices)
+  none_named calls unnamed =
+      All-append IsUnnamed calls (flat_map (answered_by history) notices) unnamed
+      (All-weaker (AnsweredAt at) IsUnnamed (λ c. far_answered own at c unlike far) (flat_map (answered_by history) notices)
+      (answered_at roster history notices at asked woken))
 
--- an event without a call says nothing of it, if the processes that it wakes with NO_ERROR waited
--- for time, or for a mutex
-pub quiet_uncalled : (names : ℕ → Call → Bool) (created : Call → Option ℕ) (i : ℕ) (history : List Entry) (roster : Roster)
-    (e : Entry) → AreAsked roster history → e.call ≡ None
-    → ((q : ℕ) → wakes q e.notices ≡ true → WokenAt None (record_at roster q))
-    → ((c : Call) → AnsweredAt None c → names i c ≡ false) → IsQuiet names created i history e
-quiet_uncalled names created i history roster e asked uncalled woken far = record {
-  calls = All-append P (own_call e) (flat_map (answered_by history) e.notices) (rw uncalled (nothing (is_satisfied e.reply)))
-      (All-weaker (AnsweredAt None) P far (flat_map (answered_by history) e.notices) (answered_at roster history e.notices None asked woken));
-  create = rw uncalled refl;
-} where
-  P : Call → Type 0
-  P c = names i c ≡ false
-
-  nothing : (b : Bool) → All P (if b then [] else [])
-  nothing true = All-nil P
-  nothing false = All-nil P
+  -- nor does its own call, if it names another thing
+  pub quiet_elsewhere : (created : Call → Option ℕ) (i number now : ℕ) (who : Who) (caller : Caller) (call : Call) (reply : Reply)
+      → is_near own (queue_named call) ≡ false → is_place i (created call) ≡ false
+      → IsQuiet own created i history (entry_with number now who caller call reply notices)
+  quiet_elsewhere created i number now who caller call reply unnamed uncreated = record {
+    calls = none_named (own_call (entry_with number now who caller call reply notices)) (here (is_satisfied reply));
+    create = rw uncreated refl;
+  } where
+    here : (b : Bool) → All IsUnnamed (if b then call ∷ [] else [])
+    here true = All-cons IsUnnamed call [] unnamed (All-nil IsUnnamed)
+    here false = All-nil IsUnnamed
 
 -- a call creates no other thing than the one that it names
 created_named : {W : Type 0} (call : ObjectCall ℕ W) (j : ℕ) → is_place j (object_of call) ≡ false → is_place j (creation_of call) ≡ false
 created_named (Create named) j e = e
 created_named (GetId named) j e = refl
 created_named (GetStatus i) j e = refl
-created_named (Own i service) j e = refl
+created_named (KindService i service) j e = refl
 
 -- the thing that a known call names is there
 known_at : {W : Type 0} (many : ℕ) (call : ObjectCall ℕ W) (i : ℕ) → object_of call ≡ Some i → IsKnownObject many call → i < many
@@ -175,9 +177,9 @@ known_at many (Create (Unknown name)) i is known = absurd (none-some i is)
 known_at many (GetId (Known j)) i is known = rw (same_Some j i is) at known
 known_at many (GetId (Unknown name)) i is known = absurd (none-some i is)
 known_at many (GetStatus j) i is known = rw (same_Some j i is) at known
-known_at many (Own j service) i is known = rw (same_Some j i is) at known
+known_at many (KindService j service) i is known = rw (same_Some j i is) at known
 
-module _ {C X W : Type 0} (kind : KindOf C X W) (laws : LawsOf kind) (history : List Entry) (roster : Roster) (caller : Caller)
+module _ {C X W : Type 0} (kind : ObjectKind C X W) (laws : LawsOf kind) (history : List Entry) (roster : Roster) (caller : Caller)
     (asked : AreAsked roster history) where
   abbrev Served : ObjectCall ℕ W → ℕ → C → Outcome X → Type 0
   Served call i c o = ServesOne kind.after laws.Keeps history roster caller (laws.to call) (laws.at i) i c o
@@ -187,11 +189,11 @@ module _ {C X W : Type 0} (kind : KindOf C X W) (laws : LawsOf kind) (history : 
     x = kind.after history i c
 
     -- answered without being accepted
-    served_told : (call : ObjectCall ℕ W) (reply : Reply) → is_satisfied reply ≡ false → Served call i c (told roster x reply)
+    served_told : (call : ObjectCall ℕ W) (reply : Reply) → is_satisfied reply ≡ false → Served call i c (replied roster x reply)
     served_told call reply plain = record {
       serves = serves_same roster caller (laws.to call) (laws.at i);
       read = λ number now who. laws.stays roster roster history _ i c keeps
-          (quiet_told laws.names laws.creation i history number now who caller (laws.to call) reply plain)
+          (quiet_told (laws.at i) laws.creation i history number now who caller (laws.to call) reply plain)
           (still_same (laws.at i) roster);
     }
 
@@ -217,21 +219,15 @@ module _ {C X W : Type 0} (kind : KindOf C X W) (laws : LawsOf kind) (history : 
     served_object (GetStatus j) is scene stands =
         by_guard roster x (Served (GetStatus j) i c) (served_refused (GetStatus j)) (not (kind.created x)) _ _ refl
         (λ _. served_told (GetStatus j) (kind.status roster x i) (laws.status roster x i))
-    served_object (Own j service) is scene stands =
-        rw (same_Some j i is) (laws.own history roster caller i c service keeps asked scene stands)
-
--- a call that names another object of the kind than the j-th
-pub elsewhere : (queue : ℕ → Queue) → ((j i : ℕ) → is_same_queue (queue j) (queue i) ≡ (j == i)) → (object : Option ℕ) (j : ℕ)
-    → is_place j object ≡ false → is_queue (queue j) (option_map queue object) ≡ false
-elsewhere queue same None j e = refl
-elsewhere queue same (Some i) j e = same j i ∙ e
+    served_object (KindService j service) is scene stands =
+        rw (same_Some j i is) (laws.kind_service history roster caller i c service keeps asked scene stands)
 
 -- the queue of the processes that a call on this object may wake
-abbrev pub queue_at : {C X W : Type 0} {kind : KindOf C X W} → LawsOf kind → Option ℕ → Option Queue
+abbrev pub queue_at : {C X W : Type 0} {kind : ObjectKind C X W} → LawsOf kind → Option ℕ → Option Queue
 queue_at laws target = option_and_then laws.at target
 
 -- all objects of a kind, read off a history that keeps the facts about each
-module _ {C X W : Type 0} (kind : KindOf C X W) (laws : LawsOf kind) (history : List Entry) (roster : Roster) (configs : List C)
+module _ {C X W : Type 0} (kind : ObjectKind C X W) (laws : LawsOf kind) (history : List Entry) (roster : Roster) (configs : List C)
     (keeps : (i : ℕ) → i < length configs → laws.Keeps roster history i (get_or configs i laws.nothing)) where
   abbrev config : ℕ → C
   config i = get_or configs i laws.nothing
@@ -245,7 +241,7 @@ module _ {C X W : Type 0} (kind : KindOf C X W) (laws : LawsOf kind) (history : 
     pub kept : (i : ℕ) → i < length configs → laws.Keeps new (history ++ e ∷ []) i (config i)
 
   -- an entry that says nothing of any of them leaves them
-  pub all_stay : (new : Roster) (e : Entry) → ((i : ℕ) → IsQuiet laws.names laws.creation i history e)
+  pub all_stay : (new : Roster) (e : Entry) → ((i : ℕ) → IsQuiet (laws.at i) laws.creation i history e)
       → ((i : ℕ) → IsStillAt (laws.at i) roster new) → AreRead new e objects
   all_stay new e quiet still = record {
     are = map_places_same (kind.after (history ++ e ∷ [])) (kind.after history) configs laws.nothing kind.absent
@@ -255,7 +251,7 @@ module _ {C X W : Type 0} (kind : KindOf C X W) (laws : LawsOf kind) (history : 
 
   -- the i-th changes, and the entry says nothing of the others
   one_changes : (new : Roster) (e : Entry) (i : ℕ) (x : X) → i < length configs → IsRead kind.after laws.Keeps new history e i (config i) x
-      → ((j : ℕ) → j ≢ i → IsQuiet laws.names laws.creation j history e)
+      → ((j : ℕ) → j ≢ i → IsQuiet (laws.at j) laws.creation j history e)
       → ((j : ℕ) → j ≢ i → IsStillAt (laws.at j) roster new) → AreRead new e (set objects i x)
   one_changes new e i x here read quiet still =
       let stays = λ (j : ℕ) (inside : j < length configs) (apart : j ≢ i).
@@ -269,19 +265,33 @@ module _ {C X W : Type 0} (kind : KindOf C X W) (laws : LawsOf kind) (history : 
         ];
       }
 
+  -- an event without a call leaves them
+  pub all_uncalled : (new : Roster) (e : Entry) → AreAsked roster history → e.call ≡ None
+      → ((q : ℕ) → wakes q e.notices ≡ true → WokenAt None (record_at roster q)) → Frees roster new → AreRead new e objects
+  all_uncalled new e asked uncalled woken frees =
+      all_stay new e
+      (λ j. record {
+        calls = none_named (laws.at j) None history roster e.notices asked woken (laws.unlike j) (near_none (laws.at j))
+            (own_call e) (rw uncalled (nothing j (is_satisfied e.reply)));
+        create = rw uncalled refl;
+      })
+      (λ j. still_freed_at (laws.at j) roster new frees) where
+        nothing : (j : ℕ) (b : Bool) → All (λ c. is_near (laws.at j) (queue_named c) ≡ false) (if b then [] else [])
+        nothing j true = All-nil _
+        nothing j false = All-nil _
+
   module _ (caller : Caller) (asked : AreAsked roster history) where
     -- a call of another kind leaves them
     pub all_elsewhere : (call : Call) (at : Option Queue) (new : Roster) (reply : Reply) (notices : List Notice)
         → Serves roster caller call at new notices
-        → ((j : ℕ) → laws.names j call ≡ false) → laws.creation call ≡ None
-        → ((j : ℕ) → IsElsewhereAt (laws.at j) call)
-        → ((c : Call) (j : ℕ) → AnsweredAt at c → laws.names j c ≡ false)
+        → ((j : ℕ) → is_near (laws.at j) (queue_named call) ≡ false) → ((j : ℕ) → is_near (laws.at j) at ≡ false)
+        → laws.creation call ≡ None
         → (number now : ℕ) (who : Who) → AreRead new (entry_with number now who caller call reply notices) objects
-    all_elsewhere call at new reply notices serves unnamed uncreated elsewhere far number now who =
+    all_elsewhere call at new reply notices serves unnamed far uncreated number now who =
         all_stay new (entry_with number now who caller call reply notices)
-        (λ j. quiet_elsewhere laws.names laws.creation j history roster at number now who caller call reply notices asked serves.woken
-        (unnamed j) (rw uncreated refl) (λ c begun. far c j begun))
-        (λ j. still_at (laws.at j) caller call roster new (elsewhere j) serves.asks)
+        (λ j. quiet_elsewhere (laws.at j) at history roster notices asked serves.woken (laws.unlike j) (far j)
+        laws.creation j number now who caller call reply (unnamed j) (rw uncreated refl))
+        (λ j. still_at (laws.at j) caller call roster new (unnamed j) serves.asks)
 
     -- the facts that a service on these objects keeps: of the processes, and of the objects
     pub record ServesAll (call : ObjectCall ℕ W) (at : Option Queue) (o : Outcome (List X)) : Type 0 where
@@ -293,7 +303,7 @@ module _ {C X W : Type 0} (kind : KindOf C X W) (laws : LawsOf kind) (history : 
     all_refused call at code bad = record {
       serves = serves_same roster caller (laws.to call) at;
       read = λ number now who. all_stay roster _
-          (λ j. quiet_told laws.names laws.creation j history number now who caller (laws.to call) (Code code) bad)
+          (λ j. quiet_told (laws.at j) laws.creation j history number now who caller (laws.to call) (Code code) bad)
           (λ j. still_same (laws.at j) roster);
     }
 
@@ -304,7 +314,7 @@ module _ {C X W : Type 0} (kind : KindOf C X W) (laws : LawsOf kind) (history : 
         (λ _. all_refused (Create named) at InvalidConfig refl)
     all_unknown (GetId named) at = all_refused (GetId named) at InvalidConfig refl
     all_unknown (GetStatus i) at = all_refused (GetStatus i) at InvalidConfig refl
-    all_unknown (Own i service) at = all_refused (Own i service) at InvalidConfig refl
+    all_unknown (KindService i service) at = all_refused (KindService i service) at InvalidConfig refl
 
     module _ (scene : Scene roster caller) (stands : (i : ℕ) → i < length configs → laws.Stands roster i) where
       pub all_served : (call : ObjectCall ℕ W) (target : Option ℕ) → object_of call ≡ target → IsKnownObject (length configs) call
@@ -316,14 +326,13 @@ module _ {C X W : Type 0} (kind : KindOf C X W) (laws : LawsOf kind) (history : 
           let object : get_or objects i kind.absent ≡ kind.after history i (config i) =
           rw (get_or-map_places (kind.after history) 0 configs i laws.nothing kind.absent here, z) refl in
           let one = served_object kind laws history roster caller asked i (config i) (keeps i here) call is scene (stands i here) in
-          let elsewhere = λ (j : ℕ) (apart : j ≢ i). the_other call is j apart in
+          let unnamed : (j : ℕ) → j ≢ i → is_near (laws.at j) (queue_named (laws.to call)) ≡ false =
+          λ j apart. rw (laws.named call, is) (laws.differs j i apart).0 in
           rw object (record {
             serves = one.serves;
             read = λ number now who. one_changes _ _ i _ here (one.read number now who)
-                (λ j apart. quiet_elsewhere laws.names laws.creation j history roster (laws.at i) number now who caller (laws.to call) _ _ asked
-                one.serves.woken (laws.named call j (elsewhere j apart)) (rw (laws.created call) (created_named call j (elsewhere j apart)))
-                (λ c begun. laws.awaited c i j begun apart))
-                (λ j apart. still_at (laws.at j) caller (laws.to call) roster _ (laws.apart call j (elsewhere j apart)) one.serves.asks);
-          }) where
-            the_other : (call : ObjectCall ℕ W) → object_of call ≡ Some i → (j : ℕ) → j ≢ i → is_place j (object_of call) ≡ false
-            the_other call is j apart = rw is (other j i apart)
+                (λ j apart. quiet_elsewhere (laws.at j) (laws.at i) history roster _ asked one.serves.woken (laws.unlike j)
+                (laws.differs j i apart).1 laws.creation j number now who caller (laws.to call) _ (unnamed j apart)
+                (rw (laws.created call) (created_named call j (rw is (other j i apart)))))
+                (λ j apart. still_at (laws.at j) caller (laws.to call) roster _ (unnamed j apart) one.serves.asks);
+          })

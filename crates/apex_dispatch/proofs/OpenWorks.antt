@@ -4,10 +4,10 @@ use Rattle.std.proofs.Common.{◌≡◌, ℕ, Bool, true, false, ◌&&◌, List,
 use Rattle.std.specs.Option.{option_or}
 use Rattle.std.proofs.lemmas.List.Folds.{list_all-append}
 use Rattle.apex_dispatch.specs.Terms.{Entry, OpenWork, Who, Work}
-use Rattle.apex_types.specs.Machine.{Deed, Machine, after_deed, open_work}
-use Rattle.apex_types.specs.Roster.{Roster}
-use Rattle.apex_types.specs.Running.{chosen, is_process}
-use Rattle.apex_types.specs.Works.{Since, fresh, is_turn_of, is_unbroken, last_turn, open_in, open_since, open_work_of, own_turn, watched, work_begun}
+use Rattle.apex_types.specs.machine.Machine.{Deed, Machine, after_deed, open_work}
+use Rattle.apex_types.specs.processes.Roster.{Roster}
+use Rattle.apex_types.specs.processes.Running.{chosen, is_process}
+use Rattle.apex_types.specs.machine.Works.{Since, fresh, is_turn_of, is_unbroken, last_turn, open_in, open_since, open_work_of, own_turn, watched, work_begun}
 use Rattle.apex_dispatch.proofs.Truths.{and_true}
 
 -- one state more since the entry

@@ -1,6 +1,6 @@
 -- The services of no object: those of the partition, of time, and those that a process asks for
 -- itself.
-use Rattle.std.proofs.Common.{◌≡◌, ℕ, ◌+◌, false, not, List, [], ◌∷◌, is_none, is_some, None, Some, length, map, get_or, zero, suc, lit≤, refl, sym, ◌∙◌}
+use Rattle.std.proofs.Common.{◌≡◌, ℕ, ◌+◌, false, not, List, [], ◌∷◌, is_none, None, Some, length, map, get_or, zero, suc, lit≤, refl, sym, ◌∙◌}
 use Rattle.std.proofs.lemmas.Bool.{both_ways}
 use Rattle.std.proofs.lemmas.List.Folds.{list_any-append}
 use Rattle.std.proofs.lemmas.Option.{none-some}
@@ -15,20 +15,20 @@ use Rattle.apex_types.specs.declared.Reply.TheVariants.{Begun, Code}
 use Rattle.apex_types.specs.declared.TimeCall.TheVariants.{TimedWait, PeriodicWait, Replenish, GetTime}
 use Rattle.apex_types.specs.declared.Timeout.TheVariants.{Poll, Ticks, Infinite}
 use Rattle.apex_types.specs.declared.Wait.TheVariants.{Time, Period}
-use Rattle.apex_types.specs.Callers.{IsReady}
-use Rattle.apex_types.specs.CallerServices as callers
-use Rattle.apex_types.specs.Dues.{due_after}
-use Rattle.apex_types.specs.Handovers.{halted}
-use Rattle.apex_types.specs.Owners.{is_owner}
-use Rattle.apex_types.specs.PartitionServices as partitions
-use Rattle.apex_types.specs.Periods.{is_beyond, is_periodic}
-use Rattle.apex_types.specs.Owners.{owns_some}
-use Rattle.apex_types.specs.Roster.{Roster, nobody, record_at, is_normal}
-use Rattle.apex_types.specs.Rows.{Outcome, told, refused}
-use Rattle.apex_types.specs.Satisfied.{is_no_error}
-use Rattle.apex_types.specs.Stamps as stamps
-use Rattle.apex_types.specs.Ticks.{begin_notices}
-use Rattle.apex_types.specs.TimeServices as times
+use Rattle.apex_types.specs.services.Callers.{IsReady}
+use Rattle.apex_types.specs.services.CallerServices as callers
+use Rattle.apex_types.specs.processes.Dues.{due_after}
+use Rattle.apex_types.specs.services.Handovers.{halted}
+use Rattle.apex_types.specs.processes.Owners.{is_owner}
+use Rattle.apex_types.specs.services.PartitionServices as partitions
+use Rattle.apex_types.specs.processes.Periods.{is_beyond, is_periodic}
+use Rattle.apex_types.specs.processes.Owners.{owns_some}
+use Rattle.apex_types.specs.processes.Roster.{Roster, nobody, record_at, is_normal}
+use Rattle.apex_types.specs.services.Rows.{Outcome, replied, refused}
+use Rattle.apex_types.specs.services.Satisfied.{is_no_error}
+use Rattle.apex_types.specs.processes.Stamps as stamps
+use Rattle.apex_types.specs.machine.Ticks.{begin_notices}
+use Rattle.apex_types.specs.services.TimeServices as times
 use Rattle.apex_types.proofs.Dues.{due_later, from_now}
 use Rattle.apex_types.proofs.InTurn.{holds_in_turn}
 use Rattle.apex_types.proofs.Periods.{release_later, release_whole}
@@ -84,7 +84,7 @@ pub record ServesNone {X : Type 0} (roster : Roster) (objects : X) (caller : Cal
 
 -- work begins
 pub served_work : {X : Type 0} (roster : Roster) (objects : X) (caller : Caller) (amount : ℕ)
-    → ServesNone roster objects caller (call.Work amount) (told roster objects Begun)
+    → ServesNone roster objects caller (call.Work amount) (replied roster objects Begun)
 served_work roster objects caller amount = record { serves = serves_same roster caller (call.Work amount) None; stays = refl }
 
 module _ {X : Type 0} (roster : Roster) (objects : X) (caller : Caller) (scene : Scene roster caller) where
@@ -95,7 +95,7 @@ module _ {X : Type 0} (roster : Roster) (objects : X) (caller : Caller) (scene :
       → Served call (record { roster = new; object = objects; reply = reply; notices = notices })
   served call new reply notices serves = record { serves = serves; stays = refl }
 
-  same : (call : Call) (reply : Reply) → Served call (told roster objects reply)
+  same : (call : Call) (reply : Reply) → Served call (replied roster objects reply)
   same call reply = served call roster reply [] (serves_same roster caller call None)
 
   served_refused : (call : Call) (code : ReturnCode) → is_no_error code ≡ false → Served call (refused roster objects code)

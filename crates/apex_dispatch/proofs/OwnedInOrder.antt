@@ -5,12 +5,11 @@ use Rattle.std.proofs.lemmas.List.{get_or-map}
 use Rattle.std.proofs.lemmas.Option.{none-some, same_Some}
 use Rattle.apex_dispatch.specs.Terms.{Holding}
 use Rattle.apex_dispatch.specs.Laws.{MutexesAreOwnedInOrder}
-use Rattle.apex_types.specs.Held.{holding_of, holds, is_of, raised}
-use Rattle.apex_types.specs.Machine.{Machine}
-use Rattle.apex_types.specs.Owners.{HasOrderlyOwners, depth_of}
-use Rattle.apex_types.specs.Profiles.{owned_of}
-use Rattle.apex_types.specs.Roster.{MutexRules, ceilings_of, record_at, rules_of}
-use Rattle.apex_types.specs.Table.{Table, MutexConfig, mutex_config, no_mutex}
+use Rattle.apex_types.specs.processes.Held.{holding_of, holds, is_of, raised}
+use Rattle.apex_types.specs.machine.Machine.{Machine}
+use Rattle.apex_types.specs.processes.Owners.{HasOrderlyOwners, depth_of}
+use Rattle.apex_types.specs.processes.Roster.{MutexRules, record_at, rules_of}
+use Rattle.apex_types.specs.table.Table.{Table, MutexConfig, mutex_config, no_mutex}
 use Rattle.apex_types.proofs.Held.{is_held, none_held}
 use Rattle.apex_types.proofs.Owners.{nobody_owns}
 

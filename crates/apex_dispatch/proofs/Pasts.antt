@@ -4,9 +4,9 @@ use Rattle.std.proofs.Math.Seq.{get_or-append_seam}
 use Rattle.std.proofs.lemmas.Bool.{cases_lt, cond_both, ltb-true}
 use Rattle.std.proofs.lemmas.List.{get_or_append_left, length-map, take-append-le, take_all}
 use Rattle.apex_dispatch.specs.Terms.{Event}
-use Rattle.apex_types.specs.Machine.{Machine, accept, event_of, events_of, happen, opening, replay, run}
-use Rattle.apex_types.specs.Roster.{Roster}
-use Rattle.apex_types.specs.Table.{Table, IsLawful}
+use Rattle.apex_types.specs.machine.Machine.{Machine, accept, event_of, events_of, happen, opening, replay, run}
+use Rattle.apex_types.specs.processes.Roster.{Roster}
+use Rattle.apex_types.specs.table.Table.{Table, IsLawful}
 use Rattle.apex_dispatch.proofs.Sound.{IsSound, happened, happens, sound_accept, sound_happen, sound_opening, told}
 
 -- the roster after the first n events of a history

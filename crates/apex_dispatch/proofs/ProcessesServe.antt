@@ -1,14 +1,13 @@
 -- Processes as objects of a kind: the facts that their services keep.
-use Rattle.std.proofs.Common.{◌≡◌, ℕ, ◌+◌, ◌<◌, Bool, true, false, ◌&&◌, ◌||◌, ◌==◌, cond, not, nat_le, nat_lt, is_none, is_some, List, [], ◌∷◌, Option, None, Some, All, length, lit≤, refl, ap, ◌∙◌, inl}
+use Rattle.std.proofs.Common.{◌≡◌, ℕ, ◌+◌, ◌<◌, Bool, true, false, ◌&&◌, ◌||◌, ◌==◌, cond, not, nat_le, nat_lt, is_none, is_some, List, [], ◌∷◌, Option, None, Some, length, lit≤, refl, ap, ◌∙◌, inl}
 use Rattle.std.proofs.lemmas.Bool.{both_ways, cond_both, not-false}
-use Rattle.std.proofs.lemmas.List.Elements.{All-nil, All-cons}
 use Rattle.std.proofs.lemmas.Option.{none-some}
-use Rattle.apex_types.specs.Limits.{most_priority}
+use Rattle.apex_types.specs.values.Limits.{most_priority}
 use Rattle.apex_dispatch.specs.Premises.{most_given}
 use Rattle.apex_dispatch.specs.Terms.{Call, Caller, Entry, Notice, ProcessService, Record, Reply, ReturnCode, Timeout, Wait}
 use Rattle.apex_types.specs.declared.Call.TheVariants as call
 use Rattle.apex_types.specs.declared.Notice.TheVariants.{Released, Woken}
-use Rattle.apex_types.specs.declared.ObjectCall.TheVariants.{Own}
+use Rattle.apex_types.specs.declared.ObjectCall.TheVariants.{KindService}
 use Rattle.apex_types.specs.declared.ProcessService.TheVariants.{InitializeCoreAffinity, SetPriority, Start, DelayedStart, Stop, Suspend, Resume}
 use Rattle.apex_types.specs.declared.Queue.TheVariants as queues
 use Rattle.apex_types.specs.declared.Reply.TheVariants.{Code}
@@ -16,44 +15,35 @@ use Rattle.apex_types.specs.declared.ReturnCode.TheVariants.{NoError}
 use Rattle.apex_types.specs.declared.Suspender.TheVariants.{Other}
 use Rattle.apex_types.specs.declared.Timeout.TheVariants.{Poll}
 use Rattle.apex_types.specs.declared.Wait.TheVariants.{Normal, Start as ForStart, Time}
-use Rattle.apex_types.specs.Calls.{created_process}
-use Rattle.apex_types.specs.Callers.{is_by_process}
-use Rattle.apex_types.specs.Handovers.{halted}
-use Rattle.apex_types.specs.History.{creates, is_created}
-use Rattle.apex_types.specs.ProcessServices as services
-use Rattle.apex_types.specs.ProcessServices.{ProcessObject, process_after, process_kind}
-use Rattle.apex_types.specs.Owners.{owns_some}
-use Rattle.apex_types.specs.Roster.{Roster, record_at, with_record, is_normal}
-use Rattle.apex_types.specs.Rows.{Outcome, refused, accepted}
-use Rattle.apex_types.specs.Running.{is_eligible}
-use Rattle.apex_types.specs.Satisfied.{is_no_error}
-use Rattle.apex_types.specs.Stamps as stamps
-use Rattle.apex_types.specs.Table.{ProcessConfig, no_process}
-use Rattle.apex_types.specs.Ticks.{begin_notices}
-use Rattle.apex_types.specs.Waiters.{queue_in, goes_by_priority}
+use Rattle.apex_types.specs.services.Calls.{created_process, object_of}
+use Rattle.apex_types.specs.services.Callers.{is_by_process}
+use Rattle.apex_types.specs.services.Handovers.{halted}
+use Rattle.apex_types.specs.machine.History.{creates, is_created}
+use Rattle.apex_types.specs.services.ProcessServices as services
+use Rattle.apex_types.specs.services.ProcessServices.{ProcessObject, process_after, process_kind}
+use Rattle.apex_types.specs.processes.Owners.{owns_some}
+use Rattle.apex_types.specs.processes.Roster.{Roster, record_at, with_record, is_normal}
+use Rattle.apex_types.specs.services.Rows.{Outcome, refused, accepted}
+use Rattle.apex_types.specs.processes.Running.{is_eligible}
+use Rattle.apex_types.specs.services.Satisfied.{is_no_error}
+use Rattle.apex_types.specs.processes.Stamps as stamps
+use Rattle.apex_types.specs.table.Table.{ProcessConfig, no_process}
+use Rattle.apex_types.specs.machine.Ticks.{begin_notices}
+use Rattle.apex_types.specs.processes.Waiters.{queue_in, goes_by_priority}
 use Rattle.apex_types.proofs.Reaches.{Arrives, reaches_set_priority, arrives_more, arrives_set_core, arrives_start, reaches_suspend, reaches_resume}
 use Rattle.apex_types.proofs.Rows.{by_guard}
 use Rattle.apex_types.proofs.Starts.{waitless_queue}
 use Rattle.apex_dispatch.specs.AskedWaits.{asked_of, awaited, or_suspended}
 use Rattle.apex_dispatch.proofs.AskedWaits.{Frees, frees_then, frees_moved, frees_changed, frees_lessened, frees_unblock, asks_freed, awake_free, frees_release}
 use Rattle.apex_dispatch.proofs.HandedOver.{halts}
-use Rattle.apex_dispatch.proofs.Satisfied.{WokenAt, wakes, woken_alone}
+use Rattle.apex_dispatch.proofs.Satisfied.{WokenAt, wakes, woken_alone, created-push}
 use Rattle.apex_dispatch.proofs.Serving.{Scene, Serves, AreQuiet, few, serves_same, serves_freed, arrives_by, arrives_halted}
-use Rattle.apex_dispatch.proofs.ObjectsServe.{LawsOf, ServesOne, IsRead}
+use Rattle.apex_dispatch.proofs.ObjectsServe.{LawsOf, ServesOne, IsRead, then_none}
 use Rattle.apex_dispatch.proofs.Truths.{neither, or_false, or_true}
-use Rattle.apex_dispatch.proofs.Values.{created-push}
-
--- objects of processes keep no value, so no call is named for one
-abbrev pub unnamed : ℕ → Call → Bool
-unnamed p c = false
 
 -- a history keeps nothing of a process but that it is created
 abbrev pub KeepsProcess : Roster → List Entry → ℕ → ProcessConfig → Type 0
 KeepsProcess roster history p entry = Unit {0}
-
-all_unnamed : (p : ℕ) (calls : List Call) → All (λ c. unnamed p c ≡ false) calls
-all_unnamed p [] = All-nil (λ c. unnamed p c ≡ false)
-all_unnamed p (c ∷ calls) = All-cons (λ c. unnamed p c ≡ false) c calls refl (all_unnamed p calls)
 
 pub process_stays : (new : Roster) (history : List Entry) (e : Entry) (p : ℕ) (entry : ProcessConfig) → creates created_process p e ≡ false
     → IsRead process_after KeepsProcess new history e p entry (process_after history p entry)
@@ -155,7 +145,7 @@ module _ (history : List Entry) (roster : Roster) (caller : Caller) (p : ℕ) (e
   process = process_after history p entry
 
   abbrev asks_for : ProcessService → Call
-  asks_for service = call.Process (Own p service)
+  asks_for service = call.Process (KindService p service)
 
   abbrev Served : ProcessService → Outcome ProcessObject → Type 0
   Served service o = ServesOne process_after KeepsProcess history roster caller (asks_for service) None p entry o
@@ -192,8 +182,8 @@ module _ (history : List Entry) (roster : Roster) (caller : Caller) (p : ℕ) (e
       served_freed service (stamps.start roster p ticks) (services.start_notices roster p ticks)
       (arrives_more 1 most_given (lit≤ tt) (arrives_start roster p known ticks dormant)) (start_frees roster p ticks) (start_quiet roster p ticks))))
 
-  pub served_own : (service : ProcessService) → Served service (services.process_own roster process p caller service)
-  served_own (InitializeCoreAffinity core) =
+  pub served_kind_service : (service : ProcessService) → Served service (services.process_service roster process p caller service)
+  served_kind_service (InitializeCoreAffinity core) =
       let service = InitializeCoreAffinity core in
       guard service (is_normal roster.mode) _ _ refl (λ early.
       guard service (not process.created) _ _ refl (λ _.
@@ -202,16 +192,16 @@ module _ (history : List Entry) (roster : Roster) (caller : Caller) (p : ℕ) (e
       served_freed service (stamps.set_core roster p core) []
       (arrives_more 0 most_given (lit≤ tt) (arrives_set_core roster p known core (in_cold_start _ _ scene.called early)))
       (frees_moved roster (stamps.set_core roster p core) p r refl (λ w h. h)) (λ q. refl))))
-  served_own (SetPriority priority) =
+  served_kind_service (SetPriority priority) =
       let service = SetPriority priority in
       guard service (not process.created) _ _ refl (λ _.
       guard service (not (nat_le 1 priority && nat_le priority most_priority)) _ _ refl (λ _.
       guard service (not (record_at roster p).started) _ _ refl (λ _.
       served_freed service (stamps.set_priority roster p priority) []
       (few (reaches_set_priority roster p known priority)) (priority_frees roster p priority) (λ q. refl))))
-  served_own Start = served_start Start Poll
-  served_own (DelayedStart delay) = served_start (DelayedStart delay) delay
-  served_own Stop =
+  served_kind_service Start = served_start Start Poll
+  served_kind_service (DelayedStart delay) = served_start (DelayedStart delay) delay
+  served_kind_service Stop =
       guard Stop (is_by_process p caller) _ _ refl (λ _.
       guard Stop (not process.created) _ _ refl (λ _.
       guard Stop (not (record_at roster p).started) _ _ refl (λ _.
@@ -222,7 +212,7 @@ module _ (history : List Entry) (roster : Roster) (caller : Caller) (p : ℕ) (e
         asks = asks_freed caller (Some (asks_for Stop)) roster after.roster halts_so.frees;
         woken = halts_so.woken;
       }))))
-  served_own Suspend =
+  served_kind_service Suspend =
       guard Suspend (is_by_process p caller) _ _ refl (λ _.
       guard Suspend (not process.created) _ _ refl (λ _.
       guard Suspend (services.is_unsuspendable (record_at roster p)) _ _ refl (λ _.
@@ -230,7 +220,7 @@ module _ (history : List Entry) (roster : Roster) (caller : Caller) (p : ℕ) (e
       guard Suspend (owns_some (record_at roster p)) _ _ refl (λ _.
       served_freed Suspend (stamps.suspend roster p) []
       (arrives_by 0 (lit≤ tt) (reaches_suspend roster p known)) (suspend_frees roster p) (λ q. refl))))))
-  served_own Resume =
+  served_kind_service Resume =
       guard Resume (is_by_process p caller) _ _ refl (λ _.
       guard Resume (not process.created) _ _ refl (λ _.
       guard Resume (services.is_unsuspendable (record_at roster p)) _ _ refl (λ able.
@@ -242,22 +232,22 @@ module _ (history : List Entry) (roster : Roster) (caller : Caller) (p : ℕ) (e
 abbrev pub process_laws : LawsOf process_kind
 process_laws = record {
   to = call.Process;
-  names = unnamed;
   creation = created_process;
   nothing = no_process;
   at = λ p. None;
+  queue = λ p. None;
   Keeps = KeepsProcess;
   Stands = λ roster p. p < length roster.records;
   created = λ call. refl;
-  named = λ call j e. refl;
-  apart = λ call j e. tt;
-  awaited = λ c i j begun apart. refl;
+  named = λ call. then_none (object_of call);
+  differs = λ j i apart. (refl, refl);
+  unlike = λ j m. refl;
   status = λ roster x i. refl;
   stays = λ old new history e p entry keeps quiet still. process_stays new history e p entry quiet.create;
   makes = λ roster history e p entry keeps alone made. record {
     is = rw (created-push created_process p history e, made, or_true (is_created created_process p history)) refl;
     kept = tt;
   };
-  own = λ history roster caller p entry service keeps asked scene stands.
-      served_own history roster caller p entry scene stands service;
+  kind_service = λ history roster caller p entry service keeps asked scene stands.
+      served_kind_service history roster caller p entry scene stands service;
 }

@@ -3,9 +3,9 @@ use Rattle.std.proofs.Common.{◌≡◌, ℕ, zero, suc, true, [], Option, None,
 use Rattle.std.specs.Prelude.{IfSome}
 use Rattle.std.proofs.lemmas.Bool.{and_parts}
 use Rattle.apex_dispatch.specs.Terms.{Queue}
-use Rattle.apex_types.specs.Listing.{waiters_from}
-use Rattle.apex_types.specs.Roster.{Roster, nobody, record_at}
-use Rattle.apex_types.specs.Waiters.{discipline_of, first_waiter, next_waiter, waits_before, waits_behind, waits_in}
+use Rattle.apex_types.specs.text.Listing.{waiters_from}
+use Rattle.apex_types.specs.processes.Roster.{Roster, nobody, record_at}
+use Rattle.apex_types.specs.processes.Waiters.{discipline_of, first_waiter, next_waiter, waits_before, waits_behind, waits_in}
 use Rattle.apex_types.proofs.Choice.{place_passes}
 use Rattle.apex_types.proofs.Starts.{first_waits}
 

@@ -3,18 +3,18 @@ use Rattle.std.proofs.Common.{◌≡◌, ℕ, ◌+◌, ◌*◌, ◌<◌, ◌≤�
 use Rattle.std.proofs.lemmas.List.Elements.{All-nil, All-push}
 use Rattle.std.proofs.lemmas.List.Sums.{sum_by-append}
 use Rattle.std.proofs.lemmas.Int.{ints}
-use Rattle.apex_types.specs.Limits.{most_ticks}
+use Rattle.apex_types.specs.values.Limits.{most_ticks}
 use Rattle.apex_dispatch.specs.Terms.{Call, Caller, Entry, Event, Notice, OpenWork, Reply}
-use Rattle.apex_types.specs.Callers.{is_by_init}
-use Rattle.apex_types.specs.History.{init_count}
-use Rattle.apex_types.specs.Machine.{Machine, Objects, objects_after, happen, replay, machine_with, events_of, entry_of, open_work}
-use Rattle.apex_types.specs.Roster.{Roster, opening_roster}
-use Rattle.apex_types.specs.Table.{Table, IsLawful}
+use Rattle.apex_types.specs.services.Callers.{is_by_init}
+use Rattle.apex_types.specs.machine.History.{init_count}
+use Rattle.apex_types.specs.machine.Machine.{Machine, Objects, objects_after, happen, replay, machine_with, events_of, entry_of, open_work}
+use Rattle.apex_types.specs.processes.Roster.{Roster, opening_roster}
+use Rattle.apex_types.specs.table.Table.{Table, IsLawful}
 use Rattle.apex_dispatch.specs.Deeds.{Does}
 use Rattle.apex_dispatch.specs.Events.{IsWithin}
 use Rattle.apex_dispatch.specs.Kernel.{KernelState, IsKept, kernel_in, kernel_with}
-use Rattle.apex_types.specs.Stamps.{HasManyStamps}
-use Rattle.apex_types.specs.Works.{fresh, is_turn_of, watched, work_begun}
+use Rattle.apex_types.specs.processes.Stamps.{HasManyStamps}
+use Rattle.apex_types.specs.machine.Works.{fresh, is_turn_of, watched, work_begun}
 use Rattle.apex_dispatch.specs.Works.{work_at}
 use Rattle.apex_dispatch.proofs.OpenWorks.{open_after}
 use Rattle.apex_dispatch.proofs.Sound.{IsSound, who_of, deed_at, happened, happens, objects_happen, sound_run, sound_happen, told}

@@ -1,11 +1,13 @@
 -- Runs of events.
-use Rattle.std.proofs.Common.{◌≡◌, ℕ, ◌+◌, ◌≤◌, ◌<◌, List, [], ◌∷◌, ◌++◌, length, refl, drop, get_or, add-one, arith, length-append, inl, inr, subst, sym}
+use Rattle.std.proofs.Common.{◌≡◌, ◌∙◌, false, ℕ, ◌+◌, ◌≤◌, ◌<◌, List, [], ◌∷◌, ◌++◌, Result, Ok, Err, length, refl, ap, drop, get_or, add-one, arith, length-append, inl, inr, subst, sym}
 use Rattle.std.proofs.Math.Seq.{drop-cons}
-use Rattle.std.proofs.lemmas.Bool.{lt-ltb, le-ltb, cases_lt}
+use Rattle.std.specs.Prelude.{◌↔◌, IsOk, OnOk, OnErr}
+use Rattle.std.proofs.lemmas.Bool.{both_ways, lt-ltb, le-ltb, cases_lt}
 use Rattle.apex_dispatch.specs.Terms.{Event}
 use Rattle.apex_types.specs.declared.Event.TheVariants.{Turn, Tick}
-use Rattle.apex_types.specs.Table.{Table}
-use Rattle.apex_types.specs.Machine.{Machine, turn, tick, happen, accept, run}
+use Rattle.apex_types.specs.table.Table.{Table}
+use Rattle.apex_types.specs.machine.Machine.{Machine, turn, tick, happen, accept, run}
+use Rattle.apex_dispatch.specs.Kernel.{KernelState, kernel_in}
 
 -- an event adds one entry
 pub length-happen : (table : Table) (machine : Machine) (event : Event) → length (happen table machine event).history ≡ length machine.history + 1
@@ -22,6 +24,21 @@ accept-room table machine event room = rw (lt-ltb _ _ room) refl
 pub accept-full : (table : Table) (machine : Machine) (event : Event) → table.limit ≤ length machine.history
     → accept table machine event ≡ machine
 accept-full table machine event full = rw (le-ltb _ _ full) refl
+
+-- a kernel that takes the event if there is room, and stays as it is otherwise
+pub accepts : {E : Type 0} (result : Result (Unit {0}) E) (old new : KernelState) (event : Event)
+    → old ≡ kernel_in old.table old.machine
+    → (IsOk result ↔ (length old.machine.history < old.table.limit))
+    → OnOk result (new ≡ kernel_in old.table (happen old.table old.machine event))
+    → OnErr result (new ≡ old) → new ≡ kernel_in old.table (accept old.table old.machine event)
+accepts (Ok done) old new event values room made stays =
+    made ∙ ap (λ (m : Machine). kernel_in old.table m) (sym (accept-room old.table old.machine event (room.0 refl)))
+accepts (Err e) old new event values room made stays =
+    let full : old.table.limit ≤ length old.machine.history = elim (cases_lt (length old.machine.history) old.table.limit) [
+      | inl less ↦ absurd (both_ways false refl (room.1 less))
+      | inr full ↦ full
+    ] in
+    stays ∙ values ∙ ap (λ (m : Machine). kernel_in old.table m) (sym (accept-full old.table old.machine event full))
 
 pub run-full : (table : Table) (machine : Machine) (events : List Event) → table.limit ≤ length machine.history
     → run table machine events ≡ machine

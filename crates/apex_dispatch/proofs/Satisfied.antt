@@ -4,30 +4,32 @@ use Rattle.std.proofs.Common.{◌≡◌, ℕ, Bool, true, false, ◌&&◌, ◌||
 use Rattle.std.specs.List.{list_any}
 use Rattle.std.proofs.lemmas.Bool.{eq-eqb, eqb-true, cases_Bool}
 use Rattle.std.proofs.lemmas.List.Elements.{All-nil, All-cons, All-head, All-tail, All-append, All-weaker, filter-append}
+use Rattle.std.proofs.lemmas.List.Folds.{list_any-append}
 use Rattle.std.proofs.lemmas.List.Sums.{fold-append}
 use Rattle.std.proofs.lemmas.Option.{none-some, same_Some}
 use Rattle.apex_dispatch.specs.Terms.{Call, Caller, Entry, Message, Notice, Queue, Record, Timeout, Wait}
 use Rattle.apex_types.specs.declared.BlackboardService.TheVariants as blackboard
 use Rattle.apex_types.specs.declared.BufferService.TheVariants as buffer
 use Rattle.apex_types.specs.declared.Call.TheVariants as call
-use Rattle.apex_types.specs.declared.EventService.TheVariants as event
+use Rattle.apex_types.specs.declared.EventFlagService.TheVariants as event_flag
 use Rattle.apex_types.specs.declared.MutexService.TheVariants as mutex
 use Rattle.apex_types.specs.declared.Notice.TheVariants.{Woken, Released, Missed}
 use Rattle.apex_types.specs.declared.CallerCall.TheVariants.{SuspendSelf}
-use Rattle.apex_types.specs.declared.ObjectCall.TheVariants.{Own}
+use Rattle.apex_types.specs.declared.ObjectCall.TheVariants.{KindService}
 use Rattle.apex_types.specs.declared.SemaphoreService.TheVariants as semaphore
 use Rattle.apex_types.specs.declared.ReturnCode.TheVariants.{NoError}
 use Rattle.apex_types.specs.declared.TimeCall.TheVariants.{TimedWait}
-use Rattle.apex_types.specs.declared.Wait.TheVariants.{Time, Semaphore, Receive, Send, Blackboard, Event, Mutex}
+use Rattle.apex_types.specs.declared.Wait.TheVariants.{Time, Semaphore, Receive, Send, Blackboard, EventFlag, Mutex}
 use Rattle.apex_types.specs.declared.Queue.TheVariants as queues
-use Rattle.apex_types.specs.Queues.{queue_of, is_queue, is_same_queue}
-use Rattle.apex_types.specs.Callers.{is_by_process}
-use Rattle.apex_types.specs.Calls.{names, queue_named, is_wait, is_signal, is_receive, sent_message}
-use Rattle.apex_types.specs.Roster.{Roster, record_at}
-use Rattle.apex_types.specs.Satisfied.{is_no_error, latest_after, latest_call, answered_by, satisfied_by, satisfied_from, calls_where}
+use Rattle.apex_types.specs.processes.Queues.{queue_of, is_queue}
+use Rattle.apex_types.specs.services.Callers.{is_by_process}
+use Rattle.apex_types.specs.services.Calls.{names, queue_named, is_wait, is_signal, is_receive, sent_message}
+use Rattle.apex_types.specs.machine.History.{creates, is_created}
+use Rattle.apex_types.specs.processes.Roster.{Roster, record_at}
+use Rattle.apex_types.specs.services.Satisfied.{is_no_error, latest_after, latest_call, answered_by, satisfied_by, satisfied_from, calls_where}
 use Rattle.apex_types.proofs.Starts.{queue_itself}
 use Rattle.apex_dispatch.specs.AskedWaits.{begins, awaited, AreAsked}
-use Rattle.apex_dispatch.proofs.Truths.{or_true}
+use Rattle.apex_dispatch.proofs.Truths.{or_false, or_true}
 
 -- one entry more at the end satisfies its calls last
 satisfied_from-push : (before later : List Entry) (e : Entry)
@@ -52,6 +54,13 @@ calls-push passes history e =
 pub latest-push : (p : ℕ) (history : List Entry) (e : Entry)
     → latest_call p (history ++ e ∷ []) ≡ latest_after p (latest_call p history) e
 latest-push p history e = fold-append (latest_after p) None history (e ∷ [])
+
+-- one entry more creates the thing that its call creates
+pub created-push : (created : Call → Option ℕ) (i : ℕ) (history : List Entry) (e : Entry)
+    → is_created created i (history ++ e ∷ []) ≡ (is_created created i history || creates created i e)
+created-push created i history e =
+    list_any-append (creates created i) history (e ∷ [])
+    ∙ ap (λ b. is_created created i history || b) (or_false (creates created i e))
 
 -- a test on which all calls agree keeps all of them, or none
 pub filter_all : (passes : Call → Bool) (b : Bool) (calls : List Call)
@@ -149,12 +158,12 @@ handed_one roster history p w asked waited = found (latest_call p history) (aske
 
 -- a call that begins a wait names the object of the wait's queue
 pub begins_named : (c : Call) (w : Wait) → begins c ≡ Some w → queue_named c ≡ queue_of w
-begins_named (call.Semaphore (Own t (semaphore.Wait timeout))) w h = ap queue_of (same_Some (Semaphore t) w h)
-begins_named (call.Buffer (Own b (buffer.Send message timeout))) w h = ap queue_of (same_Some (Send b message) w h)
-begins_named (call.Buffer (Own b (buffer.Receive timeout))) w h = ap queue_of (same_Some (Receive b) w h)
-begins_named (call.Blackboard (Own b (blackboard.Read timeout))) w h = ap queue_of (same_Some (Blackboard b) w h)
-begins_named (call.Event (Own e (event.Wait timeout))) w h = ap queue_of (same_Some (Event e) w h)
-begins_named (call.Mutex (Own m (mutex.Acquire timeout))) w h = ap queue_of (same_Some (Mutex m) w h)
+begins_named (call.Semaphore (KindService t (semaphore.Wait timeout))) w h = ap queue_of (same_Some (Semaphore t) w h)
+begins_named (call.Buffer (KindService b (buffer.Send message timeout))) w h = ap queue_of (same_Some (Send b message) w h)
+begins_named (call.Buffer (KindService b (buffer.Receive timeout))) w h = ap queue_of (same_Some (Receive b) w h)
+begins_named (call.Blackboard (KindService b (blackboard.Read timeout))) w h = ap queue_of (same_Some (Blackboard b) w h)
+begins_named (call.EventFlag (KindService e (event_flag.Wait timeout))) w h = ap queue_of (same_Some (EventFlag e) w h)
+begins_named (call.Mutex (KindService m (mutex.Acquire timeout))) w h = ap queue_of (same_Some (Mutex m) w h)
 begins_named (call.Time (TimedWait timeout)) w h = ap queue_of (same_Some Time w h)
 begins_named (call.Caller (SuspendSelf timeout)) w h = ap queue_of (same_Some Time w h)
 begins_named _ w h = cc
@@ -163,10 +172,20 @@ pub names_begun : (queue : Queue) (at : Option Queue) (c : Call) → BeginsAt at
 names_begun queue at c begun =
     ap (is_queue queue) (begins_named c begun.0 begun.1 ∙ begun.2)
 
+-- there are two queues, and they are the same
+abbrev pub is_near : Option Queue → Option Queue → Bool
+is_near None at = false
+is_near (Some queue) at = is_queue queue at
+
+pub near_none : (own : Option Queue) → is_near own None ≡ false
+near_none None = refl
+near_none (Some queue) = refl
+
 -- such a call names no object of another queue
-pub far_answered : (queue : Queue) (at : Option Queue) (c : Call) → ((m : ℕ) → is_same_queue queue (queues.Mutex m) ≡ false)
-    → is_queue queue at ≡ false → AnsweredAt at c → names queue c ≡ false
-far_answered queue at c apart far answered = elim answered [
+pub far_answered : (own at : Option Queue) (c : Call) → ((m : ℕ) → is_near own (Some (queues.Mutex m)) ≡ false)
+    → is_near own at ≡ false → AnsweredAt at c → is_near own (queue_named c) ≡ false
+far_answered None at c apart far answered = refl
+far_answered (Some queue) at c apart far answered = elim answered [
   | inl begun ↦ names_begun queue at c begun ∙ far
   | inr begun ↦ names_begun queue (Some (queues.Mutex begun.0)) c begun.1 ∙ apart begun.0
 ]
@@ -178,22 +197,22 @@ all_named queue calls begun =
 
 -- the call that begins this wait for an object
 asking : Wait → Timeout → Call
-asking (Semaphore s) timeout = call.Semaphore (Own s (semaphore.Wait timeout))
-asking (Receive b) timeout = call.Buffer (Own b (buffer.Receive timeout))
-asking (Send b message) timeout = call.Buffer (Own b (buffer.Send message timeout))
-asking (Blackboard b) timeout = call.Blackboard (Own b (blackboard.Read timeout))
-asking (Event e) timeout = call.Event (Own e (event.Wait timeout))
-asking (Mutex m) timeout = call.Mutex (Own m (mutex.Acquire timeout))
+asking (Semaphore s) timeout = call.Semaphore (KindService s (semaphore.Wait timeout))
+asking (Receive b) timeout = call.Buffer (KindService b (buffer.Receive timeout))
+asking (Send b message) timeout = call.Buffer (KindService b (buffer.Send message timeout))
+asking (Blackboard b) timeout = call.Blackboard (KindService b (blackboard.Read timeout))
+asking (EventFlag e) timeout = call.EventFlag (KindService e (event_flag.Wait timeout))
+asking (Mutex m) timeout = call.Mutex (KindService m (mutex.Acquire timeout))
 asking _ timeout = call.Time (TimedWait timeout)
 
 begun_by : (c : Call) (w : Wait) → begins c ≡ Some w → (w ≡ Time) ⊎ ((timeout : Timeout) × (c ≡ asking w timeout))
 unfolding asking
-begun_by (call.Semaphore (Own s (semaphore.Wait timeout))) w h = inr (timeout, ap (λ v. asking v timeout) (same_Some (Semaphore s) w h))
-begun_by (call.Buffer (Own b (buffer.Receive timeout))) w h = inr (timeout, ap (λ v. asking v timeout) (same_Some (Receive b) w h))
-begun_by (call.Buffer (Own b (buffer.Send message timeout))) w h = inr (timeout, ap (λ v. asking v timeout) (same_Some (Send b message) w h))
-begun_by (call.Blackboard (Own b (blackboard.Read timeout))) w h = inr (timeout, ap (λ v. asking v timeout) (same_Some (Blackboard b) w h))
-begun_by (call.Event (Own e (event.Wait timeout))) w h = inr (timeout, ap (λ v. asking v timeout) (same_Some (Event e) w h))
-begun_by (call.Mutex (Own m (mutex.Acquire timeout))) w h = inr (timeout, ap (λ v. asking v timeout) (same_Some (Mutex m) w h))
+begun_by (call.Semaphore (KindService s (semaphore.Wait timeout))) w h = inr (timeout, ap (λ v. asking v timeout) (same_Some (Semaphore s) w h))
+begun_by (call.Buffer (KindService b (buffer.Receive timeout))) w h = inr (timeout, ap (λ v. asking v timeout) (same_Some (Receive b) w h))
+begun_by (call.Buffer (KindService b (buffer.Send message timeout))) w h = inr (timeout, ap (λ v. asking v timeout) (same_Some (Send b message) w h))
+begun_by (call.Blackboard (KindService b (blackboard.Read timeout))) w h = inr (timeout, ap (λ v. asking v timeout) (same_Some (Blackboard b) w h))
+begun_by (call.EventFlag (KindService e (event_flag.Wait timeout))) w h = inr (timeout, ap (λ v. asking v timeout) (same_Some (EventFlag e) w h))
+begun_by (call.Mutex (KindService m (mutex.Acquire timeout))) w h = inr (timeout, ap (λ v. asking v timeout) (same_Some (Mutex m) w h))
 begun_by (call.Time (TimedWait timeout)) w h = inl (sym (same_Some Time w h))
 begun_by (call.Caller (SuspendSelf timeout)) w h = inl (sym (same_Some Time w h))
 begun_by _ w h = absurd (none-some w h)

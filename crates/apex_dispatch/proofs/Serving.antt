@@ -4,18 +4,18 @@
 use Rattle.std.proofs.Common.{◌≡◌, ℕ, ◌<◌, ◌≤◌, true, false, List, [], length, Option, Some, lit≤, refl, sym, ◌∙◌, ap, arith}
 use Rattle.std.proofs.lemmas.Bool.{both_ways}
 use Rattle.std.proofs.lemmas.Option.{none-some}
-use Rattle.apex_types.specs.Limits.{most_processes}
+use Rattle.apex_types.specs.values.Limits.{most_processes}
 use Rattle.apex_dispatch.specs.Premises.{most_given}
 use Rattle.apex_dispatch.specs.Terms.{Call, Caller, Notice, Queue, Timeout, Wait}
 use Rattle.apex_types.specs.declared.Caller.TheVariants.{Process}
-use Rattle.apex_types.specs.declared.Wait.TheVariants.{Normal, Start, Time, Period, Semaphore, Receive, Send, Blackboard, Event, Mutex}
-use Rattle.apex_types.specs.Callers.{IsReady, IsReadyCaller}
-use Rattle.apex_types.specs.Dues.{due_after}
-use Rattle.apex_types.specs.Handovers.{halted}
-use Rattle.apex_types.specs.Periods.{awaits_first}
-use Rattle.apex_types.specs.Roster.{Roster, record_at, is_cold_start, is_normal}
-use Rattle.apex_types.specs.Rows.{Outcome}
-use Rattle.apex_types.specs.Stamps.{HasOrderlyStarts, WaitsForOne, block}
+use Rattle.apex_types.specs.declared.Wait.TheVariants.{Normal, Start, Mutex}
+use Rattle.apex_types.specs.services.Callers.{IsReady, IsReadyCaller}
+use Rattle.apex_types.specs.processes.Dues.{due_after}
+use Rattle.apex_types.specs.services.Handovers.{halted}
+use Rattle.apex_types.specs.processes.Periods.{awaits_first}
+use Rattle.apex_types.specs.processes.Roster.{Roster, record_at, is_cold_start, is_normal}
+use Rattle.apex_types.specs.services.Rows.{Outcome}
+use Rattle.apex_types.specs.processes.Stamps.{HasOrderlyStarts, WaitsForOne, block}
 use Rattle.apex_types.proofs.Dues.{due_later}
 use Rattle.apex_types.proofs.Handovers.{reaches_halted}
 use Rattle.apex_types.proofs.Periods.{HasSomeTicks}
@@ -103,14 +103,7 @@ serves_waiting roster p call at v due asked begun reaches =
 asked_late : (v : Wait) → asked_of (Some v) ≡ Some v → awaits_first (Some v) ≡ false
 asked_late (Normal delay) e = cc
 asked_late Start e = cc
-asked_late Time e = refl
-asked_late Period e = refl
-asked_late (Semaphore s) e = refl
-asked_late (Receive b) e = refl
-asked_late (Send b message) e = refl
-asked_late (Blackboard b) e = refl
-asked_late (Event v) e = refl
-asked_late (Mutex m) e = refl
+asked_late _ e = refl
 
 -- the caller blocks, in a wait for another thing than a mutex
 pub serves_blocked : (roster : Roster) (p : ℕ) → IsReady roster p → (call : Call) (at : Option Queue) (v : Wait) (timeout : Timeout)

@@ -7,25 +7,25 @@ use Rattle.std.proofs.lemmas.List.{map-append}
 use Rattle.std.proofs.lemmas.List.Elements.{All-nil, All-pop, All-push}
 use Rattle.std.proofs.lemmas.Int.{ints}
 use Rattle.std.proofs.lemmas.Option.{none-some, same_Some}
-use Rattle.apex_types.specs.Limits.{most_processes, most_ticks}
+use Rattle.apex_types.specs.values.Limits.{most_processes, most_ticks}
 use Rattle.apex_dispatch.specs.Premises.{most_given}
 use Rattle.apex_dispatch.specs.Terms.{Call, Event, OpenWork, Record, Wait, Who, Work}
 use Rattle.apex_types.specs.declared.Event.TheVariants.{Turn, Tick}
 use Rattle.apex_types.specs.declared.Wait.TheVariants.{Period, Mutex}
 use Rattle.apex_types.specs.declared.Who.TheVariants.{Core, Ticker}
-use Rattle.apex_types.specs.Distinct.{IsStamped}
-use Rattle.apex_types.specs.History.{init_count}
+use Rattle.apex_types.specs.values.Distinct.{IsStamped}
+use Rattle.apex_types.specs.machine.History.{init_count}
 use Rattle.apex_calls.specs.Lines.{IsPrintable}
-use Rattle.apex_types.specs.Machine.{Machine, Deed, Objects, objects_after, tick_deed, turn_deed, due_init_call, open_work, opening, after_deed, turn, tick, happen, accept, run, replay, events_of, event_of, entry_of}
-use Rattle.apex_types.specs.Held.{holds}
-use Rattle.apex_types.specs.Owners.{AreLawfullyOwned}
-use Rattle.apex_types.specs.Periods.{AreInTime}
-use Rattle.apex_types.specs.Places.{map_places}
-use Rattle.apex_types.specs.Roster.{Roster, nobody, opening_record, opening_roster, record_at, is_cold_start}
-use Rattle.apex_types.specs.Stamps.{advance_to}
-use Rattle.apex_types.specs.Table.{Table, ProcessConfig, IsLawful, no_process}
-use Rattle.apex_types.specs.Ticks.{tick_goal}
-use Rattle.apex_types.specs.Works.{fresh, is_turn_of, watched, work_begun}
+use Rattle.apex_types.specs.machine.Machine.{Machine, Deed, Objects, objects_after, tick_deed, turn_deed, due_init_call, open_work, opening, after_deed, turn, tick, happen, accept, run, replay, events_of, event_of, entry_of}
+use Rattle.apex_types.specs.processes.Held.{holds}
+use Rattle.apex_types.specs.processes.Owners.{AreLawfullyOwned}
+use Rattle.apex_types.specs.processes.Periods.{AreInTime}
+use Rattle.apex_types.specs.values.Places.{map_places}
+use Rattle.apex_types.specs.processes.Roster.{Roster, nobody, opening_record, opening_roster, record_at, is_cold_start}
+use Rattle.apex_types.specs.processes.Stamps.{advance_to}
+use Rattle.apex_types.specs.table.Table.{Table, ProcessConfig, IsLawful, no_process}
+use Rattle.apex_types.specs.machine.Ticks.{tick_goal}
+use Rattle.apex_types.specs.machine.Works.{fresh, is_turn_of, watched, work_begun}
 use Rattle.apex_types.proofs.BothProfiles.{lawful_count, some_owned}
 use Rattle.apex_types.proofs.DistinctStamps.{stamped_opening, stamped_advance_to}
 use Rattle.apex_types.proofs.Dues.{goal_before_deadlines, goal_before_dues, goal_forward, goal_near}
@@ -327,14 +327,16 @@ sound_opening table lawful =
           waiters = λ p m h. absurd (none-some (Mutex m) (sym (dormant p).wait ∙ h));
         };
         kept = record {
-          semaphores = λ s h. record { enough = omega arith; bounded = omega (arith, (lawful.semaphores s h).initial) };
+          semaphores = λ s h. record {
+            holds = record { enough = omega arith; bounded = omega (arith, (lawful.semaphores s h).initial) };
+            held = λ p w h is. tt;
+          };
           buffers = λ b h. record {
-            delivered = record { taken = []; many = refl; split = refl };
-            fits = omega arith;
+            holds = record { delivered = record { taken = []; many = refl; split = refl }; fits = omega arith };
             held = λ p w h is. absurd (nobody_asked p w h);
           };
-          blackboards = λ b h. record { held = λ p w h is. refl };
-          events = λ e h. record { held = λ p w h is. refl };
+          blackboards = λ b h. record { holds = refl; held = λ p w h is. refl };
+          event_flags = λ e h. record { holds = refl; held = λ p w h is. refl };
           asked = λ p w h. absurd (nobody_asked p w h);
         };
       };

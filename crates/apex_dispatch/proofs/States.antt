@@ -3,8 +3,8 @@ use Rattle.std.proofs.Common.{◌≡◌, ℕ, Bool, true, false, Option, Some, r
 use Rattle.std.proofs.lemmas.Bool.{both_ways}
 use Rattle.apex_dispatch.specs.Terms.{State}
 use Rattle.apex_types.specs.declared.State.TheVariants.{Dormant, Ready, Running, Waiting}
-use Rattle.apex_types.specs.Roster.{Roster, record_at}
-use Rattle.apex_types.specs.Running.{is_eligible, chosen, is_process}
+use Rattle.apex_types.specs.processes.Roster.{Roster, record_at}
+use Rattle.apex_types.specs.processes.Running.{is_eligible, chosen, is_process}
 use Rattle.apex_store.proofs.States.{state_by, is_found, found_is, eligible_started, chosen_parts}
 use Rattle.apex_dispatch.specs.States.{IsIn, HasOneState}
 

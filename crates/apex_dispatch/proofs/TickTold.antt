@@ -1,29 +1,29 @@
 -- The duties of a tick: it leaves all objects as they are, for a process that it wakes with
 -- NO_ERROR had waited for time, or for the mutex of a process that missed a HARD deadline.
-use Rattle.std.proofs.Common.{◌≡◌, ℕ, ◌+◌, ◌≤◌, Bool, true, false, ◌&&◌, ◌==◌, List, [], ◌++◌, length, Option, None, Some, refl, sym, ◌∙◌, inl, inr, arith}
+use Rattle.std.proofs.Common.{◌≡◌, ℕ, ◌+◌, ◌≤◌, Bool, true, false, ◌&&◌, ◌==◌, List, [], length, Option, None, Some, refl, sym, ◌∙◌, inl, arith}
 use Rattle.std.proofs.lemmas.Bool.{and_parts, eqb-true, both_ways}
 use Rattle.std.proofs.lemmas.Option.{none-some}
-use Rattle.apex_types.specs.Limits.{most_processes}
+use Rattle.apex_types.specs.values.Limits.{most_processes}
 use Rattle.apex_dispatch.specs.Premises.{most_given}
-use Rattle.apex_dispatch.specs.Terms.{DeadlineType, Entry, Notice, Record, Wait}
+use Rattle.apex_dispatch.specs.Terms.{DeadlineType, Entry, Record, Wait}
 use Rattle.apex_types.specs.declared.Caller.TheVariants.{Nobody}
 use Rattle.apex_types.specs.declared.DeadlineType.TheVariants.{Soft, Hard}
 use Rattle.apex_types.specs.declared.Wait.TheVariants.{Start, Time, Period}
 use Rattle.apex_types.specs.declared.Who.TheVariants.{Ticker}
-use Rattle.apex_types.specs.InTurn.{Changed, in_turn}
-use Rattle.apex_types.specs.Periods.{AreInTime}
-use Rattle.apex_types.specs.Roster.{Roster, record_at}
-use Rattle.apex_types.specs.Dues.{first_due, first_missed}
-use Rattle.apex_types.specs.Stamps.{is_by_itself, set_deadline, without_due, advance_to}
-use Rattle.apex_types.specs.Table.{Table}
-use Rattle.apex_types.specs.Ticks.{miss, serve_missed, serve_deadlines, wait_over, serve_due, serve_dues, serve_instant, tick_goal, pass_time}
-use Rattle.apex_types.specs.Machine.{objects_after, tick_deed}
+use Rattle.apex_types.specs.services.InTurn.{Changed, in_turn}
+use Rattle.apex_types.specs.processes.Periods.{AreInTime}
+use Rattle.apex_types.specs.processes.Roster.{Roster, record_at}
+use Rattle.apex_types.specs.processes.Dues.{first_due, first_missed}
+use Rattle.apex_types.specs.processes.Stamps.{is_by_itself, set_deadline, without_due, advance_to}
+use Rattle.apex_types.specs.table.Table.{Table}
+use Rattle.apex_types.specs.machine.Ticks.{miss, serve_missed, serve_deadlines, wait_over, serve_due, serve_dues, serve_instant, tick_goal, pass_time}
+use Rattle.apex_types.specs.machine.Machine.{objects_after, tick_deed}
 use Rattle.apex_types.proofs.InTurn.{holds_in_turn}
 use Rattle.apex_types.proofs.Reaches.{Reaches, arrives_of, reaches_more, reaches_then}
 use Rattle.apex_dispatch.specs.AskedWaits.{asked_of, or_suspended}
 use Rattle.apex_dispatch.proofs.DuesServed.{IsServable, reach_serve_dues}
 use Rattle.apex_dispatch.proofs.MissesServed.{reach_serve_deadlines, room_left}
-use Rattle.apex_dispatch.proofs.AskedWaits.{Frees, asks_freed, frees_none, frees_then, frees_moved, frees_release, frees_unblock}
+use Rattle.apex_dispatch.proofs.AskedWaits.{Frees, asks_freed, frees_then, frees_moved, frees_release, frees_unblock}
 use Rattle.apex_dispatch.proofs.CallsServe.{exact_uncalled}
 use Rattle.apex_dispatch.proofs.HandedOver.{IsServed, halts, served_none, served_then, waited_then}
 use Rattle.apex_dispatch.proofs.Satisfied.{wakes}
@@ -44,7 +44,6 @@ for_time _ by_itself h = cc
 -- whatever process p waited for, no process waits afterwards that did not wait before, and only a
 -- wait for time ends with NO_ERROR
 over_frees : (roster : Roster) (p : ℕ) (wait : Option Wait) → Frees roster (wait_over roster p wait).roster
-over_frees roster p (Some Time) = frees_unblock roster p
 over_frees roster p (Some Start) = frees_release roster p
 over_frees roster p (Some Period) = frees_release roster p
 over_frees roster p _ = frees_unblock roster p
@@ -108,10 +107,10 @@ pub reach_serve_instant : (roster : Roster) → IsServable roster → length ros
 reach_serve_instant roster before few =
     let first = reach_serve_deadlines roster before.starts in
     let after = serve_deadlines roster in
-    let servable : IsServable after.roster = record { starts = first.starts before.starts; times = first.times before.times } in
+    let servable : IsServable after.roster = record { starts = first.moves.starts before.starts; times = first.moves.times before.times } in
     let second = reach_serve_dues after.roster servable in
     reaches_more (length after.notices + length after.roster.records) most_given
-    (omega (arith, few, first.many, room_left roster before.starts))
+    (omega (arith, few, first.moves.many, room_left roster before.starts))
     (reaches_then (length after.notices) (length after.roster.records) first second)
 
 -- a tick owes this from the instant at which it halts

@@ -4,7 +4,7 @@ use Rattle.std.proofs.Common.{◌≡◌, ℕ, ◌+◌, ◌<◌, ◌≤◌, ◌==
 use Rattle.std.proofs.lemmas.Option.{none-some, same_Some}
 use Rattle.std.proofs.lemmas.Bool.{both_ways, and_parts, cases_lt, cond_both, eq-eqb, eqb-true}
 use Rattle.std.proofs.lemmas.List.{get_or_past}
-use Rattle.apex_types.specs.Limits.{most_processes}
+use Rattle.apex_types.specs.values.Limits.{most_processes}
 use Rattle.apex_dispatch.specs.Premises.{most_given}
 use Rattle.apex_dispatch.specs.Terms.{Attributes, Call, Caller, Entry, Mode, OpenWork, Record, Reply, Suspender, Wait, Who, Work}
 use Rattle.apex_types.specs.declared.Call.TheVariants.{Caller as ToCaller, Work as ToWork}
@@ -12,16 +12,16 @@ use Rattle.apex_types.specs.declared.CallerCall.TheVariants.{StopSelf}
 use Rattle.apex_types.specs.declared.Caller.TheVariants.{Process, Init, Nobody}
 use Rattle.apex_types.specs.declared.Reply.TheVariants.{Done, Lost}
 use Rattle.apex_types.specs.declared.Who.TheVariants.{Core}
-use Rattle.apex_types.specs.Callers.{IsReady, IsReadyCaller, is_by_process}
-use Rattle.apex_types.specs.Calls.{is_work}
-use Rattle.apex_types.specs.Machine.{Objects, objects_after, Deed, service, served, next_place, move_on, script_deed, ended_deed, chosen_deed, turn_deed, step_of, entry_of}
-use Rattle.apex_types.specs.Owners.{HasOrderlyOwners}
-use Rattle.apex_types.specs.Roster.{Roster, is_cold_start, is_normal, record_at, rules_of}
-use Rattle.apex_types.specs.Rows.{Outcome}
-use Rattle.apex_types.specs.Running.{is_eligible, chosen}
-use Rattle.apex_types.specs.Stamps.{WaitsForOne, HasOrderlyStarts, is_by_itself, set_step}
-use Rattle.apex_types.specs.Table.{Table, ProcessConfig, no_process, process_config, IsLawful, IsKnown}
-use Rattle.apex_types.specs.Works.{is_turn_of, work_begun}
+use Rattle.apex_types.specs.services.Callers.{IsReady, IsReadyCaller, is_by_process}
+use Rattle.apex_types.specs.services.Calls.{is_work}
+use Rattle.apex_types.specs.machine.Machine.{Objects, objects_after, Deed, service, served, next_place, move_on, script_deed, ended_deed, chosen_deed, turn_deed, step_of, entry_of}
+use Rattle.apex_types.specs.processes.Owners.{HasOrderlyOwners}
+use Rattle.apex_types.specs.processes.Roster.{Roster, is_cold_start, is_normal, record_at, rules_of}
+use Rattle.apex_types.specs.services.Rows.{Outcome}
+use Rattle.apex_types.specs.processes.Running.{is_eligible, chosen}
+use Rattle.apex_types.specs.processes.Stamps.{WaitsForOne, HasOrderlyStarts, is_by_itself, set_step}
+use Rattle.apex_types.specs.table.Table.{Table, ProcessConfig, no_process, process_config, IsLawful, IsKnown}
+use Rattle.apex_types.specs.machine.Works.{is_turn_of, work_begun}
 use Rattle.apex_types.proofs.BothProfiles.{lawful_count}
 use Rattle.apex_types.proofs.Periods.{HasSomeTicks}
 use Rattle.apex_types.proofs.Reaches.{Arrives, Reaches, arrives_of, arrives_then, reaches_more, reaches_none, reaches_set_step, started_step}
@@ -29,7 +29,7 @@ use Rattle.apex_types.proofs.Modes.{normal_late}
 use Rattle.apex_types.proofs.Starts.{chosen_core, chosen_ready, ready_step, runnable}
 use Rattle.apex_dispatch.specs.AskedWaits.{asked_of, or_suspended, awaited}
 use Rattle.apex_dispatch.proofs.AskedWaits.{Frees, asks_freed, asks_later, frees_moved, frees_none}
-use Rattle.apex_dispatch.proofs.CallsServe.{AreKept, IsExact, serves_call, serves_none, exact_uncalled, kept_freed}
+use Rattle.apex_dispatch.proofs.CallsServe.{AreKept, IsExact, serves_call, serves_none, exact_uncalled, work_creates, kept_freed}
 use Rattle.apex_dispatch.proofs.Known.{known_script_step}
 use Rattle.apex_dispatch.proofs.Satisfied.{Asks, IsIdle}
 use Rattle.apex_dispatch.proofs.OthersServe.{ServesNone}
@@ -173,24 +173,25 @@ module _ (table : Table) (lawful : IsLawful table) (history : List Entry) (core 
         let r = record_at roster p in
         let next = next_place (process_config table p) r.step in
         let moved = set_step roster p next in
-        let moves = reaches_set_step roster p ready.known next in
+        let reaches = reaches_set_step roster p ready.known next in
+        let moves = reaches.moves in
         let frees = frees_moved roster moved p (record r { step = next }) refl (λ w h. h) in
-        let cores = λ (q : ℕ). (moves.periods q).core in
+        let cores = λ (q : ℕ). (reaches.periods q).core in
         let owes = served_owes moved
         (record {
           many = moves.many ∙ orderly.many;
           rules = moves.rules ∙ orderly.rules;
-          attributes = λ q. (moves.periods q).attributes ∙ orderly.attributes q;
+          attributes = λ q. (reaches.periods q).attributes ∙ orderly.attributes q;
           one = moves.one orderly.one;
           starts = moves.starts orderly.starts;
-          owners = moves.owners orderly.owners;
+          owners = reaches.owners orderly.owners;
           kept = kept_freed table history roster moved frees orderly.kept;
         })
         (Process p) (ready_step roster p next ready)
         (λ q by. same ∙ ap (λ (k : ℕ). (record_at roster k).core) (sym (eqb-true q p by)) ∙ sym (cores q))
         (λ _. (runnable roster.mode (record_at roster p) ready.eligible).normal) call known in
         record {
-          arrives = arrives_then 0 most_given moves (λ q. started_step roster p next ready.known q) owes.arrives;
+          arrives = arrives_then 0 most_given reaches (λ q. started_step roster p next ready.known q) owes.arrives;
           known = owes.known;
           asks = asks_later frees owes.asks;
           own = λ q by. ap (λ (c : ℕ). c == core) (sym (cores q)) ∙ owes.own q by;
@@ -239,7 +240,7 @@ module _ (table : Table) (lawful : IsLawful table) (history : List Entry) (core 
           let o : Outcome Objects = record { roster = new; object = objects; reply = reply; notices = [] } in
           let freed = serves_freed roster (Process p) call None new [] (arrives_of reaches) frees (λ q. refl) in
           let none : ServesNone roster objects (Process p) call o = record { serves = freed; stays = refl } in
-          let serves = serves_none table history roster orderly.kept (Process p) idle call o none refl refl refl refl refl refl refl in
+          let serves = serves_none table history roster orderly.kept (Process p) idle call o none refl (work_creates work.amount) in
           record {
             arrives = serves.arrives;
             known = tt;

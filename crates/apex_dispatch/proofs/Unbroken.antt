@@ -7,11 +7,11 @@ use Rattle.std.proofs.lemmas.List.Sums.{AllPass-from_list_all, list_all-from_All
 use Rattle.std.specs.Option.{option_or}
 use Rattle.apex_dispatch.specs.Terms.{Entry, Work}
 use Rattle.apex_types.specs.declared.Reply.TheVariants.{Done, Lost}
-use Rattle.apex_types.specs.Machine.{Machine, Objects, deed_of, ended, events_of, objects_after, open_work, opening, run}
-use Rattle.apex_types.specs.Roster.{Roster}
-use Rattle.apex_types.specs.Running.{chosen, is_process}
-use Rattle.apex_types.specs.Table.{Table, IsLawful}
-use Rattle.apex_types.specs.Works.{is_turn_of, is_unbroken, last_turn, open_since, own_turn}
+use Rattle.apex_types.specs.machine.Machine.{Machine, Objects, deed_of, ended, events_of, objects_after, open_work, opening, run}
+use Rattle.apex_types.specs.processes.Roster.{Roster}
+use Rattle.apex_types.specs.processes.Running.{chosen, is_process}
+use Rattle.apex_types.specs.table.Table.{Table, IsLawful}
+use Rattle.apex_types.specs.machine.Works.{is_turn_of, is_unbroken, last_turn, open_since, own_turn}
 use Rattle.apex_dispatch.specs.Unbroken.{EndsAsItWasKept, HasBegun, KeptTheCore, WorkEndsAsItWasKept}
 use Rattle.apex_dispatch.proofs.Pasts.{PastIsTheRuns, past_is_the_runs}
 use Rattle.apex_dispatch.proofs.Sound.{sound_run}

@@ -6,18 +6,18 @@ use Rattle.apex_types.specs.declared.BlackboardService.TheVariants as blackboard
 use Rattle.apex_types.specs.declared.BufferService.TheVariants as buffer
 use Rattle.apex_types.specs.declared.Call.TheVariants as call
 use Rattle.apex_types.specs.declared.CallerCall.TheVariants.{SuspendSelf}
-use Rattle.apex_types.specs.declared.EventService.TheVariants as event
+use Rattle.apex_types.specs.declared.EventFlagService.TheVariants as event_flag
 use Rattle.apex_types.specs.declared.MutexService.TheVariants as mutex
-use Rattle.apex_types.specs.declared.ObjectCall.TheVariants.{Own}
+use Rattle.apex_types.specs.declared.ObjectCall.TheVariants.{KindService}
 use Rattle.apex_types.specs.declared.Queue.TheVariants as queues
 use Rattle.apex_types.specs.declared.SemaphoreService.TheVariants as semaphore
 use Rattle.apex_types.specs.declared.TimeCall.TheVariants.{TimedWait}
-use Rattle.apex_types.specs.declared.Wait.TheVariants.{Time, Semaphore, Receive, Send, Blackboard, Event, Mutex}
-use Rattle.apex_types.specs.Queues.{queue_of}
-use Rattle.apex_types.specs.Roster.{Roster, record_at}
-use Rattle.apex_types.specs.Stamps.{is_by_itself}
-use Rattle.apex_types.specs.Calls.{names, is_wait, is_signal}
-use Rattle.apex_types.specs.Satisfied.{latest_call, calls_where, semaphore_value}
+use Rattle.apex_types.specs.declared.Wait.TheVariants.{Time, Semaphore, Receive, Send, Blackboard, EventFlag, Mutex}
+use Rattle.apex_types.specs.processes.Queues.{queue_of}
+use Rattle.apex_types.specs.processes.Roster.{Roster, record_at}
+use Rattle.apex_types.specs.processes.Stamps.{is_by_itself}
+use Rattle.apex_types.specs.services.Calls.{names, is_wait, is_signal}
+use Rattle.apex_types.specs.services.Satisfied.{latest_call, calls_where, semaphore_value}
 
 -- value v accounts for these calls: v plus the waits is the initial value plus the signals
 abbrev pub Accounts : ℕ → List Call → ℕ → Type 0
@@ -27,16 +27,17 @@ Accounts initial calls v = v + count_by is_wait calls ≡ initial + count_by is_
 -- its initial value and its signals allow
 abbrev pub IsAccounted : ℕ → ℕ → List Entry → Type 0
 IsAccounted initial s history =
-    Accounts initial (calls_where (names (queues.Semaphore s)) history) (semaphore_value initial s history)
+    Accounts initial (calls_where (names (queues.Semaphore s)) history)
+    (semaphore_value initial s history)
 
 -- the wait that a call begins if it is not answered at once
 abbrev pub begins : Call → Option Wait
-begins (call.Semaphore (Own s (semaphore.Wait timeout))) = Some (Semaphore s)
-begins (call.Buffer (Own b (buffer.Send message timeout))) = Some (Send b message)
-begins (call.Buffer (Own b (buffer.Receive timeout))) = Some (Receive b)
-begins (call.Blackboard (Own b (blackboard.Read timeout))) = Some (Blackboard b)
-begins (call.Event (Own e (event.Wait timeout))) = Some (Event e)
-begins (call.Mutex (Own m (mutex.Acquire timeout))) = Some (Mutex m)
+begins (call.Semaphore (KindService s (semaphore.Wait timeout))) = Some (Semaphore s)
+begins (call.Buffer (KindService b (buffer.Send message timeout))) = Some (Send b message)
+begins (call.Buffer (KindService b (buffer.Receive timeout))) = Some (Receive b)
+begins (call.Blackboard (KindService b (blackboard.Read timeout))) = Some (Blackboard b)
+begins (call.EventFlag (KindService e (event_flag.Wait timeout))) = Some (EventFlag e)
+begins (call.Mutex (KindService m (mutex.Acquire timeout))) = Some (Mutex m)
 begins (call.Time (TimedWait timeout)) = Some Time
 begins (call.Caller (SuspendSelf timeout)) = Some Time
 begins _ = None
@@ -48,7 +49,7 @@ asked_of (Some (Semaphore s)) = Some (Semaphore s)
 asked_of (Some (Receive b)) = Some (Receive b)
 asked_of (Some (Send b message)) = Some (Send b message)
 asked_of (Some (Blackboard b)) = Some (Blackboard b)
-asked_of (Some (Event e)) = Some (Event e)
+asked_of (Some (EventFlag e)) = Some (EventFlag e)
 asked_of (Some (Mutex m)) = Some (Mutex m)
 asked_of _ = None
 

@@ -1,6 +1,6 @@
 -- The events that a partition may be asked for.
 use Rattle.std.specs.Prelude.{ℕ, ◌<◌, ◌≤◌}
-use Rattle.apex_types.specs.Limits.{most_ticks}
+use Rattle.apex_types.specs.values.Limits.{most_ticks}
 use Rattle.apex_dispatch.specs.Terms.{Event}
 use Rattle.apex_types.specs.declared.Event.TheVariants.{Turn, Tick}
 

@@ -1,10 +1,10 @@
 -- A kernel as every contract sees it, and the facts that each kernel keeps.
 use Rattle.std.specs.Prelude.{◌≡◌, ℕ, List, Option, All}
 use Rattle.apex_dispatch.specs.Terms.{Entry, OpenWork}
-use Rattle.apex_types.specs.Table.{Table, IsLawful}
-use Rattle.apex_types.specs.Roster.{Roster}
-use Rattle.apex_types.specs.History.{init_count}
-use Rattle.apex_types.specs.Machine.{Machine, Objects, objects_after, events_of, machine_with, open_work, replay}
+use Rattle.apex_types.specs.table.Table.{Table, IsLawful}
+use Rattle.apex_types.specs.processes.Roster.{Roster}
+use Rattle.apex_types.specs.machine.History.{init_count}
+use Rattle.apex_types.specs.machine.Machine.{Machine, Objects, objects_after, events_of, machine_with, open_work, replay}
 use Rattle.apex_dispatch.specs.Events.{IsWithin}
 use Rattle.apex_dispatch.specs.Works.{work_at}
 
@@ -34,7 +34,8 @@ kernel_with table objects roster history = record {
 -- counter of init steps, its running values and the work that is open on each core are the
 -- history's; and the events that its history records are in range and, run anew, give the machine's
 -- very state
-pub record IsKept (kernel : KernelState) (init_made log_limit : ℕ) (works : List (Option OpenWork)) : Type 0 where
+pub record IsKept (kernel : KernelState) (init_made log_limit : ℕ)
+    (works : List (Option OpenWork)) : Type 0 where
   pub lawful : IsLawful kernel.table
   pub limit : log_limit ≡ kernel.table.limit
   pub init : init_made ≡ init_count kernel.machine.history

@@ -2,12 +2,12 @@
 -- left.
 use Rattle.std.specs.Prelude.{◌*◌, ◌≡◌, ℕ, ◌<ℤ◌, ◌+ℤ◌, count_by, length, pos}
 use Rattle.apex_dispatch.specs.Terms.{Call}
-use Rattle.apex_types.specs.declared.Call.TheVariants.{Partition, Process as ToProcess, Caller as ToCaller, Time, Semaphore, Buffer, Blackboard, Event, Mutex, Work}
-use Rattle.apex_types.specs.Dues.{is_due_at}
-use Rattle.apex_types.specs.Limits.{most_processes, most_stamps}
-use Rattle.apex_types.specs.Machine.{Objects}
-use Rattle.apex_types.specs.Roster.{Roster}
-use Rattle.apex_types.specs.Table.{Table, IsKnownObject}
+use Rattle.apex_types.specs.declared.Call.TheVariants.{Partition, Process as ToProcess, Caller as ToCaller, Time, Semaphore, Buffer, Blackboard, EventFlag, Mutex, Work}
+use Rattle.apex_types.specs.processes.Dues.{is_due_at}
+use Rattle.apex_types.specs.values.Limits.{most_processes, most_stamps}
+use Rattle.apex_types.specs.machine.Machine.{Objects}
+use Rattle.apex_types.specs.processes.Roster.{Roster}
+use Rattle.apex_types.specs.table.Table.{Table, IsKnownObject}
 
 -- if the call names a thing, it is one of these objects
 abbrev pub IsKnownTo : Objects → Call → Type 0
@@ -18,7 +18,7 @@ IsKnownTo objects (Time call) = Unit {0}
 IsKnownTo objects (Semaphore call) = IsKnownObject (length objects.semaphores) call
 IsKnownTo objects (Buffer call) = IsKnownObject (length objects.buffers) call
 IsKnownTo objects (Blackboard call) = IsKnownObject (length objects.blackboards) call
-IsKnownTo objects (Event call) = IsKnownObject (length objects.events) call
+IsKnownTo objects (EventFlag call) = IsKnownObject (length objects.event_flags) call
 IsKnownTo objects (Mutex call) = IsKnownObject (length objects.mutexes) call
 IsKnownTo objects (Work amount) = Unit {0}
 
@@ -28,7 +28,7 @@ pub record AreOf (table : Table) (objects : Objects) : Type 0 where
   pub semaphores : length objects.semaphores ≡ length table.semaphores
   pub buffers : length objects.buffers ≡ length table.buffers
   pub blackboards : length objects.blackboards ≡ length table.blackboards
-  pub events : length objects.events ≡ length table.events
+  pub event_flags : length objects.event_flags ≡ length table.event_flags
   pub mutexes : length objects.mutexes ≡ length table.mutexes
 
 -- the stamps that one event gives at the most: as many as the deadlines tell notices, two for each process, and one for

@@ -1,16 +1,16 @@
 -- The sections of the status listing, and their order (this profile).
 use Rattle.std.specs.Prelude.{◌≡◌, ◌≤◌, ℕ, List, [], ◌∷◌, length, Option, None, Some}
 use Rattle.apex_types.specs.declared.Queue.TheVariants as queues
-use Rattle.apex_types.specs.Limits.{most_cores}
-use Rattle.apex_types.specs.Listing.{texts_of, waiters, core_listing, process_listing, semaphore_listing, buffer_listing, blackboard_listing, event_listing, mutex_listing}
-use Rattle.apex_types.specs.Machine.{Objects}
-use Rattle.apex_types.specs.Roster.{Roster}
-use Rattle.apex_types.specs.Status.{time_line, mode_line, history_line}
-use Rattle.apex_types.specs.Table.{Table, IsLawful}
+use Rattle.apex_types.specs.values.Limits.{most_cores}
+use Rattle.apex_types.specs.text.Listing.{texts_of, waiters, core_listing, process_listing, semaphore_listing, buffer_listing, blackboard_listing, event_flag_listing, mutex_listing}
+use Rattle.apex_types.specs.machine.Machine.{Objects}
+use Rattle.apex_types.specs.processes.Roster.{Roster}
+use Rattle.apex_types.specs.text.Status.{time_line, mode_line, history_line}
+use Rattle.apex_types.specs.table.Table.{Table, IsLawful}
 use Rattle.apex_history.specs.declared.StatusRow.{StatusRow}
 use Rattle.apex_history.specs.StatusRows.{row_text, IsPrintableRow}
 use Rattle.apex_dispatch.specs.declared.listing.Section.{Section}
-use Rattle.apex_dispatch.specs.declared.listing.Section.TheVariants.{Time, Mode, History, Cores, Processes, Semaphores, Buffers, Blackboards, Events, Mutexes}
+use Rattle.apex_dispatch.specs.declared.listing.Section.TheVariants.{Time, Mode, History, Cores, Processes, Semaphores, Buffers, Blackboards, EventFlags, Mutexes}
 use Rattle.apex_dispatch.specs.Premises.{AreOf}
 
 -- all that is listed: a table, its processes and objects, and the number of entries of the history
@@ -38,7 +38,7 @@ thing_count listed Processes = length listed.table.processes
 thing_count listed Semaphores = length listed.table.semaphores
 thing_count listed Buffers = length listed.table.buffers
 thing_count listed Blackboards = length listed.table.blackboards
-thing_count listed Events = length listed.table.events
+thing_count listed EventFlags = length listed.table.event_flags
 thing_count listed Mutexes = length listed.table.mutexes
 
 -- the text of the thing at a place of a section
@@ -51,7 +51,7 @@ thing_text listed Processes i = process_listing listed.table listed.roster liste
 thing_text listed Semaphores i = semaphore_listing listed.table listed.roster listed.objects i
 thing_text listed Buffers i = buffer_listing listed.table listed.roster listed.objects i
 thing_text listed Blackboards i = blackboard_listing listed.table listed.roster listed.objects i
-thing_text listed Events i = event_listing listed.table listed.roster listed.objects i
+thing_text listed EventFlags i = event_flag_listing listed.table listed.roster listed.objects i
 thing_text listed Mutexes i = mutex_listing listed.table listed.roster listed.objects i
 
 -- the waiters for the thing at a place of a section
@@ -59,7 +59,7 @@ abbrev pub waiting_at : Listed → Section → ℕ → List ℕ
 waiting_at listed Semaphores i = waiters listed.roster (queues.Semaphore i)
 waiting_at listed Buffers i = waiters listed.roster (queues.Buffer i)
 waiting_at listed Blackboards i = waiters listed.roster (queues.Blackboard i)
-waiting_at listed Events i = waiters listed.roster (queues.Event i)
+waiting_at listed EventFlags i = waiters listed.roster (queues.EventFlag i)
 waiting_at listed Mutexes i = waiters listed.roster (queues.Mutex i)
 waiting_at listed _ i = []
 
@@ -70,7 +70,8 @@ section_text listed section = texts_of (thing_text listed section) (thing_count 
 -- all sections, in their order
 abbrev pub sections : List Section
 sections =
-    Time ∷ Mode ∷ History ∷ Cores ∷ Processes ∷ Semaphores ∷ Buffers ∷ Blackboards ∷ Events ∷ Mutexes ∷ []
+    Time ∷ Mode ∷ History ∷ Cores ∷ Processes ∷ Semaphores ∷ Buffers ∷ Blackboards ∷ EventFlags
+    ∷ Mutexes ∷ []
 
 -- the row has this text and can be printed; without a row there is no text
 abbrev pub Tells : Table → Option StatusRow → List ℕ → Type 0

@@ -2,18 +2,21 @@
 use Rattle.std.specs.Prelude.{◌≡◌, ◌≢◌, ℕ, ◌<◌, true, false, List, Some, length}
 use Rattle.apex_dispatch.specs.Terms.{Event, State}
 use Rattle.apex_types.specs.declared.State.TheVariants.{Dormant, Ready, Running, Waiting}
-use Rattle.apex_types.specs.Roster.{Roster, record_at}
-use Rattle.apex_types.specs.Running.{is_eligible, chosen, process_state}
-use Rattle.apex_types.specs.Table.{Table}
-use Rattle.apex_types.specs.Machine.{run, opening}
+use Rattle.apex_types.specs.processes.Roster.{Roster, record_at}
+use Rattle.apex_types.specs.processes.Running.{is_eligible, chosen, process_state}
+use Rattle.apex_types.specs.table.Table.{Table}
+use Rattle.apex_types.specs.machine.Machine.{run, opening}
 
 -- process p is in this state: dormant, it is not started; ready, it is eligible and no core's
 -- chosen one; running, it is a core's chosen one; waiting, it is started and not eligible
 abbrev pub IsIn : Roster → ℕ → State → Type 0
 IsIn roster p Dormant = (record_at roster p).started ≡ false
-IsIn roster p Ready = (is_eligible roster.mode (record_at roster p) ≡ true) × ((core : ℕ) → chosen roster core ≢ Some p)
+IsIn roster p Ready =
+    (is_eligible roster.mode (record_at roster p) ≡ true)
+    × ((core : ℕ) → chosen roster core ≢ Some p)
 IsIn roster p Running = (core : ℕ) × (chosen roster core ≡ Some p)
-IsIn roster p Waiting = ((record_at roster p).started ≡ true) × (is_eligible roster.mode (record_at roster p) ≡ false)
+IsIn roster p Waiting =
+    ((record_at roster p).started ≡ true) × (is_eligible roster.mode (record_at roster p) ≡ false)
 
 -- process p is in its state and in no other, and no core but its own runs it
 pub record HasOneState (roster : Roster) (p : ℕ) : Type 0 where

@@ -8,7 +8,7 @@ pub use Rattle.apex_types.specs.declared.CallerCall.{CallerCall}
 pub use Rattle.apex_types.specs.declared.DeadlineType.{DeadlineType}
 pub use Rattle.apex_types.specs.declared.Entry.{Entry}
 pub use Rattle.apex_types.specs.declared.Event.{Event}
-pub use Rattle.apex_types.specs.declared.EventService.{EventService}
+pub use Rattle.apex_types.specs.declared.EventFlagService.{EventFlagService}
 pub use Rattle.apex_types.specs.declared.Holding.{Holding}
 pub use Rattle.apex_types.specs.declared.Message.{Message}
 pub use Rattle.apex_types.specs.declared.Mode.{Mode}

@@ -1,12 +1,12 @@
 -- The end of work: it is done exactly if its process kept the core from the entry that began it on,
 -- and lost exactly if it did not.
 use Rattle.std.specs.Prelude.{◌≡◌, ◌↔◌, ℕ, ◌<◌, ◌≤◌, true, false, List, ◌∷◌, ◌++◌, Some, All, length, take}
-use Rattle.apex_dispatch.specs.Terms.{Entry, Event as Happening, Work}
+use Rattle.apex_dispatch.specs.Terms.{Entry, Event, Work}
 use Rattle.apex_types.specs.declared.Reply.TheVariants.{Done, Lost}
-use Rattle.apex_types.specs.Machine.{Machine, deed_of, events_of, opening, run}
-use Rattle.apex_types.specs.Running.{chosen}
-use Rattle.apex_types.specs.Table.{Table}
-use Rattle.apex_types.specs.Works.{is_turn_of, work_begun}
+use Rattle.apex_types.specs.machine.Machine.{Machine, deed_of, events_of, opening, run}
+use Rattle.apex_types.specs.processes.Running.{chosen}
+use Rattle.apex_types.specs.table.Table.{Table}
+use Rattle.apex_types.specs.machine.Works.{is_turn_of, work_begun}
 
 -- the core's last entry began this work
 pub record HasBegun (history : List Entry) (core : ℕ) (work : Work) : Type 0 where
@@ -25,7 +25,8 @@ KeptTheCore table machine core n p = (k : ℕ) → n < k → k ≤ length machin
 
 -- the core's next turn answers DONE exactly if the process kept the core, and LOST exactly if it
 -- did not
-pub record EndsAsItWasKept (table : Table) (machine : Machine) (core : ℕ) (work : Work) (begun : HasBegun machine.history core work) : Type 0 where
+pub record EndsAsItWasKept (table : Table) (machine : Machine) (core : ℕ) (work : Work)
+    (begun : HasBegun machine.history core work) : Type 0 where
   pub done : ((deed_of table machine core).outcome.reply ≡ Done)
       ↔ KeptTheCore table machine core (length begun.earlier) work.process
   pub lost : ((deed_of table machine core).outcome.reply ≡ Lost)
@@ -33,6 +34,6 @@ pub record EndsAsItWasKept (table : Table) (machine : Machine) (core : ℕ) (wor
 
 -- in every run all work that a core has begun ends as its process kept the core
 abbrev pub WorkEndsAsItWasKept : Table → Type 0
-WorkEndsAsItWasKept table = (events : List Happening) (core : ℕ) (work : Work) →
+WorkEndsAsItWasKept table = (events : List Event) (core : ℕ) (work : Work) →
     let machine = run table (opening table) events in
     (begun : HasBegun machine.history core work) → EndsAsItWasKept table machine core work begun

@@ -2,13 +2,13 @@
 use Rattle.std.specs.Prelude.{◌≡◌, ℕ, true, false, None, Some, List, [], ◌∷◌, codes, flat_map, map, replicate, ◌++◌}
 use Rattle.apex_dispatch.specs.Terms.{Attributes, Call, Event}
 use Rattle.apex_types.specs.declared.Profile.TheVariants.{One}
-use Rattle.apex_types.specs.Limits.{usual_entries}
+use Rattle.apex_types.specs.values.Limits.{usual_entries}
 use Rattle.apex_types.specs.declared.Call.TheVariants.{Partition, Process, Caller, Time, Semaphore, Work}
 use Rattle.apex_types.specs.declared.DeadlineType.TheVariants.{Soft}
 use Rattle.apex_types.specs.declared.Discipline.TheVariants.{Fifo, Priority}
 use Rattle.apex_types.specs.declared.CallerCall.TheVariants.{SuspendSelf, GetMyId}
 use Rattle.apex_types.specs.declared.Named.TheVariants.{Known, Unknown}
-use Rattle.apex_types.specs.declared.ObjectCall.TheVariants.{Create, GetStatus, Own}
+use Rattle.apex_types.specs.declared.ObjectCall.TheVariants.{Create, GetStatus, KindService}
 use Rattle.apex_types.specs.declared.Origin.TheVariants.{Init}
 use Rattle.apex_types.specs.declared.PartitionCall.TheVariants.{SetPartitionMode}
 use Rattle.apex_types.specs.declared.RequestedMode.TheVariants.{Idle, Normal}
@@ -17,8 +17,8 @@ use Rattle.apex_types.specs.declared.SemaphoreService.TheVariants.{Wait, Signal}
 use Rattle.apex_types.specs.declared.TimeCall.TheVariants.{TimedWait, PeriodicWait, GetTime}
 use Rattle.apex_types.specs.declared.Timeout.TheVariants.{Poll, Ticks, Infinite}
 use Rattle.apex_types.specs.declared.Event.TheVariants.{Turn, Tick}
-use Rattle.apex_types.specs.Table.{Table, ProcessConfig, Step}
-use Rattle.apex_types.specs.Machine.{run, opening}
+use Rattle.apex_types.specs.table.Table.{Table, ProcessConfig, Step}
+use Rattle.apex_types.specs.machine.Machine.{run, opening}
 use Rattle.apex_calls.specs.Lines.{lines_of}
 use Rattle.apex_table.specs.DefaultInit.{bare}
 
@@ -33,7 +33,14 @@ aperiodic priority = record { priority = priority; period = None; capacity = Non
 -- a process that the init list starts, with a script that ends
 abbrev pub starts : List ℕ → ℕ → ℕ → List Call → ProcessConfig
 starts name priority core script =
-    record { name = name; attributes = aperiodic priority; core = core; loops = false; start = true; script = bares script }
+    record {
+      name = name;
+      attributes = aperiodic priority;
+      core = core;
+      loops = false;
+      start = true;
+      script = bares script;
+    }
 
 -- a waiter on core 0 and a signaller on core 1, with one semaphore of value 0
 abbrev pub waiter_and_signaller : Table
@@ -42,18 +49,18 @@ waiter_and_signaller = record {
   cores = 2;
   limit = usual_entries;
   processes =
-      starts (codes "P1") 10 0 (Semaphore (Own 0 (Wait Infinite)) ∷ [])
-      ∷ starts (codes "P2") 10 1 (Semaphore (Own 0 Signal) ∷ []) ∷ [];
+      starts (codes "P1") 10 0 (Semaphore (KindService 0 (Wait Infinite)) ∷ [])
+      ∷ starts (codes "P2") 10 1 (Semaphore (KindService 0 Signal) ∷ []) ∷ [];
   semaphores = (record { name = codes "S"; maximum = 1; initial = 0; discipline = Fifo }) ∷ [];
   buffers = [];
   blackboards = [];
-  events = [];
+  event_flags = [];
   mutexes = [];
   init = bares (
       Semaphore (Create (Known 0))
-      ∷ Process (Create (Known 0)) ∷ Process (Own 0 (InitializeCoreAffinity 0))
-      ∷ Process (Create (Known 1)) ∷ Process (Own 1 (InitializeCoreAffinity 1))
-      ∷ Process (Own 0 Start) ∷ Process (Own 1 Start)
+      ∷ Process (Create (Known 0)) ∷ Process (KindService 0 (InitializeCoreAffinity 0))
+      ∷ Process (Create (Known 1)) ∷ Process (KindService 1 (InitializeCoreAffinity 1))
+      ∷ Process (KindService 0 Start) ∷ Process (KindService 1 Start)
       ∷ Partition (SetPartitionMode Normal) ∷ []);
 }
 
@@ -67,10 +74,11 @@ empty_script = record {
   semaphores = [];
   buffers = [];
   blackboards = [];
-  events = [];
+  event_flags = [];
   mutexes = [];
   init = bares (
-      Process (Create (Known 0)) ∷ Process (Own 0 (InitializeCoreAffinity 0)) ∷ Process (Own 0 Start)
+      Process (Create (Known 0)) ∷ Process (KindService 0 (InitializeCoreAffinity 0))
+      ∷ Process (KindService 0 Start)
       ∷ Partition (SetPartitionMode Normal) ∷ []);
 }
 
@@ -129,12 +137,13 @@ timed_waiter = record {
   cores = 2;
   limit = usual_entries;
   processes =
-      starts (codes "P1") 10 0 (Semaphore (Own 0 (Wait (Ticks 5))) ∷ [])
-      ∷ starts (codes "P2") 10 1 (Semaphore (Own 0 Signal) ∷ Semaphore (GetStatus 0) ∷ []) ∷ [];
+      starts (codes "P1") 10 0 (Semaphore (KindService 0 (Wait (Ticks 5))) ∷ [])
+      ∷ starts (codes "P2") 10 1 (Semaphore (KindService 0 Signal) ∷ Semaphore (GetStatus 0) ∷ [])
+      ∷ [];
   semaphores = (record { name = codes "S"; maximum = 1; initial = 0; discipline = Fifo }) ∷ [];
   buffers = [];
   blackboards = [];
-  events = [];
+  event_flags = [];
   mutexes = [];
   init = waiter_and_signaller.init;
 }
@@ -162,13 +171,14 @@ three_timers = record {
   semaphores = [];
   buffers = [];
   blackboards = [];
-  events = [];
+  event_flags = [];
   mutexes = [];
   init = bares (
-      Process (Create (Known 0)) ∷ Process (Own 0 (InitializeCoreAffinity 0))
-      ∷ Process (Create (Known 1)) ∷ Process (Own 1 (InitializeCoreAffinity 0))
-      ∷ Process (Create (Known 2)) ∷ Process (Own 2 (InitializeCoreAffinity 0))
-      ∷ Process (Own 0 Start) ∷ Process (Own 1 Start) ∷ Process (Own 2 Start)
+      Process (Create (Known 0)) ∷ Process (KindService 0 (InitializeCoreAffinity 0))
+      ∷ Process (Create (Known 1)) ∷ Process (KindService 1 (InitializeCoreAffinity 0))
+      ∷ Process (Create (Known 2)) ∷ Process (KindService 2 (InitializeCoreAffinity 0))
+      ∷ Process (KindService 0 Start) ∷ Process (KindService 1 Start)
+      ∷ Process (KindService 2 Start)
       ∷ Partition (SetPartitionMode Normal) ∷ []);
 }
 
@@ -201,17 +211,24 @@ delayed_starter = record {
   cores = 1;
   limit = usual_entries;
   processes =
-      starts (codes "A") 10 0 (Process (Own 1 (DelayedStart (Ticks 3))) ∷ [])
-      ∷ (record { name = codes "B"; attributes = aperiodic 20; core = 0; loops = false; start = false; script = bares (Time GetTime ∷ []) }) ∷ [];
+      starts (codes "A") 10 0 (Process (KindService 1 (DelayedStart (Ticks 3))) ∷ [])
+      ∷ (record {
+        name = codes "B";
+        attributes = aperiodic 20;
+        core = 0;
+        loops = false;
+        start = false;
+        script = bares (Time GetTime ∷ []);
+      }) ∷ [];
   semaphores = [];
   buffers = [];
   blackboards = [];
-  events = [];
+  event_flags = [];
   mutexes = [];
   init = bares (
-      Process (Create (Known 0)) ∷ Process (Own 0 (InitializeCoreAffinity 0))
-      ∷ Process (Create (Known 1)) ∷ Process (Own 1 (InitializeCoreAffinity 0))
-      ∷ Process (Own 0 Start) ∷ Partition (SetPartitionMode Normal) ∷ []);
+      Process (Create (Known 0)) ∷ Process (KindService 0 (InitializeCoreAffinity 0))
+      ∷ Process (Create (Known 1)) ∷ Process (KindService 1 (InitializeCoreAffinity 0))
+      ∷ Process (KindService 0 Start) ∷ Partition (SetPartitionMode Normal) ∷ []);
 }
 
 -- a delayed start releases its process when the delay has passed, and no earlier
@@ -237,20 +254,22 @@ ranked_waiters = record {
   cores = 2;
   limit = usual_entries;
   processes =
-      starts (codes "A") 10 0 (Semaphore (Own 0 (Wait Infinite)) ∷ [])
-      ∷ starts (codes "B") 20 1 (Semaphore (Own 0 (Wait Infinite)) ∷ [])
-      ∷ starts (codes "D") 5 0 (Process (Own 0 (SetPriority 20)) ∷ Semaphore (Own 0 Signal) ∷ []) ∷ [];
+      starts (codes "A") 10 0 (Semaphore (KindService 0 (Wait Infinite)) ∷ [])
+      ∷ starts (codes "B") 20 1 (Semaphore (KindService 0 (Wait Infinite)) ∷ [])
+      ∷ starts (codes "D") 5 0
+      (Process (KindService 0 (SetPriority 20)) ∷ Semaphore (KindService 0 Signal) ∷ []) ∷ [];
   semaphores = (record { name = codes "Q"; maximum = 1; initial = 0; discipline = Priority }) ∷ [];
   buffers = [];
   blackboards = [];
-  events = [];
+  event_flags = [];
   mutexes = [];
   init = bares (
       Semaphore (Create (Known 0))
-      ∷ Process (Create (Known 0)) ∷ Process (Own 0 (InitializeCoreAffinity 0))
-      ∷ Process (Create (Known 1)) ∷ Process (Own 1 (InitializeCoreAffinity 1))
-      ∷ Process (Create (Known 2)) ∷ Process (Own 2 (InitializeCoreAffinity 0))
-      ∷ Process (Own 0 Start) ∷ Process (Own 1 Start) ∷ Process (Own 2 Start)
+      ∷ Process (Create (Known 0)) ∷ Process (KindService 0 (InitializeCoreAffinity 0))
+      ∷ Process (Create (Known 1)) ∷ Process (KindService 1 (InitializeCoreAffinity 1))
+      ∷ Process (Create (Known 2)) ∷ Process (KindService 2 (InitializeCoreAffinity 0))
+      ∷ Process (KindService 0 Start) ∷ Process (KindService 1 Start)
+      ∷ Process (KindService 2 Start)
       ∷ Partition (SetPartitionMode Normal) ∷ []);
 }
 
@@ -282,12 +301,14 @@ suspended_waiter = record {
   cores = 2;
   limit = usual_entries;
   processes =
-      starts (codes "P1") 10 0 (Semaphore (Own 0 (Wait Infinite)) ∷ [])
-      ∷ starts (codes "P2") 10 1 (Process (Own 0 Suspend) ∷ Semaphore (Own 0 Signal) ∷ Process (GetStatus 0) ∷ Process (Own 0 Resume) ∷ Process (GetStatus 0) ∷ []) ∷ [];
+      starts (codes "P1") 10 0 (Semaphore (KindService 0 (Wait Infinite)) ∷ [])
+      ∷ starts (codes "P2") 10 1
+      (Process (KindService 0 Suspend) ∷ Semaphore (KindService 0 Signal) ∷ Process (GetStatus 0)
+      ∷ Process (KindService 0 Resume) ∷ Process (GetStatus 0) ∷ []) ∷ [];
   semaphores = (record { name = codes "S"; maximum = 1; initial = 0; discipline = Fifo }) ∷ [];
   buffers = [];
   blackboards = [];
-  events = [];
+  event_flags = [];
   mutexes = [];
   init = waiter_and_signaller.init;
 }
@@ -311,11 +332,12 @@ self_suspender = record {
   cores = 1;
   limit = usual_entries;
   processes =
-      starts (codes "A") 10 0 (Caller (SuspendSelf (Ticks 3)) ∷ Caller (SuspendSelf Poll) ∷ []) ∷ [];
+      starts (codes "A") 10 0 (Caller (SuspendSelf (Ticks 3)) ∷ Caller (SuspendSelf Poll) ∷ [])
+      ∷ [];
   semaphores = [];
   buffers = [];
   blackboards = [];
-  events = [];
+  event_flags = [];
   mutexes = [];
   init = empty_script.init;
 }
@@ -350,7 +372,7 @@ periodic_process = record {
   semaphores = [];
   buffers = [];
   blackboards = [];
-  events = [];
+  event_flags = [];
   mutexes = [];
   init = empty_script.init;
 }
@@ -358,7 +380,8 @@ periodic_process = record {
 -- a missed deadline has its notice, and a late wait ends at the next whole period
 abbrev pub MissedDeadlineThenNextRelease : Type 0
 MissedDeadlineThenNextRelease =
-    history_lines periodic_process (replicate 4 (Turn 0) ++ Tick 23 ∷ Tick 19 ∷ Turn 0 ∷ Tick 9 ∷ Turn 0 ∷ [])
+    history_lines periodic_process
+    (replicate 4 (Turn 0) ++ Tick 23 ∷ Tick 19 ∷ Turn 0 ∷ Tick 9 ∷ Turn 0 ∷ [])
     ≡ text (
     codes "1 0 core0 init CREATE_PROCESS A -> NO_ERROR"
     ∷ codes "2 0 core0 init INITIALIZE_PROCESS_CORE_AFFINITY A 0 -> NO_ERROR"
@@ -378,25 +401,28 @@ worker_and_disturber = record {
   limit = usual_entries;
   processes =
       starts (codes "A") 10 0 (Work 3 ∷ [])
-      ∷ starts (codes "H") 20 0 (Semaphore (Own 0 (Wait Infinite)) ∷ [])
-      ∷ starts (codes "K") 10 1 (Semaphore (Own 0 Signal) ∷ Process (Own 1 Stop) ∷ []) ∷ [];
+      ∷ starts (codes "H") 20 0 (Semaphore (KindService 0 (Wait Infinite)) ∷ [])
+      ∷ starts (codes "K") 10 1
+      (Semaphore (KindService 0 Signal) ∷ Process (KindService 1 Stop) ∷ []) ∷ [];
   semaphores = (record { name = codes "S"; maximum = 1; initial = 0; discipline = Fifo }) ∷ [];
   buffers = [];
   blackboards = [];
-  events = [];
+  event_flags = [];
   mutexes = [];
   init = bares (
       Semaphore (Create (Known 0))
       ∷ Process (Create (Known 0)) ∷ Process (Create (Known 1)) ∷ Process (Create (Known 2))
-      ∷ Process (Own 2 (InitializeCoreAffinity 1))
-      ∷ Process (Own 0 Start) ∷ Process (Own 1 Start) ∷ Process (Own 2 Start)
+      ∷ Process (KindService 2 (InitializeCoreAffinity 1))
+      ∷ Process (KindService 0 Start) ∷ Process (KindService 1 Start)
+      ∷ Process (KindService 2 Start)
       ∷ Partition (SetPartitionMode Normal) ∷ []);
 }
 
 -- work is lost whose process lost the core meanwhile, and is then begun anew
 abbrev pub WorkIsLostAfterAbsence : Type 0
 WorkIsLostAfterAbsence =
-    history_lines worker_and_disturber (replicate 11 (Turn 0) ++ replicate 2 (Turn 1) ++ replicate 3 (Turn 0))
+    history_lines worker_and_disturber
+    (replicate 11 (Turn 0) ++ replicate 2 (Turn 1) ++ replicate 3 (Turn 0))
     ≡ text (
     codes "1 0 core0 init CREATE_SEMAPHORE S -> NO_ERROR"
     ∷ codes "2 0 core0 init CREATE_PROCESS A -> NO_ERROR"
@@ -422,17 +448,18 @@ own_init_list = record {
   cores = 1;
   limit = usual_entries;
   processes =
-      starts (codes "P") 10 0 (Process (Create (Known 0)) ∷ Partition (SetPartitionMode Idle) ∷ []) ∷ [];
+      starts (codes "P") 10 0 (Process (Create (Known 0)) ∷ Partition (SetPartitionMode Idle) ∷ [])
+      ∷ [];
   semaphores = [];
   buffers = [];
   blackboards = [];
-  events = [];
+  event_flags = [];
   mutexes = [];
   init =
       bares (Process (Create (Known 0)) ∷ Process (Create (Known 0)) ∷ [])
       ++ (record { call = Process (Create (Unknown (Init 2))); literal = codes "Q" })
       ∷ bares (
-      Process (Own 0 (InitializeCoreAffinity 1)) ∷ Process (Own 0 Start)
+      Process (KindService 0 (InitializeCoreAffinity 1)) ∷ Process (KindService 0 Start)
       ∷ Partition (SetPartitionMode Normal) ∷ []);
 }
 

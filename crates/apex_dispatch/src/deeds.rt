@@ -1,16 +1,17 @@
 //! The effect of a turn: an init step, the step of the chosen process, the end of its work, or
 //! nothing.
 ghost use Rattle.std.specs.Prelude.{◌≡◌, ◌<◌, ◌≤◌, length, Some};
-ghost use Rattle.apex_types.specs.Limits.{most_processes, most_steps};
+ghost use Rattle.apex_types.specs.values.Limits.{most_processes, most_steps};
 ghost use Rattle.std.specs.Option.{ForSome};
-ghost use Rattle.apex_types.specs.Calls.{is_work};
-ghost use Rattle.apex_types.specs.Callers.{IsReady, IsReadyCaller};
-ghost use Rattle.apex_types.specs.Dues.{HasTime};
-ghost use Rattle.apex_types.specs.Machine.{chosen_deed, move_on, next_place, served, turn_deed};
-ghost use Rattle.apex_types.specs.Periods.{HasNoFutureRelease};
-ghost use Rattle.apex_types.specs.Stamps.{HasManyStamps, HasOrderlyStarts};
-ghost use Rattle.apex_types.specs.Table.{IsKnown};
-ghost use Rattle.apex_types.specs.Works.{work_begun};
+ghost use Rattle.apex_types.specs.services.Calls.{is_work};
+ghost use Rattle.apex_types.specs.services.Callers.{IsReady, IsReadyCaller};
+ghost use Rattle.apex_types.specs.services.Premises.{CanServe};
+ghost use Rattle.apex_types.specs.processes.Dues.{HasTime};
+ghost use Rattle.apex_types.specs.machine.Machine.{chosen_deed, move_on, next_place, served, turn_deed};
+ghost use Rattle.apex_types.specs.processes.Periods.{HasNoFutureRelease};
+ghost use Rattle.apex_types.specs.processes.Stamps.{HasManyStamps, HasOrderlyStarts};
+ghost use Rattle.apex_types.specs.table.Table.{IsKnown};
+ghost use Rattle.apex_types.specs.machine.Works.{work_begun};
 ghost use Rattle.apex_dispatch.specs.Deeds.{Does};
 ghost use Rattle.apex_dispatch.specs.Premises.{AreOf, IsKnownTo};
 
@@ -56,15 +57,12 @@ fn ask<S: Store>(
     call: Call,
     notices: &mut Notices,
 ) -> Deed
-    requires few { length (S.roster store.old).records ≤ most_processes }
     requires many { length objects.old.processes ≡ length (S.roster store.old).records }
     requires caller { IsReadyCaller (S.roster store.old) caller }
     requires known { IsKnownTo objects.old call }
     requires starts { HasOrderlyStarts (S.roster store.old) }
-    requires stamps { HasManyStamps (S.roster store.old) }
-    requires time { HasTime (S.roster store.old) }
+    requires can { CanServe (S.roster store.old) notices.old }
     requires releases { HasNoFutureRelease (S.roster store.old) }
-    requires room { length notices.old ≤ most_processes }
     ensures { Does (served (S.roster store.old) objects.old caller call)
         result.caller result.call result.reply (S.roster store.new) objects.new notices.old notices.new }
 {
@@ -123,10 +121,8 @@ fn carry_out_step<S: Store>(
     requires records { length (S.roster store.old).records ≡ length table.now.processes }
     requires objects { AreOf table.now objects.old }
     requires starts { HasOrderlyStarts (S.roster store.old) }
-    requires stamps { HasManyStamps (S.roster store.old) }
-    requires time { HasTime (S.roster store.old) }
+    requires can { CanServe (S.roster store.old) notices.old }
     requires releases { HasNoFutureRelease (S.roster store.old) }
-    requires room { length notices.old ≤ most_processes }
     ensures { Does (chosen_deed table.now (S.roster store.old) objects.old (Some process))
         result.caller result.call result.reply (S.roster store.new) objects.new notices.old notices.new }
 {
@@ -166,10 +162,8 @@ pub(crate) fn carry_out<S: Store>(
     requires records { length (S.roster store.old).records ≡ length table.now.processes }
     requires objects { AreOf table.now objects.old }
     requires starts { HasOrderlyStarts (S.roster store.old) }
-    requires stamps { HasManyStamps (S.roster store.old) }
-    requires time { HasTime (S.roster store.old) }
+    requires can { CanServe (S.roster store.old) notices.old }
     requires releases { HasNoFutureRelease (S.roster store.old) }
-    requires room { length notices.old ≤ most_processes }
     ensures { Does (turn_deed table.now (S.roster store.old) objects.old core begun due)
         result.caller result.call result.reply (S.roster store.new) objects.new notices.old notices.new }
 {

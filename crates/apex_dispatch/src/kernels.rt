@@ -1,16 +1,16 @@
 //! The kernel of one partition: boot, turn, tick and run.
 ghost use Rattle.std.specs.Prelude.{◌≡◌, ◌<◌, ◌≤◌, ◌↔◌, ◌+◌, ◌^◌, [], ◌∷◌, ◌++◌, length, ◌&&◌, ◌==◌, if◌then◌else◌, None, Some, option_map, slice_get, All, IfOk, IfErr, OnOk, OnErr, IsOk};
 ghost use Rattle.std.specs.Io.KnownBytes.{Appends};
-ghost use Rattle.apex_types.specs.BufferServices.{BufferObject};
-ghost use Rattle.apex_types.specs.Callers.{is_by_init};
-ghost use Rattle.apex_types.specs.Limits.{latest, most_entries, most_ticks};
-ghost use Rattle.apex_types.specs.Roster.{opening_roster, is_cold_start};
+ghost use Rattle.apex_types.specs.services.BufferServices.{BufferObject};
+ghost use Rattle.apex_types.specs.services.Callers.{is_by_init};
+ghost use Rattle.apex_types.specs.values.Limits.{latest, most_entries, most_ticks};
+ghost use Rattle.apex_types.specs.processes.Roster.{opening_roster, is_cold_start};
 ghost use Rattle.apex_calls.specs.Lines.{IsPrintable};
-ghost use Rattle.apex_types.specs.Listing.{listing, listing_of};
-ghost use Rattle.apex_types.specs.Machine.{opening, turn, tick, happen, run, replay, events_of};
-ghost use Rattle.apex_types.specs.SemaphoreServices.{SemaphoreObject};
-ghost use Rattle.apex_types.specs.Table.{IsLawful, call_in};
-ghost use Rattle.apex_types.specs.Distinct.{HasDistinctStamps};
+ghost use Rattle.apex_types.specs.text.Listing.{listing, listing_of};
+ghost use Rattle.apex_types.specs.machine.Machine.{opening, accept, turn, tick, run, replay, events_of};
+ghost use Rattle.apex_types.specs.services.SemaphoreServices.{SemaphoreObject};
+ghost use Rattle.apex_types.specs.table.Table.{IsLawful, call_in};
+ghost use Rattle.apex_types.specs.values.Distinct.{HasDistinctStamps};
 ghost use Rattle.apex_history.specs.Counted.{inner_of, failures_of, CountsFailure, AppendsBeginning};
 ghost use Rattle.apex_dispatch.specs.Events.{IsWithin};
 ghost use Rattle.apex_dispatch.specs.Kernel.{kernel_in};
@@ -57,7 +57,8 @@ impl<S: Store> Model for Kernel<S> {
 
 /// The init step that is due in a turn of the core, after `init_made` init steps.
 fn due_call<S: Store>(table: &Table, store: &S, init_made: usize, core: CoreId) -> Option<Call>
-    ensures { result ≡ (if is_cold_start (S.roster store.now).mode && core == 0 then call_in table.now.init init_made else None) }
+    ensures { result ≡ (if is_cold_start (S.roster store.now).mode && core == 0
+        then call_in table.now.init init_made else None) }
 {
     if store.mode() == Mode::ColdStart && core.number() == 0 {
         table.init_call(init_made)
@@ -79,7 +80,8 @@ fn steps_by(caller: &Caller) -> usize
 /// Refuses an event if the history has no room for its entry.
 fn refuse_full(log: &Log) -> Result<(), Full>
     ensures accepted { IsOk result ↔ (length log.now.entries < log.now.limit) }
-    ensures full { IfErr result (λ e. (e.entries ≡ length log.now.entries) × (e.entries ≡ log.now.limit)) }
+    ensures full { IfErr result (λ e. (e.entries ≡ length log.now.entries)
+        × (e.entries ≡ log.now.limit)) }
 {
     if log.is_full() {
         Err(Full {
@@ -94,7 +96,7 @@ fn refuse_full(log: &Log) -> Result<(), Full>
 #[inline(always)]
 fn append<S: Store>(log: &mut Log, store: &S, who: Who, deed: Deed, notices: &Notices)
     requires room { length log.old.entries < log.old.limit }
-    requires few { log.old.limit ≤ most_entries }
+    requires few_entries { log.old.limit ≤ most_entries }
     ensures entries { log.new.entries ≡ log.old.entries ++ record {
       number = length log.old.entries + 1;
       now = (S.roster store.now).now;
@@ -144,9 +146,11 @@ impl<S: Store> Kernel<S> {
     pub fn turn(&mut self, core: CoreId) -> Result<(), Full>
         requires { core < self.old.table.cores }
         ensures accepted { IsOk result ↔ (length self.old.machine.history < self.old.table.limit) }
-        ensures done { OnOk result (self.new ≡ kernel_in self.old.table (turn self.old.table self.old.machine core)) }
+        ensures done { OnOk result
+            (self.new ≡ kernel_in self.old.table (turn self.old.table self.old.machine core)) }
         ensures refused { OnErr result (self.new ≡ self.old) }
-        ensures full { IfErr result (λ e. (e.entries ≡ length self.old.machine.history) × (e.entries ≡ self.old.table.limit)) }
+        ensures full { IfErr result (λ e. (e.entries ≡ length self.old.machine.history)
+            × (e.entries ≡ self.old.table.limit)) }
     {
         refuse_full(&self.log)?;
         let due = due_call(&self.table, &self.store, self.init_made, core);
@@ -179,9 +183,11 @@ impl<S: Store> Kernel<S> {
     pub fn tick(&mut self, n: u32) -> Result<(), Full>
         requires range { (1 ≤ n) × (n ≤ most_ticks) }
         ensures accepted { IsOk result ↔ (length self.old.machine.history < self.old.table.limit) }
-        ensures done { OnOk result (self.new ≡ kernel_in self.old.table (tick self.old.table self.old.machine n)) }
+        ensures done { OnOk result
+            (self.new ≡ kernel_in self.old.table (tick self.old.table self.old.machine n)) }
         ensures refused { OnErr result (self.new ≡ self.old) }
-        ensures full { IfErr result (λ e. (e.entries ≡ length self.old.machine.history) × (e.entries ≡ self.old.table.limit)) }
+        ensures full { IfErr result (λ e. (e.entries ≡ length self.old.machine.history)
+            × (e.entries ≡ self.old.table.limit)) }
     {
         refuse_full(&self.log)?;
         self.notices.clear();
@@ -196,14 +202,19 @@ impl<S: Store> Kernel<S> {
         Ok(())
     }
 
-    /// One event, whole.
-    fn accept(&mut self, event: Event) -> Result<(), Full>
+    /// The event, if the history has room for it: its turn or its tick. Otherwise it is answered
+    /// `Full`, and nothing changes.
+    #[tactic(auto, using(crate::proofs::Runs::accepts))]
+    pub fn accept(&mut self, event: Event) -> Result<(), Full>
         requires { IsWithin self.old.table.cores event }
         ensures accepted { IsOk result ↔ (length self.old.machine.history < self.old.table.limit) }
-        ensures done { OnOk result (self.new ≡ kernel_in self.old.table (happen self.old.table self.old.machine event)) }
+        ensures done { self.new
+            ≡ kernel_in self.old.table (accept self.old.table self.old.machine event) }
         ensures refused { OnErr result (self.new ≡ self.old) }
-        ensures full { IfErr result (λ e. (e.entries ≡ length self.old.machine.history) × (e.entries ≡ self.old.table.limit)) }
+        ensures full { IfErr result (λ e. (e.entries ≡ length self.old.machine.history)
+            × (e.entries ≡ self.old.table.limit)) }
     {
+        self.holds();
         match event {
             Event::Turn(core) => self.turn(core),
             Event::Tick(n) => self.tick(n),
@@ -218,7 +229,8 @@ impl<S: Store> Kernel<S> {
         ensures done { self.new ≡ kernel_in self.old.table
             (run self.old.table (opening self.old.table)
             (events_of self.old.machine.history ++ events.now)) }
-        ensures accepted { IsOk result ↔ (length self.old.machine.history + length events.now ≤ self.old.table.limit) }
+        ensures accepted { IsOk result ↔ (length self.old.machine.history + length events.now
+            ≤ self.old.table.limit) }
         ensures full { IfErr result (λ e. e.entries ≡ self.old.table.limit) }
     {
         self.holds();
@@ -264,7 +276,8 @@ impl<S: Store> Kernel<S> {
 
     /// The listing of the partition.
     fn listing(&self) -> Listing<'_, S>
-        ensures { listing_of result.table result.roster result.objects result.entries ≡ listing self.now.table self.now.machine }
+        ensures { listing_of result.table result.roster result.objects result.entries
+            ≡ listing self.now.table self.now.machine }
     {
         let _cores = self.store.cores();
         Listing {
@@ -281,8 +294,12 @@ impl<S: Store> Kernel<S> {
     /// If a write failed, a prefix of the listing was written. The text that the page held before
     /// is forgotten.
     pub fn print_status<W: Sink>(&self, page: &mut Page, writer: &mut Counted<W>) -> io::Result<()>
-        ensures ok { OnOk result (Appends (W.contents (inner_of writer.old)) (W.contents (inner_of writer.new)) (listing self.now.table self.now.machine)) }
-        ensures err { OnErr result (AppendsBeginning (W.contents (inner_of writer.old)) (W.contents (inner_of writer.new)) (listing self.now.table self.now.machine)) }
+        ensures ok { OnOk result
+            (Appends (W.contents (inner_of writer.old)) (W.contents (inner_of writer.new))
+            (listing self.now.table self.now.machine)) }
+        ensures err { OnErr result
+            (AppendsBeginning (W.contents (inner_of writer.old)) (W.contents (inner_of writer.new))
+            (listing self.now.table self.now.machine)) }
         ensures empty { page.new ≡ [] }
         ensures counted { CountsFailure result (failures_of writer.old) (failures_of writer.new) }
     {
@@ -298,7 +315,8 @@ impl<S: Store> Kernel<S> {
 
     /// The value of the semaphore, created or not. None if the table has no such semaphore.
     pub fn semaphore_value(&self, semaphore: SemaphoreId) -> Option<u16>
-        ensures { result ≡ option_map (λ (s : SemaphoreObject). s.value) (slice_get self.now.objects.semaphores semaphore) }
+        ensures { result ≡ option_map (λ (s : SemaphoreObject). s.value)
+            (slice_get self.now.objects.semaphores semaphore) }
     {
         match self.objects.semaphores.get(semaphore.place()) {
             Some(semaphore) => Some(semaphore.value()),
@@ -308,7 +326,8 @@ impl<S: Store> Kernel<S> {
 
     /// The number of messages that the buffer holds. None if the table has no such buffer.
     pub fn message_count(&self, buffer: BufferId) -> Option<usize>
-        ensures { result ≡ option_map (λ (b : BufferObject). length b.messages) (slice_get self.now.objects.buffers buffer) }
+        ensures { result ≡ option_map (λ (b : BufferObject). length b.messages)
+            (slice_get self.now.objects.buffers buffer) }
     {
         match self.objects.buffers.get(buffer.place()) {
             Some(buffer) => Some(buffer.messages().len()),

@@ -2,7 +2,7 @@
 //! nothing.
 
 ghost use Rattle.std.specs.Prelude.{All};
-ghost use Rattle.apex_types.specs.Dues.{HasNoPastDeadline, HasNoPastDue};
+ghost use Rattle.apex_types.specs.processes.Dues.{HasNoPastDeadline, HasNoPastDue};
 ghost use Rattle.apex_store.specs.Laws.{RunsMostUrgent, FirstWaiterIsFirst};
 ghost use Rattle.apex_dispatch.specs.Laws.{AreInRange, HardMissesStop, HistoriesReplay, IsWithinItsMaximum, MutexesAreOwnedInOrder, NobodyWaitsInVain, ReleasesLieInPeriods, RunsCompose, RunsStayWithin, TimeGoesForward, ValuesStayInRange, WasNeverLater, WorkersStay};
 ghost use Rattle.apex_dispatch.specs.States.{EachHasOneState};

@@ -2,8 +2,8 @@
 ghost use Rattle.std.specs.Prelude.{◌≡◌, ◌<◌, ◌++◌, [], length, OnOk, OnErr};
 ghost use Rattle.std.specs.Io.KnownBytes.{Appends};
 ghost use Rattle.apex_types.specs.declared.Queue.TheVariants as queues;
-ghost use Rattle.apex_types.specs.Owners.{owner};
-ghost use Rattle.apex_types.specs.Listing.{listing_of, waiters, owned_depth, core_listing, process_listing, semaphore_listing, buffer_listing, blackboard_listing, event_listing, mutex_listing};
+ghost use Rattle.apex_types.specs.processes.Owners.{owner};
+ghost use Rattle.apex_types.specs.text.Listing.{listing_of, waiters, owned_depth, core_listing, process_listing, semaphore_listing, buffer_listing, blackboard_listing, event_flag_listing, mutex_listing};
 ghost use Rattle.apex_history.specs.Counted.{inner_of, failures_of, CountsFailure, AppendsBeginning};
 ghost use Rattle.apex_history.specs.Page.{Passes};
 ghost use Rattle.apex_history.specs.StatusRows.{row_text};
@@ -31,7 +31,7 @@ pub(crate) enum Section {
     Semaphores,
     Buffers,
     Blackboards,
-    Events,
+    EventFlags,
     Mutexes,
 }
 
@@ -45,7 +45,7 @@ const SECTIONS: [Section; 10] = [
     Section::Semaphores,
     Section::Buffers,
     Section::Blackboards,
-    Section::Events,
+    Section::EventFlags,
     Section::Mutexes,
 ];
 
@@ -91,7 +91,7 @@ impl<'a, S: Store> Listing<'a, S> {
             Section::Semaphores => self.table.semaphore_count(),
             Section::Buffers => self.table.buffer_count(),
             Section::Blackboards => self.table.blackboard_count(),
-            Section::Events => self.table.event_count(),
+            Section::EventFlags => self.table.event_flag_count(),
             Section::Mutexes => self.table.mutex_count(),
         }
     }
@@ -111,7 +111,10 @@ impl<'a, S: Store> Listing<'a, S> {
                 self.store,
                 &Queue::Blackboard(BlackboardId::at(place as u8)),
             ),
-            Section::Events => waiters_in(self.store, &Queue::Event(EventId::at(place as u8))),
+            Section::EventFlags => waiters_in(
+                self.store,
+                &Queue::EventFlag(EventId::at(place as u8)),
+            ),
             Section::Mutexes => waiters_in(self.store, &Queue::Mutex(MutexId::at(place as u8))),
             _ => Waiters::new(),
         }
@@ -120,7 +123,8 @@ impl<'a, S: Store> Listing<'a, S> {
     /// The row of a process, if it is created.
     fn process(&self, process: ProcessId) -> Option<StatusRow<'a>>
         requires { process < length self.now.table.processes }
-        ensures { Tells self.now.table result (process_listing self.now.table self.now.roster self.now.objects process) }
+        ensures { Tells self.now.table result
+            (process_listing self.now.table self.now.roster self.now.objects process) }
     {
         let _messages: &[Message] = &[];
         let objects = self.objects;
@@ -138,7 +142,8 @@ impl<'a, S: Store> Listing<'a, S> {
     fn semaphore<'r>(&self, semaphore: SemaphoreId, waiting: &'r Waiters) -> Option<StatusRow<'r>>
         requires known { semaphore < length self.now.table.semaphores }
         requires waiting { waiting.now ≡ waiters self.now.roster (queues.Semaphore semaphore) }
-        ensures { Tells self.now.table result (semaphore_listing self.now.table self.now.roster self.now.objects semaphore) }
+        ensures { Tells self.now.table result
+            (semaphore_listing self.now.table self.now.roster self.now.objects semaphore) }
     {
         let _messages: &[Message] = &[];
         let objects = self.objects;
@@ -157,7 +162,8 @@ impl<'a, S: Store> Listing<'a, S> {
     fn buffer<'r>(&'r self, buffer: BufferId, waiting: &'r Waiters) -> Option<StatusRow<'r>>
         requires known { buffer < length self.now.table.buffers }
         requires waiting { waiting.now ≡ waiters self.now.roster (queues.Buffer buffer) }
-        ensures { Tells self.now.table result (buffer_listing self.now.table self.now.roster self.now.objects buffer) }
+        ensures { Tells self.now.table result
+            (buffer_listing self.now.table self.now.roster self.now.objects buffer) }
     {
         let objects = self.objects;
         let object = &objects.buffers[buffer.place()];
@@ -179,7 +185,8 @@ impl<'a, S: Store> Listing<'a, S> {
     ) -> Option<StatusRow<'r>>
         requires known { blackboard < length self.now.table.blackboards }
         requires waiting { waiting.now ≡ waiters self.now.roster (queues.Blackboard blackboard) }
-        ensures { Tells self.now.table result (blackboard_listing self.now.table self.now.roster self.now.objects blackboard) }
+        ensures { Tells self.now.table result
+            (blackboard_listing self.now.table self.now.roster self.now.objects blackboard) }
     {
         let _messages: &[Message] = &[];
         let objects = self.objects;
@@ -194,20 +201,21 @@ impl<'a, S: Store> Listing<'a, S> {
         })
     }
 
-    /// The row of an event, if it is created.
-    fn event<'r>(&self, event: EventId, waiting: &'r Waiters) -> Option<StatusRow<'r>>
-        requires known { event < length self.now.table.events }
-        requires waiting { waiting.now ≡ waiters self.now.roster (queues.Event event) }
-        ensures { Tells self.now.table result (event_listing self.now.table self.now.roster self.now.objects event) }
+    /// The row of an event flag, if it is created.
+    fn event_flag<'r>(&self, event_flag: EventId, waiting: &'r Waiters) -> Option<StatusRow<'r>>
+        requires known { event_flag < length self.now.table.event_flags }
+        requires waiting { waiting.now ≡ waiters self.now.roster (queues.EventFlag event_flag) }
+        ensures { Tells self.now.table result
+            (event_flag_listing self.now.table self.now.roster self.now.objects event_flag) }
     {
         let _messages: &[Message] = &[];
         let objects = self.objects;
-        let object = &objects.events[event.place()];
+        let object = &objects.event_flags[event_flag.place()];
         if !object.is_created() {
             return None;
         }
-        Some(StatusRow::Event {
-            event,
+        Some(StatusRow::EventFlag {
+            event_flag,
             up: object.is_up(),
             waiting: waiting.as_slice(),
         })
@@ -230,7 +238,8 @@ impl<'a, S: Store> Listing<'a, S> {
     fn mutex<'r>(&self, mutex: MutexId, waiting: &'r Waiters) -> Option<StatusRow<'r>>
         requires known { mutex < length self.now.table.mutexes }
         requires waiting { waiting.now ≡ waiters self.now.roster (queues.Mutex mutex) }
-        ensures { Tells self.now.table result (mutex_listing self.now.table self.now.roster self.now.objects mutex) }
+        ensures { Tells self.now.table result
+            (mutex_listing self.now.table self.now.roster self.now.objects mutex) }
     {
         let _messages: &[Message] = &[];
         let objects = self.objects;
@@ -278,7 +287,7 @@ impl<'a, S: Store> Listing<'a, S> {
             Section::Semaphores => self.semaphore(SemaphoreId::at(place as u8), waiting),
             Section::Buffers => self.buffer(BufferId::at(place as u8), waiting),
             Section::Blackboards => self.blackboard(BlackboardId::at(place as u8), waiting),
-            Section::Events => self.event(EventId::at(place as u8), waiting),
+            Section::EventFlags => self.event_flag(EventId::at(place as u8), waiting),
             Section::Mutexes => self.mutex(MutexId::at(place as u8), waiting),
         }
     }
@@ -292,9 +301,13 @@ impl<'a, S: Store> Listing<'a, S> {
         writer: &mut Counted<W>,
     ) -> Result<()>
         requires { place < thing_count self.now section }
-        ensures ok { OnOk result (Passes (W.contents (inner_of writer.old)) (W.contents (inner_of writer.new)) (page.old ++ thing_text self.now section place) page.new) }
+        ensures ok { OnOk result
+            (Passes (W.contents (inner_of writer.old)) (W.contents (inner_of writer.new))
+            (page.old ++ thing_text self.now section place) page.new) }
         ensures empty { OnErr result (page.new ≡ []) }
-        ensures err { OnErr result (AppendsBeginning (W.contents (inner_of writer.old)) (W.contents (inner_of writer.new)) (page.old ++ thing_text self.now section place)) }
+        ensures err { OnErr result
+            (AppendsBeginning (W.contents (inner_of writer.old)) (W.contents (inner_of writer.new))
+            (page.old ++ thing_text self.now section place)) }
         ensures counted { CountsFailure result (failures_of writer.old) (failures_of writer.new) }
     {
         let waiting = self.waiting(section, place);
@@ -311,9 +324,13 @@ impl<'a, S: Store> Listing<'a, S> {
         page: &mut Page,
         writer: &mut Counted<W>,
     ) -> Result<()>
-        ensures ok { OnOk result (Passes (W.contents (inner_of writer.old)) (W.contents (inner_of writer.new)) (page.old ++ section_text self.now section) page.new) }
+        ensures ok { OnOk result
+            (Passes (W.contents (inner_of writer.old)) (W.contents (inner_of writer.new))
+            (page.old ++ section_text self.now section) page.new) }
         ensures empty { OnErr result (page.new ≡ []) }
-        ensures err { OnErr result (AppendsBeginning (W.contents (inner_of writer.old)) (W.contents (inner_of writer.new)) (page.old ++ section_text self.now section)) }
+        ensures err { OnErr result
+            (AppendsBeginning (W.contents (inner_of writer.old)) (W.contents (inner_of writer.new))
+            (page.old ++ section_text self.now section)) }
         ensures counted { CountsFailure result (failures_of writer.old) (failures_of writer.new) }
     {
         for place in 0..self.count(section) {
@@ -327,8 +344,12 @@ impl<'a, S: Store> Listing<'a, S> {
     ///
     /// If a write failed, a prefix of the listing was written.
     pub(crate) fn print<W: Sink>(&self, page: &mut Page, writer: &mut Counted<W>) -> Result<()>
-        ensures ok { OnOk result (Appends (W.contents (inner_of writer.old)) (W.contents (inner_of writer.new)) (listing_of self.now.table self.now.roster self.now.objects self.now.entries)) }
-        ensures err { OnErr result (AppendsBeginning (W.contents (inner_of writer.old)) (W.contents (inner_of writer.new)) (listing_of self.now.table self.now.roster self.now.objects self.now.entries)) }
+        ensures ok { OnOk result
+            (Appends (W.contents (inner_of writer.old)) (W.contents (inner_of writer.new))
+            (listing_of self.now.table self.now.roster self.now.objects self.now.entries)) }
+        ensures err { OnErr result
+            (AppendsBeginning (W.contents (inner_of writer.old)) (W.contents (inner_of writer.new))
+            (listing_of self.now.table self.now.roster self.now.objects self.now.entries)) }
         ensures empty { page.new ≡ [] }
         ensures counted { CountsFailure result (failures_of writer.old) (failures_of writer.new) }
     {

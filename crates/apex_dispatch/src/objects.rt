@@ -1,10 +1,10 @@
 //! The running values of a partition's objects.
 ghost use Rattle.std.specs.Prelude.{◌≡◌, [], IfOk, false};
-ghost use Rattle.apex_types.specs.Machine.{objects_after};
+ghost use Rattle.apex_types.specs.machine.Machine.{objects_after};
 
 use crate::services::ProcessObject;
 use apex_buffer::Buffer;
-use apex_flags::{Blackboard, Event};
+use apex_flags::{Blackboard, EventFlag};
 use apex_mutex::Mutex;
 use apex_semaphore::Semaphore;
 use apex_table::Table;
@@ -20,12 +20,12 @@ pub(crate) struct Objects {
     pub(crate) semaphores: Vec<Semaphore>,
     pub(crate) buffers: Vec<Buffer>,
     pub(crate) blackboards: Vec<Blackboard>,
-    pub(crate) events: Vec<Event>,
+    pub(crate) event_flags: Vec<EventFlag>,
     pub(crate) mutexes: Vec<Mutex>,
 }
 
 impl Model for Objects {
-    ghost use Rattle.apex_types.specs.Machine.{Objects};
+    ghost use Rattle.apex_types.specs.machine.Machine.{Objects};
 
     ghost Value = { Objects };
 
@@ -34,7 +34,7 @@ impl Model for Objects {
       semaphores = o.semaphores.items;
       buffers = o.buffers.items;
       blackboards = o.blackboards.items;
-      events = o.events.items;
+      event_flags = o.event_flags.items;
       mutexes = o.mutexes.items;
     } };
 }
@@ -83,14 +83,14 @@ fn blackboards_before(alloc: Global, table: &Table) -> Result<Vec<Blackboard>, A
     Ok(blackboards)
 }
 
-fn events_before(alloc: Global, table: &Table) -> Result<Vec<Event>, AllocError>
-    ensures { IfOk result (λ v. v.items ≡ (objects_after table.now []).events) }
+fn event_flags_before(alloc: Global, table: &Table) -> Result<Vec<EventFlag>, AllocError>
+    ensures { IfOk result (λ v. v.items ≡ (objects_after table.now []).event_flags) }
 {
-    let mut events = Vec::with_capacity(alloc, table.event_count())?;
-    for place in 0..table.event_count() {
-        events.push(Event::new())?;
+    let mut event_flags = Vec::with_capacity(alloc, table.event_flag_count())?;
+    for place in 0..table.event_flag_count() {
+        event_flags.push(EventFlag::new())?;
     }
-    Ok(events)
+    Ok(event_flags)
 }
 
 fn mutexes_before(alloc: Global, table: &Table) -> Result<Vec<Mutex>, AllocError>
@@ -112,14 +112,14 @@ impl Objects {
         let semaphores = semaphores_before(alloc, table)?;
         let buffers = buffers_before(alloc, table)?;
         let blackboards = blackboards_before(alloc, table)?;
-        let events = events_before(alloc, table)?;
+        let event_flags = event_flags_before(alloc, table)?;
         let mutexes = mutexes_before(alloc, table)?;
         Ok(Objects {
             processes,
             semaphores,
             buffers,
             blackboards,
-            events,
+            event_flags,
             mutexes,
         })
     }

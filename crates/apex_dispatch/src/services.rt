@@ -1,13 +1,14 @@
 //! The services, a room for each kind.
 
 ghost use Rattle.std.specs.Prelude.{◌≡◌, ◌≤◌, length};
-ghost use Rattle.apex_types.specs.Limits.{most_processes};
-ghost use Rattle.apex_types.specs.Callers.{IsReadyCaller};
-ghost use Rattle.apex_types.specs.Dues.{HasTime};
-ghost use Rattle.apex_types.specs.Machine.{service};
-ghost use Rattle.apex_types.specs.Periods.{HasNoFutureRelease};
-ghost use Rattle.apex_types.specs.Rows.{Leaves};
-ghost use Rattle.apex_types.specs.Stamps.{HasManyStamps, HasOrderlyStarts};
+ghost use Rattle.apex_types.specs.values.Limits.{most_processes};
+ghost use Rattle.apex_types.specs.services.Callers.{IsReadyCaller};
+ghost use Rattle.apex_types.specs.processes.Dues.{HasTime};
+ghost use Rattle.apex_types.specs.machine.Machine.{service};
+ghost use Rattle.apex_types.specs.processes.Periods.{HasNoFutureRelease};
+ghost use Rattle.apex_types.specs.services.Rows.{Leaves};
+ghost use Rattle.apex_types.specs.services.Premises.{CanServe};
+ghost use Rattle.apex_types.specs.processes.Stamps.{HasManyStamps, HasOrderlyStarts};
 ghost use Rattle.apex_dispatch.specs.Premises.{IsKnownTo};
 
 use crate::objects::Objects;
@@ -31,15 +32,12 @@ pub(crate) fn serve<S: Store>(
     call: &Call,
     notices: &mut Notices,
 ) -> Reply
-    requires few { length (S.roster store.old).records ≤ most_processes }
     requires many { length objects.old.processes ≡ length (S.roster store.old).records }
     requires caller { IsReadyCaller (S.roster store.old) caller.now }
     requires known { IsKnownTo objects.old call.now }
     requires starts { HasOrderlyStarts (S.roster store.old) }
-    requires stamps { HasManyStamps (S.roster store.old) }
-    requires time { HasTime (S.roster store.old) }
+    requires can { CanServe (S.roster store.old) notices.old }
     requires releases { HasNoFutureRelease (S.roster store.old) }
-    requires room { length notices.old ≤ most_processes }
     ensures { Leaves (service (S.roster store.old) objects.old caller.now call.now)
         (S.roster store.new) objects.new result notices.old notices.new }
 {
@@ -55,7 +53,13 @@ pub(crate) fn serve<S: Store>(
         Call::Blackboard(call) => {
             serve_object(store, &mut objects.blackboards, caller, call, notices)
         }
-        Call::Event(call) => serve_object(store, &mut objects.events, caller, call, notices),
+        Call::EventFlag(call) => serve_object(
+            store,
+            &mut objects.event_flags,
+            caller,
+            call,
+            notices,
+        ),
         Call::Mutex(call) => serve_object(store, &mut objects.mutexes, caller, call, notices),
         Call::Work(_) => Reply::Begun,
     }

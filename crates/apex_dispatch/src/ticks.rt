@@ -1,13 +1,13 @@
 //! The effect of a tick: time goes on to the next instant at the latest, and there deadlines are
 //! missed and waits end.
 ghost use Rattle.std.specs.Prelude.{◌≡◌, ◌+◌, ◌-◌, ◌<◌, ◌≤◌, ◌^◌, [], ◌∷◌, ◌++◌, length};
-ghost use Rattle.apex_types.specs.Limits.{latest, most_notices, most_owned, most_processes};
+ghost use Rattle.apex_types.specs.values.Limits.{latest, most_notices, most_owned, most_processes};
 ghost use Rattle.apex_types.specs.declared.Notice.TheVariants.{Missed};
-ghost use Rattle.apex_types.specs.Dues.{HasTime};
-ghost use Rattle.apex_types.specs.InTurn.{Makes, behind};
-ghost use Rattle.apex_types.specs.Periods.{AreInTime};
-ghost use Rattle.apex_types.specs.Stamps.{HasManyStamps, HasOrderlyStarts, HasStamps, HasStampsFor};
-ghost use Rattle.apex_types.specs.Ticks as ticks;
+ghost use Rattle.apex_types.specs.processes.Dues.{HasTime};
+ghost use Rattle.apex_types.specs.services.InTurn.{Makes, behind};
+ghost use Rattle.apex_types.specs.processes.Periods.{AreInTime};
+ghost use Rattle.apex_types.specs.processes.Stamps.{HasManyStamps, HasOrderlyStarts, HasStamps, HasStampsFor};
+ghost use Rattle.apex_types.specs.machine.Ticks as ticks;
 ghost use Rattle.apex_dispatch.specs.Premises.{HasStampsForAll, due_count};
 
 use apex_store::{Store, halt};
@@ -36,8 +36,10 @@ fn tick_goal<S: Store>(store: &S, n: u32) -> u64
 fn miss<S: Store>(store: &mut S, process: ProcessId, deadline: DeadlineType, notices: &mut Notices)
     requires known { process < length (S.roster store.old).records }
     requires stamps { HasStampsFor most_owned (S.roster store.old) }
-    requires room { length notices.old + 1 + length (ticks.miss (S.roster store.old) process deadline).notices ≤ most_notices }
-    ensures { Makes (behind (Missed process deadline ∷ []) (ticks.miss (S.roster store.old) process deadline))
+    requires room { length notices.old + 1 + length
+        (ticks.miss (S.roster store.old) process deadline).notices ≤ most_notices }
+    ensures { Makes (behind (Missed process deadline ∷ [])
+        (ticks.miss (S.roster store.old) process deadline))
         (S.roster store.new) notices.old notices.new }
 {
     notices.push(Notice::Missed(process, deadline));
@@ -49,14 +51,14 @@ fn miss<S: Store>(store: &mut S, process: ProcessId, deadline: DeadlineType, not
 
 /// The deadlines at now are served, by process number.
 fn serve_deadlines<S: Store>(store: &mut S, notices: &mut Notices)
-    requires few { length (S.roster store.old).records ≤ most_processes }
+    requires few_processes { length (S.roster store.old).records ≤ most_processes }
     requires starts { HasOrderlyStarts (S.roster store.old) }
     requires stamps { HasManyStamps (S.roster store.old) }
     requires room { notices.old ≡ [] }
     ensures { Makes (ticks.serve_deadlines (S.roster store.old))
         (S.roster store.new) notices.old notices.new }
 {
-    for turn in 0..store.process_count() {
+    for round in 0..store.process_count() {
         match store.take_missed() {
             Some(process) => {
                 let deadline = store.record(process).attributes.deadline;
@@ -95,7 +97,7 @@ fn wait_over<S: Store>(store: &mut S, process: ProcessId, wait: Option<Wait>, no
 
 /// The dues at now are served, by process number.
 fn serve_dues<S: Store>(store: &mut S, notices: &mut Notices)
-    requires few { length (S.roster store.old).records ≤ most_processes }
+    requires few_processes { length (S.roster store.old).records ≤ most_processes }
     requires starts { HasOrderlyStarts (S.roster store.old) }
     requires instants { AreInTime (S.roster store.old) }
     requires stamps { HasStampsForAll (S.roster store.old) }
@@ -104,7 +106,7 @@ fn serve_dues<S: Store>(store: &mut S, notices: &mut Notices)
     ensures { Makes (ticks.serve_dues (S.roster store.old))
         (S.roster store.new) notices.old notices.new }
 {
-    for turn in 0..store.process_count() {
+    for round in 0..store.process_count() {
         match store.take_due() {
             Some(process) => {
                 let wait = store.record(process).wait;
@@ -117,7 +119,7 @@ fn serve_dues<S: Store>(store: &mut S, notices: &mut Notices)
 
 /// The deadlines at now are served first, and then the dues.
 fn serve_instant<S: Store>(store: &mut S, notices: &mut Notices)
-    requires few { length (S.roster store.old).records ≤ most_processes }
+    requires few_processes { length (S.roster store.old).records ≤ most_processes }
     requires starts { HasOrderlyStarts (S.roster store.old) }
     requires instants { AreInTime (S.roster store.old) }
     requires stamps { HasManyStamps (S.roster store.old) }
@@ -132,9 +134,9 @@ fn serve_instant<S: Store>(store: &mut S, notices: &mut Notices)
 
 /// Time goes on by a tick of `n`, and the deadlines and then the dues at that instant are served.
 /// Answers the ticks by which time went on.
-#[tactic(auto, unfolding(apex_types::specs::Ticks::pass_time))]
+#[tactic(auto, unfolding(apex_types::specs::machine::Ticks::pass_time))]
 pub(crate) fn pass_time<S: Store>(store: &mut S, n: u32, notices: &mut Notices) -> u32
-    requires few { length (S.roster store.old).records ≤ most_processes }
+    requires few_processes { length (S.roster store.old).records ≤ most_processes }
     requires starts { HasOrderlyStarts (S.roster store.old) }
     requires instants { AreInTime (S.roster store.old) }
     requires stamps { HasManyStamps (S.roster store.old) }

@@ -1,7 +1,7 @@
 //! The waiters of a queue, in the queue's order.
 ghost use Rattle.std.specs.Prelude.{◌≡◌, ◌<◌, ◌≤◌, [], ◌∷◌, ◌++◌, length};
-ghost use Rattle.apex_types.specs.Limits.{most_processes};
-ghost use Rattle.apex_types.specs.Listing.{waiters};
+ghost use Rattle.apex_types.specs.values.Limits.{most_processes};
+ghost use Rattle.apex_types.specs.text.Listing.{waiters};
 
 use apex_store::Store;
 use apex_types::{MOST_PROCESSES, ProcessId, Queue};
@@ -16,7 +16,7 @@ pub(crate) struct Waiters {
 
 impl Model for Waiters {
     ghost use Rattle.std.specs.Prelude.{◌≡◌, ◌≤◌, ℕ, List, length, take};
-    ghost use Rattle.apex_types.specs.Limits.{most_processes};
+    ghost use Rattle.apex_types.specs.values.Limits.{most_processes};
 
     ghost Value = { List ℕ };
 
@@ -46,21 +46,21 @@ impl Waiters {
 
     pub(crate) fn as_slice(&self) -> &[ProcessId]
         ensures value { result.now ≡ self.now }
-        ensures few { length result.now ≤ most_processes }
+        ensures few_waiters { length result.now ≤ most_processes }
     {
         &self.processes[..self.count]
     }
 }
 
 /// The waiters of the queue, from the first one on.
-#[tactic(auto, unfolding(apex_types::specs::Listing::waiters))]
+#[tactic(auto, unfolding(apex_types::specs::text::Listing::waiters))]
 pub(crate) fn waiters_in<S: Store>(store: &S, queue: &Queue) -> Waiters
     requires { length (S.roster store.now).records ≤ most_processes }
     ensures { result ≡ waiters (S.roster store.now) queue.now }
 {
     let mut waiting = Waiters::new();
     let mut next = store.first(*queue);
-    for turn in 0..store.process_count() {
+    for round in 0..store.process_count() {
         match next {
             Some(process) => {
                 waiting.push(process);

@@ -1,7 +1,7 @@
 //! The work that each core has begun and not ended.
 ghost use Rattle.std.specs.Prelude.{◌≡◌, ℕ, ◌==◌, ◌<◌, None, length, option_map, if◌then◌else◌};
-ghost use Rattle.apex_types.specs.Limits.{most_cores};
-ghost use Rattle.apex_types.specs.Works.{fresh, watched};
+ghost use Rattle.apex_types.specs.values.Limits.{most_cores};
+ghost use Rattle.apex_types.specs.machine.Works.{fresh, watched};
 ghost use Rattle.apex_dispatch.specs.Works.{broken, work_at};
 
 use apex_store::Store;
@@ -19,7 +19,7 @@ pub(crate) struct Works {
 impl Model for Works {
     ghost use Rattle.std.specs.Prelude.{◌≡◌, List, Option, length};
     ghost use Rattle.apex_types.specs.declared.OpenWork.{OpenWork};
-    ghost use Rattle.apex_types.specs.Limits.{most_cores};
+    ghost use Rattle.apex_types.specs.values.Limits.{most_cores};
 
     ghost Value = { List (Option OpenWork) };
 
@@ -47,7 +47,8 @@ impl Works {
 
     /// A turn of the core ended the work that was open there, and began this work or none.
     pub(crate) fn begin(&mut self, core: CoreId, work: Option<Work>)
-        ensures { (c : ℕ) → work_at self.new c ≡ (if c == core then option_map fresh work else work_at self.old c) }
+        ensures { (c : ℕ) → work_at self.new c
+            ≡ (if c == core then option_map fresh work else work_at self.old c) }
     {
         self.of_core[usize::from(core.number())] = work.map(|work| OpenWork {
             work,
@@ -64,7 +65,8 @@ impl Works {
 
     /// An event has gone by: a core whose chosen process is another one now has lost its work.
     pub(crate) fn watch<S: Store>(&mut self, store: &S)
-        ensures { (c : ℕ) → work_at self.new c ≡ option_map (watched (S.roster store.now) c) (work_at self.old c) }
+        ensures { (c : ℕ) → work_at self.new c
+            ≡ option_map (watched (S.roster store.now) c) (work_at self.old c) }
     {
         self.places();
         for core in 0..8 {

@@ -1,12 +1,13 @@
 //! The blackboard as its services see it, and the services that blackboards alone have.
 ghost use Rattle.std.specs.Prelude.{◌≡◌, ◌≤◌, [], length, false, None};
-ghost use Rattle.apex_types.specs.Limits.{most_processes};
-ghost use Rattle.apex_types.specs.BlackboardServices as services;
-ghost use Rattle.apex_types.specs.Callers.{IsReadyCaller};
-ghost use Rattle.apex_types.specs.Dues.{HasTime};
-ghost use Rattle.apex_types.specs.Roster.{Roster};
-ghost use Rattle.apex_types.specs.Rows.{Leaves};
-ghost use Rattle.apex_types.specs.Stamps.{HasManyStamps};
+ghost use Rattle.apex_types.specs.values.Limits.{most_processes};
+ghost use Rattle.apex_types.specs.services.BlackboardServices as services;
+ghost use Rattle.apex_types.specs.services.Callers.{IsReadyCaller};
+ghost use Rattle.apex_types.specs.processes.Dues.{HasTime};
+ghost use Rattle.apex_types.specs.processes.Roster.{Roster};
+ghost use Rattle.apex_types.specs.services.Rows.{Leaves};
+ghost use Rattle.apex_types.specs.services.Premises.{CanServe};
+ghost use Rattle.apex_types.specs.processes.Stamps.{HasManyStamps};
 
 use apex_store::{Object, Store, grant_all, is_unfit, is_waiting_owner, wait_for};
 use apex_types::{
@@ -24,7 +25,7 @@ pub struct Blackboard {
 }
 
 impl Model for Blackboard {
-    ghost use Rattle.apex_types.specs.BlackboardServices.{BlackboardObject};
+    ghost use Rattle.apex_types.specs.services.BlackboardServices.{BlackboardObject};
 
     ghost Value = { BlackboardObject };
 
@@ -62,7 +63,6 @@ impl Blackboard {
         message: Message,
         notices: &mut Notices,
     ) -> Reply
-        requires few { length (S.roster store.old).records ≤ most_processes }
         requires stamps { HasManyStamps (S.roster store.old) }
         requires room { length notices.old ≤ most_processes }
         ensures { Leaves (services.display_blackboard (S.roster store.old) self.old id message)
@@ -90,7 +90,8 @@ impl Blackboard {
         requires caller { IsReadyCaller (S.roster store.old) caller.now }
         requires stamps { HasManyStamps (S.roster store.old) }
         requires time { HasTime (S.roster store.old) }
-        ensures { Leaves (services.read_blackboard (S.roster store.old) self.now id caller.now timeout)
+        ensures { Leaves (services.read_blackboard
+            (S.roster store.old) self.now id caller.now timeout)
             (S.roster store.new) self.now result [] [] }
     {
         if !self.created {
@@ -126,13 +127,13 @@ impl Blackboard {
 }
 
 impl Object for Blackboard {
-    type Kind = BlackboardKind;
+    type IdKind = BlackboardKind;
 
-    type Own = BlackboardService;
+    type KindService = BlackboardService;
 
-    ghost use Rattle.apex_types.specs.BlackboardServices.{blackboard_kind};
-    ghost use Rattle.apex_types.specs.Roster.{Roster};
-    ghost use Rattle.apex_types.specs.Table.{BlackboardConfig};
+    ghost use Rattle.apex_types.specs.services.BlackboardServices.{blackboard_kind};
+    ghost use Rattle.apex_types.specs.processes.Roster.{Roster};
+    ghost use Rattle.apex_types.specs.table.Table.{BlackboardConfig};
 
     ghost Config = { BlackboardConfig };
 
@@ -165,12 +166,10 @@ impl Object for Blackboard {
         notices: &mut Notices,
     ) -> Reply
         requires stands { Unit {0} }
-        requires few { length (S.roster store.old).records ≤ most_processes }
         requires caller { IsReadyCaller (S.roster store.old) caller.now }
-        requires stamps { HasManyStamps (S.roster store.old) }
-        requires time { HasTime (S.roster store.old) }
-        requires room { length notices.old ≤ most_processes }
-        ensures { Leaves (services.blackboard_own (S.roster store.old) self.old id caller.now service.now)
+        requires can { CanServe (S.roster store.old) notices.old }
+        ensures { Leaves (services.blackboard_service
+            (S.roster store.old) self.old id caller.now service.now)
             (S.roster store.new) self.new result notices.old notices.new }
     {
         match service {

@@ -1,4 +1,4 @@
-//! The services of blackboards and of events (ARINC 653 Part 1, intrapartition communication), over
+//! The services of blackboards and of event flags (ARINC 653 Part 1, intrapartition communication), over
 //! any store.
 //!
 //! Each is an object of its kind. A display and a set release every process that waits, in the
@@ -6,7 +6,7 @@
 #![tactic(auto)]
 
 mod blackboards;
-mod events;
+mod event_flags;
 
 pub use blackboards::Blackboard;
-pub use events::Event;
+pub use event_flags::EventFlag;

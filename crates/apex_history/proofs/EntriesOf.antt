@@ -4,7 +4,7 @@ use Rattle.std.specs.List.{AllByRecursion, last_or, slice_range}
 use Rattle.std.proofs.lemmas.List.{drop-append-le, take-append-le, take_all}
 use Rattle.std.proofs.lemmas.Option.{slice_get-get_or}
 use Rattle.std.proofs.Math.Seq.{drop-append_seam}
-use Rattle.apex_types.specs.Limits.{most_notices}
+use Rattle.apex_types.specs.values.Limits.{most_notices}
 use Rattle.apex_history.specs.Terms.{Entry, Notice}
 use Rattle.apex_types.proofs.Places.{length-map_places, get_or-map_places}
 use Rattle.apex_history.specs.RowEntries.{RowEntry, entry_of, entries_from, IsWithin, IsKept}

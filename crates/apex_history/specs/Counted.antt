@@ -34,7 +34,8 @@ CountsFault Read old new = new ≡ one_more old
 
 -- the same of a reading's answer
 abbrev pub CountsReadFault : {T : Type 0} → Result T ReadFault → ℕ → ℕ → Type 0
-CountsReadFault result old new = MatchResult result (λ _. new ≡ old) (λ fault. CountsFault fault old new)
+CountsReadFault result old new =
+    MatchResult result (λ _. new ≡ old) (λ fault. CountsFault fault old new)
 
 -- known bytes grow by a prefix of the text
 abbrev pub AppendsBeginning : Option (List ℕ) → Option (List ℕ) → List ℕ → Type 0
@@ -53,9 +54,12 @@ Tells answers buf (Err e) = answers (Err e) ⊎ ((0 < length buf) × answers (Ok
 
 -- a text goes to a writer, write by write, to its end or to the first write that counts as a
 -- failure
-pub data Writes {W : Type 0} (accepts : W → List ℕ → Result ℕ Error → W → Type 0) : W → List ℕ → Result (Unit {0}) Error → W → Type 0 where
+pub data Writes {W : Type 0} (accepts : W → List ℕ → Result ℕ Error → W → Type 0) : W → List ℕ
+    → Result (Unit {0}) Error → W → Type 0 where
   whole : {w : W} → Writes accepts w [] (Ok tt) w
-  part : {w v u : W} {text : List ℕ} {result : Result (Unit {0}) Error} (n : ℕ) → 0 < n → accepts w text (Ok n) v
+  part : {w v u : W} {text : List ℕ} {result : Result (Unit {0}) Error} (n : ℕ) → 0 < n
+      → accepts w text (Ok n) v
       → Writes accepts v (drop n text) result u → Writes accepts w text result u
-  failed : {w v : W} {text : List ℕ} {e : Error} → Tells (λ answer. accepts w text answer v) text (Err e)
+  failed : {w v : W} {text : List ℕ} {e : Error}
+      → Tells (λ answer. accepts w text answer v) text (Err e)
       → Writes accepts w text (Err e) v

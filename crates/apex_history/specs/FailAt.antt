@@ -33,12 +33,14 @@ FailsAt device result = IsErr result ↔ (device.fails_in ≡ 1)
 -- a read that does not fail fills the buffer, or gives all the bytes that are left
 abbrev pub Gives : Device → List ℕ → Result ℕ Error → Device → Type 0
 Gives old buf result new = FailsAt old result × MatchResult result
-    (λ n. (n ≡ min (length buf) (length (unread old))) × (new ≡ after_read old n)) (λ _. new ≡ called old)
+    (λ n. (n ≡ min (length buf) (length (unread old))) × (new ≡ after_read old n))
+    (λ _. new ≡ called old)
 
 -- a write that does not fail takes all the bytes, or as many as find room
 abbrev pub Accepts : Device → List ℕ → Result ℕ Error → Device → Type 0
 Accepts old buf result new = FailsAt old result × MatchResult result
-    (λ n. (n ≡ min (length buf) (old.room - length old.bytes)) × (new ≡ after_write old (take n buf))) (λ _. new ≡ called old)
+    (λ n. (n ≡ min (length buf) (old.room - length old.bytes))
+    × (new ≡ after_write old (take n buf))) (λ _. new ≡ called old)
 
 -- a flush is one call
 abbrev pub Drains : Device → Result (Unit {0}) Error → Device → Type 0

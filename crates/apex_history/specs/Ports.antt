@@ -22,12 +22,14 @@ NoneFails before after =
 -- a read failed, and no write
 abbrev pub AReadFails : Ports → Ports → Type 0
 AReadFails before after =
-    (after.failed_reads ≡ one_more before.failed_reads) × (after.failed_writes ≡ before.failed_writes)
+    (after.failed_reads ≡ one_more before.failed_reads)
+    × (after.failed_writes ≡ before.failed_writes)
 
 -- a write failed, and no read
 abbrev pub AWriteFails : Ports → Ports → Type 0
 AWriteFails before after =
-    (after.failed_reads ≡ before.failed_reads) × (after.failed_writes ≡ one_more before.failed_writes)
+    (after.failed_reads ≡ before.failed_reads)
+    × (after.failed_writes ≡ one_more before.failed_writes)
 
 -- the bytes are those that the reader had left, if these are known
 abbrev pub IsLeft : List ℕ → Ports → Type 0

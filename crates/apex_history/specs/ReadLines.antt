@@ -1,7 +1,7 @@
 -- The event that a line of a history names.
 use Rattle.std.specs.Prelude.{ℕ, List, ◌∷◌, Option, Some, None, Result, Ok, Err, length, take, drop, codes, ◌&&◌, nat_lt, if◌then◌else◌, option_map}
 use Rattle.std.specs.Str.{bytes_eq}
-use Rattle.apex_types.specs.Limits.{most_line}
+use Rattle.apex_types.specs.values.Limits.{most_line}
 use Rattle.apex_types.specs.declared.Event.{Event}
 use Rattle.apex_types.specs.declared.Event.TheVariants.{Turn, Tick}
 use Rattle.apex_history.specs.Words.{parts, core_of, ticks_of}
@@ -10,7 +10,8 @@ use Rattle.apex_history.specs.declared.events.LineFault.TheVariants.{BadLine, To
 
 -- `coreC`: a turn of the core C
 abbrev pub turn_named : List ℕ → Option Event
-turn_named who = if bytes_eq (take 4 who) (codes "core") then option_map Turn (core_of (drop 4 who)) else None
+turn_named who =
+    if bytes_eq (take 4 who) (codes "core") then option_map Turn (core_of (drop 4 who)) else None
 
 -- `ticker - tick n`: a tick of n; words behind it do not count
 abbrev pub tick_named : List (List ℕ) → Option Event
@@ -38,4 +39,5 @@ or_bad_line None = Err BadLine
 -- single spaces (32), and may be empty
 abbrev pub line_result : List ℕ → Result Event LineFault
 line_result line =
-    if nat_lt most_line (length line) then Err TooLong else or_bad_line (event_named (parts 32 line))
+    if nat_lt most_line (length line) then Err TooLong
+    else or_bad_line (event_named (parts 32 line))

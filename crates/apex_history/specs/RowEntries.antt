@@ -4,8 +4,8 @@ use Rattle.std.specs.List.{AllByRecursion, slice_range}
 use Rattle.apex_history.specs.Terms.{Call, Caller, Entry, Notice, Reply, Who}
 use Rattle.apex_history.specs.declared.rows.Asked.{Asked}
 use Rattle.apex_history.specs.declared.rows.Asked.TheVariants.{For, Nothing}
-use Rattle.apex_types.specs.Limits.{most_entries, most_notices}
-use Rattle.apex_types.specs.Places.{map_places}
+use Rattle.apex_types.specs.values.Limits.{most_entries, most_notices}
+use Rattle.apex_types.specs.values.Places.{map_places}
 
 -- the caller, and its call if there is one
 abbrev pub caller_in : Asked → Caller
@@ -49,7 +49,8 @@ pub record IsWithin (many : ℕ) (row : RowEntry) : Type 0 where
   pub within : row.end ≤ many
 
 -- the facts that each log keeps: it has the room for its limit of rows, and for the notices of each
-pub record IsKept (limit row_room notice_room : ℕ) (rows : List RowEntry) (notices : List Notice) : Type 0 where
+pub record IsKept (limit row_room notice_room : ℕ) (rows : List RowEntry)
+    (notices : List Notice) : Type 0 where
   pub limits : (1 ≤ limit) × (limit ≤ most_entries)
   pub many : length rows ≤ limit
   pub noted : length notices ≤ most_notices * length rows

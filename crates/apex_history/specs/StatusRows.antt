@@ -1,10 +1,10 @@
 -- The text of a line of the status listing, by its values.
 use Rattle.std.specs.Prelude.{ℕ, ◌<◌, ◌≤◌, List, length}
 use Rattle.apex_history.specs.declared.status_rows.StatusRow.{StatusRow}
-use Rattle.apex_history.specs.declared.status_rows.StatusRow.TheVariants.{Time, Mode, History, Core, Process, Semaphore, Buffer, Blackboard, Event, Mutex}
-use Rattle.apex_types.specs.Limits.{most_messages, most_processes}
-use Rattle.apex_types.specs.Status.{time_line, mode_line, history_line, core_line, process_line, semaphore_line, buffer_line, blackboard_line, event_line, mutex_line}
-use Rattle.apex_types.specs.Table.{Table}
+use Rattle.apex_history.specs.declared.status_rows.StatusRow.TheVariants.{Time, Mode, History, Core, Process, Semaphore, Buffer, Blackboard, EventFlag, Mutex}
+use Rattle.apex_types.specs.values.Limits.{most_messages, most_processes}
+use Rattle.apex_types.specs.text.Status.{time_line, mode_line, history_line, core_line, process_line, semaphore_line, buffer_line, blackboard_line, event_flag_line, mutex_line}
+use Rattle.apex_types.specs.table.Table.{Table}
 
 -- the line of the row, with its line feed
 abbrev pub row_text : Table → StatusRow → List ℕ
@@ -13,10 +13,12 @@ row_text table (Mode mode) = mode_line mode
 row_text table (History entries) = history_line entries
 row_text table (Core core running) = core_line core running
 row_text table (Process process state r) = process_line table process state r
-row_text table (Semaphore semaphore value waiting) = semaphore_line table semaphore value waiting.now
+row_text table (Semaphore semaphore value waiting) =
+    semaphore_line table semaphore value waiting.now
 row_text table (Buffer buffer messages waiting) = buffer_line table buffer messages.now waiting.now
-row_text table (Blackboard blackboard message waiting) = blackboard_line table blackboard message waiting.now
-row_text table (Event event up waiting) = event_line table event up waiting.now
+row_text table (Blackboard blackboard message waiting) =
+    blackboard_line table blackboard message waiting.now
+row_text table (EventFlag event_flag up waiting) = event_flag_line table event_flag up waiting.now
 row_text table (Mutex mutex owner depth waiting) = mutex_line table mutex owner depth waiting.now
 
 -- the thing is one of `many`, and no more processes wait for it than a table may have
@@ -30,9 +32,13 @@ IsPrintableRow table (Mode mode) = Unit {0}
 IsPrintableRow table (History entries) = Unit {0}
 IsPrintableRow table (Core core running) = Unit {0}
 IsPrintableRow table (Process process state r) = process < length table.processes
-IsPrintableRow table (Semaphore semaphore value waiting) = IsListed (length table.semaphores) semaphore waiting.now
+IsPrintableRow table (Semaphore semaphore value waiting) =
+    IsListed (length table.semaphores) semaphore waiting.now
 IsPrintableRow table (Buffer buffer messages waiting) =
     IsListed (length table.buffers) buffer waiting.now × (length messages.now ≤ most_messages)
-IsPrintableRow table (Blackboard blackboard message waiting) = IsListed (length table.blackboards) blackboard waiting.now
-IsPrintableRow table (Event event up waiting) = IsListed (length table.events) event waiting.now
-IsPrintableRow table (Mutex mutex owner depth waiting) = IsListed (length table.mutexes) mutex waiting.now
+IsPrintableRow table (Blackboard blackboard message waiting) =
+    IsListed (length table.blackboards) blackboard waiting.now
+IsPrintableRow table (EventFlag event_flag up waiting) =
+    IsListed (length table.event_flags) event_flag waiting.now
+IsPrintableRow table (Mutex mutex owner depth waiting) =
+    IsListed (length table.mutexes) mutex waiting.now

@@ -1,8 +1,8 @@
 -- The words of a text, and the two of them that name a core and the ticks of a tick.
 use Rattle.std.specs.Prelude.{ℕ, ◌-◌, List, [], ◌∷◌, Option, Some, None, ◌==◌, ◌&&◌, nat_le, if◌then◌else◌}
 use Rattle.std.specs.List.{slice_split}
-use Rattle.apex_types.specs.Limits.{most_ticks}
-use Rattle.apex_types.specs.Numbers.{number_of, at_least, at_most}
+use Rattle.apex_types.specs.values.Limits.{most_ticks}
+use Rattle.apex_types.specs.values.Numbers.{number_of, at_least, at_most}
 
 -- the parts of a text between a separator, which may be empty
 abbrev pub parts : ℕ → List ℕ → List (List ℕ)

@@ -43,6 +43,13 @@ impl<T> Counted<T> {
         self.failures
     }
 
+    /// The reader or writer itself, which is counted no longer.
+    pub fn into_inner(self) -> T
+        ensures { result ≡ inner_of self }
+    {
+        self.inner
+    }
+
     fn count_failure(&mut self)
         ensures inner { inner_of self.new ≡ inner_of self.old }
         ensures failures { failures_of self.new ≡ one_more (failures_of self.old) }
@@ -57,7 +64,8 @@ impl<R: Source> Read for Counted<R> {
 
     fn read(&mut self, buf: &mut [u8]) -> Result<usize>
         ensures bound { ReadsAtMost result buf.new }
-        ensures bytes { ReadConsumes (R.remaining (inner_of self.old)) (R.remaining (inner_of self.new)) result buf.new }
+        ensures bytes { ReadConsumes (R.remaining (inner_of self.old))
+            (R.remaining (inner_of self.new)) result buf.new }
         ensures counted { CountsFailure result (failures_of self.old) (failures_of self.new) }
         ensures reads { reads_left_of self.new ≡ reads_left_of self.old - 1 }
 
@@ -87,10 +95,12 @@ impl<W: Sink> Write for Counted<W> {
 
     fn write(&mut self, buf: &[u8]) -> Result<usize>
         ensures bound { WritesAtMost result buf.now }
-        ensures bytes { WriteAppends (W.contents (inner_of self.old)) (W.contents (inner_of self.new)) result buf.now }
+        ensures bytes { WriteAppends (W.contents (inner_of self.old))
+            (W.contents (inner_of self.new)) result buf.now }
         ensures counted { CountsFailure result (failures_of self.old) (failures_of self.new) }
         ensures taken { IfOk result (λ n. 0 < length buf.now → 0 < n) }
-        ensures given { Tells (λ answer. W.accepts (inner_of self.old) buf.now answer (inner_of self.new))
+        ensures given { Tells (λ answer. W.accepts (inner_of self.old) buf.now answer
+            (inner_of self.new))
             buf.now result }
         ensures reads { reads_left_of self.new ≡ reads_left_of self.old }
     {
@@ -122,8 +132,11 @@ impl<W: Sink> Write for Counted<W> {
 
     /// Writes the bytes whole, or stops at the first write that fails.
     fn write_all(&mut self, buf: &[u8]) -> Result<()>
-        ensures bytes { OnOk result (Appends (W.contents (inner_of self.old)) (W.contents (inner_of self.new)) buf.now) }
-        ensures beginning { OnErr result (AppendsBeginning (W.contents (inner_of self.old)) (W.contents (inner_of self.new)) buf.now) }
+        ensures bytes { OnOk result
+            (Appends (W.contents (inner_of self.old)) (W.contents (inner_of self.new)) buf.now) }
+        ensures beginning { OnErr result
+            (AppendsBeginning (W.contents (inner_of self.old))
+            (W.contents (inner_of self.new)) buf.now) }
         ensures counted { CountsFailure result (failures_of self.old) (failures_of self.new) }
         ensures reads { reads_left_of self.new ≡ reads_left_of self.old }
         ensures given { Writes W.accepts (inner_of self.old) buf.now result (inner_of self.new) }

@@ -25,9 +25,15 @@ impl Model for FailAt {
 
     ghost Value = { Device };
 
-    ghost view = { λ a. record { bytes = a.bytes.items; room = a.room; place = a.place; fails_in = a.fails_in } };
+    ghost view = { λ a. record {
+      bytes = a.bytes.items;
+      room = a.room;
+      place = a.place;
+      fails_in = a.fails_in;
+    } };
 
-    ghost invariant = { λ a. (a.place ≤ vec_len a.bytes) × (vec_len a.bytes ≤ a.room) × (a.room ≤ vec_capacity a.bytes) };
+    ghost invariant = { λ a. (a.place ≤ vec_len a.bytes) × (vec_len a.bytes ≤ a.room)
+        × (a.room ≤ vec_capacity a.bytes) };
 }
 
 impl FailAt {

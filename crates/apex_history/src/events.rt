@@ -25,7 +25,8 @@ fn read_turn(who: &[u8]) -> Option<Event>
 
 /// The tick, if the third word of a line and the words behind it name one.
 fn read_tick(who: &[u8], after: Option<&[u8]>) -> Option<Event>
-    ensures { result ≡ tick_named (who.now ∷ parts_after 32 (option_map (λ rest. rest.now) after.entry)) }
+    ensures { result ≡ tick_named
+        (who.now ∷ parts_after 32 (option_map (λ rest. rest.now) after.entry)) }
 {
     let (process, after) = cut(after?, b' ');
     let (call, after) = cut(after?, b' ');

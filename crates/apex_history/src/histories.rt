@@ -1,6 +1,6 @@
 //! The log of a partition's entries.
 ghost use Rattle.std.specs.Prelude.{◌≡◌, ◌+◌, ◌<◌, ◌≤◌, ◌↔◌, [], ◌∷◌, ◌++◌, length, vec_capacity, slice_get, Some, false, IsTrue, IfOk};
-ghost use Rattle.apex_types.specs.Limits.{most_entries};
+ghost use Rattle.apex_types.specs.values.Limits.{most_entries};
 
 use crate::lent::Entries;
 use crate::rows::{Asked, Row};
@@ -24,7 +24,10 @@ impl Model for Log {
 
     ghost Value = { History };
 
-    ghost view = { λ a. record { entries = entries_from a.notices.items 0 a.rows.items; limit = a.limit } };
+    ghost view = { λ a. record {
+      entries = entries_from a.notices.items 0 a.rows.items;
+      limit = a.limit;
+    } };
 
     ghost invariant = { λ a. IsKept a.limit (vec_capacity a.rows) (vec_capacity a.notices)
         a.rows.items a.notices.items };
@@ -66,7 +69,10 @@ impl Log {
     pub fn push(&mut self, entry: &LentEntry<'_>)
         requires room { length self.old.entries < self.old.limit }
         requires number { entry.now.number ≡ length self.old.entries + 1 }
-        ensures { self.new ≡ record self.old { entries = self.old.entries ++ entry.entry.now ∷ [] } }
+        ensures { self.new ≡ record self.old {
+          entries = self.old.entries ++ entry.entry.now
+              ∷ [];
+        } }
     {
         let start = self.notices.len() as u32;
         put_notices(&mut self.notices, entry.notices);

@@ -1,6 +1,6 @@
 //! The entries that a log lends.
 ghost use Rattle.std.specs.Prelude.{◌≡◌, ◌+◌, ◌≤◌, None, length};
-ghost use Rattle.apex_types.specs.Limits.{most_entries};
+ghost use Rattle.apex_types.specs.values.Limits.{most_entries};
 ghost use Rattle.std.specs.Iterator.{YieldsFirst, item_count};
 ghost use Rattle.std.specs.List.{AllByRecursion, last_or};
 ghost use Rattle.apex_history.specs.RowEntries.{entries_from, IsWithin};
@@ -21,7 +21,7 @@ pub struct Entries<'a> {
 impl<'a> Model for Entries<'a> {
     ghost use Rattle.std.specs.Prelude.{◌+◌, ◌≤◌, List, length};
     ghost use Rattle.std.specs.List.{AllByRecursion};
-    ghost use Rattle.apex_types.specs.Limits.{most_entries};
+    ghost use Rattle.apex_types.specs.values.Limits.{most_entries};
     ghost use Rattle.apex_types.specs.declared.Entry.{Entry};
     ghost use Rattle.apex_history.specs.RowEntries.{entries_from, IsWithin};
 

@@ -32,7 +32,8 @@ impl Model for Page {
 
     ghost view = { λ p. p.text.items };
 
-    ghost invariant = { λ p. (length p.text.items ≤ PAGE_ROOM) × (PAGE_ROOM ≤ vec_capacity p.text) };
+    ghost invariant = { λ p. (length p.text.items ≤ PAGE_ROOM)
+        × (PAGE_ROOM ≤ vec_capacity p.text) };
 }
 
 impl Page {
@@ -54,10 +55,14 @@ impl Page {
 
     /// Writes the text out if lines may not fit behind it.
     pub(crate) fn make_room<W: Sink>(&mut self, writer: &mut Counted<W>) -> io::Result<()>
-        ensures ok { OnOk result (Passes (W.contents (inner_of writer.old)) (W.contents (inner_of writer.new)) self.old self.new) }
+        ensures ok { OnOk result
+            (Passes (W.contents (inner_of writer.old))
+            (W.contents (inner_of writer.new)) self.old self.new) }
         ensures room { length self.new + LINES_ROOM ≤ PAGE_ROOM }
         ensures empty { OnErr result (self.new ≡ []) }
-        ensures err { OnErr result (AppendsBeginning (W.contents (inner_of writer.old)) (W.contents (inner_of writer.new)) self.old) }
+        ensures err { OnErr result
+            (AppendsBeginning (W.contents (inner_of writer.old))
+            (W.contents (inner_of writer.new)) self.old) }
         ensures counted { CountsFailure result (failures_of writer.old) (failures_of writer.new) }
     {
         if self.text.len() + LINES_ROOM <= PAGE_ROOM {
@@ -78,9 +83,13 @@ impl Page {
 
     /// Writes the text out, and forgets it even if a write failed, which leaves a prefix of it.
     pub fn hand_on<W: Sink>(&mut self, writer: &mut Counted<W>) -> io::Result<()>
-        ensures ok { OnOk result (Appends (W.contents (inner_of writer.old)) (W.contents (inner_of writer.new)) self.old) }
+        ensures ok { OnOk result
+            (Appends (W.contents (inner_of writer.old))
+            (W.contents (inner_of writer.new)) self.old) }
         ensures empty { self.new ≡ [] }
-        ensures err { OnErr result (AppendsBeginning (W.contents (inner_of writer.old)) (W.contents (inner_of writer.new)) self.old) }
+        ensures err { OnErr result
+            (AppendsBeginning (W.contents (inner_of writer.old))
+            (W.contents (inner_of writer.new)) self.old) }
         ensures counted { CountsFailure result (failures_of writer.old) (failures_of writer.new) }
     {
         let written = writer.write_all(self.text.as_slice());

@@ -3,7 +3,7 @@ ghost use Rattle.std.specs.Prelude.{◌≡◌, ◌+◌, ◌≤◌, [], ◌++◌,
 ghost use Rattle.apex_history.specs.declared.puts.TheConstants.{LINES_ROOM};
 ghost use Rattle.arrayvec.specs.ArrayVec.{array_vec_len};
 ghost use Rattle.std.specs.Io.KnownBytes.{Appends};
-ghost use Rattle.apex_types.specs.Limits.{most_line};
+ghost use Rattle.apex_types.specs.values.Limits.{most_line};
 ghost use Rattle.apex_calls.specs.Lines.{line_of, lines_of, IsPrintable};
 ghost use Rattle.apex_history.specs.Counted.{inner_of, failures_of, CountsFailure, AppendsBeginning};
 ghost use Rattle.apex_history.specs.Page.{Passes};
@@ -27,8 +27,12 @@ pub fn print_entry<W: Sink>(
     writer: &mut Counted<W>,
 ) -> Result<()>
     requires { IsPrintable table.now entry.now }
-    ensures ok { OnOk result (Appends (W.contents (inner_of writer.old)) (W.contents (inner_of writer.new)) (line_of table.now entry.entry.now)) }
-    ensures err { OnErr result (AppendsBeginning (W.contents (inner_of writer.old)) (W.contents (inner_of writer.new)) (line_of table.now entry.entry.now)) }
+    ensures ok { OnOk result
+        (Appends (W.contents (inner_of writer.old)) (W.contents (inner_of writer.new))
+        (line_of table.now entry.entry.now)) }
+    ensures err { OnErr result
+        (AppendsBeginning (W.contents (inner_of writer.old)) (W.contents (inner_of writer.new))
+        (line_of table.now entry.entry.now)) }
     ensures counted { CountsFailure result (failures_of writer.old) (failures_of writer.new) }
 {
     let mut line = Lines::new();
@@ -42,10 +46,14 @@ pub(crate) fn pass_on<W: Sink>(
     page: &mut Page,
     writer: &mut Counted<W>,
 ) -> Result<()>
-    ensures ok { OnOk result (Passes (W.contents (inner_of writer.old)) (W.contents (inner_of writer.new)) (page.old ++ lines.old.items) page.new) }
+    ensures ok { OnOk result
+        (Passes (W.contents (inner_of writer.old)) (W.contents (inner_of writer.new))
+        (page.old ++ lines.old.items) page.new) }
     ensures none { OnOk result (lines.new.items ≡ []) }
     ensures empty { OnErr result (page.new ≡ []) }
-    ensures err { OnErr result (AppendsBeginning (W.contents (inner_of writer.old)) (W.contents (inner_of writer.new)) (page.old ++ lines.old.items)) }
+    ensures err { OnErr result
+        (AppendsBeginning (W.contents (inner_of writer.old)) (W.contents (inner_of writer.new))
+        (page.old ++ lines.old.items)) }
     ensures counted { CountsFailure result (failures_of writer.old) (failures_of writer.new) }
 {
     page.make_room(writer)?;
@@ -56,10 +64,14 @@ pub(crate) fn pass_on<W: Sink>(
 
 /// Moves the lines into the page if one more may not fit behind them.
 fn make_room<W: Sink>(lines: &mut Lines, page: &mut Page, writer: &mut Counted<W>) -> Result<()>
-    ensures ok { OnOk result (Passes (W.contents (inner_of writer.old)) (W.contents (inner_of writer.new)) (page.old ++ lines.old.items) (page.new ++ lines.new.items)) }
+    ensures ok { OnOk result
+        (Passes (W.contents (inner_of writer.old)) (W.contents (inner_of writer.new))
+        (page.old ++ lines.old.items) (page.new ++ lines.new.items)) }
     ensures room { OnOk result (array_vec_len lines.new + most_line ≤ LINES_ROOM) }
     ensures empty { OnErr result (page.new ≡ []) }
-    ensures err { OnErr result (AppendsBeginning (W.contents (inner_of writer.old)) (W.contents (inner_of writer.new)) (page.old ++ lines.old.items)) }
+    ensures err { OnErr result
+        (AppendsBeginning (W.contents (inner_of writer.old)) (W.contents (inner_of writer.new))
+        (page.old ++ lines.old.items)) }
     ensures counted { CountsFailure result (failures_of writer.old) (failures_of writer.new) }
 {
     if lines.len() + MOST_LINE <= LINES_ROOM {
@@ -70,9 +82,13 @@ fn make_room<W: Sink>(lines: &mut Lines, page: &mut Page, writer: &mut Counted<W
 
 /// Writes out the text of the page, and then the lines.
 fn hand_on<W: Sink>(lines: &mut Lines, page: &mut Page, writer: &mut Counted<W>) -> Result<()>
-    ensures ok { OnOk result (Appends (W.contents (inner_of writer.old)) (W.contents (inner_of writer.new)) (page.old ++ lines.old.items)) }
+    ensures ok { OnOk result
+        (Appends (W.contents (inner_of writer.old)) (W.contents (inner_of writer.new))
+        (page.old ++ lines.old.items)) }
     ensures empty { page.new ≡ [] }
-    ensures err { OnErr result (AppendsBeginning (W.contents (inner_of writer.old)) (W.contents (inner_of writer.new)) (page.old ++ lines.old.items)) }
+    ensures err { OnErr result
+        (AppendsBeginning (W.contents (inner_of writer.old)) (W.contents (inner_of writer.new))
+        (page.old ++ lines.old.items)) }
     ensures counted { CountsFailure result (failures_of writer.old) (failures_of writer.new) }
 {
     pass_on(lines, page, writer)?;
@@ -91,8 +107,12 @@ pub fn print_history<W: Sink>(
     writer: &mut Counted<W>,
 ) -> Result<()>
     requires { All (IsPrintable table.now) entries }
-    ensures ok { OnOk result (Appends (W.contents (inner_of writer.old)) (W.contents (inner_of writer.new)) (lines_of table.now entries.entry)) }
-    ensures err { OnErr result (AppendsBeginning (W.contents (inner_of writer.old)) (W.contents (inner_of writer.new)) (lines_of table.now entries.entry)) }
+    ensures ok { OnOk result
+        (Appends (W.contents (inner_of writer.old)) (W.contents (inner_of writer.new))
+        (lines_of table.now entries.entry)) }
+    ensures err { OnErr result
+        (AppendsBeginning (W.contents (inner_of writer.old)) (W.contents (inner_of writer.new))
+        (lines_of table.now entries.entry)) }
     ensures empty { page.new ≡ [] }
     ensures counted { CountsFailure result (failures_of writer.old) (failures_of writer.new) }
 {

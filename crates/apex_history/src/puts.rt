@@ -1,10 +1,10 @@
 //! The words of a history's line, put one behind the other.
 ghost use Rattle.std.specs.Prelude.{◌≡◌, ◌+◌, ◌/◌, ◌%◌, ◌<◌, ◌≤◌, [], ◌∷◌, ◌++◌, length, flat_map, codes, decimal, IfSome};
 ghost use Rattle.apex_history.specs.declared.puts.TheConstants.{CALL_ROOM, LINES_ROOM, NOTICE_ROOM, NOTICES_ROOM};
-ghost use Rattle.apex_types.specs.Limits.{most_line, most_notices};
+ghost use Rattle.apex_types.specs.values.Limits.{most_line, most_notices};
 ghost use Rattle.arrayvec.specs.ArrayVec.{array_vec_len};
-ghost use Rattle.apex_types.specs.Table.{IsKnown};
-ghost use Rattle.apex_types.specs.Texts.{id_text};
+ghost use Rattle.apex_types.specs.table.Table.{IsKnown};
+ghost use Rattle.apex_types.specs.text.Texts.{id_text};
 ghost use Rattle.apex_calls.specs.CallText.{timeout_text};
 ghost use Rattle.apex_calls.specs.Lines.{code_text, deadline_text, no_call_text, asked_text, who_text, caller_text, reply_text, notice_text, noticed_text, line_of, IsPrintable};
 
@@ -246,7 +246,8 @@ fn put_no_call(line: &mut Lines, reply: &Reply)
 fn put_asked(line: &mut Lines, table: &Table, steps: &mut NextSteps, entry: &LentEntry<'_>)
     requires known { IfSome entry.now.call (IsKnown table.now) }
     requires room { array_vec_len line.old + CALL_ROOM ≤ LINES_ROOM }
-    ensures text { line.new.items ≡ line.old.items ++ asked_text table.now entry.entry.now.call entry.entry.now.reply }
+    ensures text { line.new.items ≡ line.old.items
+        ++ asked_text table.now entry.entry.now.call entry.entry.now.reply }
     ensures short { array_vec_len line.new ≤ array_vec_len line.old + CALL_ROOM }
 {
     match &entry.call {
@@ -364,7 +365,7 @@ fn put_noticed(line: &mut Lines, notice: &Notice)
 }
 
 fn put_notices(line: &mut Lines, notices: &[Notice])
-    requires few { length notices.now ≤ most_notices }
+    requires few_notices { length notices.now ≤ most_notices }
     requires room { array_vec_len line.old + NOTICES_ROOM + 13 ≤ LINES_ROOM }
     ensures text { line.new.items ≡ line.old.items ++ flat_map noticed_text notices.now }
     ensures short { array_vec_len line.new ≤ array_vec_len line.old + NOTICES_ROOM }

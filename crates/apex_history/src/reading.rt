@@ -30,9 +30,11 @@ impl From<AllocError> for ReadFault {
 /// Reads to the end, and gives all the bytes. `Read` at the first read that fails, and `Memory` if
 /// a growth was refused; it stops there.
 pub fn read_all<R: Source>(alloc: Global, reader: &mut Counted<R>) -> Result<Vec<u8>, ReadFault>
-    ensures bytes { IfOk result (λ all. IfSome (R.remaining (inner_of reader.old)) (λ xs. all.items ≡ xs)) }
+    ensures bytes { IfOk result
+        (λ all. IfSome (R.remaining (inner_of reader.old)) (λ xs. all.items ≡ xs)) }
     ensures end { OnOk result (IsAtEnd (R.remaining (inner_of reader.new))) }
-    ensures beginning { OnErr result (ConsumesSome (R.remaining (inner_of reader.old)) (R.remaining (inner_of reader.new))) }
+    ensures beginning { OnErr result
+        (ConsumesSome (R.remaining (inner_of reader.old)) (R.remaining (inner_of reader.new))) }
     ensures counted { CountsReadFault result (failures_of reader.old) (failures_of reader.new) }
 {
     let mut all = Vec::new(alloc);

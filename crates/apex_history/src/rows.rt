@@ -1,6 +1,6 @@
 //! An entry as a log keeps it.
 ghost use Rattle.std.specs.Prelude.{◌≡◌, ◌<◌, length};
-ghost use Rattle.apex_types.specs.Limits.{most_entries};
+ghost use Rattle.apex_types.specs.values.Limits.{most_entries};
 ghost use Rattle.apex_history.specs.RowEntries.{caller_in, call_in, entry_of, IsWithin};
 
 use apex_types::{Call, Caller, LentEntry, Notice, Reply, Who};

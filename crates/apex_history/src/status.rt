@@ -19,8 +19,12 @@ use std::io::{Result, Write};
 /// If a write failed, a prefix of the line was written.
 pub fn print_row<W: Sink>(table: &Table, row: &StatusRow<'_>, writer: &mut Counted<W>) -> Result<()>
     requires { IsPrintableRow table.now row.now }
-    ensures ok { OnOk result (Appends (W.contents (inner_of writer.old)) (W.contents (inner_of writer.new)) (row_text table.now row.now)) }
-    ensures err { OnErr result (AppendsBeginning (W.contents (inner_of writer.old)) (W.contents (inner_of writer.new)) (row_text table.now row.now)) }
+    ensures ok { OnOk result
+        (Appends (W.contents (inner_of writer.old)) (W.contents (inner_of writer.new))
+        (row_text table.now row.now)) }
+    ensures err { OnErr result
+        (AppendsBeginning (W.contents (inner_of writer.old)) (W.contents (inner_of writer.new))
+        (row_text table.now row.now)) }
     ensures counted { CountsFailure result (failures_of writer.old) (failures_of writer.new) }
 {
     let mut line = Lines::new();
@@ -39,9 +43,13 @@ pub fn gather_row<W: Sink>(
     writer: &mut Counted<W>,
 ) -> Result<()>
     requires { IsPrintableRow table.now row.now }
-    ensures ok { OnOk result (Passes (W.contents (inner_of writer.old)) (W.contents (inner_of writer.new)) (page.old ++ row_text table.now row.now) page.new) }
+    ensures ok { OnOk result
+        (Passes (W.contents (inner_of writer.old)) (W.contents (inner_of writer.new))
+        (page.old ++ row_text table.now row.now) page.new) }
     ensures empty { OnErr result (page.new ≡ []) }
-    ensures err { OnErr result (AppendsBeginning (W.contents (inner_of writer.old)) (W.contents (inner_of writer.new)) (page.old ++ row_text table.now row.now)) }
+    ensures err { OnErr result
+        (AppendsBeginning (W.contents (inner_of writer.old)) (W.contents (inner_of writer.new))
+        (page.old ++ row_text table.now row.now)) }
     ensures counted { CountsFailure result (failures_of writer.old) (failures_of writer.new) }
 {
     let mut line = Lines::new();

@@ -40,8 +40,8 @@ pub enum StatusRow<'a> {
         message: Option<Message>,
         waiting: &'a [ProcessId],
     },
-    Event {
-        event: EventId,
+    EventFlag {
+        event_flag: EventId,
         up: bool,
         waiting: &'a [ProcessId],
     },

@@ -1,6 +1,6 @@
 //! The texts of calls, by the steps that ask for them.
 ghost use Rattle.std.specs.Prelude.{◌≡◌, true, Some, IfSome};
-ghost use Rattle.apex_types.specs.Table.{call_in, process_config};
+ghost use Rattle.apex_types.specs.table.Table.{call_in, process_config};
 ghost use Rattle.apex_calls.specs.CallText.{call_text};
 
 use apex_table::Table;
@@ -16,7 +16,8 @@ fn is_same(one: &Call, other: &Call) -> bool
 /// Whether the step at this place of the process's script asks for this call.
 #[inline(always)]
 fn asks_for(table: &Table, process: ProcessId, place: u8, call: &Call) -> bool
-    ensures { result ≡ true → call_in (process_config table.now process).script place ≡ Some call.now }
+    ensures { result ≡ true → call_in (process_config table.now process).script place
+        ≡ Some call.now }
 {
     match table.step_call(process, usize::from(place)) {
         Some(step) => is_same(&step, call),
@@ -27,7 +28,8 @@ fn asks_for(table: &Table, process: ProcessId, place: u8, call: &Call) -> bool
 /// The place of the first step of the process's script that asks for this call.
 #[inline(never)]
 fn first_place(table: &Table, process: ProcessId, call: &Call) -> Option<u8>
-    ensures { IfSome result (λ place. call_in (process_config table.now process).script place ≡ Some call.now) }
+    ensures { IfSome result (λ place. call_in (process_config table.now process).script place
+        ≡ Some call.now) }
 {
     for place in 0..MOST_STEPS as u8 {
         if asks_for(table, process, place, call) {

@@ -1,7 +1,7 @@
 //! The words of a text: cut apart at a separator, and read as a core and as ticks of time.
 ghost use Rattle.std.specs.Prelude.{◌≡◌, ◌<◌, ◌≤◌, ◌∷◌, length, option_map, IfSome, ◌==◌};
 ghost use Rattle.std.specs.List.{position};
-ghost use Rattle.apex_types.specs.Limits.{most_ticks};
+ghost use Rattle.apex_types.specs.values.Limits.{most_ticks};
 ghost use Rattle.apex_history.specs.Words.{parts, parts_after, core_of, ticks_of};
 
 use apex_types::{CoreId, MOST_TICKS, number_at_most};
@@ -15,7 +15,7 @@ pub struct Ticks {
 
 impl Model for Ticks {
     ghost use Rattle.std.specs.Prelude.{ℕ, ◌≤◌};
-    ghost use Rattle.apex_types.specs.Limits.{most_ticks};
+    ghost use Rattle.apex_types.specs.values.Limits.{most_ticks};
 
     ghost Value = { ℕ };
 

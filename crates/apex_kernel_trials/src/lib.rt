@@ -1,6 +1,6 @@
 //! The tests of the kernel and of the printing of lines that no stored case can show: how many
-//! records a turn looks at, lines that no run prints, and a writer that fails. It has no code of
-//! its own.
+//! records a turn looks at, lines that no run prints, a writer that fails, and the counters of a
+//! trace. It has no code of its own.
 #![tactic(auto)]
 
 #[cfg(test)]
@@ -13,3 +13,5 @@ mod outlines;
 mod papers;
 #[cfg(test)]
 mod scans;
+#[cfg(test)]
+mod traces;

@@ -1,9 +1,10 @@
 //! A device in memory to write on.
 use apex_history::FailAt;
 use std::alloc::Global;
-use std::test::Fail;
+use std::process::Abort;
 
 /// An empty device with room for `room` bytes, whose call of this number fails.
-pub fn paper(alloc: Global, room: usize, call: u64) -> Result<FailAt, Fail> {
-    Ok(FailAt::new(Vec::with_capacity(alloc, room)?, call))
+pub fn paper<R: Abort>(rt: &R, alloc: Global, room: usize, call: u64) -> FailAt {
+    let bytes = Vec::with_capacity(alloc, room).expect(rt, "memory");
+    FailAt::new(bytes, call)
 }

@@ -1,23 +1,26 @@
 //! Nothing is scanned, however many processes wait.
+ghost use Rattle.std.specs.Prelude.{◌≡◌};
+ghost use Rattle.apex_types.specs.machine.Machine.{opening};
+ghost use Rattle.apex_dispatch.specs.Kernel.{kernel_in};
+
 use apex_dispatch::Kernel;
 use apex_process::QueueStore;
 use apex_store::Store;
-use apex_table::read_table;
+use apex_table::{Table, read_table};
 use apex_types::{CoreId, Queue, SemaphoreId};
-use std::alloc::Global;
+use std::alloc::{AllocError, Global};
+use std::mem::drop;
 use std::process::Abort;
-use std::test::Fail;
 
-/// Two cores: on the one n processes that wait for ever for a semaphore, on the other one that
+/// Adds two cores: on the one n processes that wait for ever for a semaphore, on the other one that
 /// makes this step.
-fn table_of(alloc: Global, waiters: u32, step: &str) -> Result<String, Fail> {
-    let mut text = String::from_str(alloc, "cores = 2\n")?;
+fn push_cores(text: &mut String, waiters: u32, step: &str) -> Result<(), AllocError> {
+    text.push_str("cores = 2\n")?;
     for number in 1..=waiters {
-        push_process(&mut text, "W", number, 0, "WAIT_SEMAPHORE S infinite")?;
+        push_process(text, "W", number, 0, "WAIT_SEMAPHORE S infinite")?;
     }
-    push_process(&mut text, "K", 0, 1, step)?;
-    text.push_str(SEMAPHORE)?;
-    Ok(text)
+    push_process(text, "K", 0, 1, step)?;
+    text.push_str(SEMAPHORE)
 }
 
 /// A process of this step on this core, which is named after a letter and a number.
@@ -27,13 +30,12 @@ fn push_process(
     number: u32,
     core: u8,
     step: &str,
-) -> Result<(), Fail> {
+) -> Result<(), AllocError> {
     write!(
         text,
         "[[process]]\nname = \"{letter}{number}\"\ncore = {core}\nscript = [\"{step}\"]\n"
     )?;
-    text.push_str("priority = 10\nstart = true\n")?;
-    Ok(())
+    text.push_str("priority = 10\nstart = true\n")
 }
 
 const SEMAPHORE: &str = r#"
@@ -55,37 +57,51 @@ fn waiting(kernel: &Kernel<QueueStore>) -> u32 {
     kernel.store().waiting(queue)
 }
 
-/// A kernel of the table before any event.
-fn booted(alloc: Global, waiters: u32, step: &str) -> Result<Kernel<QueueStore>, Fail> {
-    let text = table_of(alloc, waiters, step)?;
-    let table = read_table(alloc, text.as_bytes())?;
-    let store = QueueStore::new(alloc, &table)?;
-    Ok(Kernel::boot(alloc, table, store)?)
+/// The table of n waiters and of one process that makes this step.
+fn table_of<R: Abort>(rt: &R, alloc: Global, waiters: u32, step: &str) -> Table {
+    let mut text = String::new(alloc);
+    push_cores(&mut text, waiters, step).expect(rt, "memory");
+    read_table(alloc, text.as_bytes()).expect(rt, "the table is lawful")
+}
+
+/// A kernel of this table before any event.
+pub(crate) fn booted<R: Abort>(rt: &R, alloc: Global, table: Table) -> Kernel<QueueStore>
+    ensures { result ≡ kernel_in table (opening table) }
+{
+    let store = QueueStore::new(alloc, &table).expect(rt, "memory");
+    Kernel::boot(alloc, table, store).expect(rt, "memory")
 }
 
 /// The number of records and nodes at which the store looks in the one turn of the step, by which
 /// a waiter leaves the queue.
-fn visits_of(rt: &impl Abort, mut kernel: Kernel<QueueStore>, waiters: u32) -> u64 {
+fn visits_of(rt: &impl Abort, kernel: &mut Kernel<QueueStore>, waiters: u32) -> u64 {
     for _turn in 0..200 {
-        turn_of(rt, &mut kernel, CoreId::new(0));
+        turn_of(rt, kernel, CoreId::new(0));
     }
-    assert!(rt; waiting(&kernel) == waiters);
+    assert!(rt; waiting(kernel) == waiters);
     let before = kernel.store().visits();
-    turn_of(rt, &mut kernel, CoreId::new(1));
+    turn_of(rt, kernel, CoreId::new(1));
     let after = kernel.store().visits();
-    assert!(rt; waiting(&kernel).saturating_add(1) == waiters);
+    assert!(rt; waiting(kernel).saturating_add(1) == waiters);
     after.saturating_sub(before)
 }
 
+/// The same number for a kernel of n waiters, which is let go.
+fn visits_beside<R: Abort>(rt: &R, alloc: Global, waiters: u32, step: &str) -> u64 {
+    let mut kernel = booted(rt, alloc, table_of(rt, alloc, waiters, step));
+    let visits = visits_of(rt, &mut kernel, waiters);
+    drop(kernel);
+    visits
+}
+
 #[test]
-fn a_queue_is_not_scanned(rt: HostRuntime) -> Result<(), Fail> {
+fn a_queue_is_not_scanned(rt: HostRuntime) {
     for step in ["SIGNAL_SEMAPHORE S", "STOP W2"] {
-        let few = visits_of(&rt, booted(rt.alloc(), 3, step)?, 3);
-        let many = visits_of(&rt, booted(rt.alloc(), 29, step)?, 29);
+        let few = visits_beside(&rt, rt.alloc(), 3, step);
+        let many = visits_beside(&rt, rt.alloc(), 29, step);
         assert!(rt;
             few >= 1 && few == many,
             "{few} and {many} visits of {step}"
         );
     }
-    Ok(())
 }

@@ -40,10 +40,15 @@ links_of nodes ends = record { processes = length nodes; lists = lists_of nodes 
 pub record AreLinked (nodes : List Node) (ends : List Ends) (lists : ℕ → List ℕ) : Type 0 where
   pub known : (l p : ℕ) → stands_in p (lists l) ≡ true → p < length nodes
   pub links : (l p : ℕ) → stands_in p (lists l) ≡ true
-      → node_at nodes p ≡ record { list = Some l; before = before_in p (lists l); after = after_in p (lists l) }
+      → node_at nodes p ≡ record {
+        list = Some l;
+        before = before_in p (lists l);
+        after = after_in p (lists l);
+      }
   pub members : (l p : ℕ) → (node_at nodes p).list ≡ Some l → stands_in p (lists l) ≡ true
   pub bare : (p : ℕ) → (node_at nodes p).list ≡ None → node_at nodes p ≡ free
-  pub edges : (l : ℕ) → ends_at ends l ≡ record { first = first_of (lists l); last = last_of (lists l) }
+  pub edges : (l : ℕ) → ends_at ends l
+      ≡ record { first = first_of (lists l); last = last_of (lists l) }
   pub distinct : (l : ℕ) → IsDistinct (lists l)
 
 -- the nodes and the ends are linked by the lists that walks along them find

@@ -20,4 +20,5 @@ placed_in passes links l p = with_list links l (placed passes p (list_at links l
 -- all pass the test that come behind one that passes it
 abbrev pub IsRising : (ℕ → Bool) → List ℕ → Type 0
 IsRising passes [] = ⊤
-IsRising passes (x ∷ xs) = (passes x ≡ true → (q : ℕ) → stands_in q xs ≡ true → passes q ≡ true) × IsRising passes xs
+IsRising passes (x ∷ xs) =
+    (passes x ≡ true → (q : ℕ) → stands_in q xs ≡ true → passes q ≡ true) × IsRising passes xs

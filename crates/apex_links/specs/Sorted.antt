@@ -5,4 +5,5 @@ use Rattle.apex_links.specs.Neighbours.{stands_in}
 -- each of these comes before all behind it
 abbrev pub IsSorted : (ℕ → ℕ → Bool) → List ℕ → Type 0
 IsSorted before [] = ⊤
-IsSorted before (p ∷ ps) = ((q : ℕ) → stands_in q ps ≡ true → before p q ≡ true) × IsSorted before ps
+IsSorted before (p ∷ ps) =
+    ((q : ℕ) → stands_in q ps ≡ true → before p q ≡ true) × IsSorted before ps

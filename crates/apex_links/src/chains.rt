@@ -138,10 +138,13 @@ impl Chains {
     pub(crate) fn part(&mut self, list: ListId, process: ProcessId)
         requires list { list < length self.old.ends.items }
         requires process { process < length self.old.nodes.items }
-        requires before { IsKnown self.old.nodes.items (node_at self.old.nodes.items process).before }
+        requires before { IsKnown self.old.nodes.items
+            (node_at self.old.nodes.items process).before }
         requires after { IsKnown self.old.nodes.items (node_at self.old.nodes.items process).after }
-        ensures nodes { self.new.nodes.items ≡ nodes_without self.old.nodes.items process (node_at self.old.nodes.items process) }
-        ensures ends { self.new.ends.items ≡ ends_without self.old.ends.items list (node_at self.old.nodes.items process) }
+        ensures nodes { self.new.nodes.items
+            ≡ nodes_without self.old.nodes.items process (node_at self.old.nodes.items process) }
+        ensures ends { self.new.ends.items
+            ≡ ends_without self.old.ends.items list (node_at self.old.nodes.items process) }
     {
         let place = self.nodes[process.place()];
         self.follow(list, place.before, place.after);

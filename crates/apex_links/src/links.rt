@@ -145,7 +145,8 @@ impl LinkSet {
     /// The process is in no list from now on. Returns the list in which it was, if it was in one.
     pub fn take(&mut self, process: ProcessId) -> Option<ListId>
         requires { process < self.old.processes }
-        ensures list { MatchOption result (IsFree self.old process) (λ l. IsOnlyIn self.old process l) }
+        ensures list { MatchOption result (IsFree self.old process)
+            (λ l. IsOnlyIn self.old process l) }
         ensures lists { self.new ≡ removed self.old process }
         ensures free { IsFree self.new process }
     {

@@ -30,7 +30,7 @@ impl LinkSet {
     {
         self.holds();
         let mut at = self.front(list);
-        for _turn in 0..self.process_count() {
+        for _round in 0..self.process_count() {
             let Some(process) = at else {
                 return None;
             };

@@ -1,13 +1,14 @@
 //! The mutex as its services see it, and the services that mutexes alone have.
 ghost use Rattle.std.specs.Prelude.{◌≡◌, ◌<◌, ◌≤◌, [], length, false};
-ghost use Rattle.apex_types.specs.Limits.{most_owned, most_processes};
-ghost use Rattle.apex_types.specs.Callers.{IsReady, IsReadyCaller};
-ghost use Rattle.apex_types.specs.Dues.{HasTime};
-ghost use Rattle.apex_types.specs.MutexServices as services;
-ghost use Rattle.apex_types.specs.Owners.{is_deepest, may_not_wait, owns, owns_most, record_of};
-ghost use Rattle.apex_types.specs.Roster.{Roster, record_at};
-ghost use Rattle.apex_types.specs.Rows.{Leaves};
-ghost use Rattle.apex_types.specs.Stamps.{HasManyStamps};
+ghost use Rattle.apex_types.specs.values.Limits.{most_owned, most_processes};
+ghost use Rattle.apex_types.specs.services.Callers.{IsReady, IsReadyCaller};
+ghost use Rattle.apex_types.specs.processes.Dues.{HasTime};
+ghost use Rattle.apex_types.specs.services.MutexServices as services;
+ghost use Rattle.apex_types.specs.processes.Owners.{is_deepest, may_not_wait, owns, owns_most, record_of};
+ghost use Rattle.apex_types.specs.processes.Roster.{Roster, record_at};
+ghost use Rattle.apex_types.specs.services.Rows.{Leaves};
+ghost use Rattle.apex_types.specs.services.Premises.{CanServe};
+ghost use Rattle.apex_types.specs.processes.Stamps.{HasManyStamps};
 
 use apex_store::{Object, Store, hand_over, wait_for};
 use apex_types::{
@@ -23,7 +24,7 @@ pub struct Mutex {
 }
 
 impl Model for Mutex {
-    ghost use Rattle.apex_types.specs.MutexServices.{MutexObject};
+    ghost use Rattle.apex_types.specs.services.MutexServices.{MutexObject};
 
     ghost Value = { MutexObject };
 
@@ -76,7 +77,7 @@ impl Mutex {
         timeout: Timeout,
     ) -> Reply
         requires owned { owned.now ≡ (record_at (S.roster store.old) process).owned }
-        requires few { length owned.now < most_owned }
+        requires few_owned { length owned.now < most_owned }
         requires ready { IsReady (S.roster store.old) process }
         requires stamps { HasManyStamps (S.roster store.old) }
         requires time { HasTime (S.roster store.old) }
@@ -113,7 +114,8 @@ impl Mutex {
         requires caller { IsReadyCaller (S.roster store.old) caller.now }
         requires stamps { HasManyStamps (S.roster store.old) }
         requires time { HasTime (S.roster store.old) }
-        ensures { Leaves (services.acquire_mutex (S.roster store.old) self.now id caller.now timeout)
+        ensures { Leaves (services.acquire_mutex
+            (S.roster store.old) self.now id caller.now timeout)
             (S.roster store.new) self.now result [] [] }
     {
         if !self.created {
@@ -182,13 +184,13 @@ impl Mutex {
 }
 
 impl Object for Mutex {
-    type Kind = MutexKind;
+    type IdKind = MutexKind;
 
-    type Own = MutexService;
+    type KindService = MutexService;
 
-    ghost use Rattle.apex_types.specs.MutexServices.{mutex_kind};
-    ghost use Rattle.apex_types.specs.Roster.{Roster};
-    ghost use Rattle.apex_types.specs.Table.{MutexConfig};
+    ghost use Rattle.apex_types.specs.services.MutexServices.{mutex_kind};
+    ghost use Rattle.apex_types.specs.processes.Roster.{Roster};
+    ghost use Rattle.apex_types.specs.table.Table.{MutexConfig};
 
     ghost Config = { MutexConfig };
 
@@ -229,12 +231,10 @@ impl Object for Mutex {
         notices: &mut Notices,
     ) -> Reply
         requires stands { Unit {0} }
-        requires few { length (S.roster store.old).records ≤ most_processes }
         requires caller { IsReadyCaller (S.roster store.old) caller.now }
-        requires stamps { HasManyStamps (S.roster store.old) }
-        requires time { HasTime (S.roster store.old) }
-        requires room { length notices.old ≤ most_processes }
-        ensures { Leaves (services.mutex_own (S.roster store.old) self.old id caller.now service.now)
+        requires can { CanServe (S.roster store.old) notices.old }
+        ensures { Leaves (services.mutex_service
+            (S.roster store.old) self.old id caller.now service.now)
             (S.roster store.new) self.new result notices.old notices.new }
     {
         match service {

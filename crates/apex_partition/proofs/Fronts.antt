@@ -1,8 +1,8 @@
 -- The front that a partition shows.
 use Rattle.std.proofs.Common.{◌≡◌, ℕ, zero, suc, ◌<◌, ◌≤◌, All, List, [], ◌∷◌, ◌++◌, Option, None, Some, IfSome, MatchOption, ap, subst, sym, ◌∙◌, arith}
-use Rattle.apex_types.specs.Limits.{most_processes}
-use Rattle.apex_types.specs.Machine.{Machine, events_of, replay}
-use Rattle.apex_types.specs.Table.{Table}
+use Rattle.apex_types.specs.values.Limits.{most_processes}
+use Rattle.apex_types.specs.machine.Machine.{Machine, events_of, replay}
+use Rattle.apex_types.specs.table.Table.{Table}
 use Rattle.apex_board.specs.Fronts.{Front, IsFrontAfter, IsSmallId, front_of}
 
 pub all_more : {A : Type 0} (Q : A → Type 0) (xs : List A) (x : A) → All Q xs → Q x → All Q (xs ++ x ∷ [])

@@ -1,17 +1,16 @@
 -- One seat for each core.
-use Rattle.std.proofs.Common.{◌≡◌, ℕ, zero, suc, ◌+◌, ◌<◌, List, [], ◌∷◌, ◌++◌, refl, ap, ◌∙◌, subst, length, map, slice_index_or, slice_set, arith}
-use Rattle.std.specs.Prelude.{All, Err, IfErr, IfOk, Ok, Result}
+use Rattle.std.proofs.Common.{◌≡◌, ℕ, zero, suc, ◌+◌, ◌<◌, List, [], ◌∷◌, ◌++◌, refl, ap, ◌∙◌, subst, length, map, slice_index_or, arith}
+use Rattle.std.specs.Prelude.{All}
 use Rattle.std.specs.List.{AllByRecursion, range_with_len}
-use Rattle.apex_types.specs.Table.{Table}
+use Rattle.apex_types.specs.table.Table.{Table}
 use Rattle.apex_types.specs.declared.entries.Entry.{Entry}
-use Rattle.apex_types.specs.declared.entries.Full.{Full}
 use Rattle.apex_types.specs.declared.entries.Reply.{Reply}
 use Rattle.apex_types.specs.declared.entries.Who.{Who}
 use Rattle.apex_types.specs.declared.entries.Who.TheVariants.{Core, Ticker}
-use Rattle.apex_types.specs.Machine.{event_by, event_of, events_of}
+use Rattle.apex_types.specs.machine.Machine.{event_by, event_of, events_of}
 use Rattle.apex_dispatch.specs.Events.{IsWithin}
-use Rattle.apex_receipts.specs.Receipts.{Confirmed, Spoken, unspoken}
-use Rattle.apex_partition.specs.Seats.{AreSeatsFrom, IsOneOf, IsSeated, IsSettled, told_full, with_entry}
+use Rattle.apex_receipts.specs.Receipts.{Spoken, unspoken}
+use Rattle.apex_partition.specs.Seats.{AreSeatsFrom, IsOneOf, IsSeated, IsSettled}
 
 -- seats that have made nothing are seats of their cores
 pub fresh_seats : (first n : ℕ) → AreSeatsFrom first (map (λ (core : ℕ). unspoken (Core core)) (range_with_len first n))
@@ -69,17 +68,3 @@ settled_at table history seats seated settled k d within =
 pub none_left : {A : Type 0} (xs : List A) → length xs ≡ 0 → xs ≡ []
 none_left [] none = refl
 none_left (x ∷ xs) none = absurd (omega (arith, none))
-
--- a seat in the place of another one of its core
-pub seated_set : (first : ℕ) (seats : List Spoken) (k : ℕ) (seat d : Spoken) → AreSeatsFrom first seats
-    → seat.who ≡ (slice_index_or seats k d).who → AreSeatsFrom first (slice_set seats k seat)
-seated_set first [] k seat d seated same = seated
-seated_set first (x ∷ seats) zero seat d seated same = (same ∙ seated.0, seated.1)
-seated_set first (x ∷ seats) (suc k) seat d seated same = (seated.0, seated_set (first + 1) seats k seat d seated.1 same)
-
--- a turn leaves the seat with its core
-pub who_stays : (result : Result Confirmed Full) (old new : Spoken) (limit : ℕ)
-    → IfOk result (λ r. (new ≡ with_entry old r.entry) × (r.entry.who ≡ old.who) × (r.place ≡ length old.own + 1))
-    → IfErr result (λ e. (new ≡ told_full old) × (e.entries ≡ limit)) → new.who ≡ old.who
-who_stays (Ok r) old new limit ok full = ap (λ (s : Spoken). s.who) ok.0
-who_stays (Err e) old new limit ok full = ap (λ (s : Spoken). s.who) full.0

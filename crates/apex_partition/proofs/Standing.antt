@@ -3,11 +3,11 @@
 use Rattle.std.proofs.Common.{◌≡◌, ℕ, zero, suc, ◌<◌, ◌≤◌, Bool, true, false, Option, Some, None, inl, inr, refl, sym, subst, ◌∙◌, arith}
 use Rattle.std.proofs.lemmas.Bool.{and_parts, and_from, both_ways, cases_Bool, cases_eq, eq-eqb}
 use Rattle.std.proofs.lemmas.Option.{none-some}
-use Rattle.apex_types.specs.Limits.{most_cores}
-use Rattle.apex_types.specs.Distinct.{HasDistinctStamps}
-use Rattle.apex_types.specs.Roster.{Roster, record_at}
-use Rattle.apex_types.specs.Running.{chosen, current_priority, is_eligible, is_process, process_state}
-use Rattle.apex_types.specs.Waiters.{queue_in, waits_in}
+use Rattle.apex_types.specs.values.Limits.{most_cores}
+use Rattle.apex_types.specs.values.Distinct.{HasDistinctStamps}
+use Rattle.apex_types.specs.processes.Roster.{Roster, record_at}
+use Rattle.apex_types.specs.processes.Running.{chosen, current_priority, is_eligible, is_process, process_state}
+use Rattle.apex_types.specs.processes.Waiters.{queue_in, waits_in}
 use Rattle.apex_types.specs.declared.records.Queue.{Queue}
 use Rattle.apex_types.proofs.Orders.{before_strict}
 use Rattle.apex_types.proofs.Starts.{stands_in as queue_is}

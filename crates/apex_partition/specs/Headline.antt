@@ -1,12 +1,12 @@
 -- The headline: the facts about a partition whenever its lock is free.
 use Rattle.std.specs.Prelude.{◌≡◌, ℕ, ◌<◌, length, slice_index_or}
-use Rattle.apex_types.specs.Limits.{most_cores}
-use Rattle.apex_types.specs.Machine.{events_of, opening, run}
-use Rattle.apex_types.specs.Roster.{record_at}
-use Rattle.apex_types.specs.Running.{chosen, process_state}
-use Rattle.apex_types.specs.Satisfied.{semaphore_value}
-use Rattle.apex_types.specs.SemaphoreServices.{SemaphoreObject, semaphore_kind}
-use Rattle.apex_types.specs.Table.{semaphore_config}
+use Rattle.apex_types.specs.values.Limits.{most_cores}
+use Rattle.apex_types.specs.machine.Machine.{events_of, opening, run}
+use Rattle.apex_types.specs.processes.Roster.{record_at}
+use Rattle.apex_types.specs.processes.Running.{chosen, process_state}
+use Rattle.apex_types.specs.services.Satisfied.{semaphore_value}
+use Rattle.apex_types.specs.services.SemaphoreServices.{SemaphoreObject, semaphore_kind}
+use Rattle.apex_types.specs.table.Table.{semaphore_config}
 use Rattle.apex_store.specs.Laws.{RunsMostUrgent}
 use Rattle.apex_process.specs.Queued.{Queued}
 use Rattle.apex_process.specs.State.{AreListsOfState}
@@ -29,23 +29,27 @@ pub record Headline (partition : KernelState) (store : Queued) : Type 0 where
   -- each core's running process is the highest-priority, longest-ready one bound to it
   pub running : (core : ℕ) → RunsMostUrgent partition.machine.roster core
   -- and the first of the core's highest ready list that is not empty
-  pub first : (core : ℕ) → core < most_cores → RunsByLists store.standings.links core (chosen partition.machine.roster core)
+  pub first : (core : ℕ) → core < most_cores
+      → RunsByLists store.standings.links core (chosen partition.machine.roster core)
   -- every process is in exactly one state
   pub state : (p : ℕ) → p < length partition.table.processes
-      → StandsAs store.standings.links p (record_at partition.machine.roster p) (process_state partition.machine.roster p)
+      → StandsAs store.standings.links p (record_at partition.machine.roster p)
+      (process_state partition.machine.roster p)
   -- and at most one queue
   pub queue : (p : ℕ) → IsInOneQueue store.standings.links p (record_at partition.machine.roster p)
   -- and the lists, the marks and counts of them, the timers and the owners are those of the state
   pub lists : AreListsOfState store
   -- each semaphore's value is its start plus accepted signals less satisfied waits
   pub value : (s : ℕ) → s < length partition.table.semaphores
-      → (stored_semaphore partition s).value ≡ semaphore_value (start_of partition s) s partition.machine.history
+      → (stored_semaphore partition s).value
+      ≡ semaphore_value (start_of partition s) s partition.machine.history
   -- and no more waits were satisfied than these allow
   pub served : (s : ℕ) → s < length partition.table.semaphores
       → IsAccounted (start_of partition s) s partition.machine.history
   -- and the stored history replays on the one-thread machine with the same return codes and
   -- releases
-  pub replays : run partition.table (opening partition.table) (events_of partition.machine.history) ≡ partition.machine
+  pub replays : run partition.table (opening partition.table) (events_of partition.machine.history)
+      ≡ partition.machine
 
 -- the headline holds of the partition and of the store in which it keeps its processes
 abbrev pub HasHeadline : KernelState → Type 0

@@ -1,4 +1,5 @@
 pub mod Standing
 pub mod Headline
 pub mod Seats
+pub mod Steps
 pub mod Forward

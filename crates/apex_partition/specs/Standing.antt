@@ -2,13 +2,13 @@
 -- stores.
 use Rattle.std.specs.Prelude.{◌≡◌, ℕ, ◌<◌, true, false, Option}
 use Rattle.std.specs.Option.{MatchOption}
-use Rattle.apex_types.specs.Limits.{most_cores}
+use Rattle.apex_types.specs.values.Limits.{most_cores}
 use Rattle.apex_types.specs.declared.records.Queue.{Queue}
 use Rattle.apex_types.specs.declared.records.Record.{Record}
 use Rattle.apex_types.specs.declared.records.State.{State}
 use Rattle.apex_types.specs.declared.records.State.TheVariants.{Dormant, Ready, Running, Waiting}
-use Rattle.apex_types.specs.Running.{current_priority}
-use Rattle.apex_types.specs.Waiters.{waits_in}
+use Rattle.apex_types.specs.processes.Running.{current_priority}
+use Rattle.apex_types.specs.processes.Waiters.{waits_in}
 use Rattle.apex_links.specs.Neighbours.{stands_in}
 use Rattle.apex_links.specs.Links.{Links, list_at, IsFree}
 use Rattle.apex_ready.specs.ReadyOrders.{ready_list, IsIdle, IsTop}
@@ -21,7 +21,8 @@ RunsByLists links core running = MatchOption running (IsIdle links core) (λ p. 
 
 -- process p is in the ready list of its core and current priority
 abbrev pub IsInItsReadyList : Links → ℕ → Record → Type 0
-IsInItsReadyList links p r = stands_in p (list_at links (ready_list r.core (current_priority r))) ≡ true
+IsInItsReadyList links p r =
+    stands_in p (list_at links (ready_list r.core (current_priority r))) ≡ true
 
 -- process p is in no ready list
 abbrev pub IsInNoReadyList : Links → ℕ → Type 0
@@ -39,5 +40,7 @@ StandsAs links p r Waiting = IsInNoReadyList links p
 -- process p, which has this record, is in one list at the most, and if it waits in a queue, in that
 -- one's
 pub record IsInOneQueue (links : Links) (p : ℕ) (r : Record) : Type 0 where
-  pub one : (l m : ℕ) → stands_in p (list_at links l) ≡ true → stands_in p (list_at links m) ≡ true → l ≡ m
-  pub waits : (queue : Queue) → waits_in queue r ≡ true → stands_in p (list_at links (wait_list queue)) ≡ true
+  pub one : (l m : ℕ) → stands_in p (list_at links l) ≡ true → stands_in p (list_at links m) ≡ true
+      → l ≡ m
+  pub waits : (queue : Queue) → waits_in queue r ≡ true
+      → stands_in p (list_at links (wait_list queue)) ≡ true

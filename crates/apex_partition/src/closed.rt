@@ -1,6 +1,7 @@
 //! A partition that was closed.
-ghost use Rattle.std.specs.Prelude.{◌≡◌, ◌≤◌, All, MatchOption, None, length};
+ghost use Rattle.std.specs.Prelude.{◌≡◌, ◌≤◌, All, length};
 ghost use mathlib.Core.List.{IsPrefix};
+ghost use Rattle.apex_board.specs.Boards.{HasPublished};
 ghost use Rattle.apex_board.specs.Fronts.{IsFrontAfter};
 ghost use Rattle.apex_receipts.specs.Receipts.{Stands};
 ghost use Rattle.apex_calls.specs.Lines.{IsPrintable};
@@ -23,15 +24,16 @@ pub struct Closed<P: Naming> {
 }
 
 impl<P: Naming> Model for Closed<P> {
-    ghost use Rattle.std.specs.Prelude.{◌≡◌, List, MatchOption, None};
+    ghost use Rattle.std.specs.Prelude.{◌≡◌, List};
     ghost use Rattle.apex_types.specs.declared.entries.Entry.{Entry};
+    ghost use Rattle.apex_board.specs.Boards.{HasPublished};
 
     ghost Value = { List Entry };
 
     ghost view = { λ c. c.story };
 
     ghost invariant = { λ c. (c.partition.table ≡ P.table) × (c.story ≡ c.partition.machine.history)
-        × MatchOption c.publisher (P.cell ≡ None) (λ history. history ≡ c.story) };
+        × HasPublished P.cell c.story c.publisher };
 }
 
 impl<P: Naming> Closed<P> {
@@ -44,7 +46,7 @@ impl<P: Naming> Closed<P> {
     ) -> Closed<P>
         requires table { partition.table ≡ P.table }
         requires history { story ≡ partition.machine.history }
-        requires publisher { MatchOption publisher (P.cell ≡ None) (λ history. history ≡ partition.machine.history) }
+        requires publisher { HasPublished P.cell partition.machine.history publisher }
         ensures { result ≡ partition.machine.history }
     {
         Closed {

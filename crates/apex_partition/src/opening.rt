@@ -1,8 +1,8 @@
 //! The opening of a partition that threads will share.
 ghost use Rattle.std.specs.Prelude.{◌≡◌, ◌≤◌, IfOk, None, length, vec_len};
-ghost use Rattle.apex_types.specs.Limits.{most_cores};
+ghost use Rattle.apex_types.specs.values.Limits.{most_cores};
 ghost use Rattle.apex_types.specs.declared.entries.Who.TheVariants.{Ticker as ToTicker};
-ghost use Rattle.apex_receipts.specs.Receipts.{unspoken, unspoken_cores, voice_of};
+ghost use Rattle.apex_receipts.specs.Receipts.{unspoken, unspoken_cores, IsNamedAfter};
 ghost use Rattle.apex_partition.specs.Seats.{IsSeated};
 
 use crate::partitions::Partition;
@@ -18,7 +18,7 @@ use std::alloc::{AllocError, Global};
 /// The seats that speak with these voices.
 fn seated<P: Naming>(alloc: Global, voices: Vec<Voice<P>>) -> Result<Vec<Seat<P>>, AllocError>
     requires voices { voices.items ≡ unspoken_cores P.table.cores }
-    requires few { P.table.cores ≤ most_cores }
+    requires few_cores { P.table.cores ≤ most_cores }
     ensures { IfOk result (λ seats. seats.items ≡ unspoken_cores P.table.cores) }
 {
     let mut seats = Vec::new(alloc);
@@ -42,9 +42,7 @@ pub fn open_read<P: Naming>(
     board: NewBoard,
 ) -> Result<(Shared<P>, Vec<Seat<P>>, Ticker<P>, Board<P>), AllocError>
     requires table { P.table ≡ table }
-    requires book { P.book ≡ opened.book }
-    requires scribe { P.scribe ≡ opened.scribe }
-    requires voice { P.voice ≡ voice_of opened.cores opened.ticker }
+    requires named { IsNamedAfter P.book P.scribe P.voice opened }
     requires cores { length opened.cores ≡ table.cores }
     requires cell { P.cell ≡ board.cell }
     ensures seated { IfOk result (λ all. IsSeated all.1.items) }
@@ -70,9 +68,7 @@ pub fn open<P: Naming>(
     opened: Opened,
 ) -> Result<(Shared<P>, Vec<Seat<P>>, Ticker<P>), AllocError>
     requires table { P.table ≡ table }
-    requires book { P.book ≡ opened.book }
-    requires scribe { P.scribe ≡ opened.scribe }
-    requires voice { P.voice ≡ voice_of opened.cores opened.ticker }
+    requires named { IsNamedAfter P.book P.scribe P.voice opened }
     requires cores { length opened.cores ≡ table.cores }
     requires cell { P.cell ≡ None }
     ensures seated { IfOk result (λ all. IsSeated all.1.items) }

@@ -1,15 +1,16 @@
 //! The value under the lock.
 ghost use Rattle.std.specs.Prelude.{◌≡◌, ◌<◌, ◌≤◌, ◌↔◌, length, All, IfOk, IfErr, IfSome, OnOk, OnErr, IsOk, None, Some, slice_get};
 ghost use Rattle.std.specs.List.{last_or};
-ghost use Rattle.apex_types.specs.Limits.{most_entries, most_ticks};
+ghost use Rattle.apex_types.specs.values.Limits.{most_entries, most_ticks};
 ghost use Rattle.apex_calls.specs.Lines.{IsPrintable};
-ghost use Rattle.apex_types.specs.Machine.{events_of, opening, tick, turn};
-ghost use Rattle.apex_types.specs.Running.{chosen, process_state};
+ghost use Rattle.apex_types.specs.machine.Machine.{events_of, opening};
+ghost use Rattle.apex_types.specs.processes.Running.{chosen, process_state};
 ghost use Rattle.apex_dispatch.specs.Events.{IsWithin};
 ghost use Rattle.apex_dispatch.specs.Kernel.{kernel_in};
 ghost use Rattle.apex_store.specs.Laws.{RunsMostUrgent};
 ghost use Rattle.apex_board.specs.Fronts.{FitsWords, IsFrontAfter, front_of};
 ghost use Rattle.apex_partition.specs.Headline.{HasHeadline, Headline};
+ghost use Rattle.apex_partition.specs.Steps.{IsFullAt, after_tick, after_turn};
 
 use apex_board::Front;
 use apex_dispatch::{Kernel, values_and_dues_are_in_range};
@@ -76,9 +77,9 @@ impl Partition {
     pub fn turn(&mut self, core: CoreId) -> Result<(), Full>
         requires { core < self.old.table.cores }
         ensures accepted { IsOk result ↔ (length self.old.machine.history < self.old.table.limit) }
-        ensures done { OnOk result (self.new ≡ kernel_in self.old.table (turn self.old.table self.old.machine core)) }
+        ensures done { OnOk result (self.new ≡ after_turn self.old core) }
         ensures refused { OnErr result (self.new ≡ self.old) }
-        ensures full { IfErr result (λ e. (e.entries ≡ length self.old.machine.history) × (e.entries ≡ self.old.table.limit)) }
+        ensures full { IfErr result (λ e. IsFullAt self.old e.entries) }
     {
         let result = self.kernel.turn(core);
         stands(&self.kernel);
@@ -91,9 +92,9 @@ impl Partition {
     pub fn tick(&mut self, n: u32) -> Result<(), Full>
         requires range { (1 ≤ n) × (n ≤ most_ticks) }
         ensures accepted { IsOk result ↔ (length self.old.machine.history < self.old.table.limit) }
-        ensures done { OnOk result (self.new ≡ kernel_in self.old.table (tick self.old.table self.old.machine n)) }
+        ensures done { OnOk result (self.new ≡ after_tick self.old n) }
         ensures refused { OnErr result (self.new ≡ self.old) }
-        ensures full { IfErr result (λ e. (e.entries ≡ length self.old.machine.history) × (e.entries ≡ self.old.table.limit)) }
+        ensures full { IfErr result (λ e. IsFullAt self.old e.entries) }
     {
         let result = self.kernel.tick(n);
         stands(&self.kernel);
@@ -176,7 +177,7 @@ impl Partition {
     /// table's cores and of the ticker; and it can be printed.
     pub(crate) fn stays_within(&self)
         ensures room { length self.now.machine.history ≤ self.now.table.limit }
-        ensures few { self.now.table.limit ≤ most_entries }
+        ensures few_entries { self.now.table.limit ≤ most_entries }
         ensures events { All (IsWithin self.now.table.cores) (events_of self.now.machine.history) }
         ensures printable { All (IsPrintable self.now.table) self.now.machine.history }
     {

@@ -2,12 +2,14 @@
 ghost use Rattle.std.specs.Prelude.{◌≡◌, ℕ, ◌+◌, ◌<◌, ◌≤◌, ◌++◌, ◌∷◌, [], None, All, IfErr, IfOk, IfSome, IsOk, MatchOption, OnErr, ◌↔◌, length, slice_index_or, vec_len};
 ghost use Rattle.apex_types.specs.declared.entries.Entry.{Entry};
 ghost use Rattle.apex_types.specs.declared.entries.Who.TheVariants.{Core, Ticker as ToTicker};
-ghost use Rattle.apex_types.specs.Limits.{most_ticks};
-ghost use Rattle.apex_types.specs.Machine.{opening, tick, turn};
+ghost use Rattle.apex_types.specs.values.Limits.{most_ticks};
+ghost use Rattle.apex_types.specs.machine.Machine.{opening};
 ghost use Rattle.apex_dispatch.specs.Kernel.{kernel_in};
-ghost use Rattle.apex_receipts.specs.Receipts.{Spoken, Stands};
+ghost use Rattle.apex_receipts.specs.Receipts.{Spoken, Stands, told_full, with_entry};
+ghost use Rattle.apex_board.specs.Boards.{HasPublished};
 ghost use Rattle.apex_partition.specs.Headline.{HasHeadline};
-ghost use Rattle.apex_partition.specs.Seats.{IsLatest, IsOneOf, IsRun, IsSeated, IsSettled, asked_ticks, told_full, with_entry};
+ghost use Rattle.apex_partition.specs.Seats.{IsLatest, IsOneOf, IsReceiptOf, IsRun, IsSeated, IsSettled, asked_ticks};
+ghost use Rattle.apex_partition.specs.Steps.{after_tick, after_turn};
 
 use crate::closed::Closed;
 use crate::partitions::Partition;
@@ -30,15 +32,17 @@ pub struct Published<P: Naming> {
 }
 
 impl<P: Naming> Model for Published<P> {
-    ghost use Rattle.std.specs.Prelude.{◌≡◌, MatchOption, None};
+    ghost use Rattle.std.specs.Prelude.{◌≡◌};
     ghost use Rattle.apex_dispatch.specs.Kernel.{KernelState};
+    ghost use Rattle.apex_board.specs.Boards.{HasPublished};
 
     ghost Value = { KernelState };
 
     ghost view = { λ l. l.partition };
 
-    ghost invariant = { λ l. (l.partition.table ≡ P.table) × (l.scribe ≡ l.partition.machine.history)
-        × MatchOption l.publisher (P.cell ≡ None) (λ history. history ≡ l.partition.machine.history) };
+    ghost invariant = { λ l. (l.partition.table ≡ P.table)
+        × (l.scribe ≡ l.partition.machine.history)
+        × HasPublished P.cell l.partition.machine.history l.publisher };
 }
 
 /// Writes down the entry that the partition has just made, for its voice.
@@ -48,7 +52,8 @@ fn record_latest<P: Naming>(
     voice: &mut Voice<P>,
 ) -> Receipt<P>
     requires table { partition.now.table ≡ P.table }
-    requires latest { (e : Entry) × IsLatest scribe.old voice.old.who e partition.now.machine.history }
+    requires latest { (e : Entry)
+        × IsLatest scribe.old voice.old.who e partition.now.machine.history }
     ensures history { scribe.new ≡ partition.now.machine.history }
     ensures voice { voice.new ≡ with_entry voice.old result.entry }
     ensures latest { IsLatest scribe.old voice.old.who result.entry partition.now.machine.history }
@@ -66,8 +71,9 @@ fn publish_latest<P: Naming, R: Wait>(
     latest: &KeptEntry,
 )
     requires table { partition.now.table ≡ P.table }
-    requires before { MatchOption publisher.old (P.cell ≡ None) (λ history. history ++ latest.now ∷ [] ≡ partition.now.machine.history) }
-    ensures { MatchOption publisher.new (P.cell ≡ None) (λ history. history ≡ partition.entry.now.machine.history) }
+    requires before { MatchOption publisher.old (P.cell ≡ None)
+        (λ history. history ++ latest.now ∷ [] ≡ partition.now.machine.history) }
+    ensures { HasPublished P.cell partition.entry.now.machine.history publisher.new }
 {
     if let Some(publisher) = publisher {
         publisher.publish(rt, &partition.front(), latest);
@@ -84,7 +90,7 @@ impl<P: Naming> Published<P> {
     ) -> Published<P>
         requires partition { partition ≡ kernel_in P.table (opening P.table) }
         requires scribe { scribe ≡ [] }
-        requires publisher { MatchOption publisher (P.cell ≡ None) (λ history. history ≡ []) }
+        requires publisher { HasPublished P.cell [] publisher }
         ensures { result ≡ partition }
     {
         Published {
@@ -99,12 +105,12 @@ impl<P: Naming> Published<P> {
     pub fn turn<R: Wait>(&mut self, rt: &R, seat: &mut Seat<P>) -> Result<Receipt<P>, Full>
         ensures accepted { IsOk result ↔ (length self.old.machine.history < self.old.table.limit) }
         ensures done { IfOk result (λ r. (core : ℕ) × (seat.old.who ≡ Core core)
-            × (self.new ≡ kernel_in self.old.table (turn self.old.table self.old.machine core))
+            × (self.new ≡ after_turn self.old core)
             × (self.new.machine.history ≡ self.old.machine.history ++ r.entry ∷ [])) }
-        ensures ok { IfOk result (λ r. (seat.new ≡ with_entry seat.old r.entry)
-            × (r.entry.who ≡ seat.old.who) × (r.place ≡ length seat.old.own + 1)) }
+        ensures ok { IfOk result (λ r. IsReceiptOf seat.old r seat.new) }
         ensures refused { OnErr result (self.new ≡ self.old) }
-        ensures full { IfErr result (λ e. (seat.new ≡ told_full seat.old) × (e.entries ≡ P.table.limit)) }
+        ensures learns { OnErr result (seat.new ≡ told_full seat.old) }
+        ensures full { IfErr result (λ e. e.entries ≡ P.table.limit) }
     {
         if let Err(full) = self.partition.turn(seat.core) {
             self.scribe.refuse(&mut seat.voice);
@@ -125,12 +131,13 @@ impl<P: Naming> Published<P> {
     ) -> Result<Receipt<P>, Full>
         requires range { (1 ≤ n) × (n ≤ most_ticks) }
         ensures accepted { IsOk result ↔ (length self.old.machine.history < self.old.table.limit) }
-        ensures done { IfOk result (λ r. (self.new ≡ kernel_in self.old.table (tick self.old.table self.old.machine n))
+        ensures done { IfOk result (λ r. (self.new ≡ after_tick self.old n)
             × (self.new.machine.history ≡ self.old.machine.history ++ r.entry ∷ [])) }
-        ensures ok { IfOk result (λ r. (ticker.new ≡ with_entry ticker.old r.entry)
-            × (r.entry.who ≡ ticker.old.who) × (r.place ≡ length ticker.old.own + 1) × (asked_ticks r.entry ≡ n)) }
+        ensures ok { IfOk result (λ r. IsReceiptOf ticker.old r ticker.new) }
+        ensures asks { IfOk result (λ r. asked_ticks r.entry ≡ n) }
         ensures refused { OnErr result (self.new ≡ self.old) }
-        ensures full { IfErr result (λ e. (ticker.new ≡ told_full ticker.old) × (e.entries ≡ P.table.limit)) }
+        ensures learns { OnErr result (ticker.new ≡ told_full ticker.old) }
+        ensures full { IfErr result (λ e. e.entries ≡ P.table.limit) }
     {
         if let Err(full) = self.partition.tick(n) {
             self.scribe.refuse(&mut ticker.voice);
@@ -147,7 +154,8 @@ impl<P: Naming> Published<P> {
         ensures partition { result.now ≡ self.old }
         ensures table { result.now.table ≡ P.table }
         ensures headline { HasHeadline result.now }
-        ensures stands { IfSome seen.entry (λ r. Stands result.now.machine.history r.now.entry r.now.place) }
+        ensures stands { IfSome seen.entry
+            (λ r. Stands result.now.machine.history r.now.entry r.now.place) }
     {
         if let Some(receipt) = seen {
             self.scribe.shows(receipt);
@@ -170,7 +178,8 @@ impl<P: Naming> Published<P> {
         requires { IsSeated seats.items }
         ensures same { self.new ≡ self.old }
         ensures settled { (core : ℕ) (seat : Spoken) → core < vec_len seats
-            → IsSettled P.table self.old.machine.history (Core core) (slice_index_or seats.items core seat) }
+            → IsSettled P.table self.old.machine.history (Core core)
+            (slice_index_or seats.items core seat) }
     {
         for seat in seats {
             self.settle(seat.voice);

@@ -72,7 +72,7 @@ pub struct Ticker<P: Naming> {
 impl<P: Naming> Model for Ticker<P> {
     ghost use Rattle.std.specs.Prelude.{◌≡◌, ◌*◌, ◌≤◌, length};
     ghost use Rattle.apex_types.specs.declared.entries.Who.TheVariants.{Ticker};
-    ghost use Rattle.apex_types.specs.Limits.{most_ticks};
+    ghost use Rattle.apex_types.specs.values.Limits.{most_ticks};
     ghost use Rattle.apex_receipts.specs.Receipts.{Spoken};
     ghost use Rattle.apex_partition.specs.Seats.{ticks_asked};
 

@@ -1,13 +1,13 @@
 //! A partition that threads share.
-ghost use Rattle.std.specs.Prelude.{◌≡◌, ℕ, ◌+◌, ◌<◌, ◌≤◌, All, IfErr, IfOk, IfSome, length, slice_index_or, vec_len};
+ghost use Rattle.std.specs.Prelude.{◌≡◌, ℕ, ◌<◌, ◌≤◌, All, IfErr, IfOk, IfSome, OnErr, slice_index_or, vec_len};
 ghost use Rattle.std.specs.Fn.{FnOnceReturnsAt};
 ghost use Rattle.apex_types.specs.declared.entries.Entry.{Entry};
 ghost use Rattle.apex_types.specs.declared.entries.Who.TheVariants.{Core, Ticker as ToTicker};
-ghost use Rattle.apex_types.specs.Limits.{most_ticks};
+ghost use Rattle.apex_types.specs.values.Limits.{most_ticks};
 ghost use Rattle.apex_dispatch.specs.Kernel.{KernelState};
-ghost use Rattle.apex_receipts.specs.Receipts.{Spoken, Stands};
+ghost use Rattle.apex_receipts.specs.Receipts.{Spoken, Stands, told_full};
 ghost use Rattle.apex_partition.specs.Headline.{HasHeadline};
-ghost use Rattle.apex_partition.specs.Seats.{IsOneOf, IsRun, IsSeated, IsSettled, asked_ticks, told_full, with_entry};
+ghost use Rattle.apex_partition.specs.Seats.{IsOneOf, IsReceiptOf, IsRun, IsSeated, IsSettled, asked_ticks};
 
 use crate::closed::Closed;
 use crate::partitions::Partition;
@@ -32,9 +32,9 @@ impl<P: Naming> Shared<P> {
 
     /// One turn of the seat's core, whole. A full history answers [`Full`], and stays as it is.
     pub fn turn<R: Wait>(&self, rt: &R, seat: &mut Seat<P>) -> Result<Receipt<P>, Full>
-        ensures ok { IfOk result (λ r. (seat.new ≡ with_entry seat.old r.entry)
-            × (r.entry.who ≡ seat.old.who) × (r.place ≡ length seat.old.own + 1)) }
-        ensures full { IfErr result (λ e. (seat.new ≡ told_full seat.old) × (e.entries ≡ P.table.limit)) }
+        ensures ok { IfOk result (λ r. IsReceiptOf seat.old r seat.new) }
+        ensures learns { OnErr result (seat.new ≡ told_full seat.old) }
+        ensures full { IfErr result (λ e. e.entries ≡ P.table.limit) }
     {
         self.lock.lock(rt).turn(rt, seat)
     }
@@ -43,9 +43,10 @@ impl<P: Naming> Shared<P> {
     /// ends by itself or a deadline passes. A full history answers [`Full`], and stays as it is.
     pub fn tick<R: Wait>(&self, rt: &R, ticker: &mut Ticker<P>, n: u32) -> Result<Receipt<P>, Full>
         requires range { (1 ≤ n) × (n ≤ most_ticks) }
-        ensures ok { IfOk result (λ r. (ticker.new ≡ with_entry ticker.old r.entry)
-            × (r.entry.who ≡ ticker.old.who) × (r.place ≡ length ticker.old.own + 1) × (asked_ticks r.entry ≡ n)) }
-        ensures full { IfErr result (λ e. (ticker.new ≡ told_full ticker.old) × (e.entries ≡ P.table.limit)) }
+        ensures ok { IfOk result (λ r. IsReceiptOf ticker.old r ticker.new) }
+        ensures asks { IfOk result (λ r. asked_ticks r.entry ≡ n) }
+        ensures learns { OnErr result (ticker.new ≡ told_full ticker.old) }
+        ensures full { IfErr result (λ e. e.entries ≡ P.table.limit) }
     {
         self.lock.lock(rt).tick(rt, ticker, n)
     }

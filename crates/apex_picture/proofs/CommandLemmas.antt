@@ -14,7 +14,7 @@ use Rattle.clap.specs.declared.error.kind.ErrorKind.TheVariants.{OutOfMemory}
 use Rattle.clap.specs.declared.parser.matches.ArgMatches.{ArgMatches}
 use Rattle.clap.specs.declared.parser.matches.ArgMatches.TheViews.{out-ArgMatches, out-SubCommand}
 use Rattle.clap.specs.declared.parser.matches.SubCommand.{SubCommand}
-use Rattle.apex_picture.specs.declared.words.Kind.{Kind}
+use Rattle.apex_picture.specs.declared.words.Format.{Format}
 use Rattle.apex_picture.specs.Words.{Request, request_in, request_unless, svg_in, trace_in}
 
 -- the name and the rows of the command that was met, by the one and the other
@@ -51,8 +51,8 @@ asks_nothing kinds e found (inl memory) other = absurd (other memory)
 asks_nothing kinds e found (inr among) other = none_among kinds (kind_of e) found among
 
 -- a request of these parts
-abbrev pub request : Kind → Option Text → Option Text → Option Text → Request
-request kind schedule first last = record { kind = kind; schedule = schedule; first = first; last = last }
+abbrev pub request : Format → Option Text → Option Text → Option Text → Request
+request format schedule first last = record { format = format; schedule = schedule; first = first; last = last }
 
-pub same_request : (kind : Kind) {s t f g l m : Option Text} → s ≡ t → f ≡ g → l ≡ m → request kind s f l ≡ request kind t g m
-same_request kind a b c = rw (a, b, c) refl
+pub same_request : (format : Format) {s t f g l m : Option Text} → s ≡ t → f ≡ g → l ≡ m → request format s f l ≡ request format t g m
+same_request format a b c = rw (a, b, c) refl

@@ -1,9 +1,9 @@
 -- The ways in which the program ends, by what was at fault.
-use Rattle.std.proofs.Common.{◌≡◌, inl, inr, List, ℕ, Option, None, Some, Ok, refl}
+use Rattle.std.proofs.Common.{◌≡◌, inl, inr, List, [], ℕ, Option, None, Some, Ok, refl}
 use Rattle.std.specs.Io.KnownBytes.{Keeps}
-use Rattle.apex_types.specs.Machine.{Machine, opening, run}
+use Rattle.apex_types.specs.machine.Machine.{Machine, opening, run}
 use Rattle.apex_types.specs.declared.Event.{Event}
-use Rattle.apex_types.specs.Table as tables
+use Rattle.apex_types.specs.table.Table as tables
 use Rattle.apex_history.specs.Counted.{CountsFault}
 use Rattle.apex_history.specs.Ports.{IsLeft, NoneFails, Ports}
 use Rattle.apex_history.specs.declared.ReadFault.{ReadFault}
@@ -126,13 +126,14 @@ pub ends_history : {asked : Option Asked} (task : Task) {before after : Ports} {
     → Ends asked before ends after
 ends_history task is none shows = a_history is none shows
 
--- the verdict on a text, by its check
-pub verdict_is : {before after : Ports} → (text : List ℕ) (verdict : Verdict) → Checks before (Ok verdict) after
-    → TellsLegal before.left (Ok verdict) → before.left ≡ Some text → IsVerdictOn text verdict
-verdict_is text (Legal n) checks tells left = (tells text n left tt).0 refl
-verdict_is text (DepartsAt n expected) (written bytes table is_left judges appends none_fails) tells left =
+-- the verdict on a text and the verdict's text, by its check
+pub verdict_is : {before after : Ports} → (text : List ℕ) (verdict : Verdict) (report : List ℕ)
+    → Checks before (Ok verdict) after → TellsLegal before.left (Ok verdict) → before.left ≡ Some text
+    → before.held ≡ Some [] → after.held ≡ Some report → IsVerdictOn text verdict report
+verdict_is text (Legal n) report checks tells left empty holds = (tells text n left tt).0 refl
+verdict_is text (DepartsAt n expected) report (written bytes table is_left judges appends none_fails) tells left empty holds =
     let same : bytes ≡ text = rw left at is_left in
-    (table, rw same at judges)
+    (table, rw same at judges, rw (empty, holds) at appends)
 
 -- the line of a fault other than ill-formed words
 pub other_line : (fault : CliFault) → (fault ≡ Usage → ⊥) → line_told (Some fault) ≡ fault_line fault

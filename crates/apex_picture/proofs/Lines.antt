@@ -1,5 +1,5 @@
 -- Lines and the events that they name, one more each time.
-use Rattle.std.proofs.Common.{◌≡◌, ◌∙◌, ℕ, ◌+◌, ◌-◌, ◌≤◌, List, [], ◌∷◌, ◌++◌, Some, Ok, refl, sym, ap, arith, length, map, take, drop, subst, append_assoc, append-nil, length-append, take-append-drop, length-drop}
+use Rattle.std.proofs.Common.{◌≡◌, ◌∙◌, ℕ, ◌+◌, ◌-◌, ◌≤◌, List, [], ◌∷◌, ◌++◌, Some, Ok, refl, sym, ap, arith, length, map, take, drop, subst, append_assoc, append-nil, length-append, take-append-drop}
 use Rattle.std.specs.List.{position}
 use Rattle.std.specs.Prelude.{◌≢◌}
 use Rattle.std.proofs.Math.Seq.{take-append_seam}
@@ -9,10 +9,10 @@ use Rattle.std.proofs.lemmas.List.Elements.{All-nil, All-push}
 use Rattle.apex_dispatch.specs.Events.{IsWithin}
 use Rattle.apex_table.proofs.Results.{all_append}
 use Rattle.apex_check.specs.Histories.{event_named}
-use Rattle.apex_check.specs.Texts.{IsOfTable, IsOneLine, IsParted, IsTableText, ended, is_line_feed, separator, text_of}
+use Rattle.apex_check.specs.Texts.{IsOfTable, IsOneLine, IsParted, IsTableText, ended, is_line_feed, separator}
 use Rattle.apex_check.proofs.FirstLines.{first_feed}
 use Rattle.apex_check.proofs.Separated.{from_place, table_none, text_more}
-use Rattle.apex_picture.specs.Histories.{NameEvents, Names}
+use Rattle.apex_picture.specs.Histories.{NameEvents}
 
 -- the first line has no line feed
 pub first_one : (text : List ℕ) (end : ℕ) → position is_line_feed text ≡ Some end → IsOneLine (take end text)
@@ -79,8 +79,9 @@ named_none cores text = record {
 
 pub named_more : (cores : ℕ) (text rest line after : List ℕ) (events : List Event) (event : Event)
     → IsNamedOf cores text rest events → rest ≡ ended line ++ after → IsOneLine line
-    → Names cores line (Ok event) → IsNamedOf cores text after (events ++ event ∷ [])
-named_more cores text rest line after events event so_far is one names =
+    → event_named cores line ≡ Ok event → IsWithin cores event
+    → IsNamedOf cores text after (events ++ event ∷ [])
+named_more cores text rest line after events event so_far is one named within =
     let before = so_far.named in
     record {
       bytes = so_far.bytes ++ ended line;
@@ -91,9 +92,9 @@ named_more cores text rest line after events event so_far is one names =
         apart = all_append IsOneLine before.lines (line ∷ []) before.apart (one, tt);
         named = map-append (event_named cores) before.lines (line ∷ [])
             ∙ ap (λ l. l ++ event_named cores line ∷ []) before.named
-            ∙ ap (λ e. map Ok events ++ e ∷ []) names.named
+            ∙ ap (λ e. map Ok events ++ e ∷ []) named
             ∙ sym (map-append Ok events (event ∷ []));
-        within = All-push (IsWithin cores) events event before.within names.within;
+        within = All-push (IsWithin cores) events event before.within within;
       };
     }
 

@@ -1,8 +1,8 @@
 -- What is drawn for the items of a schedule.
-use Rattle.std.proofs.Common.{◌≡◌, ◌∙◌, ℕ, List, Option, Ok, true, refl, sym, ap, subst}
+use Rattle.std.proofs.Common.{◌≡◌, ◌∙◌, ℕ, List, Option, Result, Ok, Err, IfOk, true, refl, sym, ap, subst}
 use Rattle.std.specs.List.{All}
-use Rattle.apex_types.specs.Machine.{Machine, events_of, opening, replay, run}
-use Rattle.apex_types.specs.Table.{Table}
+use Rattle.apex_types.specs.machine.Machine.{Machine, events_of, opening, replay, run}
+use Rattle.apex_types.specs.table.Table.{Table}
 use Rattle.apex_types.specs.declared.Event.{Event}
 use Rattle.apex_table.specs.Reading.{table_of}
 use Rattle.apex_dispatch.specs.Events.{IsWithin}
@@ -23,6 +23,17 @@ run_is items table machine events fault ran replays are told within = record {
   told = told;
   within = subst (All (IsWithin table.cores)) (sym are) within;
 }
+
+-- the same of a run that is made or for which memory was refused
+pub made_is : {R E : Type 0} → (items : List Item) (table : Table) (machine : Machine) (told : Option CliFault)
+    (events_in : R → List Event) (fault_in : R → Option CliFault) (made : Result R E)
+    → IfOk made (λ r. events_in r ≡ events_of machine.history) → IfOk made (λ r. fault_in r ≡ told)
+    → machine ≡ run table (opening table) (events_of_items items) → replay table machine.history ≡ machine
+    → told ≡ fault_of_events table (events_of_items items) → All (IsWithin table.cores) (events_of machine.history)
+    → IfOk made (λ r. IsRunOf items table (events_in r) (fault_in r))
+made_is items table machine told events_in fault_in (Ok r) are same ran replays is within =
+    run_is items table machine (events_in r) (fault_in r) ran replays are (same ∙ is) within
+made_is items table machine told events_in fault_in (Err e) are same ran replays is within = tt
 
 -- the events of such a run are the ones to draw, if the table is read again
 pub plan_is : (items : List Item) (bytes : List ℕ) (table again : Table) (events : List Event) (fault : Option CliFault)

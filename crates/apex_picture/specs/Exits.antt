@@ -2,14 +2,14 @@
 use Rattle.std.specs.Prelude.{◌≡◌, ◌⊎◌, codes, ℕ, List, [], Option, None, Some, Result, Ok, Err}
 use Rattle.std.specs.Io.KnownBytes.{Keeps}
 use Rattle.apex_history.specs.Counted.{one_more}
-use Rattle.apex_history.specs.Ports.{Ports, NoneFails, AReadFails, AWriteFails, IsLeft}
-use Rattle.apex_types.specs.Machine.{Machine}
-use Rattle.apex_types.specs.Table as tables
-use Rattle.apex_types.specs.Machine.{opening, run}
+use Rattle.apex_history.specs.Ports.{Ports, NoneFails, AReadFails, IsLeft}
+use Rattle.apex_types.specs.machine.Machine.{Machine}
+use Rattle.apex_types.specs.table.Table as tables
+use Rattle.apex_types.specs.machine.Machine.{opening, run}
 use Rattle.apex_types.specs.declared.Entry.{Entry}
 use Rattle.apex_types.specs.declared.Event.{Event}
 use Rattle.apex_check.specs.Legal.{IsLegal}
-use Rattle.apex_check.specs.Verdicts.{IsAtFault, Judges}
+use Rattle.apex_check.specs.Verdicts.{IsAtFault, Judges, verdict_text}
 use Rattle.apex_check.specs.declared.CheckFault.{CheckFault}
 use Rattle.apex_check.specs.declared.Verdict.{Verdict}
 use Rattle.apex_check.specs.declared.Verdict.TheVariants.{Legal, DepartsAt}
@@ -25,10 +25,12 @@ use Rattle.apex_picture.specs.declared.program.Ending.TheVariants.{Drawn, Depart
 
 -- The ways in which the drawing of a machine ends: by what is asked for, the writer before and how many of
 -- its calls failed, the fault, and the writer afterwards and how many failed.
-pub data Pictures (asked : Asked) (table : tables.Table) (machine : Machine) (held : Option (List ℕ)) (failed : ℕ)
+pub data Pictures (asked : Asked) (table : tables.Table) (machine : Machine)
+    (held : Option (List ℕ)) (failed : ℕ)
     : Option CliFault → Option (List ℕ) → ℕ → Type 0 where
   -- memory was refused before anything was written
-  unbegun : {after : Option (List ℕ)} → Keeps held after → Pictures asked table machine held failed (Some Memory) after failed
+  unbegun : {after : Option (List ℕ)} → Keeps held after
+      → Pictures asked table machine held failed (Some Memory) after failed
   -- the whole picture was written
   whole : {after : Option (List ℕ)} → AppendsPicture held after asked table machine
       → Pictures asked table machine held failed None after failed
@@ -46,7 +48,8 @@ first_fault (Some fault) reported = Some fault
 
 -- The ways in which the drawing of a run ends: by what is asked for, the items, the reader and the writer
 -- before, the fault, and the reader and the writer afterwards.
-pub data Draws (asked : Asked) (items : List Item) (before : Ports) : Option CliFault → Ports → Type 0 where
+pub data Draws (asked : Asked) (items : List Item) (before : Ports) : Option CliFault → Ports
+    → Type 0 where
   -- memory was refused: nothing was written
   no_room : {after : Ports} → Keeps before.held after.held → NoneFails before after
       → Draws asked items before (Some Memory) after
@@ -58,36 +61,43 @@ pub data Draws (asked : Asked) (items : List Item) (before : Ports) : Option Cli
       → answer_of items bytes ≡ refuses fault → Keeps before.held after.held
       → NoneFails before after → Draws asked items before (Some fault) after
   -- the run is drawn
-  drawn : (bytes : List ℕ) (table : tables.Table) (machine : Machine) (fault reported : Option CliFault) → {after : Ports}
+  drawn : (bytes : List ℕ) (table : tables.Table) (machine : Machine)
+      (fault reported : Option CliFault) → {after : Ports}
       → IsLeft bytes before → answer_of items bytes ≡ draws table machine reported
       → after.failed_reads ≡ before.failed_reads
-      → Pictures asked table machine before.held before.failed_writes fault after.held after.failed_writes
+      → Pictures asked table machine before.held before.failed_writes fault
+      after.held after.failed_writes
       → Draws asked items before (first_fault fault reported) after
 
--- the text is legal, or it departs as the verdict says
-abbrev pub IsVerdictOn : List ℕ → Verdict → Type 0
-IsVerdictOn text (Legal n) = IsLegal text n
-IsVerdictOn text (DepartsAt n expected) = (table : tables.Table) × Judges text table (DepartsAt n expected)
+-- the text is legal, or it departs as the verdict says, whose text this is
+abbrev pub IsVerdictOn : List ℕ → Verdict → List ℕ → Type 0
+IsVerdictOn text (Legal n) report = IsLegal text n
+IsVerdictOn text (DepartsAt n expected) report =
+    (table : tables.Table) × Judges text table (DepartsAt n expected)
+    × (report ≡ verdict_text table (DepartsAt n expected))
 
--- the text is legal; or it departs from what the partition does, and a text is reported
+-- the text is legal; or it departs from what the partition does, and the verdict's text is reported
 abbrev pub IsJudged : List ℕ → Option (List ℕ) → Type 0
 IsJudged text None = (n : ℕ) × IsLegal text n
 IsJudged text (Some report) =
-    (table : tables.Table) × (n : ℕ) × (expected : Option Entry) × Judges text table (DepartsAt n expected)
+    (n : ℕ) × (expected : Option Entry) × IsVerdictOn text (DepartsAt n expected) report
 
 -- memory was refused, or the text has this fault
 abbrev pub RefusesText : CliFault → List ℕ → Type 0
 RefusesText fault text =
-    (fault ≡ Memory) ⊎ ((found : CheckFault) × IsAtFault text found × (fault ≡ fault_of_checking found))
+    (fault ≡ Memory) ⊎ ((found : CheckFault) × IsAtFault text found
+    × (fault ≡ fault_of_checking found))
 
 -- The ways in which the drawing of a text's history ends: by what is asked for, the text, the writer before
 -- and how many of its calls failed, the fault, and the writer afterwards and how many failed.
 pub data PicturesText (asked : Asked) (text : List ℕ) (held : Option (List ℕ)) (failed : ℕ)
     : Option CliFault → Option (List ℕ) → ℕ → Type 0 where
   -- memory was refused: nothing was written
-  no_history : {after : Option (List ℕ)} → Keeps held after → PicturesText asked text held failed (Some Memory) after failed
+  no_history : {after : Option (List ℕ)} → Keeps held after
+      → PicturesText asked text held failed (Some Memory) after failed
   -- what is drawn is the run of the events that the lines name
-  pictured : (table : tables.Table) (events : List Event) → {fault : Option CliFault} {after : Option (List ℕ)} {failures : ℕ}
+  pictured : (table : tables.Table) (events : List Event)
+      → {fault : Option CliFault} {after : Option (List ℕ)} {failures : ℕ}
       → IsHistoryOf text table events
       → Pictures asked table (run table (opening table) events) held failed fault after failures
       → PicturesText asked text held failed fault after failures
@@ -96,7 +106,7 @@ pub data PicturesText (asked : Asked) (text : List ℕ) (held : Option (List ℕ
 pub data End : Type 0 where
   -- the picture was drawn
   complete : End
-  -- the history departs from what the partition does: this text is reported
+  -- the history departs from what the partition does: the verdict's text is reported
   departs : List ℕ → End
   -- this fault is reported
   fails : CliFault → End
@@ -120,7 +130,8 @@ status_of (fails fault) = status_of_fault fault
 
 -- the line that reports ill-formed words
 abbrev pub usage_line : List ℕ
-usage_line = codes "apex_picture: usage: apex_picture svg [--schedule S] [--from N] [--to M], apex_picture trace [--schedule S]\n"
+usage_line =
+    codes "apex_picture: usage: apex_picture svg [--schedule S] [--from N] [--to M], apex_picture trace [--schedule S]\n"
 
 -- the line that reports a fault; all others are lines of the program `apex`
 abbrev pub fault_line : CliFault → List ℕ
@@ -146,13 +157,17 @@ pub data Shows (asked : Asked) (before : Ports) : End → Ports → Type 0 where
   at_fault : (text : List ℕ) → {fault : CheckFault} {after : Ports} → IsLeft text before
       → IsAtFault text fault → Keeps before.held after.held → NoneFails before after
       → Shows asked before (fails (fault_of_checking fault)) after
-  -- the history departs from what the partition does: nothing was written
-  departed : (text : List ℕ) → {verdict : List ℕ} {after : Ports} → IsLeft text before → IsJudged text (Some verdict)
-      → Keeps before.held after.held → NoneFails before after → Shows asked before (departs verdict) after
+  -- the history departs from what the partition does: nothing was written, and the verdict's text is reported
+  departed : (text : List ℕ) → {verdict : List ℕ} {after : Ports} → IsLeft text before
+      → IsJudged text (Some verdict)
+      → Keeps before.held after.held → NoneFails before after
+      → Shows asked before (departs verdict) after
   -- the history is legal, and it is drawn
-  shown : (text : List ℕ) (n : ℕ) → {fault : Option CliFault} {after : Ports} → IsLeft text before → IsLegal text n
+  shown : (text : List ℕ) (n : ℕ) → {fault : Option CliFault} {after : Ports} → IsLeft text before
+      → IsLegal text n
       → after.failed_reads ≡ before.failed_reads
-      → PicturesText asked text before.held before.failed_writes fault after.held after.failed_writes
+      → PicturesText asked text before.held before.failed_writes fault
+      after.held after.failed_writes
       → Shows asked before (end_of fault) after
 
 -- The ways in which the program ends: by what it is asked to draw, the reader and the writer before, the
@@ -162,10 +177,12 @@ pub data Ends (asked : Option Asked) (before : Ports) : End → Ports → Type 0
   unasked : {after : Ports} → Keeps before.held after.held → NoneFails before after
       → Ends asked before (fails Memory) after
   -- the words, the schedule or a number are ill-formed: nothing was read and nothing written
-  usage : {after : Ports} → asked ≡ None → Keeps before.left after.left → Keeps before.held after.held
+  usage : {after : Ports} → asked ≡ None → Keeps before.left after.left
+      → Keeps before.held after.held
       → NoneFails before after → Ends asked before (fails Usage) after
   -- a run is drawn
-  a_run : {task : Asked} {items : List Item} {fault : Option CliFault} {after : Ports} → asked ≡ Some task
+  a_run : {task : Asked} {items : List Item} {fault : Option CliFault} {after : Ports}
+      → asked ≡ Some task
       → task.items ≡ Some items → Draws task items before fault after
       → Ends asked before (end_of fault) after
   -- a history is drawn

@@ -1,20 +1,14 @@
 -- The table and the events of a text that has a table, `%%` and the lines of a history.
-use Rattle.std.specs.Prelude.{◌≡◌, ℕ, List, map, All, IfOk, Result, Ok}
+use Rattle.std.specs.Prelude.{◌≡◌, ℕ, List, map, All, Ok}
 use Rattle.std.specs.List.{AllByRecursion}
-use Rattle.apex_types.specs.Table.{Table}
+use Rattle.apex_types.specs.table.Table.{Table}
 use Rattle.apex_types.specs.declared.Event.{Event}
 use Rattle.apex_table.specs.Reading.{table_of}
 use Rattle.apex_dispatch.specs.Events.{IsWithin}
-use Rattle.apex_history.specs.declared.LineFault.{LineFault}
 use Rattle.apex_check.specs.Histories.{event_named}
 use Rattle.apex_check.specs.Texts.{IsOneLine, IsParted, text_of}
 
--- a line names this event, which a partition with so many cores may be asked for, or it has this fault
-pub record Names (cores : ℕ) (line : List ℕ) (found : Result Event LineFault) : Type 0 where
-  pub named : event_named cores line ≡ found
-  pub within : IfOk found (IsWithin cores)
-
--- the bytes are lines, which name these events; a partition with so many cores may be asked for them
+-- the bytes are lines, which name these events; a partition with `cores` cores may be asked for them
 pub record NameEvents (cores : ℕ) (bytes : List ℕ) (events : List Event) : Type 0 where
   pub lines : List (List ℕ)
   pub whole : bytes ≡ text_of lines

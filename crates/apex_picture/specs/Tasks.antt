@@ -1,18 +1,18 @@
 -- What the program is asked to draw.
 use Rattle.std.specs.Prelude.{ℕ, ◌≤◌, List, Option, Some, None, option_and_then, option_map}
 use Rattle.clap.specs.Words.{Text}
-use Rattle.apex_types.specs.Limits.{most_entries}
-use Rattle.apex_types.specs.Numbers.{at_least, at_most, number_of}
+use Rattle.apex_types.specs.values.Limits.{most_entries}
+use Rattle.apex_types.specs.values.Numbers.{at_least, at_most, number_of}
 use Rattle.apex_cli.specs.declared.Item.{Item}
 use Rattle.apex_cli.specs.Schedule.{items_of}
 use Rattle.apex_picture.specs.Words.{Request, request_of}
 use Rattle.apex_picture.specs.declared.tasks.Task.{Task}
-use Rattle.apex_picture.specs.declared.words.Kind.{Kind}
+use Rattle.apex_picture.specs.declared.words.Format.{Format}
 
 -- what is drawn: the entries from the first number to the last, of the items' run, or of a history where
 -- there are no items
 pub record Asked : Type 0 where
-  pub kind : Kind
+  pub format : Format
   pub first : ℕ
   pub last : ℕ
   pub items : Option (List Item)
@@ -28,19 +28,21 @@ items_in None = Some None
 items_in (Some text) = option_map Some (items_of text)
 
 -- what is asked for by these
-abbrev pub asked_with : Kind → ℕ → ℕ → Option (List Item) → Asked
-asked_with kind first last items = record { kind = kind; first = first; last = last; items = items }
+abbrev pub asked_with : Format → ℕ → ℕ → Option (List Item) → Asked
+asked_with format first last items =
+    record { format = format; first = first; last = last; items = items }
 
 -- what a request asks for; none where its schedule or a number is ill-formed
 abbrev pub asked_in : Request → Option Asked
 asked_in request =
-    option_and_then (λ first. option_and_then (λ last. option_map (asked_with request.kind first last)
+    option_and_then
+    (λ first. option_and_then (λ last. option_map (asked_with request.format first last)
     (items_in request.schedule)) (number_in 65536 request.last)) (number_in 1 request.first)
 
 -- the task that a value of the program says
 abbrev pub task_said : Task → Asked
 task_said task = record {
-  kind = task.kind;
+  format = task.format;
   first = task.first;
   last = task.last;
   items = option_map (λ all. all.items) task.items;

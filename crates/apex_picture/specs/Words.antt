@@ -6,8 +6,8 @@ use Rattle.clap.specs.declared.builder.ArgAction.TheVariants.{Set}
 use Rattle.clap.specs.Walk.{is_empty}
 use Rattle.clap.specs.Words.{App, Kinds, Row, Rule, Text, first_of, fault_of, new_app, new_rule, subcommand_of}
 use Rattle.clap.specs.Words.{with_rule, with_subcommand}
-use Rattle.apex_picture.specs.declared.words.Kind.{Kind}
-use Rattle.apex_picture.specs.declared.words.Kind.TheVariants.{Svg, Trace}
+use Rattle.apex_picture.specs.declared.words.Format.{Format}
+use Rattle.apex_picture.specs.declared.words.Format.TheVariants.{Svg, Trace}
 use Rattle.apex_picture.specs.declared.words.Request.{Request as RequestIn}
 
 -- an option with a value
@@ -17,7 +17,9 @@ option_rule name = record (new_rule name) { long = Some name; action = Some Set 
 -- `svg [--schedule S] [--from N] [--to M]`
 abbrev pub svg : App
 svg =
-    with_rule (with_rule (with_rule (new_app (codes "svg")) (option_rule (codes "schedule"))) (option_rule (codes "from")))
+    with_rule
+    (with_rule (with_rule (new_app (codes "svg")) (option_rule (codes "schedule")))
+    (option_rule (codes "from")))
     (option_rule (codes "to"))
 
 -- `trace [--schedule S]`
@@ -36,7 +38,7 @@ picture = with_subcommand (with_subcommand picture_alone svg.top) trace.top
 
 -- what the words ask for: what is drawn, and the texts of the options that are given
 pub record Request : Type 0 where
-  pub kind : Kind
+  pub format : Format
   pub schedule : Option Text
   pub first : Option Text
   pub last : Option Text
@@ -44,7 +46,7 @@ pub record Request : Type 0 where
 -- the request that a value of the program says
 abbrev pub said : RequestIn → Request
 said request = record {
-  kind = request.kind;
+  format = request.format;
   schedule = option_map (λ text. text.now) request.schedule;
   first = option_map (λ text. text.now) request.first;
   last = option_map (λ text. text.now) request.last;
@@ -53,7 +55,7 @@ said request = record {
 -- the SVG for the rows of a command
 abbrev pub svg_in : List Row → Request
 svg_in rows = record {
-  kind = Svg;
+  format = Svg;
   schedule = first_of (codes "schedule") rows;
   first = first_of (codes "from") rows;
   last = first_of (codes "to") rows;
@@ -61,7 +63,13 @@ svg_in rows = record {
 
 -- the trace for the rows of a command
 abbrev pub trace_in : List Row → Request
-trace_in rows = record { kind = Trace; schedule = first_of (codes "schedule") rows; first = None; last = None }
+trace_in rows =
+    record {
+      format = Trace;
+      schedule = first_of (codes "schedule") rows;
+      first = None;
+      last = None;
+    }
 
 -- what the command of this name asks for, with its rows
 abbrev pub request_in : Text × List Row → Option Request

@@ -1,12 +1,11 @@
 //! The table and the events of a text that has a table, `%%` and the lines of a history.
 ghost use Rattle.std.specs.Prelude.{◌≡◌, ◌≢◌, ◌<◌, ◌++◌, false, true, IfOk, IfSome, Ok, length};
 ghost use Rattle.std.specs.List.{position};
-ghost use Rattle.apex_check.specs.Histories.{event_named, is_of_cores};
 ghost use Rattle.apex_check.specs.Texts.{IsOneLine, IsParted, ended, is_line_feed, separator};
 ghost use Rattle.apex_table.specs.Reading.{table_of};
-ghost use Rattle.apex_picture.specs.Histories.{IsHistoryOf, NameEvents, Names};
+ghost use Rattle.apex_picture.specs.Histories.{IsHistoryOf, NameEvents};
 
-use apex_history::{LineFault, read_line};
+use apex_check::event_named;
 use apex_table::{Table, read_table};
 use apex_types::Event;
 use std::alloc::{AllocError, Global};
@@ -49,35 +48,6 @@ fn parted(text: &[u8]) -> Option<(&[u8], &[u8])>
         rest = after;
     }
     None
-}
-
-/// Whether the event is of one of the first `cores` cores.
-fn is_of_cores(cores: u8, event: &Event) -> bool
-    ensures { result ≡ is_of_cores cores event.now }
-{
-    match event {
-        Event::Turn(core) => core.number() < cores,
-        Event::Tick(_) => true,
-    }
-}
-
-/// The event that the line names, of a partition with this number of cores.
-fn named(cores: u8, line: &[u8]) -> Result<Event, LineFault>
-    ensures { result ≡ event_named cores line.now }
-{
-    let event = read_line(line)?;
-    if is_of_cores(cores, &event) {
-        Ok(event)
-    } else {
-        Err(LineFault::BadLine)
-    }
-}
-
-/// The event that the line names, which a kernel with this number of cores may be asked for.
-fn event_named(cores: u8, line: &[u8]) -> Result<Event, LineFault>
-    ensures { Names cores line.now result }
-{
-    named(cores, line)
 }
 
 /// The events that the lines name, of a partition with this number of cores, if each names one.

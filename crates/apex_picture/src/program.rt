@@ -72,13 +72,24 @@ fn draw_run<R: Source, W: Sink>(
     }
 }
 
-/// The verdict on the text, whose own text is put into `report`.
-fn verdict_on(alloc: Global, text: &[u8], report: &mut Vec<u8>) -> Result<Verdict, CliFault>
-    ensures ok { IfOk result (IsVerdictOn text.now) }
+/// A verdict, and its text.
+#[derive(Drop)]
+struct Judgement {
+    verdict: Verdict,
+    report: Vec<u8>,
+}
+
+/// The verdict on the text.
+fn judged(alloc: Global, text: &[u8]) -> Result<Judgement, CliFault>
+    ensures ok { IfOk result (λ found. IsVerdictOn text.now found.verdict found.report.items) }
     ensures err { IfErr result (λ fault. RefusesText fault text.now) }
 {
-    match check(alloc, &mut Counted::new(text), &mut Counted::new(report)) {
-        Ok(verdict) => Ok(verdict),
+    let mut report = Counted::new(Vec::new(alloc));
+    match check(alloc, &mut Counted::new(text), &mut report) {
+        Ok(verdict) => Ok(Judgement {
+            verdict,
+            report: report.into_inner(),
+        }),
         // The text is read from memory, and the verdict is written to memory.
         Err(CheckFault::Read | CheckFault::Write) => Err(CliFault::Memory),
         Err(fault) => Err(CliFault::from(fault)),
@@ -87,13 +98,14 @@ fn verdict_on(alloc: Global, text: &[u8], report: &mut Vec<u8>) -> Result<Verdic
 
 /// The text of the verdict if the history of the text departs, and none if it is legal.
 fn departure(alloc: Global, text: &[u8]) -> Result<Option<Vec<u8>>, CliFault>
-    ensures ok { IfOk result (λ found. IsJudged text.now (option_map (λ report. report.items) found)) }
+    ensures ok { IfOk result
+        (λ found. IsJudged text.now (option_map (λ report. report.items) found)) }
     ensures err { IfErr result (λ fault. RefusesText fault text.now) }
 {
-    let mut report = Vec::new(alloc);
-    match verdict_on(alloc, text, &mut report)? {
+    let found = judged(alloc, text)?;
+    match found.verdict {
         Verdict::Legal(_) => Ok(None),
-        Verdict::DepartsAt(..) => Ok(Some(report)),
+        Verdict::DepartsAt(..) => Ok(Some(found.report)),
     }
 }
 

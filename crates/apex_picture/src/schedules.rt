@@ -1,13 +1,15 @@
 //! The events of a history, and their picture.
 ghost use Rattle.std.specs.Prelude.{◌≡◌, true, All, IfOk, IfErr, OnErr, OnOk, Ok};
 ghost use Rattle.std.specs.Io.KnownBytes.{Appends};
-ghost use Rattle.apex_types.specs.Machine.{asked_ticks, event_of, events_of, opening, run};
+ghost use Rattle.apex_types.specs.machine.Machine.{asked_ticks, event_of, events_of, opening, run};
 ghost use Rattle.apex_dispatch.specs.Events.{IsWithin};
+ghost use Rattle.apex_dispatch.specs.Kernel.{kernel_in};
 ghost use Rattle.apex_history.specs.Counted.{inner_of, failures_of, AppendsBeginning};
 ghost use Rattle.apex_table.specs.Reading.{table_of};
 ghost use Rattle.apex_pictures.specs.Drawing.{CountsDrawing};
 ghost use Rattle.apex_pictures.specs.Pictures.{picture_text};
-ghost use Rattle.apex_cli.specs.Schedule.{are_cores_below};
+ghost use Rattle.apex_cli.specs.Reports.{fault_of_events};
+ghost use Rattle.apex_cli.specs.Schedule.{are_cores_below, events_of_items};
 ghost use Rattle.apex_cli.specs.declared.CliFault.TheVariants.{Memory};
 ghost use Rattle.apex_picture.specs.Histories.{IsHistoryOf};
 ghost use Rattle.apex_picture.specs.Tasks.{IsOfEntries, task_said};
@@ -15,7 +17,7 @@ ghost use Rattle.apex_picture.specs.Answers.{answer_of, IsAskedStyle, IsPlanOf, 
 
 use crate::histories::{History, history_in};
 use crate::tasks::Task;
-use crate::words::Kind;
+use crate::words::Format;
 use apex_cli::{CliFault, Item, are_cores_below, run_items};
 use apex_dispatch::Kernel;
 use apex_history::{Counted, Sink};
@@ -72,9 +74,9 @@ fn style_for<S: Store>(task: &Task, kernel: &Kernel<S>) -> Style
     requires { IsOfEntries task.now }
     ensures { IsAskedStyle (task_said task.now) result }
 {
-    match task.kind {
-        Kind::Svg => Style::Svg(Frame::new(kernel, task.first, task.last)),
-        Kind::Trace => Style::Trace,
+    match task.format {
+        Format::Svg => Style::Svg(Frame::new(kernel, task.first, task.last)),
+        Format::Trace => Style::Trace,
     }
 }
 
@@ -97,6 +99,50 @@ struct Run {
     fault: Option<CliFault>,
 }
 
+/// The kernel of a table before any event.
+fn booted(alloc: Global, table: Table) -> Result<Kernel<QueueStore>, AllocError>
+    ensures { IfOk result (λ kernel. kernel ≡ kernel_in table (opening table)) }
+{
+    let store = QueueStore::new(alloc, &table)?;
+    Kernel::boot(alloc, table, store)
+}
+
+/// Runs the items on a kernel before any event, and gives the fault if the history has no room for
+/// one of their events.
+fn ran(kernel: &mut Kernel<QueueStore>, items: &[Item]) -> Option<CliFault>
+    requires opened { kernel.old ≡ kernel_in kernel.old.table (opening kernel.old.table) }
+    requires below { are_cores_below kernel.old.table.cores items.now ≡ true }
+    ensures done { kernel.new ≡ kernel_in kernel.old.table
+        (run kernel.old.table (opening kernel.old.table) (events_of_items items.now)) }
+    ensures fault { result ≡ fault_of_events kernel.old.table (events_of_items items.now) }
+{
+    match run_items(kernel, items) {
+        Ok(()) => None,
+        Err(full) => Some(CliFault::HistoryFull(full.entries)),
+    }
+}
+
+/// The run of a kernel that made its events, with this fault.
+fn run_in<S: Store>(
+    alloc: Global,
+    task: &Task,
+    kernel: &Kernel<S>,
+    fault: Option<CliFault>,
+) -> Result<Run, AllocError>
+    requires { IsOfEntries task.now }
+    ensures events { IfOk result (λ made. made.events.items
+        ≡ events_of kernel.now.machine.history) }
+    ensures fault { IfOk result (λ made. made.fault ≡ fault) }
+    ensures style { IfOk result (λ made. IsAskedStyle (task_said task.now) made.style) }
+{
+    let events = events_in(alloc, kernel)?;
+    Ok(Run {
+        style: style_for(task, kernel),
+        events,
+        fault,
+    })
+}
+
 /// The run of the items on the table.
 fn run_of(alloc: Global, task: &Task, items: &[Item], table: Table) -> Result<Run, AllocError>
     requires entries { IsOfEntries task.now }
@@ -104,21 +150,10 @@ fn run_of(alloc: Global, task: &Task, items: &[Item], table: Table) -> Result<Ru
     ensures made { IfOk result (λ run. IsRunOf items.now table run.events.items run.fault) }
     ensures style { IfOk result (λ run. IsAskedStyle (task_said task.now) run.style) }
 {
-    table.lawful();
-    let store = QueueStore::new(alloc, &table)?;
-    let mut kernel = Kernel::boot(alloc, table, store)?;
-    let fault = match run_items(&mut kernel, items) {
-        Ok(()) => None,
-        Err(full) => Some(CliFault::HistoryFull(full.entries)),
-    };
+    let mut kernel = booted(alloc, table)?;
+    let fault = ran(&mut kernel, items);
     kernel.holds();
-    let events = events_in(alloc, &kernel)?;
-    let style = style_for(task, &kernel);
-    Ok(Run {
-        style,
-        events,
-        fault,
-    })
+    run_in(alloc, task, &kernel, fault)
 }
 
 /// The plan for the items on the table of this text.
@@ -157,8 +192,7 @@ fn style_of(alloc: Global, task: &Task, table: Table, events: &[Event]) -> Resul
     requires within { All (IsWithin table.cores) events.now }
     ensures { IfOk result (IsAskedStyle (task_said task.now)) }
 {
-    let store = QueueStore::new(alloc, &table)?;
-    let mut kernel = Kernel::boot(alloc, table, store)?;
+    let mut kernel = booted(alloc, table)?;
     // Events for which the history has no room are not drawn.
     let _ = kernel.run(events);
     Ok(style_for(task, &kernel))
@@ -207,10 +241,7 @@ pub fn draw_events<W: Sink>(
         (picture_text style.now table (run table (opening table) events.now))) }
     ensures counted { CountsDrawing result (failures_of writer.old) (failures_of writer.new) }
 {
-    let Ok(store) = QueueStore::new(alloc, &table) else {
-        return Err(DrawFault::Memory);
-    };
-    let Ok(mut kernel) = Kernel::boot(alloc, table, store) else {
+    let Ok(mut kernel) = booted(alloc, table) else {
         return Err(DrawFault::Memory);
     };
     draw(alloc, style, &mut kernel, events, writer)

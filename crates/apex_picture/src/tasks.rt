@@ -1,11 +1,11 @@
 //! What the program is asked to draw.
 ghost use Rattle.std.specs.Prelude.{◌≡◌, ◌≤◌, IfOk, IfErr, IsErrOf, Some, None, map, option_map, string_bytes};
-ghost use Rattle.apex_types.specs.Limits.{most_entries};
+ghost use Rattle.apex_types.specs.values.Limits.{most_entries};
 ghost use Rattle.apex_cli.specs.Faults.{IsUsageOrMemory};
 ghost use Rattle.apex_picture.specs.Tasks.{IsOfEntries, asked_by, asked_in, items_in, number_in, task_said};
 ghost use Rattle.apex_picture.specs.Words.{said};
 
-use crate::words::{Kind, Request, request_in};
+use crate::words::{Format, Request, request_in};
 use apex_cli::{CliFault, Item, read_schedule};
 use apex_types::number_at_most;
 use std::alloc::Global;
@@ -13,7 +13,7 @@ use std::alloc::Global;
 /// What the program is asked to draw.
 #[derive(Drop)]
 pub struct Task {
-    pub kind: Kind,
+    pub format: Format,
     /// The number of the first entry that is drawn.
     pub first: u32,
     /// The number of the last one.
@@ -69,7 +69,7 @@ fn task_in(alloc: Global, request: &Request<'_>) -> Result<Task, CliFault>
     let last = read_number(request.last, 65_536)?;
     let items = read_items(alloc, request.schedule)?;
     Ok(Task {
-        kind: request.kind,
+        format: request.format,
         first,
         last,
         items,

@@ -11,7 +11,7 @@ use std::alloc::{AllocError, Global};
 
 /// What is drawn.
 #[derive(Clone, Copy, PartialEq, Eq)]
-pub enum Kind {
+pub enum Format {
     Svg,
     Trace,
 }
@@ -19,7 +19,7 @@ pub enum Kind {
 /// What the words ask for: the texts of its options, where they are given.
 #[derive(Clone, Copy)]
 pub struct Request<'a> {
-    pub kind: Kind,
+    pub format: Format,
     pub schedule: Option<&'a str>,
     pub first: Option<&'a str>,
     pub last: Option<&'a str>,
@@ -74,7 +74,7 @@ fn svg_given<'a>(matches: &ArgMatches<'a>) -> Request<'a>
     ensures { said result ≡ svg_in (rows_of (found_of matches.now)) }
 {
     Request {
-        kind: Kind::Svg,
+        format: Format::Svg,
         schedule: matches.get_str("schedule"),
         first: matches.get_str("from"),
         last: matches.get_str("to"),
@@ -86,7 +86,7 @@ fn trace_given<'a>(matches: &ArgMatches<'a>) -> Request<'a>
     ensures { said result ≡ trace_in (rows_of (found_of matches.now)) }
 {
     Request {
-        kind: Kind::Trace,
+        format: Format::Trace,
         schedule: matches.get_str("schedule"),
         first: None,
         last: None,

@@ -6,9 +6,9 @@ use Rattle.std.proofs.lemmas.Bool.{both_ways, cases_lt}
 use Rattle.std.proofs.lemmas.List.{drop_all}
 use Rattle.std.proofs.lemmas.Grind.{flat_map-append}
 use Rattle.std.specs.Prelude.{flat_map}
-use Rattle.apex_types.specs.Machine.{Machine, accept, events_of, opening, replay, run}
-use Rattle.apex_types.specs.Table.{Table}
-use Rattle.apex_dispatch.proofs.Runs.{accept-full, run-append}
+use Rattle.apex_types.specs.machine.Machine.{Machine, accept, opening, run}
+use Rattle.apex_types.specs.table.Table.{Table}
+use Rattle.apex_dispatch.proofs.Runs.{accept-full}
 use Rattle.apex_history.specs.Counted.{AppendsBeginning}
 use Rattle.apex_history.specs.Page.{Passes}
 use Rattle.apex_history.proofs.Passing.{beginning_longer, passes_with}
@@ -18,13 +18,6 @@ use Rattle.apex_pictures.specs.Pictures.{column_text, columns_text, foot_text, h
 use Rattle.apex_pictures.specs.Terms.{Event}
 use Rattle.apex_pictures.specs.declared.styles.Style.{Style}
 use Rattle.apex_pictures.proofs.Pictured.{run_more}
-
--- one event after those of the history
-pub one_more : (table : Table) (machine : Machine) (event : Event) → replay table machine.history ≡ machine
-    → run table (opening table) (events_of machine.history ++ event ∷ []) ≡ accept table machine event
-one_more table machine event again =
-    run-append table (opening table) (events_of machine.history) (event ∷ [])
-    ∙ ap (λ (m : Machine). run table m (event ∷ [])) again
 
 -- one event more of a list
 pub run_next : (table : Table) (machine new : Machine) (events : List Event) (i : ℕ) (event : Event) (end : Machine)

@@ -4,3 +4,6 @@ pub mod Said
 pub mod Pictured
 pub mod Drawn
 pub mod Columns
+pub mod Counted
+pub mod SlicesWhole
+pub mod TracksShown

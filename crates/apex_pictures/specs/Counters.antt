@@ -2,9 +2,9 @@
 -- They are in a group of their own (3). An argument of a counter is a series, so the partition's time
 -- is none.
 use Rattle.std.specs.Prelude.{ℕ, Bool, false, List, [], ◌∷◌, ◌++◌, ◌==◌, Option, None, Some, codes, decimal, if◌then◌else◌, length, slice_get}
-use Rattle.apex_types.specs.Listing.{texts_of}
-use Rattle.apex_types.specs.Table.{Table}
-use Rattle.apex_types.specs.Texts.{buffer_name, semaphore_name}
+use Rattle.apex_types.specs.text.Listing.{texts_of}
+use Rattle.apex_types.specs.table.Table.{Table}
+use Rattle.apex_types.specs.text.Texts.{buffer_name, semaphore_name}
 use Rattle.apex_pictures.specs.Counts.{Counts}
 use Rattle.apex_pictures.specs.Svg.{texts}
 use Rattle.apex_pictures.specs.Texts.{json_text}
@@ -12,8 +12,16 @@ use Rattle.apex_pictures.specs.Texts.{json_text}
 -- the count of the object of this kind and name, in this unit
 unfoldable pub count_text : List ℕ → List ℕ → List ℕ → ℕ → ℕ → List ℕ
 count_text kind name unit time count = texts (
-    codes ",\n{\"ph\":\"C\",\"pid\":3,\"ts\":" ∷ decimal time ∷ codes ",\"name\":\"" ∷ kind ∷ codes " "
-    ∷ json_text name ∷ codes "\",\"args\":{\"" ∷ unit ∷ codes "\":" ∷ decimal count ∷ codes "}}" ∷ [])
+    codes ",\n{\"ph\":\"C\",\"pid\":3,\"ts\":" ∷ decimal time ∷ codes ",\"name\":\"" ∷ kind
+    ∷ codes " "
+    ∷ json_text name ∷ codes "\",\"args\":{\"" ∷ unit ∷ codes "\":" ∷ decimal count ∷ codes "}}"
+    ∷ [])
+
+-- the same, by the texts before the name and behind it
+abbrev pub counter_text : List ℕ → List ℕ → List ℕ → ℕ → ℕ → List ℕ
+counter_text front name back time count =
+    codes ",\n{\"ph\":\"C\",\"pid\":3,\"ts\":" ++ decimal time ++ front ++ json_text name ++ back
+    ++ decimal count ++ codes "}}"
 
 -- a count is the one before, if there was one
 abbrev pub same_count : Option ℕ → ℕ → Bool

@@ -1,8 +1,8 @@
 -- The text of a picture, as it grows, and the ends of its drawing.
 use Rattle.std.specs.Prelude.{◌≡◌, ℕ, List, [], ◌∷◌, ◌++◌, length, Result, MatchResult, flat_map}
-use Rattle.apex_types.specs.Machine.{Machine}
-use Rattle.apex_types.specs.Roster.{Roster, opening_roster}
-use Rattle.apex_types.specs.Table.{Table}
+use Rattle.apex_types.specs.machine.Machine.{Machine}
+use Rattle.apex_types.specs.processes.Roster.{Roster, opening_roster}
+use Rattle.apex_types.specs.table.Table.{Table}
 use Rattle.apex_history.specs.Counted.{one_more}
 use Rattle.apex_pictures.specs.Moments.{Column, picture}
 use Rattle.apex_pictures.specs.Pictures.{column_text}
@@ -33,4 +33,5 @@ CountsDrawFault Write old new = new ≡ one_more old
 
 -- the same of a drawing's answer
 abbrev pub CountsDrawing : {T : Type 0} → Result T DrawFault → ℕ → ℕ → Type 0
-CountsDrawing result old new = MatchResult result (λ _. new ≡ old) (λ fault. CountsDrawFault fault old new)
+CountsDrawing result old new =
+    MatchResult result (λ _. new ≡ old) (λ fault. CountsDrawFault fault old new)

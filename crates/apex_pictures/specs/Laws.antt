@@ -1,10 +1,10 @@
 -- What the columns of a picture say.
 use Rattle.std.specs.Prelude.{◌≡◌, ◌+◌, ◌<◌, ℕ, List, Some, None, length, slice_get, slice_index_or, take}
-use Rattle.apex_types.specs.Limits.{most_cores}
-use Rattle.apex_types.specs.Machine.{Machine, objects_after, opening, run}
-use Rattle.apex_types.specs.Roster.{Roster, record_at}
-use Rattle.apex_types.specs.Running.{chosen, process_state}
-use Rattle.apex_types.specs.Table.{Table}
+use Rattle.apex_types.specs.values.Limits.{most_cores}
+use Rattle.apex_types.specs.machine.Machine.{Machine, objects_after, opening, run}
+use Rattle.apex_types.specs.processes.Roster.{Roster, record_at}
+use Rattle.apex_types.specs.processes.Running.{chosen, process_state}
+use Rattle.apex_types.specs.table.Table.{Table}
 use Rattle.apex_pictures.specs.Counts.{Counts, content_of, value_of}
 use Rattle.apex_pictures.specs.Moments.{Column, no_cell, picture}
 use Rattle.apex_pictures.specs.Terms.{Cell, Entry, Event}
@@ -28,16 +28,21 @@ pub record Says (table : Table) (machine : Machine) (k : ℕ) (column : Column) 
   pub entry : slice_get machine.history k ≡ Some column.entry
   pub roster : Roster
   pub after : slice_get machine.past k ≡ Some roster
-  pub state : (p : ℕ) → p < length roster.records → (cell_in column p).state ≡ process_state roster p
-  pub wait : (p : ℕ) → p < length roster.records → (cell_in column p).wait ≡ (record_at roster p).wait
-  pub owned : (p : ℕ) → p < length roster.records → (cell_in column p).owned ≡ (record_at roster p).owned
-  pub running : (core : ℕ) → core < most_cores → slice_index_or column.after.running core None ≡ chosen roster core
+  pub state : (p : ℕ) → p < length roster.records
+      → (cell_in column p).state ≡ process_state roster p
+  pub wait : (p : ℕ) → p < length roster.records
+      → (cell_in column p).wait ≡ (record_at roster p).wait
+  pub owned : (p : ℕ) → p < length roster.records
+      → (cell_in column p).owned ≡ (record_at roster p).owned
+  pub running : (core : ℕ) → core < most_cores
+      → slice_index_or column.after.running core None ≡ chosen roster core
   pub counts_after : CountsAll table (take (k + 1) machine.history) column.after.counts
   pub counts_before : CountsAll table (take k machine.history) column.before.counts
 
 -- the picture of every run has a column for each entry, and each column says what holds
 pub record ArePictures : Type 0 where
   pub many : (table : Table) (events : List Event)
-      → length (picture table (run table (opening table) events)) ≡ length (run table (opening table) events).history
+      → length (picture table (run table (opening table) events))
+      ≡ length (run table (opening table) events).history
   pub says : (table : Table) (machine : Machine) (k : ℕ) (column : Column)
       → slice_get (picture table machine) k ≡ Some column → Says table machine k column

@@ -6,6 +6,8 @@ pub mod Moments
 pub mod Svg
 pub mod Counters
 pub mod Trace
+pub mod Stamps
+pub mod Tracks
 pub mod Pictures
 pub mod Drawing
 pub mod Laws

@@ -4,11 +4,11 @@ use Rattle.apex_pictures.specs.Counts.{Counts, counts_after, no_counts}
 use Rattle.apex_pictures.specs.Places.{of_places}
 use Rattle.apex_pictures.specs.Terms.{Cell, Entry}
 use Rattle.apex_types.specs.declared.State.TheVariants.{Dormant}
-use Rattle.apex_types.specs.Limits.{most_cores}
-use Rattle.apex_types.specs.Machine.{Machine}
-use Rattle.apex_types.specs.Roster.{Roster, record_at, opening_roster}
-use Rattle.apex_types.specs.Running.{chosen, process_state}
-use Rattle.apex_types.specs.Table.{Table}
+use Rattle.apex_types.specs.values.Limits.{most_cores}
+use Rattle.apex_types.specs.machine.Machine.{Machine}
+use Rattle.apex_types.specs.processes.Roster.{Roster, record_at, opening_roster}
+use Rattle.apex_types.specs.processes.Running.{chosen, process_state}
+use Rattle.apex_types.specs.table.Table.{Table}
 
 -- the cell of process p: its state, what it waits for and the mutexes that it owns
 abbrev pub cell_of : Roster → ℕ → Cell

@@ -1,11 +1,11 @@
 -- A picture as SVG. The places of rows and columns are the frame's; their contents are the
 -- columns'.
 use Rattle.std.specs.Prelude.{ℕ, ◌+◌, ◌-◌, ◌*◌, Bool, false, List, [], ◌∷◌, ◌++◌, ◌==◌, ◌&&◌, ◌||◌, nat_le, nat_lt, length, Option, None, Some, codes, decimal, flat_map, slice_index_or, if◌then◌else◌}
-use Rattle.apex_types.specs.Texts.{id_text, process_name}
+use Rattle.apex_types.specs.text.Texts.{id_text, process_name}
 use Rattle.apex_calls.specs.Lines.{asked_text, line_of, reply_text}
-use Rattle.apex_types.specs.Listing.{texts_of}
-use Rattle.apex_types.specs.Status.{state_text, wait_text}
-use Rattle.apex_types.specs.Table.{Table}
+use Rattle.apex_types.specs.text.Listing.{texts_of}
+use Rattle.apex_types.specs.text.Status.{state_text, wait_text}
+use Rattle.apex_types.specs.table.Table.{Table}
 use Rattle.apex_types.specs.declared.Caller.TheVariants.{Process, Init, Nobody}
 use Rattle.apex_types.specs.declared.Who.TheVariants.{Ticker}
 use Rattle.apex_types.specs.declared.Holding.{Holding}
@@ -69,7 +69,8 @@ is_timed frame entry = goes_on entry.reply || entry.number == frame.first
 -- the line and the text of an instant
 unfoldable pub instant_text : Frame → ℕ → List ℕ
 instant_text frame now = texts (
-    codes "<line class='time' y1='" ∷ decimal frame.top ∷ codes "' y2='" ∷ decimal (frame.bottom + 14)
+    codes "<line class='time' y1='" ∷ decimal frame.top ∷ codes "' y2='"
+    ∷ decimal (frame.bottom + 14)
     ∷ codes "'/><text class='now' transform='translate(4," ∷ decimal (frame.bottom + 18)
     ∷ codes ") rotate(60)'>t=" ∷ decimal now ∷ codes "</text>\n" ∷ [])
 
@@ -92,7 +93,8 @@ bare e = record {
 -- the call and the reply of an entry, as in the line of the history
 abbrev pub said_line : Table → Entry → List ℕ
 said_line table entry =
-    asked_text table entry.call entry.reply ++ codes " -> " ++ reply_text table entry.reply ++ codes "\n"
+    asked_text table entry.call entry.reply ++ codes " -> " ++ reply_text table entry.reply
+    ++ codes "\n"
 
 -- the same as XML shows it
 abbrev pub said_text : Table → Entry → List ℕ
@@ -141,7 +143,8 @@ unfoldable pub cell_part : Table → Frame → ℕ → Cell → List ℕ
 cell_part table frame p cell = texts (
     codes "<rect class='" ∷ state_text cell.state ∷ codes "' data-process='" ∷ id_text p
     ∷ codes "' y='" ∷ decimal (row_of frame p) ∷ codes "' width='24' height='16'><title>"
-    ∷ id_text p ∷ codes " " ∷ xml_text (process_name table p) ∷ codes " " ∷ state_text cell.state ∷ [])
+    ∷ id_text p ∷ codes " " ∷ xml_text (process_name table p) ∷ codes " " ∷ state_text cell.state
+    ∷ [])
 
 -- a cell in the row of its process
 abbrev pub cell_text : Table → Frame → ℕ → Cell → List ℕ
@@ -197,9 +200,12 @@ dash_to frame Nobody notice = []
 -- the wedge of a notice, in the row of its process
 unfoldable pub wedge_text : Frame → Notice → List ℕ
 wedge_text frame notice = texts (
-    codes "<path class='" ∷ notice_word notice ∷ codes "' data-process='" ∷ id_text (notice_process notice)
-    ∷ codes "' d='M7," ∷ decimal (row_of frame (notice_process notice) + 2) ∷ codes " h10 l-5,9 z'><title>"
-    ∷ notice_word notice ∷ codes " " ∷ id_text (notice_process notice) ∷ codes "</title></path>\n" ∷ [])
+    codes "<path class='" ∷ notice_word notice ∷ codes "' data-process='"
+    ∷ id_text (notice_process notice)
+    ∷ codes "' d='M7," ∷ decimal (row_of frame (notice_process notice) + 2)
+    ∷ codes " h10 l-5,9 z'><title>"
+    ∷ notice_word notice ∷ codes " " ∷ id_text (notice_process notice) ∷ codes "</title></path>\n"
+    ∷ [])
 
 -- the marks of a column: the instant, the call, a cell for each process, the lines from the caller's ring
 -- to the wedges, the ring, and the wedges of the notices

@@ -36,16 +36,19 @@ xml_named name =
 -- `;` (59) the byte of that name. The name so far is none outside of one.
 abbrev pub xml_read : Option (List ℕ) → List ℕ → List ℕ
 xml_read name [] = []
-xml_read None (byte ∷ rest) = if byte == 38 then xml_read (Some []) rest else byte ∷ xml_read None rest
+xml_read None (byte ∷ rest) =
+    if byte == 38 then xml_read (Some []) rest else byte ∷ xml_read None rest
 xml_read (Some name) (byte ∷ rest) =
-    if byte == 59 then xml_named name ∷ xml_read None rest else xml_read (Some (name ++ byte ∷ [])) rest
+    if byte == 59 then xml_named name ∷ xml_read None rest
+    else xml_read (Some (name ++ byte ∷ [])) rest
 
 -- The bytes that a reader of JSON takes from a string's text: a byte as it is, and the byte behind
 -- a `\` (92).
 abbrev pub json_read : Bool → List ℕ → List ℕ
 json_read escaped [] = []
 json_read true (byte ∷ rest) = byte ∷ json_read false rest
-json_read false (byte ∷ rest) = if byte == 92 then json_read true rest else byte ∷ json_read false rest
+json_read false (byte ∷ rest) =
+    if byte == 92 then json_read true rest else byte ∷ json_read false rest
 
 -- the text of a part
 abbrev pub part_text : Part → List ℕ

@@ -1,11 +1,11 @@
 -- A picture as a trace in the Trace Event Format, which is JSON. The groups of tracks are the cores (1), the
 -- processes (2) and the objects (3); an entry's number is its time, and the partition's time is an argument.
 use Rattle.std.specs.Prelude.{ℕ, ◌+◌, Bool, true, false, List, [], ◌∷◌, ◌++◌, Option, None, Some, is_some, codes, decimal, flat_map, length, slice_index_or, if◌then◌else◌, ◌==◌}
-use Rattle.apex_types.specs.Texts.{id_text, process_name}
+use Rattle.apex_types.specs.text.Texts.{id_text, process_name}
 use Rattle.apex_calls.specs.Lines.{deadline_text}
-use Rattle.apex_types.specs.Listing.{texts_of}
-use Rattle.apex_types.specs.Status.{state_text}
-use Rattle.apex_types.specs.Table.{Table}
+use Rattle.apex_types.specs.text.Listing.{texts_of}
+use Rattle.apex_types.specs.text.Status.{state_text}
+use Rattle.apex_types.specs.table.Table.{Table}
 use Rattle.apex_types.specs.declared.Notice.TheVariants.{Woken, Released, Missed}
 use Rattle.apex_types.specs.declared.State.TheVariants.{Dormant, Ready, Running, Waiting}
 use Rattle.apex_pictures.specs.Counters.{counters_text}
@@ -21,13 +21,15 @@ use Rattle.apex_pictures.specs.declared.trace.Spot.{Spot}
 unfoldable pub core_name_text : ℕ → List ℕ
 core_name_text core = texts (
     codes ",\n{\"ph\":\"M\",\"pid\":1,\"tid\":" ∷ decimal core
-    ∷ codes ",\"name\":\"thread_name\",\"args\":{\"name\":\"core " ∷ decimal core ∷ codes "\"}}" ∷ [])
+    ∷ codes ",\"name\":\"thread_name\",\"args\":{\"name\":\"core " ∷ decimal core ∷ codes "\"}}"
+    ∷ [])
 
 -- the name of a process's track
 unfoldable pub process_name_text : Table → ℕ → List ℕ
 process_name_text table p = texts (
     codes ",\n{\"ph\":\"M\",\"pid\":2,\"tid\":" ∷ id_text p
-    ∷ codes ",\"name\":\"thread_name\",\"args\":{\"name\":\"" ∷ json_text (process_name table p) ∷ codes "\"}}" ∷ [])
+    ∷ codes ",\"name\":\"thread_name\",\"args\":{\"name\":\"" ∷ json_text (process_name table p)
+    ∷ codes "\"}}" ∷ [])
 
 -- the beginning of the file: the names of the groups
 unfoldable pub opening_text : List ℕ
@@ -56,7 +58,8 @@ begin_text spot now = texts (
 
 -- the name of the slice of a process that a core runs
 unfoldable pub run_name_text : Table → ℕ → List ℕ
-run_name_text table p = texts (id_text p ∷ codes " " ∷ json_text (process_name table p) ∷ codes "\"}" ∷ [])
+run_name_text table p =
+    texts (id_text p ∷ codes " " ∷ json_text (process_name table p) ∷ codes "\"}" ∷ [])
 
 -- the slice of a process that a core begins to run
 abbrev pub run_text : Table → Spot → ℕ → ℕ → List ℕ
@@ -105,12 +108,14 @@ is_begun state = true
 -- the changes on the track of a core
 abbrev pub core_text : Table → Spot → ℕ → Option ℕ → Option ℕ → List ℕ
 core_text table spot now before after =
-    if same_process before after then [] else ended (is_some before) spot ++ run_of table spot now after
+    if same_process before after then []
+    else ended (is_some before) spot ++ run_of table spot now after
 
 -- the changes on the track of a process
 abbrev pub process_text : Spot → ℕ → State → State → List ℕ
 process_text spot now before after =
-    if same_state before after then [] else ended (is_begun before) spot ++ being_text spot now after
+    if same_state before after then []
+    else ended (is_begun before) spot ++ being_text spot now after
 
 -- the track of a core
 abbrev pub core_spot : ℕ → ℕ → Spot
@@ -138,7 +143,8 @@ process_at time now before after p =
 -- the mark of a missed deadline
 unfoldable pub miss_text : ℕ → ℕ → ℕ → DeadlineType → List ℕ
 miss_text time now p kind = texts (
-    codes ",\n{\"ph\":\"i\",\"s\":\"t\",\"pid\":2,\"tid\":" ∷ id_text p ∷ codes ",\"ts\":" ∷ decimal time
+    codes ",\n{\"ph\":\"i\",\"s\":\"t\",\"pid\":2,\"tid\":" ∷ id_text p ∷ codes ",\"ts\":"
+    ∷ decimal time
     ∷ codes ",\"args\":{\"now\":" ∷ decimal now ∷ codes "},\"name\":\"missed " ∷ deadline_text kind
     ∷ codes "\"}" ∷ [])
 

@@ -1,26 +1,25 @@
 //! The counters of a trace: the value of each semaphore and the content of each buffer, as they
 //! change.
 ghost use Rattle.std.specs.Prelude.{◌≡◌, ◌<◌, ◌++◌, OnOk, length};
-ghost use Rattle.apex_types.specs.Listing.{texts_of};
-ghost use Rattle.apex_pictures.specs.Counters.{changed_text, content_at, count_text, counters_text, same_count, value_at};
+ghost use Rattle.apex_types.specs.text.Listing.{texts_of};
+ghost use Rattle.apex_pictures.specs.Counters.{content_at, counter_text, counters_text, same_count, value_at};
 
 use crate::counts::Counts;
-use crate::texts::{Part, put_all};
+use crate::texts::{put, put_json, put_number};
 use apex_table::Table;
 use apex_types::{BufferId, SemaphoreId};
 use std::alloc::AllocError;
 
-/// The object of a counter, and what is counted.
+/// The object of a counter, and the texts before its name and behind it.
 #[derive(Clone, Copy)]
 struct Counter<'a> {
-    /// "semaphore" or "buffer".
-    kind: &'a str,
+    front: &'a str,
     name: &'a [u8],
-    unit: &'a str,
+    back: &'a str,
 }
 
 /// Puts the count of an object.
-#[tactic(auto, unfolding(crate::specs::Counters::count_text))]
+#[tactic(auto, using(std::proofs::Common::append_assoc))]
 fn put_count(
     text: &mut Vec<u8>,
     counter: &Counter<'_>,
@@ -28,24 +27,16 @@ fn put_count(
     count: u64,
 ) -> Result<(), AllocError>
     ensures { OnOk result (text.new.items ≡ text.old.items
-        ++ count_text counter.now.kind.now counter.now.name.now counter.now.unit.now time count) }
+        ++ counter_text counter.now.front.now counter.now.name.now counter.now.back.now time
+        count) }
 {
-    put_all(
-        text,
-        &[
-            Part::Plain(",\n{\"ph\":\"C\",\"pid\":3,\"ts\":"),
-            Part::Number(time),
-            Part::Plain(",\"name\":\""),
-            Part::Plain(counter.kind),
-            Part::Plain(" "),
-            Part::Json(counter.name),
-            Part::Plain("\",\"args\":{\""),
-            Part::Plain(counter.unit),
-            Part::Plain("\":"),
-            Part::Number(count),
-            Part::Plain("}}"),
-        ],
-    )
+    put(text, ",\n{\"ph\":\"C\",\"pid\":3,\"ts\":")?;
+    put_number(text, time)?;
+    put(text, counter.front)?;
+    put_json(text, counter.name)?;
+    put(text, counter.back)?;
+    put_number(text, count)?;
+    put(text, "}}")
 }
 
 fn is_same_count(before: &Option<u64>, count: u64) -> bool
@@ -54,29 +45,6 @@ fn is_same_count(before: &Option<u64>, count: u64) -> bool
     match before {
         Some(before) => *before == count,
         None => false,
-    }
-}
-
-/// Puts the count of an object, if there is one and it is not the one before.
-fn put_changed(
-    text: &mut Vec<u8>,
-    counter: &Counter<'_>,
-    time: u64,
-    before: &Option<u64>,
-    after: &Option<u64>,
-) -> Result<(), AllocError>
-    ensures { OnOk result (text.new.items ≡ text.old.items
-        ++ changed_text counter.now.kind.now counter.now.name.now counter.now.unit.now
-        time before.now after.now) }
-{
-    match after {
-        Some(count) => {
-            if is_same_count(before, *count) {
-                return Ok(());
-            }
-            put_count(text, counter, time, *count)
-        }
-        None => Ok(()),
     }
 }
 
@@ -93,18 +61,18 @@ fn put_value(
     ensures { OnOk result (text.new.items ≡ text.old.items
         ++ value_at table.now time before.now after.now semaphore) }
 {
-    let counter = Counter {
-        kind: "semaphore",
-        name: table.semaphore(semaphore).name().as_bytes(),
-        unit: "value",
+    let Some(count) = after.value(semaphore) else {
+        return Ok(());
     };
-    put_changed(
-        text,
-        &counter,
-        time,
-        &before.value(semaphore),
-        &after.value(semaphore),
-    )
+    if is_same_count(&before.value(semaphore), count) {
+        return Ok(());
+    }
+    let counter = Counter {
+        front: ",\"name\":\"semaphore ",
+        name: table.semaphore(semaphore).name().as_bytes(),
+        back: "\",\"args\":{\"value\":",
+    };
+    put_count(text, &counter, time, count)
 }
 
 /// Puts the content of a buffer, if it is not the one before.
@@ -120,18 +88,18 @@ fn put_content(
     ensures { OnOk result (text.new.items ≡ text.old.items
         ++ content_at table.now time before.now after.now buffer) }
 {
-    let counter = Counter {
-        kind: "buffer",
-        name: table.buffer(buffer).name().as_bytes(),
-        unit: "messages",
+    let Some(count) = after.content(buffer) else {
+        return Ok(());
     };
-    put_changed(
-        text,
-        &counter,
-        time,
-        &before.content(buffer),
-        &after.content(buffer),
-    )
+    if is_same_count(&before.content(buffer), count) {
+        return Ok(());
+    }
+    let counter = Counter {
+        front: ",\"name\":\"buffer ",
+        name: table.buffer(buffer).name().as_bytes(),
+        back: "\",\"args\":{\"messages\":",
+    };
+    put_count(text, &counter, time, count)
 }
 
 /// Puts the values that change.

@@ -2,25 +2,29 @@
 ghost use Rattle.std.specs.Prelude.{◌≡◌, ◌++◌, ◌↔◌, ◌+◌, ◌<◌, [], All, IsOk, length, OnErr, OnOk};
 ghost use Rattle.std.specs.Io.KnownBytes.{Appends};
 ghost use Rattle.apex_calls.specs.Lines.{IsPrintable};
-ghost use Rattle.apex_types.specs.Machine.{accept, opening, run};
+ghost use Rattle.apex_types.specs.machine.Machine.{accept, opening, run};
 ghost use Rattle.apex_dispatch.specs.Events.{IsWithin};
 ghost use Rattle.apex_dispatch.specs.Kernel.{kernel_in};
 ghost use Rattle.apex_history.specs.Counted.{inner_of, failures_of, AppendsBeginning};
 ghost use Rattle.apex_history.specs.Page.{Passes};
-ghost use Rattle.apex_pictures.specs.Moments.{moment_in};
+ghost use Rattle.apex_pictures.specs.Moments.{Shown, moment_in};
 ghost use Rattle.apex_pictures.specs.declared.drawing.DrawFault.TheVariants.{Memory};
 ghost use Rattle.apex_pictures.specs.Drawing.{CountsDrawing, Grows};
 ghost use Rattle.apex_pictures.specs.Pictures.{column_text, foot_text, head_text, picture_text};
+ghost use Rattle.apex_pictures.specs.Svg as svg_text;
+ghost use Rattle.apex_pictures.specs.Tracks.{Follows, bare};
 
 use crate::counts::counts_of;
+use crate::frames::Frame;
 use crate::moments::{Moment, moment_of};
 use crate::styles::Style;
+use crate::tracks::{Tracks, tracks_of};
 use crate::{svg, trace};
 use apex_dispatch::Kernel;
 use apex_history::{Counted, Sink};
 use apex_store::Store;
 use apex_table::Table;
-use apex_types::{Event, Full, LentEntry};
+use apex_types::{Event, LentEntry};
 use std::alloc::{AllocError, Global};
 use std::io::Write;
 use thiserror::Error;
@@ -50,9 +54,9 @@ fn put_head(
     text: &mut Vec<u8>,
     style: &Style,
     table: &Table,
-    first: &Moment,
+    first: &Tracks,
 ) -> Result<(), AllocError>
-    requires { first.now ≡ moment_in table.now (opening table.now) }
+    requires { first.now ≡ bare (moment_in table.now (opening table.now)) }
     ensures { OnOk result (text.new.items ≡ text.old.items ++ head_text style.now table.now) }
 {
     match style {
@@ -61,32 +65,14 @@ fn put_head(
     }
 }
 
-fn put_column(
-    text: &mut Vec<u8>,
-    style: &Style,
-    table: &Table,
-    before: &Moment,
-    entry: &LentEntry<'_>,
-    after: &Moment,
-) -> Result<(), AllocError>
-    requires { IsPrintable table.now entry.now }
-    ensures { OnOk result (text.new.items ≡ text.old.items ++ column_text style.now table.now
-        (record { before = before.now; entry = entry.entry.now; after = after.now })) }
-{
-    match style {
-        Style::Svg(frame) => svg::put_column(text, table, frame, entry, after),
-        Style::Trace => trace::put_column(text, table, before, entry, after),
-    }
-}
-
-/// Puts what comes after the columns of the history so far, of which this is the last moment.
+/// Puts what comes after the columns of the history so far, of which these are the last tracks.
 fn put_foot<S: Store>(
     text: &mut Vec<u8>,
     style: &Style,
     kernel: &Kernel<S>,
-    last: &Moment,
+    last: &Tracks,
 ) -> Result<(), AllocError>
-    requires { last.now ≡ moment_in kernel.now.table kernel.now.machine }
+    requires { Follows style.now last.now (moment_in kernel.now.table kernel.now.machine) }
     ensures { OnOk result (text.new.items ≡ text.old.items
         ++ foot_text style.now kernel.now.table kernel.now.machine) }
 {
@@ -100,17 +86,6 @@ fn put_foot<S: Store>(
     }
 }
 
-/// Makes the event, if the history has room for it.
-fn make<S: Store>(kernel: &mut Kernel<S>, event: Event) -> Result<(), Full>
-    requires { IsWithin kernel.old.table.cores event }
-    ensures done { kernel.new ≡ kernel_in kernel.old.table
-        (accept kernel.old.table kernel.old.machine event) }
-    ensures accepted { IsOk result ↔ (length kernel.old.machine.history < kernel.old.table.limit) }
-{
-    kernel.holds();
-    kernel.run(&[event])
-}
-
 /// The moment of a kernel.
 fn moment_in<S: Store>(kernel: &Kernel<S>) -> Moment
     ensures { result ≡ moment_in kernel.now.table kernel.now.machine }
@@ -119,35 +94,89 @@ fn moment_in<S: Store>(kernel: &Kernel<S>) -> Moment
     moment_of(kernel.store(), counts_of(kernel))
 }
 
-/// Makes the event, and puts its column; `shown` is the moment before it, and then the one after
-/// it.
+/// The tracks of a kernel.
+fn tracks_in<S: Store>(kernel: &Kernel<S>) -> Tracks
+    ensures { result ≡ bare (moment_in kernel.now.table kernel.now.machine) }
+{
+    kernel.holds();
+    tracks_of(kernel.store(), counts_of(kernel))
+}
+
+/// Puts the column of the latest entry in a frame.
+// Not inlined: a function clears the room of its values at each call, and a moment is large.
+#[inline(never)]
+fn put_svg_column<S: Store>(
+    text: &mut Vec<u8>,
+    frame: &Frame,
+    kernel: &Kernel<S>,
+    entry: &LentEntry<'_>,
+) -> Result<(), AllocError>
+    requires { IsPrintable kernel.now.table entry.now }
+    ensures { OnOk result (text.new.items ≡ text.old.items ++ svg_text.column_text kernel.now.table
+        frame.now entry.entry.now (moment_in kernel.now.table kernel.now.machine)) }
+{
+    let moment = moment_in(kernel);
+    svg::put_column(text, kernel.table(), frame, entry, &moment)
+}
+
+/// Puts the column of the latest entry; if a trace is drawn, `shown` are the tracks before it, and
+/// then those after it.
+fn put_column<S: Store>(
+    text: &mut Vec<u8>,
+    style: &Style,
+    kernel: &Kernel<S>,
+    entry: &LentEntry<'_>,
+    shown: &mut Tracks,
+) -> Result<(), AllocError>
+    requires { IsPrintable kernel.now.table entry.now }
+    ensures drawn { (before : Shown) → Follows style.now shown.old before
+        → OnOk result (text.new.items ≡ text.old.items ++ column_text style.now kernel.now.table
+        (record {
+          before = before;
+          entry = entry.entry.now;
+          after = moment_in kernel.now.table kernel.now.machine;
+        })) }
+    ensures shown { OnOk result (Follows style.now shown.new
+        (moment_in kernel.now.table kernel.now.machine)) }
+{
+    match style {
+        Style::Svg(frame) => put_svg_column(text, frame, kernel, entry),
+        Style::Trace => {
+            let after = tracks_in(kernel);
+            trace::put_column(text, kernel.table(), shown, entry, &after)?;
+            *shown = after;
+            Ok(())
+        }
+    }
+}
+
+/// Makes the event, and puts its column; if a trace is drawn, `shown` are the tracks before it, and
+/// then those after it.
 fn draw_event<S: Store>(
     text: &mut Vec<u8>,
     style: &Style,
     kernel: &mut Kernel<S>,
     event: Event,
-    shown: &mut Moment,
+    shown: &mut Tracks,
 ) -> Result<(), AllocError>
     requires within { IsWithin kernel.old.table.cores event }
-    requires shown { shown.old ≡ moment_in kernel.old.table kernel.old.machine }
+    requires shown { Follows style.now shown.old (moment_in kernel.old.table kernel.old.machine) }
     ensures done { kernel.new ≡ kernel_in kernel.old.table
         (accept kernel.old.table kernel.old.machine event) }
-    ensures shown { OnOk result (shown.new ≡ moment_in kernel.old.table kernel.new.machine) }
+    ensures shown { OnOk result (Follows style.now shown.new
+        (moment_in kernel.old.table kernel.new.machine)) }
     ensures drawn { OnOk result (Grows style.now kernel.old.table kernel.old.machine
         kernel.new.machine text.old.items text.new.items) }
 {
     kernel.holds();
-    let Ok(()) = make(kernel, event) else {
+    let Ok(()) = kernel.accept(event) else {
         return Ok(());
     };
     kernel.holds();
     let Some(entry) = kernel.entries().latest() else {
         return Ok(());
     };
-    let after = moment_in(kernel);
-    put_column(text, style, kernel.table(), shown, &entry, &after)?;
-    *shown = after;
-    Ok(())
+    put_column(text, style, kernel, &entry, shown)
 }
 
 /// Writes the text out, and forgets it.
@@ -195,15 +224,19 @@ pub fn draw<S: Store, W: Sink>(
 ) -> Result<(), DrawFault>
     requires opened { kernel.old.machine ≡ opening kernel.old.table }
     requires within { All (IsWithin kernel.old.table.cores) events.now }
-    ensures ok { OnOk result (Appends (W.contents (inner_of writer.old)) (W.contents (inner_of writer.new))
-        (picture_text style.now kernel.old.table (run kernel.old.table (opening kernel.old.table) events.now))) }
-    ensures err { OnErr result (AppendsBeginning (W.contents (inner_of writer.old)) (W.contents (inner_of writer.new))
-        (picture_text style.now kernel.old.table (run kernel.old.table (opening kernel.old.table) events.now))) }
+    ensures ok { OnOk result
+        (Appends (W.contents (inner_of writer.old)) (W.contents (inner_of writer.new))
+        (picture_text style.now kernel.old.table
+        (run kernel.old.table (opening kernel.old.table) events.now))) }
+    ensures err { OnErr result
+        (AppendsBeginning (W.contents (inner_of writer.old)) (W.contents (inner_of writer.new))
+        (picture_text style.now kernel.old.table
+        (run kernel.old.table (opening kernel.old.table) events.now))) }
     ensures counted { CountsDrawing result (failures_of writer.old) (failures_of writer.new) }
 {
     kernel.holds();
     let mut text = Vec::new(alloc);
-    let mut shown = moment_in(kernel);
+    let mut shown = tracks_in(kernel);
     let Ok(()) = put_head(&mut text, style, kernel.table(), &shown) else {
         return Err(DrawFault::Memory);
     };

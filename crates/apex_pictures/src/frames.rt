@@ -1,6 +1,6 @@
 //! The places of the columns and of the rows of a picture.
 ghost use Rattle.std.specs.Prelude.{◌≡◌, ◌+◌, ◌<◌, ◌≤◌, ◌^◌, length, min};
-ghost use Rattle.apex_types.specs.Limits.{most_cores, most_entries, most_processes};
+ghost use Rattle.apex_types.specs.values.Limits.{most_cores, most_entries, most_processes};
 ghost use Rattle.arrayvec.specs.ArrayVec.{array_vec_len};
 ghost use Rattle.apex_pictures.specs.Svg.{heading_of, row_of, shows};
 
@@ -64,7 +64,7 @@ pub struct Frame {
 /// The core to which a call binds this process.
 fn core_bound(call: &Call, process: ProcessId) -> Option<u8> {
     match call {
-        Call::Process(ObjectCall::Own(bound, ProcessService::InitializeCoreAffinity(core)))
+        Call::Process(ObjectCall::KindService(bound, ProcessService::InitializeCoreAffinity(core)))
             if *bound == process => { Some(*core) }
         _ => None,
     }
@@ -113,7 +113,7 @@ fn count_of(cores: &[u8], core: u8) -> u32
 /// The places of the rows of processes that are bound to these cores: below the headings of their
 /// cores, in the order of their numbers.
 fn rows_of(cores: &[u8], top: u32) -> ArrayVec<u32, MOST_PROCESSES>
-    requires few { length cores.now ≤ most_processes }
+    requires few_cores { length cores.now ≤ most_processes }
     requires range { top ≤ 30000 }
 {
     let mut rows = ArrayVec::new();
@@ -127,7 +127,7 @@ fn rows_of(cores: &[u8], top: u32) -> ArrayVec<u32, MOST_PROCESSES>
 
 /// The places of the headings of `count` cores.
 fn headings_of(cores: &[u8], count: u8, top: u32) -> ArrayVec<u32, CORES>
-    requires few { length cores.now ≤ most_processes }
+    requires few_cores { length cores.now ≤ most_processes }
     requires cores { count ≤ most_cores }
     requires range { top ≤ 30000 }
 {

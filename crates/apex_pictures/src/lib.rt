@@ -9,10 +9,12 @@ mod drawing;
 mod frames;
 mod laws;
 mod moments;
+mod stamps;
 mod styles;
 mod svg;
 mod texts;
 mod trace;
+mod tracks;
 mod words;
 
 pub use counts::Counts;

@@ -1,9 +1,9 @@
 //! The processes and the counts after an entry, as a picture shows them.
 ghost use Rattle.std.specs.Prelude.{◌≡◌, ◌<◌, ◌≤◌, length, not, if◌then◌else◌, slice_index_or, None};
-ghost use Rattle.apex_types.specs.Limits.{most_cores, most_processes};
-ghost use Rattle.apex_types.specs.Running.{chosen, is_eligible, is_process};
+ghost use Rattle.apex_types.specs.values.Limits.{most_cores, most_processes};
+ghost use Rattle.apex_types.specs.processes.Running.{chosen, is_eligible, is_process};
 ghost use Rattle.apex_types.specs.declared.State.TheVariants.{Dormant, Ready, Running, Waiting};
-ghost use Rattle.apex_pictures.specs.Moments.{cell_of, moment_of, no_cell, none_shown, running_in};
+ghost use Rattle.apex_pictures.specs.Moments.{cell_of, moment_of, no_cell, running_in};
 
 use crate::counts::Counts;
 use apex_store::Store;
@@ -69,7 +69,12 @@ fn is_process(process: ProcessId, chosen: Option<ProcessId>) -> bool
 }
 
 /// The state of a process, by its record and the process that its core runs.
-fn state_of(process: ProcessId, row: &Record, mode: Mode, chosen: Option<ProcessId>) -> State
+pub(crate) fn state_of(
+    process: ProcessId,
+    row: &Record,
+    mode: Mode,
+    chosen: Option<ProcessId>,
+) -> State
     ensures { result ≡ (if not row.now.started then Dormant
         else if not (is_eligible mode row.now) then Waiting
         else if is_process process chosen then Running else Ready) }
@@ -86,7 +91,7 @@ fn state_of(process: ProcessId, row: &Record, mode: Mode, chosen: Option<Process
 }
 
 /// The process that each core runs.
-fn running_of<S: Store>(store: &S) -> ArrayVec<Option<ProcessId>, CORES>
+pub(crate) fn running_of<S: Store>(store: &S) -> ArrayVec<Option<ProcessId>, CORES>
     ensures { result.items ≡ running_in (S.roster store.now) }
 {
     let mut running = ArrayVec::new();
@@ -97,7 +102,7 @@ fn running_of<S: Store>(store: &S) -> ArrayVec<Option<ProcessId>, CORES>
 }
 
 /// The process that a core runs, out of those of all cores.
-fn running_at(running: &[Option<ProcessId>], core: CoreId) -> Option<ProcessId>
+pub(crate) fn running_at(running: &[Option<ProcessId>], core: CoreId) -> Option<ProcessId>
     ensures value { result ≡ slice_index_or running.now core None }
     ensures range { core < most_cores }
 {
@@ -140,17 +145,6 @@ pub(crate) fn moment_of<S: Store>(store: &S, counts: Counts) -> Moment
 }
 
 impl Moment {
-    /// The moment that shows nothing.
-    pub(crate) fn none() -> Moment
-        ensures { result ≡ none_shown }
-    {
-        Moment {
-            cells: ArrayVec::new(),
-            running: ArrayVec::new(),
-            counts: Counts::none(),
-        }
-    }
-
     /// The number of processes that are shown.
     pub fn count(&self) -> usize
         ensures { result ≡ length self.now.cells }

@@ -1,7 +1,7 @@
 //! A picture as SVG: its head, its columns and its key.
 ghost use Rattle.std.specs.Prelude.{◌≡◌, ◌≤◌, ◌++◌, drop, flat_map, length, OnOk};
 ghost use Rattle.apex_calls.specs.Lines.{IsPrintable, line_of};
-ghost use Rattle.apex_types.specs.Listing.{texts_of};
+ghost use Rattle.apex_types.specs.text.Listing.{texts_of};
 ghost use Rattle.apex_pictures.specs.Svg.{bare, bar_text, call_end, call_text, cell_at, cell_end, cell_part, cell_text, circle_text, column_end, column_text, dash_text, dash_to, heading_text, head_text, instant_text, is_timed, key_text, label_text, marks_text, notice_process, opening_text, owns_part, ring_text, said_text, start_text, time_text, title_text, waits_part, wedge_text};
 
 use crate::frames::Frame;
@@ -36,7 +36,8 @@ fn put_label(
     frame: &Frame,
     process: ProcessId,
 ) -> Result<(), AllocError>
-    ensures { OnOk result (text.new.items ≡ text.old.items ++ label_text table.now frame.now process) }
+    ensures { OnOk result (text.new.items ≡ text.old.items
+        ++ label_text table.now frame.now process) }
 {
     put_all(
         text,
@@ -80,7 +81,8 @@ pub(crate) fn put_head(text: &mut Vec<u8>, table: &Table, frame: &Frame) -> Resu
 }
 
 fn put_headings(text: &mut Vec<u8>, table: &Table, frame: &Frame) -> Result<(), AllocError>
-    ensures { OnOk result (text.new.items ≡ text.old.items ++ texts_of (heading_text frame.now) table.now.cores) }
+    ensures { OnOk result (text.new.items ≡ text.old.items
+        ++ texts_of (heading_text frame.now) table.now.cores) }
 {
     for core in 0..table.cores() {
         put_heading(text, frame, CoreId::new(core))?;
@@ -89,7 +91,8 @@ fn put_headings(text: &mut Vec<u8>, table: &Table, frame: &Frame) -> Result<(), 
 }
 
 fn put_labels(text: &mut Vec<u8>, table: &Table, frame: &Frame) -> Result<(), AllocError>
-    ensures { OnOk result (text.new.items ≡ text.old.items ++ texts_of (label_text table.now frame.now) (length table.now.processes)) }
+    ensures { OnOk result (text.new.items ≡ text.old.items
+        ++ texts_of (label_text table.now frame.now) (length table.now.processes)) }
 {
     for place in 0..table.process_count() {
         put_label(text, table, frame, ProcessId::at(place as u8))?;
@@ -228,7 +231,8 @@ fn put_call(
     entry: &LentEntry<'_>,
 ) -> Result<(), AllocError>
     requires { IsPrintable table.now entry.now }
-    ensures { OnOk result (text.new.items ≡ text.old.items ++ call_text table.now frame.now entry.entry.now) }
+    ensures { OnOk result (text.new.items ≡ text.old.items
+        ++ call_text table.now frame.now entry.entry.now) }
 {
     let line = line_of(table, entry);
     put_title(text, frame, line.as_slice())?;
@@ -278,7 +282,8 @@ fn put_owns(
     process: ProcessId,
     cell: &Cell,
 ) -> Result<(), AllocError>
-    ensures { OnOk result (text.new.items ≡ text.old.items ++ owns_part frame.now process cell.now.owned) }
+    ensures { OnOk result (text.new.items ≡ text.old.items
+        ++ owns_part frame.now process cell.now.owned) }
 {
     for holding in cell.owned.as_slice() {
         put_bar(text, frame, process, holding.mutex)?;
@@ -294,7 +299,8 @@ fn put_state(
     process: ProcessId,
     cell: &Cell,
 ) -> Result<(), AllocError>
-    ensures { OnOk result (text.new.items ≡ text.old.items ++ cell_part table.now frame.now process cell.now) }
+    ensures { OnOk result (text.new.items ≡ text.old.items
+        ++ cell_part table.now frame.now process cell.now) }
 {
     put_all(
         text,
@@ -324,7 +330,8 @@ fn put_cell(
     process: ProcessId,
     cell: &Cell,
 ) -> Result<(), AllocError>
-    ensures { OnOk result (text.new.items ≡ text.old.items ++ cell_text table.now frame.now process cell.now) }
+    ensures { OnOk result (text.new.items ≡ text.old.items
+        ++ cell_text table.now frame.now process cell.now) }
 {
     put_state(text, table, frame, process, cell)?;
     put_waits(text, cell)?;
@@ -356,7 +363,8 @@ fn put_circle(
     process: ProcessId,
     line: &[u8],
 ) -> Result<(), AllocError>
-    ensures { OnOk result (text.new.items ≡ text.old.items ++ circle_text frame.now line.now process) }
+    ensures { OnOk result (text.new.items ≡ text.old.items
+        ++ circle_text frame.now line.now process) }
 {
     put_all(
         text,
@@ -380,7 +388,8 @@ fn put_ring(
     entry: &LentEntry<'_>,
 ) -> Result<(), AllocError>
     requires { IsPrintable table.now entry.now }
-    ensures { OnOk result (text.new.items ≡ text.old.items ++ ring_text table.now frame.now entry.entry.now) }
+    ensures { OnOk result (text.new.items ≡ text.old.items
+        ++ ring_text table.now frame.now entry.entry.now) }
 {
     let line = line_of(table, entry);
     match entry.process {
@@ -406,7 +415,8 @@ fn put_dash(
     caller: ProcessId,
     notice: &Notice,
 ) -> Result<(), AllocError>
-    ensures { OnOk result (text.new.items ≡ text.old.items ++ dash_text frame.now caller notice.now) }
+    ensures { OnOk result (text.new.items ≡ text.old.items
+        ++ dash_text frame.now caller notice.now) }
 {
     put_all(
         text,
@@ -429,7 +439,8 @@ fn put_dash_to(
     caller: &Caller,
     notice: &Notice,
 ) -> Result<(), AllocError>
-    ensures { OnOk result (text.new.items ≡ text.old.items ++ dash_to frame.now caller.now notice.now) }
+    ensures { OnOk result (text.new.items ≡ text.old.items
+        ++ dash_to frame.now caller.now notice.now) }
 {
     match caller {
         Caller::Process(caller) => put_dash(text, frame, *caller, notice),
@@ -492,7 +503,8 @@ fn put_marks(
     moment: &Moment,
 ) -> Result<(), AllocError>
     requires { IsPrintable table.now entry.now }
-    ensures { OnOk result (text.new.items ≡ text.old.items ++ marks_text table.now frame.now entry.entry.now moment.now) }
+    ensures { OnOk result (text.new.items ≡ text.old.items
+        ++ marks_text table.now frame.now entry.entry.now moment.now) }
 {
     put_time(text, frame, entry)?;
     put_call(text, table, frame, entry)?;
@@ -533,7 +545,8 @@ pub(crate) fn put_column(
     moment: &Moment,
 ) -> Result<(), AllocError>
     requires { IsPrintable table.now entry.now }
-    ensures { OnOk result (text.new.items ≡ text.old.items ++ column_text table.now frame.now entry.entry.now moment.now) }
+    ensures { OnOk result (text.new.items ≡ text.old.items
+        ++ column_text table.now frame.now entry.entry.now moment.now) }
 {
     if !frame.shows(entry.number) {
         return Ok(());

@@ -1,5 +1,5 @@
 //! The parts of a picture's text, and the bytes that are escaped in it.
-ghost use Rattle.std.specs.Prelude.{◌≡◌, [], ◌∷◌, ◌++◌, flat_map, decimal, OnOk};
+ghost use Rattle.std.specs.Prelude.{◌≡◌, ◌<◌, [], ◌∷◌, ◌++◌, flat_map, decimal, OnOk};
 ghost use Rattle.apex_pictures.specs.Texts.{json_byte, json_text, part_text, xml_byte, xml_text};
 
 use itoa::Buffer;
@@ -25,18 +25,31 @@ pub(crate) fn put(text: &mut Vec<u8>, more: &str) -> Result<(), AllocError>
     text.extend_from_slice(more.as_bytes())
 }
 
-pub(crate) fn put_number(text: &mut Vec<u8>, number: u64) -> Result<(), AllocError>
-    ensures { OnOk result (text.new.items ≡ text.old.items ++ decimal number) }
-{
-    let mut buffer = Buffer::new();
-    put(text, buffer.format(number))
-}
-
 fn put_byte(text: &mut Vec<u8>, byte: u8) -> Result<(), AllocError>
     ensures { OnOk result (text.new.items ≡ text.old.items ++ byte ∷ []) }
 {
     text.push(byte)?;
     Ok(())
+}
+
+// A number of one digit, as most tracks have.
+#[tactic(auto, using(std::proofs::lemmas::Fmt::decimal_digit))]
+fn put_digit(text: &mut Vec<u8>, digit: u8) -> Result<(), AllocError>
+    requires { digit < 10 }
+    ensures { OnOk result (text.new.items ≡ text.old.items ++ decimal digit) }
+{
+    put_byte(text, b'0' + digit)
+}
+
+/// Puts the number in decimal digits.
+pub(crate) fn put_number(text: &mut Vec<u8>, number: u64) -> Result<(), AllocError>
+    ensures { OnOk result (text.new.items ≡ text.old.items ++ decimal number) }
+{
+    if number < 10 {
+        return put_digit(text, number as u8);
+    }
+    let mut buffer = Buffer::new();
+    put(text, buffer.format(number))
 }
 
 fn put_xml_byte(text: &mut Vec<u8>, byte: u8) -> Result<(), AllocError>
@@ -70,7 +83,8 @@ fn put_json_byte(text: &mut Vec<u8>, byte: u8) -> Result<(), AllocError>
     put_byte(text, byte)
 }
 
-fn put_json(text: &mut Vec<u8>, bytes: &[u8]) -> Result<(), AllocError>
+/// Puts the bytes so that JSON reads them back as they are, between the quotes of a string.
+pub(crate) fn put_json(text: &mut Vec<u8>, bytes: &[u8]) -> Result<(), AllocError>
     ensures { OnOk result (text.new.items ≡ text.old.items ++ json_text bytes.now) }
 {
     for byte in bytes {

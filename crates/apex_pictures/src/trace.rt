@@ -2,14 +2,16 @@
 //! processes, and counters of the objects. An entry's number is its time in microseconds; the
 //! partition's time is an argument.
 ghost use Rattle.std.specs.Prelude.{◌≡◌, ◌++◌, flat_map, length, OnOk};
-ghost use Rattle.apex_types.specs.Listing.{texts_of};
+ghost use Rattle.apex_types.specs.text.Listing.{texts_of};
+ghost use Rattle.apex_pictures.specs.Stamps.{IsStamp, Stamps};
 ghost use Rattle.apex_pictures.specs.Trace as trace;
 
 use crate::counters::put_counters;
 use crate::counts::Counts;
-use crate::moments::Moment;
-use crate::texts::{Part, put, put_all};
-use crate::words::{deadline_word, id_part, name_of};
+use crate::stamps::{Stamp, begin_front, end_front};
+use crate::texts::{Part, put, put_all, put_json, put_number};
+use crate::tracks::{Tracks, state_on};
+use crate::words::{deadline_word, id_part, name_of, put_id};
 use apex_table::Table;
 use apex_types::{CoreId, DeadlineType, LentEntry, Notice, ProcessId, State};
 use std::alloc::AllocError;
@@ -41,7 +43,8 @@ fn put_core_name(text: &mut Vec<u8>, core: CoreId) -> Result<(), AllocError>
 
 /// Puts the name of a process's track.
 fn put_process_name(text: &mut Vec<u8>, table: &Table, process: ProcessId) -> Result<(), AllocError>
-    ensures { OnOk result (text.new.items ≡ text.old.items ++ trace.process_name_text table.now process) }
+    ensures { OnOk result (text.new.items ≡ text.old.items
+        ++ trace.process_name_text table.now process) }
 {
     put_all(
         text,
@@ -56,7 +59,8 @@ fn put_process_name(text: &mut Vec<u8>, table: &Table, process: ProcessId) -> Re
 }
 
 fn put_core_names(text: &mut Vec<u8>, table: &Table) -> Result<(), AllocError>
-    ensures { OnOk result (text.new.items ≡ text.old.items ++ texts_of trace.core_name_text table.now.cores) }
+    ensures { OnOk result (text.new.items ≡ text.old.items
+        ++ texts_of trace.core_name_text table.now.cores) }
 {
     for core in 0..table.cores() {
         put_core_name(text, CoreId::new(core))?;
@@ -88,7 +92,7 @@ fn put_opening(text: &mut Vec<u8>) -> Result<(), AllocError>
 /// Puts what comes before the columns: the names of the tracks, and all counts of the moment before
 /// the first entry.
 #[tactic(auto, using(std::proofs::Common::append_assoc))]
-pub(crate) fn put_head(text: &mut Vec<u8>, table: &Table, first: &Moment) -> Result<(), AllocError>
+pub(crate) fn put_head(text: &mut Vec<u8>, table: &Table, first: &Tracks) -> Result<(), AllocError>
     ensures { OnOk result (text.new.items ≡ text.old.items ++ trace.head_text table.now first.now) }
 {
     put_opening(text)?;
@@ -98,56 +102,36 @@ pub(crate) fn put_head(text: &mut Vec<u8>, table: &Table, first: &Moment) -> Res
 }
 
 /// Puts the end of a slice.
-fn put_end(text: &mut Vec<u8>, spot: Spot) -> Result<(), AllocError>
+fn put_end(text: &mut Vec<u8>, spot: Spot, stamp: &Stamp) -> Result<(), AllocError>
+    requires { Stamps stamp.now spot }
     ensures { OnOk result (text.new.items ≡ text.old.items ++ trace.end_text spot) }
 {
-    put_all(
-        text,
-        &[
-            Part::Plain(",\n{\"ph\":\"E\",\"pid\":"),
-            Part::Number(u64::from(spot.group)),
-            Part::Plain(",\"tid\":"),
-            Part::Number(u64::from(spot.track)),
-            Part::Plain(",\"ts\":"),
-            Part::Number(spot.time),
-            Part::Plain("}"),
-        ],
-    )
+    put(text, end_front(spot.group))?;
+    put_number(text, u64::from(spot.track))?;
+    put(text, stamp.end())
 }
 
 /// Puts the beginning of a slice, up to its name.
-fn put_begin(text: &mut Vec<u8>, spot: Spot, now: u64) -> Result<(), AllocError>
-    ensures { OnOk result (text.new.items ≡ text.old.items ++ trace.begin_text spot now) }
+fn put_begin(text: &mut Vec<u8>, spot: Spot, stamp: &Stamp) -> Result<(), AllocError>
+    requires { Stamps stamp.now spot }
+    ensures { OnOk result (text.new.items ≡ text.old.items
+        ++ trace.begin_text spot stamp.now.ticks) }
 {
-    put_all(
-        text,
-        &[
-            Part::Plain(",\n{\"ph\":\"B\",\"pid\":"),
-            Part::Number(u64::from(spot.group)),
-            Part::Plain(",\"tid\":"),
-            Part::Number(u64::from(spot.track)),
-            Part::Plain(",\"ts\":"),
-            Part::Number(spot.time),
-            Part::Plain(",\"args\":{\"now\":"),
-            Part::Number(now),
-            Part::Plain("},\"name\":\""),
-        ],
-    )
+    put(text, begin_front(spot.group))?;
+    put_number(text, u64::from(spot.track))?;
+    put(text, stamp.begin())
 }
 
 /// Puts the name of the slice of a process that a core runs.
+#[tactic(auto, using(std::proofs::Common::append_assoc), unfolding(crate::specs::Trace::run_name_text))]
 fn put_run_name(text: &mut Vec<u8>, table: &Table, process: ProcessId) -> Result<(), AllocError>
-    ensures { OnOk result (text.new.items ≡ text.old.items ++ trace.run_name_text table.now process) }
+    ensures { OnOk result (text.new.items ≡ text.old.items
+        ++ trace.run_name_text table.now process) }
 {
-    put_all(
-        text,
-        &[
-            id_part(process),
-            Part::Plain(" "),
-            Part::Json(name_of(table, process)),
-            Part::Plain("\"}"),
-        ],
-    )
+    put_id(text, process)?;
+    put(text, " ")?;
+    put_json(text, name_of(table, process))?;
+    put(text, "\"}")
 }
 
 /// Puts the slice of a process that a core begins to run.
@@ -156,12 +140,14 @@ fn put_run(
     text: &mut Vec<u8>,
     table: &Table,
     spot: Spot,
-    now: u64,
+    stamp: &Stamp,
     process: ProcessId,
 ) -> Result<(), AllocError>
-    ensures { OnOk result (text.new.items ≡ text.old.items ++ trace.run_text table.now spot now process) }
+    requires { Stamps stamp.now spot }
+    ensures { OnOk result (text.new.items ≡ text.old.items
+        ++ trace.run_text table.now spot stamp.now.ticks process) }
 {
-    put_begin(text, spot, now)?;
+    put_begin(text, spot, stamp)?;
     put_run_name(text, table, process)
 }
 
@@ -170,44 +156,54 @@ fn put_running(
     text: &mut Vec<u8>,
     table: &Table,
     spot: Spot,
-    now: u64,
+    stamp: &Stamp,
     running: &Option<ProcessId>,
 ) -> Result<(), AllocError>
-    ensures { OnOk result (text.new.items ≡ text.old.items ++ trace.run_of table.now spot now running.now) }
+    requires { Stamps stamp.now spot }
+    ensures { OnOk result (text.new.items ≡ text.old.items
+        ++ trace.run_of table.now spot stamp.now.ticks running.now) }
 {
     match running {
-        Some(process) => put_run(text, table, spot, now, *process),
+        Some(process) => put_run(text, table, spot, stamp, *process),
         None => Ok(()),
     }
 }
 
-/// Puts the slice of a state.
+/// Puts a slice that has this name, which ends with the end of the slice's text.
 #[tactic(auto, using(std::proofs::Common::append_assoc))]
-fn put_slice(text: &mut Vec<u8>, spot: Spot, now: u64, word: &str) -> Result<(), AllocError>
-    ensures { OnOk result (text.new.items ≡ text.old.items ++ trace.slice_text spot now word.now) }
+fn put_slice(text: &mut Vec<u8>, spot: Spot, stamp: &Stamp, name: &str) -> Result<(), AllocError>
+    requires { Stamps stamp.now spot }
+    ensures { OnOk result (text.new.items ≡ text.old.items
+        ++ (trace.begin_text spot stamp.now.ticks ++ name.now)) }
 {
-    put_begin(text, spot, now)?;
-    put(text, word)?;
-    put(text, "\"}")
+    put_begin(text, spot, stamp)?;
+    put(text, name)
 }
 
 /// Puts the slice of the state that a process enters; DORMANT has no slice.
-fn put_being(text: &mut Vec<u8>, spot: Spot, now: u64, state: State) -> Result<(), AllocError>
-    ensures { OnOk result (text.new.items ≡ text.old.items ++ trace.being_text spot now state) }
+fn put_being(text: &mut Vec<u8>, spot: Spot, stamp: &Stamp, state: State) -> Result<(), AllocError>
+    requires { Stamps stamp.now spot }
+    ensures { OnOk result (text.new.items ≡ text.old.items
+        ++ trace.being_text spot stamp.now.ticks state) }
 {
     match state {
         State::Dormant => Ok(()),
-        State::Ready => put_slice(text, spot, now, "READY"),
-        State::Running => put_slice(text, spot, now, "RUNNING"),
-        State::Waiting => put_slice(text, spot, now, "WAITING"),
+        State::Ready => put_slice(text, spot, stamp, "READY\"}"),
+        State::Running => put_slice(text, spot, stamp, "RUNNING\"}"),
+        State::Waiting => put_slice(text, spot, stamp, "WAITING\"}"),
     }
 }
 
 /// Puts the end of a slice, if there is one.
-fn put_ended(text: &mut Vec<u8>, spot: Spot, begun: bool) -> Result<(), AllocError>
+fn put_ended(text: &mut Vec<u8>, spot: Spot, stamp: &Stamp, begun: bool) -> Result<(), AllocError>
+    requires { Stamps stamp.now spot }
     ensures { OnOk result (text.new.items ≡ text.old.items ++ trace.ended begun spot) }
 {
-    if begun { put_end(text, spot) } else { Ok(()) }
+    if begun {
+        put_end(text, spot, stamp)
+    } else {
+        Ok(())
+    }
 }
 
 fn is_same_process(before: &Option<ProcessId>, after: &Option<ProcessId>) -> bool
@@ -227,29 +223,28 @@ fn is_same_process(before: &Option<ProcessId>, after: &Option<ProcessId>) -> boo
 fn put_core(
     text: &mut Vec<u8>,
     table: &Table,
-    spot: Spot,
-    now: u64,
+    core: CoreId,
+    time: u64,
+    stamp: &Stamp,
     before: &Option<ProcessId>,
     after: &Option<ProcessId>,
 ) -> Result<(), AllocError>
-    ensures { OnOk result (text.new.items ≡ text.old.items ++ trace.core_text table.now spot now before.now after.now) }
+    requires { IsStamp stamp.now time }
+    ensures { OnOk result (text.new.items ≡ text.old.items ++ trace.core_text table.now
+        (trace.core_spot core time) stamp.now.ticks before.now after.now) }
 {
     if is_same_process(before, after) {
         return Ok(());
     }
-    put_ended(text, spot, before.is_some())?;
-    put_running(text, table, spot, now, after)
+    let spot = core_spot(core, time);
+    put_ended(text, spot, stamp, before.is_some())?;
+    put_running(text, table, spot, stamp, after)
 }
 
 fn is_same_state(before: State, after: State) -> bool
     ensures { result ≡ trace.same_state before after }
 {
-    match before {
-        State::Dormant => after == State::Dormant,
-        State::Ready => after == State::Ready,
-        State::Running => after == State::Running,
-        State::Waiting => after == State::Waiting,
-    }
+    before == after
 }
 
 fn is_begun(state: State) -> bool
@@ -265,18 +260,22 @@ fn is_begun(state: State) -> bool
 #[tactic(auto, using(std::proofs::Common::append_assoc))]
 fn put_process(
     text: &mut Vec<u8>,
-    spot: Spot,
-    now: u64,
+    process: ProcessId,
+    time: u64,
+    stamp: &Stamp,
     before: State,
     after: State,
 ) -> Result<(), AllocError>
-    ensures { OnOk result (text.new.items ≡ text.old.items ++ trace.process_text spot now before after) }
+    requires { IsStamp stamp.now time }
+    ensures { OnOk result (text.new.items ≡ text.old.items ++ trace.process_text
+        (trace.process_spot process time) stamp.now.ticks before after) }
 {
     if is_same_state(before, after) {
         return Ok(());
     }
-    put_ended(text, spot, is_begun(before))?;
-    put_being(text, spot, now, after)
+    let spot = process_spot(process, time);
+    put_ended(text, spot, stamp, is_begun(before))?;
+    put_being(text, spot, stamp, after)
 }
 
 /// The track of a core.
@@ -306,20 +305,23 @@ fn put_cores(
     text: &mut Vec<u8>,
     table: &Table,
     time: u64,
-    now: u64,
-    before: &Moment,
-    after: &Moment,
+    stamp: &Stamp,
+    before: &Tracks,
+    after: &Tracks,
 ) -> Result<(), AllocError>
+    requires { IsStamp stamp.now time }
     ensures { OnOk result (text.new.items ≡ text.old.items
-        ++ texts_of (trace.core_at table.now time now before.now after.now) table.now.cores) }
+        ++ texts_of
+        (trace.core_at table.now time stamp.now.ticks before.now after.now) table.now.cores) }
 {
     for place in 0..table.cores() {
         let core = CoreId::new(place);
         put_core(
             text,
             table,
-            core_spot(core, time),
-            now,
+            core,
+            time,
+            stamp,
             &before.running(core),
             &after.running(core),
         )?;
@@ -332,18 +334,20 @@ fn put_processes(
     text: &mut Vec<u8>,
     table: &Table,
     time: u64,
-    now: u64,
-    before: &Moment,
-    after: &Moment,
+    stamp: &Stamp,
+    before: &Tracks,
+    after: &Tracks,
 ) -> Result<(), AllocError>
+    requires { IsStamp stamp.now time }
     ensures { OnOk result (text.new.items ≡ text.old.items
-        ++ texts_of (trace.process_at time now before.now after.now) (length table.now.processes)) }
+        ++ texts_of (trace.process_at time stamp.now.ticks before.now after.now)
+        (length table.now.processes)) }
 {
+    let (was, is) = (before.tracks(), after.tracks());
     for place in 0..table.process_count() {
         let process = ProcessId::at(place as u8);
-        let was = before.cell(process);
-        let is = after.cell(process);
-        put_process(text, process_spot(process, time), now, was.state, is.state)?;
+        let (old, new) = (state_on(was, place), state_on(is, place));
+        put_process(text, process, time, stamp, old, new)?;
     }
     Ok(())
 }
@@ -356,7 +360,8 @@ fn put_miss(
     process: ProcessId,
     deadline: DeadlineType,
 ) -> Result<(), AllocError>
-    ensures { OnOk result (text.new.items ≡ text.old.items ++ trace.miss_text time now process deadline) }
+    ensures { OnOk result (text.new.items ≡ text.old.items
+        ++ trace.miss_text time now process deadline) }
 {
     put_all(
         text,
@@ -376,7 +381,8 @@ fn put_miss(
 
 /// Puts the mark of a notice of a missed deadline; other notices have none.
 fn put_missed(text: &mut Vec<u8>, time: u64, now: u64, notice: &Notice) -> Result<(), AllocError>
-    ensures { OnOk result (text.new.items ≡ text.old.items ++ trace.missed_text time now notice.now) }
+    ensures { OnOk result (text.new.items ≡ text.old.items
+        ++ trace.missed_text time now notice.now) }
 {
     match notice {
         Notice::Missed(process, deadline) => put_miss(text, time, now, *process, *deadline),
@@ -385,7 +391,8 @@ fn put_missed(text: &mut Vec<u8>, time: u64, now: u64, notice: &Notice) -> Resul
 }
 
 fn put_misses(text: &mut Vec<u8>, time: u64, now: u64, notices: &[Notice]) -> Result<(), AllocError>
-    ensures { OnOk result (text.new.items ≡ text.old.items ++ flat_map (trace.missed_text time now) notices.now) }
+    ensures { OnOk result (text.new.items ≡ text.old.items
+        ++ flat_map (trace.missed_text time now) notices.now) }
 {
     for notice in notices {
         put_missed(text, time, now, notice)?;
@@ -399,16 +406,17 @@ fn put_misses(text: &mut Vec<u8>, time: u64, now: u64, notices: &[Notice]) -> Re
 pub(crate) fn put_column(
     text: &mut Vec<u8>,
     table: &Table,
-    before: &Moment,
+    before: &Tracks,
     entry: &LentEntry<'_>,
-    after: &Moment,
+    after: &Tracks,
 ) -> Result<(), AllocError>
     ensures { OnOk result (text.new.items ≡ text.old.items
         ++ trace.column_text table.now before.now entry.entry.now after.now) }
 {
     let time = u64::from(entry.number);
-    put_cores(text, table, time, entry.now, before, after)?;
-    put_processes(text, table, time, entry.now, before, after)?;
+    let stamp = Stamp::new(time, entry.now);
+    put_cores(text, table, time, &stamp, before, after)?;
+    put_processes(text, table, time, &stamp, before, after)?;
     put_counters(text, table, time, before.counts(), after.counts())?;
     put_misses(text, time, entry.now, entry.notices)
 }
@@ -420,12 +428,14 @@ pub(crate) fn put_foot(
     table: &Table,
     time: u64,
     now: u64,
-    last: &Moment,
+    last: &Tracks,
 ) -> Result<(), AllocError>
-    ensures { OnOk result (text.new.items ≡ text.old.items ++ trace.foot_text table.now time now last.now) }
+    ensures { OnOk result (text.new.items ≡ text.old.items
+        ++ trace.foot_text table.now time now last.now) }
 {
-    let none = Moment::none();
-    put_cores(text, table, time, now, last, &none)?;
-    put_processes(text, table, time, now, last, &none)?;
+    let none = Tracks::none();
+    let stamp = Stamp::new(time, now);
+    put_cores(text, table, time, &stamp, last, &none)?;
+    put_processes(text, table, time, &stamp, last, &none)?;
     put(text, "\n]}\n")
 }

@@ -1,9 +1,9 @@
 //! The words for states, waits and notices.
 ghost use Rattle.std.specs.Prelude.{◌≡◌, ◌++◌, OnOk};
-ghost use Rattle.apex_types.specs.Texts.{id_text, process_name};
+ghost use Rattle.apex_types.specs.text.Texts.{id_text, process_name};
 ghost use Rattle.apex_pictures.specs.Texts.{part_text};
 ghost use Rattle.apex_calls.specs.Lines.{deadline_text};
-ghost use Rattle.apex_types.specs.Status.{state_text, wait_text};
+ghost use Rattle.apex_types.specs.text.Status.{state_text, wait_text};
 ghost use Rattle.apex_pictures.specs.Svg.{notice_word};
 
 use crate::texts::{Part, put, put_number};
@@ -61,7 +61,7 @@ pub(crate) fn id_part<'a, K: Copy>(id: Id<K>) -> Part<'a>
 }
 
 /// Puts the number of an id.
-fn put_id<K: Copy>(text: &mut Vec<u8>, id: Id<K>) -> Result<(), AllocError>
+pub(crate) fn put_id<K: Copy>(text: &mut Vec<u8>, id: Id<K>) -> Result<(), AllocError>
     ensures { OnOk result (text.new.items ≡ text.old.items ++ id_text id) }
 {
     put_number(text, u64::from(id.number()))
@@ -89,7 +89,7 @@ pub(crate) fn put_wait(text: &mut Vec<u8>, wait: &Wait) -> Result<(), AllocError
         Wait::Receive(buffer) => put_object(text, "buffer:", *buffer),
         Wait::Send(buffer, _) => put_object(text, "buffer:", *buffer),
         Wait::Blackboard(blackboard) => put_object(text, "blackboard:", *blackboard),
-        Wait::Event(event) => put_object(text, "event:", *event),
+        Wait::EventFlag(event) => put_object(text, "event:", *event),
         Wait::Mutex(mutex) => put_object(text, "mutex:", *mutex),
     }
 }

@@ -1,29 +1,27 @@
 -- The ready lists are empty if no process is eligible: at the opening, and in a mode other than
 -- NORMAL.
-use Rattle.std.proofs.Common.{◌≡◌, ◌≢◌, ℕ, zero, suc, ◌+◌, ◌<◌, ◌≤◌, Bool, true, false, List, [], ◌∷◌, length, get_or, replicate, Option, None, Some, inl, inr, refl, ap, sym, ◌∙◌, arith}
-use Rattle.std.specs.Prelude.{nat_lt}
-use Rattle.std.proofs.lemmas.Bool.{cases_Bool, cases_eq, cases_lt, false≢true, ltb-true, ltb-false}
+use Rattle.std.proofs.Common.{◌≡◌, ◌≢◌, ℕ, ◌+◌, ◌<◌, ◌≤◌, true, false, List, [], ◌∷◌, length, replicate, Option, None, Some, inl, inr, refl, ap, sym, ◌∙◌, arith}
+use Rattle.std.proofs.lemmas.Bool.{cases_Bool, cases_lt, false≢true}
 use Rattle.std.proofs.lemmas.List.{length-replicate}
 use Rattle.std.proofs.lemmas.Option.{none-some}
-use Rattle.apex_types.specs.Limits.{most_processes}
-use Rattle.apex_types.specs.Places.{map_places}
-use Rattle.apex_types.specs.Table.{ProcessConfig, Table}
+use Rattle.apex_types.specs.values.Limits.{most_processes}
+use Rattle.apex_types.specs.table.Table.{Table}
 use Rattle.apex_types.specs.declared.Mode.{Mode}
 use Rattle.apex_types.specs.declared.records.Queue.{Queue}
 use Rattle.apex_types.specs.declared.Record.{Record}
-use Rattle.apex_types.specs.Held.{holds}
-use Rattle.apex_types.specs.Roster.{Roster, nobody, opening_record, opening_roster, record_at, is_normal}
-use Rattle.apex_types.specs.Running.{current_priority, is_eligible}
-use Rattle.apex_types.specs.Stamps as stamps
-use Rattle.apex_types.specs.Waiters.{goes_by_priority, queue_in}
+use Rattle.apex_types.specs.processes.Held.{holds}
+use Rattle.apex_types.specs.processes.Roster.{Roster, opening_record, opening_roster, record_at, is_normal}
+use Rattle.apex_types.specs.processes.Running.{current_priority, is_eligible}
+use Rattle.apex_types.specs.processes.Stamps as stamps
+use Rattle.apex_types.specs.processes.Waiters.{goes_by_priority, queue_in}
 use Rattle.apex_types.proofs.DistinctStamps.{stamped_opening, stamped_set_mode}
 use Rattle.apex_types.proofs.Places.{length-map_places}
 use Rattle.apex_links.specs.Neighbours.{stands_in}
-use Rattle.apex_links.specs.Links.{Links, list_at, removed, IsFree, IsOnlyIn, IsSound, with_list}
+use Rattle.apex_links.specs.Links.{Links, list_at, removed, IsFree, IsSound}
 use Rattle.apex_links.specs.Sorted.{IsSorted}
-use Rattle.apex_links.proofs.Places.{as_many_removed, at_removed, at_with_other, only_there, same_all, stood_before, without_out}
+use Rattle.apex_links.proofs.Places.{as_many_removed, at_removed, same_all, stood_before, without_out}
 use Rattle.apex_links.proofs.Sorted.{sorted_same}
-use Rattle.apex_ready.specs.ReadyOrders.{is_marked, ready_list, ready_lists, AreMarked}
+use Rattle.apex_ready.specs.ReadyOrders.{is_marked, ready_list, ready_lists}
 use Rattle.apex_waitq.specs.WaitQueues.{first_list, most_queues, AreCounted, IsNumbered}
 use Rattle.apex_process.specs.Lists.{goes_before, is_list, list_of, queue_list}
 use Rattle.apex_process.specs.Owners.{is_owner, AreOwners}
@@ -31,20 +29,13 @@ use Rattle.apex_process.specs.Queued.{all_lists, AreEmptied, AreKept, IsQueued, 
 use Rattle.apex_process.proofs.Kept.{goes_same, order_same, place_none}
 use Rattle.apex_process.proofs.Places.{in_no_ready, listed_ready, listed_waiting, no_queue}
 use Rattle.apex_process.proofs.Renewals.{listed_none}
+use Rattle.apex_process.proofs.Timers.{opening_field}
 
--- marks and counts stay those of the lists as another list changes
-module _ (marks counts : List ℕ) (links : Links) (p : ℕ) where
-  pub removed_marked : AreMarked marks links → ((l : ℕ) → l < ready_lists → stands_in p (list_at links l) ≡ false) → AreMarked marks (removed links p)
-  removed_marked marked out l low = rw (at_removed links p l, without_out p (list_at links l) (out l low)) (marked l low)
-
-  pub removed_counted : AreCounted counts links → ((n : ℕ) → n < most_queues → stands_in p (list_at links (first_list + n)) ≡ false) → AreCounted counts (removed links p)
-  removed_counted counted out n low = rw (at_removed links p (first_list + n), without_out p (list_at links (first_list + n)) (out n low)) (counted n low)
-
-  pub with_marked : (l : ℕ) (xs : List ℕ) → ready_lists ≤ l → AreMarked marks links → AreMarked marks (with_list links l xs)
-  with_marked l xs above marked m low = rw (at_with_other links l m xs (λ e. omega (arith, e, above, low))) (marked m low)
-
-  pub with_counted : (l : ℕ) (xs : List ℕ) → l < first_list → AreCounted counts links → AreCounted counts (with_list links l xs)
-  with_counted l xs below counted n low = rw (at_with_other links l (first_list + n) xs (λ e. omega (arith, e, below))) (counted n low)
+-- counts stay those of their lists as a process leaves the other ones
+pub removed_counted : (counts : List ℕ) (links : Links) (p : ℕ) → AreCounted counts links
+    → ((n : ℕ) → n < most_queues → stands_in p (list_at links (first_list + n)) ≡ false) → AreCounted counts (removed links p)
+removed_counted counts links p counted out n low =
+    rw (at_removed links p (first_list + n), without_out p (list_at links (first_list + n)) (out n low)) (counted n low)
 
 -- empty lists, and their marks and counts
 pub opened_kept : (links : Links) (marks counts priorities : List ℕ) (processes : ℕ) → links ≡ record { processes = processes; lists = replicate all_lists [] }
@@ -63,33 +54,12 @@ no_member : (ps : List ℕ) → ((p : ℕ) → stands_in p ps ≡ false) → ps 
 no_member [] out = refl
 no_member (x ∷ xs) out = absurd (grind (arith, out x))
 
--- a process that is in no ready list is out of the ready lists as it is
-pub unreadied_not : (links : Links) (p : ℕ) → ((l : ℕ) → l < ready_lists → stands_in p (list_at links l) ≡ false) → IsUnreadied links links p
-unreadied_not links p out = record { gone = out; stood = λ q l stands. stands; queues = λ l _. refl; processes = refl; many = refl }
-
 -- the loop that takes all out of the ready lists
 pub record AreOut (old links : Links) (place : ℕ) : Type 0 where
   pub gone : (p l : ℕ) → p < place → l < ready_lists → stands_in p (list_at links l) ≡ false
   pub queues : (l : ℕ) → ready_lists ≤ l → list_at links l ≡ list_at old l
   pub processes : links.processes ≡ old.processes
   pub many : length links.lists ≡ length old.lists
-
-pub none_out : (links : Links) → AreOut links links 0
-none_out links = record { gone = λ p l below. absurd (omega (arith, below)); queues = λ l _. refl; processes = refl; many = refl }
-
-pub one_out : (old links new : Links) (place p : ℕ) → AreOut old links place → IsUnreadied links new p → p ≡ place → AreOut old new (place + 1)
-one_out old links new place p are one same = record {
-  gone = λ q l below low. elim (cases_eq q p) as (λ _. stands_in q (list_at new l) ≡ false) [
-    | inl e ↦ rw e (one.gone l low)
-    | inr apart ↦ elim (cases_Bool (stands_in q (list_at new l))) as (λ _. stands_in q (list_at new l) ≡ false) [
-      | inl stands ↦ absurd (false≢true (sym (are.gone q l (omega (arith, below, apart, same)) low) ∙ one.stood q l stands))
-      | inr out ↦ out
-    ]
-  ];
-  queues = λ l above. one.queues l above ∙ are.queues l above;
-  processes = one.processes ∙ are.processes;
-  many = one.many ∙ are.many;
-}
 
 pub all_out : (old links : Links) (place : ℕ) → AreOut old links place → links.processes ≤ place → IsSound links → AreEmptied old links
 all_out old links place are whole sound = record {
@@ -151,12 +121,6 @@ cleared old s t mode was other emptied priorities = record {
   goes_as p o goes = sym (goes_same old (stamps.set_mode old mode) refl o) ∙ goes
 
 -- before any event no process waits, is eligible, or owns anything
-opening_field : {A : Type 0} (f : Record → A) (a : A) → ((q : ℕ) (e : ProcessConfig) → f (opening_record q e) ≡ a) → f nobody ≡ a
-    → (entries : List ProcessConfig) (q p : ℕ) → f (get_or (map_places opening_record q entries) p nobody) ≡ a
-opening_field f a each none [] q p = none
-opening_field f a each none (e ∷ entries) q zero = each q e
-opening_field f a each none (e ∷ entries) q (suc p) = opening_field f a each none entries (q + 1) p
-
 module _ (table : Table) where
   opening_none : (p : ℕ) → list_of (opening_roster table) p ≡ None
   opening_none p = listed_none (opening_roster table).mode (record_at (opening_roster table) p) refl
@@ -194,16 +158,6 @@ opens_by table roster s processes is many few links rows = rw is (opens table s 
 pub opens_owners_by : (table : Table) (roster : Roster) (words : List ℕ) → roster ≡ opening_roster table → ((m p : ℕ) → is_owner words m p ≡ false) → AreOwners roster words
 opens_owners_by table roster words is none = rw is (opens_owners table words none)
 
--- whether the list of a process is a ready list
-pub ready_in : (links : Links) (p l : ℕ) (is : Bool) → IsOnlyIn links p l → is ≡ nat_lt l ready_lists → StandsReady links p is
-ready_in links p l is only e = record {
-  ready = λ yes m above. only_there links p l m only (λ f. omega (arith, f, above, ltb-true l ready_lists (sym e ∙ yes)));
-  other = λ no m low. only_there links p l m only (λ f. omega (arith, f, low, ltb-false l ready_lists (sym e ∙ no)));
-}
-
-pub ready_nowhere : (links : Links) (p : ℕ) → IsFree links p → StandsReady links p false
-ready_nowhere links p free = record { ready = λ yes. absurd (false≢true yes); other = λ _ m _. free m }
-
 pub unreadied : (links new : Links) (p : ℕ) → StandsReady links p true → new ≡ removed links p → IsFree new p → IsUnreadied links new p
 unreadied links new p stands left free = record {
   gone = λ m _. free m;
@@ -212,6 +166,3 @@ unreadied links new p stands left free = record {
   processes = rw left refl;
   many = rw left (as_many_removed links p);
 }
-
-pub unreadied_out : (links : Links) (p : ℕ) → StandsReady links p false → IsUnreadied links links p
-unreadied_out links p stands = unreadied_not links p (stands.other refl)

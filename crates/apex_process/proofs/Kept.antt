@@ -6,15 +6,15 @@ use Rattle.std.proofs.lemmas.Bool.Decides.{nat_tests}
 use Rattle.std.proofs.lemmas.Int.{ints}
 use Rattle.std.proofs.lemmas.Option.{none-some}
 use Rattle.std.proofs.lemmas.List.{get_or-set_other, get_or-set_same, length-set}
-use Rattle.apex_types.specs.Limits.{most_cores}
+use Rattle.apex_types.specs.values.Limits.{most_cores}
 use Rattle.apex_types.specs.declared.records.Discipline.{Discipline}
 use Rattle.apex_types.specs.declared.Mode.{Mode}
 use Rattle.apex_types.specs.declared.records.Queue.{Queue}
 use Rattle.apex_types.specs.declared.Record.{Record}
 use Rattle.apex_types.specs.declared.records.Discipline.TheVariants.{Fifo, Priority}
-use Rattle.apex_types.specs.Roster.{Roster, record_at}
-use Rattle.apex_types.specs.Running.{current_priority, is_before, is_eligible, is_older}
-use Rattle.apex_types.specs.Waiters.{discipline_of, goes_by_priority, is_by_priority, queue_in, waits_before}
+use Rattle.apex_types.specs.processes.Roster.{Roster, record_at}
+use Rattle.apex_types.specs.processes.Running.{current_priority, is_before, is_eligible, is_older}
+use Rattle.apex_types.specs.processes.Waiters.{discipline_of, goes_by_priority, is_by_priority, queue_in, waits_before}
 use Rattle.apex_links.specs.Neighbours.{stands_in}
 use Rattle.apex_links.specs.Links.{Links, list_at, with_list, removed}
 use Rattle.apex_links.specs.Placing.{placed}
@@ -194,23 +194,18 @@ pub renewed : (old new : Roster) (s t : Standings) (p : ℕ) → p < length old.
     → t.links ≡ placed_newest new s.priorities (removed s.links p) p (record_at new p) → t.priorities ≡ noted_newest new s.priorities p (record_at new p)
     → HasPlace new.mode (record_at new p) → IsQueued new t
 renewed old new s t p known was renews links priorities place = record {
-  lists = rw links (lists_then old new s p was renews.disciplines renews.mode renews.others place renews.newest);
-  places = places_then old new s p was renews.disciplines renews.mode renews.others place;
+  lists = rw links (lists_then old new s p was renews.alone.disciplines renews.alone.mode renews.alone.others place renews.newest);
+  places = places_then old new s p was renews.alone.disciplines renews.alone.mode renews.alone.others place;
   noted = rw priorities (λ q goes. elim (cases_eq q p) as (λ _. priority_of (noted_newest new s.priorities p (record_at new p)) q ≡ current_priority (record_at new q)) [
     | inl e ↦ rw e (noted_here new s.priorities p (record_at new p) (rw (← was.rows) at known) (rw e at goes))
-    | inr apart ↦ noted_other new s.priorities p q (record_at new p) apart ∙ noted_others old new s p was renews.disciplines renews.mode renews.others q apart goes
+    | inr apart ↦ noted_other new s.priorities p q (record_at new p) apart ∙ noted_others old new s p was renews.alone.disciplines renews.alone.mode renews.alone.others q apart goes
   ]);
-  stamped = renews.stamped;
-  known = rw (links, renews.many) (same_processes new s.priorities (removed s.links p) p (record_at new p) ∙ was.known);
+  stamped = renews.alone.stamped;
+  known = rw (links, renews.alone.many) (same_processes new s.priorities (removed s.links p) p (record_at new p) ∙ was.known);
   room = rw links (same_lists new s.priorities (removed s.links p) p (record_at new p) ∙ as_many_removed s.links p ∙ was.room);
-  rows = rw (priorities, renews.many) (same_rows new s.priorities p (record_at new p) ∙ was.rows);
-  few = rw renews.many was.few;
+  rows = rw (priorities, renews.alone.many) (same_rows new s.priorities p (record_at new p) ∙ was.rows);
+  few = rw renews.alone.many was.few;
 }
-
-pub renewed_by : (old new target : Roster) (s t : Standings) (p : ℕ) → p < length old.records → IsQueued old s → new ≡ target → Renews old target p
-    → t.links ≡ placed_newest new s.priorities (removed s.links p) p (record_at new p) → t.priorities ≡ noted_newest new s.priorities p (record_at new p)
-    → HasPlace new.mode (record_at new p) → IsQueued new t
-renewed_by old new target s t p known was is renews links priorities place = renewed old new s t p known was (rw is renews) links priorities place
 
 -- a process without a list waits in no queue
 nowhere : (roster : Roster) (o : Option Queue) → queue_list o ≡ None → goes_by_priority roster o ≡ false
@@ -229,17 +224,17 @@ pub left : (old new : Roster) (s t : Standings) (p : ℕ) → IsQueued old s →
 left old new s t p was renews none links priorities =
     let place = place_none new.mode (record_at new p) none in
     record {
-      lists = rw links (rest_keeps (list_of new) (goes_before new) (removed s.links p) p (but old new s p was renews.disciplines renews.mode renews.others) none);
-      places = places_then old new s p was renews.disciplines renews.mode renews.others place;
+      lists = rw links (rest_keeps (list_of new) (goes_before new) (removed s.links p) p (but old new s p was renews.alone.disciplines renews.alone.mode renews.alone.others) none);
+      places = places_then old new s p was renews.alone.disciplines renews.alone.mode renews.alone.others place;
       noted = rw priorities (λ q goes. elim (cases_eq q p) as (λ _. priority_of s.priorities q ≡ current_priority (record_at new q)) [
         | inl e ↦ absurd (false≢true (sym (waits_nowhere new p none) ∙ rw e at goes))
-        | inr apart ↦ noted_others old new s p was renews.disciplines renews.mode renews.others q apart goes
+        | inr apart ↦ noted_others old new s p was renews.alone.disciplines renews.alone.mode renews.alone.others q apart goes
       ]);
-      stamped = renews.stamped;
-      known = rw (links, renews.many) was.known;
+      stamped = renews.alone.stamped;
+      known = rw (links, renews.alone.many) was.known;
       room = rw links (as_many_removed s.links p ∙ was.room);
-      rows = rw (priorities, renews.many) was.rows;
-      few = rw renews.many was.few;
+      rows = rw (priorities, renews.alone.many) was.rows;
+      few = rw renews.alone.many was.few;
     }
 
 pub left_by : (old new target : Roster) (s t : Standings) (p : ℕ) → IsQueued old s → new ≡ target → Renews old target p → list_of target p ≡ None
@@ -254,16 +249,16 @@ aged old new s t p was ages links priorities core priority = record {
   lists = rw links (enter_keeps (list_of new) (goes_before new) (removed s.links p) p outside own _ here
       (omega (arith, core, priority, as_many_removed s.links p, was.room))
       (λ q. refl) ((λ q stands. ahead q (other_there (list_of new) (goes_before new) (removed s.links p) p outside q own stands)), outside.sorted own));
-  places = places_then old new s p was ages.disciplines ages.mode ages.others place;
+  places = places_then old new s p was ages.alone.disciplines ages.alone.mode ages.alone.others place;
   noted = rw priorities (λ q goes. elim (cases_eq q p) as (λ _. priority_of s.priorities q ≡ current_priority (record_at new q)) [
     | inl e ↦ absurd (false≢true (rw (e, no_queue new.mode (record_at new p) ages.eligible) at goes))
-    | inr apart ↦ noted_others old new s p was ages.disciplines ages.mode ages.others q apart goes
+    | inr apart ↦ noted_others old new s p was ages.alone.disciplines ages.alone.mode ages.alone.others q apart goes
   ]);
-  stamped = ages.stamped;
-  known = rw (links, ages.many) was.known;
+  stamped = ages.alone.stamped;
+  known = rw (links, ages.alone.many) was.known;
   room = rw links (as_many_with (removed s.links p) own _ ∙ as_many_removed s.links p ∙ was.room);
-  rows = rw (priorities, ages.many) was.rows;
-  few = rw ages.many was.few;
+  rows = rw (priorities, ages.alone.many) was.rows;
+  few = rw ages.alone.many was.few;
 } where
   place : HasPlace new.mode (record_at new p)
   place = record {
@@ -273,7 +268,7 @@ aged old new s t p was ages links priorities core priority = record {
   }
 
   outside : AreListsBut (list_of new) (goes_before new) (removed s.links p) p
-  outside = but old new s p was ages.disciplines ages.mode ages.others
+  outside = but old new s p was ages.alone.disciplines ages.alone.mode ages.alone.others
 
   own : ℕ
   own = ready_list (record_at new p).core (current_priority (record_at new p))
@@ -283,14 +278,9 @@ aged old new s t p was ages links priorities core priority = record {
 
   ahead : (q : ℕ) → (q ≢ p) × (list_of new q ≡ Some own) → goes_before new p q ≡ true
   ahead q other =
-      let before : list_of old q ≡ Some own = rw (ages.mode, ages.others q other.0) at other.1 in
+      let before : list_of old q ≡ Some own = rw (ages.alone.mode, ages.alone.others q other.0) at other.1 in
       let less = was.stamped.newer q (listed_known old q own before) in
-      rw (no_queue new.mode (record_at new p) ages.eligible) (older_first (record_at new p) (record_at new q) (rw (ages.oldest, ages.others q other.0) less))
-
-pub aged_by : (old new target : Roster) (s t : Standings) (p : ℕ) → IsQueued old s → new ≡ target → Ages old target p
-    → t.links ≡ placed_oldest (removed s.links p) p (record_at new p) → t.priorities ≡ s.priorities
-    → (record_at new p).core < most_cores → current_priority (record_at new p) < 256 → IsQueued new t
-aged_by old new target s t p was is ages links priorities core priority = aged old new s t p was (rw is ages) links priorities core priority
+      rw (no_queue new.mode (record_at new p) ages.eligible) (older_first (record_at new p) (record_at new q) (rw (ages.oldest, ages.alone.others q other.0) less))
 
 -- no process's place changes
 pub kept : (old new : Roster) (s : Standings) → IsQueued old s → Keeps old new → IsQueued new s
@@ -344,10 +334,10 @@ pub renewed_row : (old new target : Roster) (s t : Standings) (p : ℕ) (row : R
     → row ≡ record_at new p → t.links ≡ placed_newest new s.priorities (removed s.links p) p row → t.priorities ≡ noted_newest new s.priorities p row
     → HasPlace new.mode row → IsQueued new t
 renewed_row old new target s t p row known was is renews read links priorities place =
-    renewed_by old new target s t p known was is renews (rw read at links) (rw read at priorities) (rw read at place)
+    renewed old new s t p known was (rw is renews) (rw read at links) (rw read at priorities) (rw read at place)
 
 pub aged_row : (old new target : Roster) (s t : Standings) (p : ℕ) (row : Record) → IsQueued old s → new ≡ target → Ages old target p
     → row ≡ record_at new p → t.links ≡ placed_oldest (removed s.links p) p row → t.priorities ≡ s.priorities
     → row.core < most_cores → current_priority row < 256 → IsQueued new t
 aged_row old new target s t p row was is ages read links priorities core priority =
-    aged_by old new target s t p was is ages (rw read at links) priorities (rw read at core) (rw read at priority)
+    aged old new s t p was (rw is ages) (rw read at links) priorities (rw read at core) (rw read at priority)

@@ -1,3 +1,4 @@
+pub mod Starting
 pub mod Standing
 pub mod Places
 pub mod Renewals

@@ -5,23 +5,23 @@ use Rattle.std.specs.Int.{bit_at, bit_not, w64}
 use Rattle.std.specs.Option.{MatchOption}
 use lib.Count.{count_leading_zeros}
 use Rattle.std.proofs.lemmas.Bool.{cases_eq, cases_lt, cond_both, eq-eqb, false_from_ne_true, false≢true, ne_eqb, or_from, or_left, or_right, le-ltb, lt-ltb}
-use Rattle.std.proofs.lemmas.List.{drop_all, get_or_default, get_or_past, get_or-set_other, get_or-set_same, length-set}
+use Rattle.std.proofs.lemmas.List.{drop_all, get_or_default, get_or_past, get_or-set_other, get_or-set_same}
 use Rattle.std.proofs.lemmas.List.Sums.{position_or_len_is}
 use Rattle.std.proofs.lemmas.Nat.{leading_top}
 use Rattle.std.proofs.Math.Nat.{div-eq_of_lt-le, pow-suc}
 use Rattle.std.proofs.lemmas.Nat.Bits.{bit_at-zero, bit_at_above, bit_at_set_same, bit_at_set_other, bit_at_clear_same, bit_at_clear_other}
-use Rattle.apex_types.specs.Limits.{most_processes}
+use Rattle.apex_types.specs.values.Limits.{most_processes}
 use Rattle.apex_types.specs.declared.Holding.{Holding}
 use Rattle.apex_types.specs.declared.Record.{Record}
 use Rattle.apex_types.specs.declared.records.Wait.TheVariants.{Normal, Start}
-use Rattle.apex_types.specs.Held.{holds, is_of}
-use Rattle.apex_types.specs.Owners.{owner, owns}
-use Rattle.apex_types.specs.Roster.{Roster, nobody, record_at, with_record, is_normal}
-use Rattle.apex_types.specs.Running.{is_eligible}
-use Rattle.apex_types.specs.Stamps as stamps
+use Rattle.apex_types.specs.processes.Held.{holds, is_of}
+use Rattle.apex_types.specs.processes.Owners.{owner, owns}
+use Rattle.apex_types.specs.processes.Roster.{Roster, nobody, record_at}
+use Rattle.apex_types.specs.processes.Stamps as stamps
 use Rattle.apex_types.proofs.Held.{holds_more, or_false}
-use Rattle.apex_types.proofs.Rosters.{changes_record, changes_newest, changes_oldest, at_record, at_newest}
+use Rattle.apex_types.proofs.Replaces.{Replaces, each_stays, replaces_newest, replaces_readied, replaces_record}
 use Rattle.apex_process.specs.Owners.{is_among, is_owner, most_mutexes, most_owners, AreOwners, IsFirstAmong, IsFirstOwner, IsUnowned}
+use Rattle.apex_process.proofs.Starting.{start_cases}
 
 -- a bit of a word is set, or cleared
 among_set : (word p q : ℕ) → p < most_owners → q < most_owners → is_among (bit_or word (1 * 2 ^ (63 - p) % 2 ^ 64)) q ≡ (if q == p then true else is_among word q)
@@ -170,47 +170,26 @@ OwnAlike old new = (q : ℕ) → (record_at new q).owned ≡ (record_at old q).o
 pub owners_kept : (old new target : Roster) (words : List ℕ) → AreOwners old words → new ≡ target → OwnAlike old target → AreOwners new words
 owners_kept old new target words are is alike m p known low = rw is (are m p known low ∙ sym (ap (holds m) (alike p)))
 
+-- process p has another record, which owns the same
+pub own_by : {most : ℕ} {old new : Roster} {p : ℕ} {r : Record} → Replaces most old new p r → r.owned ≡ (record_at old p).owned → OwnAlike old new
+own_by has = each_stays has (λ s t. t.owned ≡ s.owned) (λ _. refl)
+
 module _ (old : Roster) (p : ℕ) (known : p < length old.records) where
-  alike_to : (new : Roster) → ((q : ℕ) → q ≢ p → record_at new q ≡ record_at old q) → (record_at new p).owned ≡ (record_at old p).owned → OwnAlike old new
-  alike_to new others here q = elim (cases_eq q p) as (λ _. (record_at new q).owned ≡ (record_at old q).owned) [
-    | inl e ↦ rw e here
-    | inr apart ↦ ap (λ (r : Record). r.owned) (others q apart)
-  ]
-
-  module _ (r : Record) (same : r.owned ≡ (record_at old p).owned) where
-    pub own_record : OwnAlike old (with_record old p r)
-    own_record = alike_to (with_record old p r) (changes_record old p r).others (ap (λ (s : Record). s.owned) (at_record old p known r) ∙ same)
-
-    pub own_newest : OwnAlike old (stamps.newest old p r)
-    own_newest = alike_to (stamps.newest old p r) (changes_newest old p r).others (ap (λ (s : Record). s.owned) (at_newest old p known r) ∙ same)
-
-    pub own_readied : OwnAlike old (stamps.readied old p r)
-    own_readied = cond_both {A = Roster} (is_eligible old.mode r) _ _ (λ new. OwnAlike old new) (λ _. own_newest) (λ _. own_record)
-
   pub own_resume : OwnAlike old (stamps.resume old p)
   own_resume = cond_both {A = Roster} (stamps.is_by_itself (record_at old p).suspended) _ _ (λ new. OwnAlike old new)
-      (λ _. own_readied (stamps.awake (record_at old p)) refl) (λ _. own_readied (stamps.unsuspended (record_at old p)) refl)
+      (λ _. own_by (replaces_readied old p known (stamps.awake (record_at old p)) refl) refl) (λ _. own_by (replaces_readied old p known (stamps.unsuspended (record_at old p)) refl) refl)
 
   pub own_priority : (base : ℕ) → OwnAlike old (stamps.set_priority old p base)
   own_priority base = cond_both {A = Roster} _ _ _ (λ new. OwnAlike old new)
-      (λ _. own_newest (record (record_at old p) { base = base }) refl) (λ _. own_record (record (record_at old p) { base = base }) refl)
-
-  own_begin : (delay : ℕ) → OwnAlike old (stamps.begin old p delay)
-  own_begin delay = cond_both {A = Roster} (delay == 0) _ _ (λ new. OwnAlike old new)
-      (λ _. own_readied (stamps.released_at old.now (record_at old p)) refl) (λ _. own_newest (stamps.waiting (record_at old p) Start (Some (old.now + delay))) refl)
+      (λ _. own_by (replaces_newest old p known (record (record_at old p) { base = base })) refl) (λ _. own_by (replaces_record old p known (record (record_at old p) { base = base }) refl 0) refl)
 
 pub own_start : (old : Roster) (p delay : ℕ) → p < length old.records → OwnAlike old (stamps.start old p delay)
-own_start old p delay known = cond_both {A = Roster} (is_normal old.mode) _ _ (λ new. OwnAlike old new)
-    (λ _ q. own_begin fresh p within delay q ∙ reset_first q)
-    (λ _ q. own_newest fresh p within (stamps.waiting (record_at fresh p) (Normal delay) None) refl q ∙ reset_first q) where
-      fresh : Roster
-      fresh = with_record old p (stamps.reset (record_at old p))
-
-      within : p < length fresh.records
-      within = rw (length-set old.records p (stamps.reset (record_at old p))) known
-
-      reset_first : OwnAlike old fresh
-      reset_first = own_record old p known (stamps.reset (record_at old p)) refl
+own_start old p delay known =
+    let r = stamps.reset (record_at old p) in
+    start_cases old p known delay (OwnAlike old)
+    (λ _. own_by (replaces_readied old p known (stamps.released_at old.now r) refl) refl)
+    (λ _. own_by (replaces_newest old p known (stamps.waiting r Start (Some (old.now + delay)))) refl)
+    (own_by (replaces_newest old p known (stamps.waiting r (Normal delay) None)) refl)
 
 -- process p has this holding from now on, or none, and the others keep their records
 pub record Disowns (old new : Roster) (p : ℕ) (held : List Holding) : Type 0 where
@@ -225,19 +204,8 @@ owners_changed old new target words news p held are is disowns here others m q k
   | inr apart ↦ others m q known low apart ∙ are m q known low ∙ sym (ap (λ (r : Record). owns m r) (disowns.others q apart))
 ])
 
-module _ (old : Roster) (p : ℕ) (known : p < length old.records) where
-  pub disowns_record : (r : Record) → Disowns old (with_record old p r) p r.owned
-  disowns_record r = record { here = ap (λ (s : Record). s.owned) (at_record old p known r); others = (changes_record old p r).others }
-
-  disowns_newest : (r : Record) → Disowns old (stamps.newest old p r) p r.owned
-  disowns_newest r = record { here = ap (λ (s : Record). s.owned) (at_newest old p known r); others = (changes_newest old p r).others }
-
-  pub disowns_readied : (r : Record) → Disowns old (stamps.readied old p r) p r.owned
-  disowns_readied r = cond_both {A = Roster} (is_eligible old.mode r) _ _ (λ new. Disowns old new p r.owned) (λ _. disowns_newest r) (λ _. disowns_record r)
-
-  pub disowns_levelled : (r : Record) → Disowns old (stamps.levelled old p r) p r.owned
-  disowns_levelled r = cond_both {A = Roster} (stamps.is_level r (record_at old p)) _ _ (λ new. Disowns old new p r.owned) (λ _. disowns_record r)
-      (λ _. record { here = ap (λ (s : Record). s.owned) (at_record old p known (record r { since = old.old })); others = (changes_oldest old p r).others })
+pub disowns_by : {most : ℕ} {old new : Roster} {p : ℕ} {r : Record} → Replaces most old new p r → Disowns old new p r.owned
+disowns_by has = record { here = ap (λ (s : Record). s.owned) has.here; others = has.others }
 
 -- process p, which owned this or nothing, owns the mutex that it holds
 pub owners_inherited : (old new target : Roster) (words mids news : List ℕ) (p : ℕ) (holding : Holding) → AreOwners old words → new ≡ target → Disowns old target p (holding ∷ [])

@@ -1,20 +1,21 @@
 -- Each list is that of one core and priority, or of one queue.
-use Rattle.std.proofs.Common.{◌≡◌, ◌≢◌, ℕ, ◌+◌, ◌<◌, ◌≤◌, true, false, ◌&&◌, is_none, length, Option, None, Some, inl, inr, refl, ap, sym, ◌∙◌, arith}
+use Rattle.std.proofs.Common.{◌≡◌, ◌≢◌, ℕ, ◌+◌, ◌<◌, ◌≤◌, true, false, ◌&&◌, length, Option, None, Some, inl, inr, refl, ap, sym, ◌∙◌, arith}
 use Rattle.std.specs.Prelude.{◌==◌}
 use Rattle.std.specs.Option.{option_and_then}
-use Rattle.std.proofs.lemmas.Bool.{cases_eq, cases_Bool, cases_lt, and_parts, eqb-true, false≢true}
+use Rattle.std.proofs.lemmas.Bool.{cases_eq, cases_Bool, cases_lt, and_parts, false≢true}
 use Rattle.std.proofs.lemmas.List.{get_or_past}
 use Rattle.std.proofs.lemmas.Option.{none-some, same_Some}
-use Rattle.apex_types.specs.Limits.{most_cores}
+use Rattle.apex_types.specs.values.Limits.{most_cores}
 use Rattle.apex_types.specs.declared.Mode.{Mode}
 use Rattle.apex_types.specs.declared.records.Queue.{Queue}
 use Rattle.apex_types.specs.declared.Record.{Record}
 use Rattle.apex_types.specs.declared.Wait.{Wait}
 use Rattle.apex_types.specs.declared.records.Queue.TheVariants as queues
-use Rattle.apex_types.specs.Queues.{queue_of, is_queue, is_same_queue}
-use Rattle.apex_types.specs.Roster.{Roster, nobody, is_normal}
-use Rattle.apex_types.specs.Running.{current_priority, is_eligible, IsEligible}
-use Rattle.apex_types.specs.Waiters.{queue_in, waits_in}
+use Rattle.apex_types.specs.processes.Queues.{queue_of, is_queue, is_same_queue}
+use Rattle.apex_types.specs.processes.Roster.{Roster, nobody, is_normal}
+use Rattle.apex_types.specs.processes.Running.{current_priority, is_eligible, IsEligible}
+use Rattle.apex_types.specs.processes.Waiters.{queue_in, waits_in}
+use Rattle.apex_types.proofs.Starts.{runnable, same_queue}
 use Rattle.apex_ready.specs.ReadyOrders.{ready_list, ready_lists}
 use Rattle.apex_waitq.specs.WaitQueues.{most_queues, queue_place, wait_list, IsNumbered}
 use Rattle.apex_process.specs.Lists.{discipline_in, is_list, list_for, list_of, queue_list, HasPlace}
@@ -31,56 +32,20 @@ shifted k s t = elim (cases_eq s t) as (λ _. (k + s == k + t) ≡ (s == t)) [
 -- two queues have one list exactly if they are the same
 pub same_wait_list : (a b : Queue) → IsNumbered a → IsNumbered b → (wait_list a == wait_list b) ≡ is_same_queue a b
 same_wait_list queues.Normal queues.Normal i j = refl
-same_wait_list queues.Normal (queues.Semaphore t) i j = differ _ _ (λ e. omega (arith, e, i, j))
-same_wait_list queues.Normal (queues.Buffer t) i j = differ _ _ (λ e. omega (arith, e, i, j))
-same_wait_list queues.Normal (queues.Blackboard t) i j = differ _ _ (λ e. omega (arith, e, i, j))
-same_wait_list queues.Normal (queues.Event t) i j = differ _ _ (λ e. omega (arith, e, i, j))
-same_wait_list queues.Normal (queues.Mutex t) i j = differ _ _ (λ e. omega (arith, e, i, j))
-same_wait_list (queues.Semaphore s) queues.Normal i j = differ _ _ (λ e. omega (arith, e, i, j))
 same_wait_list (queues.Semaphore s) (queues.Semaphore t) i j = shifted 2048 (256 + s) (256 + t) ∙ shifted 256 s t
-same_wait_list (queues.Semaphore s) (queues.Buffer t) i j = differ _ _ (λ e. omega (arith, e, i, j))
-same_wait_list (queues.Semaphore s) (queues.Blackboard t) i j = differ _ _ (λ e. omega (arith, e, i, j))
-same_wait_list (queues.Semaphore s) (queues.Event t) i j = differ _ _ (λ e. omega (arith, e, i, j))
-same_wait_list (queues.Semaphore s) (queues.Mutex t) i j = differ _ _ (λ e. omega (arith, e, i, j))
-same_wait_list (queues.Buffer s) queues.Normal i j = differ _ _ (λ e. omega (arith, e, i, j))
-same_wait_list (queues.Buffer s) (queues.Semaphore t) i j = differ _ _ (λ e. omega (arith, e, i, j))
 same_wait_list (queues.Buffer s) (queues.Buffer t) i j = shifted 2048 (512 + s) (512 + t) ∙ shifted 512 s t
-same_wait_list (queues.Buffer s) (queues.Blackboard t) i j = differ _ _ (λ e. omega (arith, e, i, j))
-same_wait_list (queues.Buffer s) (queues.Event t) i j = differ _ _ (λ e. omega (arith, e, i, j))
-same_wait_list (queues.Buffer s) (queues.Mutex t) i j = differ _ _ (λ e. omega (arith, e, i, j))
-same_wait_list (queues.Blackboard s) queues.Normal i j = differ _ _ (λ e. omega (arith, e, i, j))
-same_wait_list (queues.Blackboard s) (queues.Semaphore t) i j = differ _ _ (λ e. omega (arith, e, i, j))
-same_wait_list (queues.Blackboard s) (queues.Buffer t) i j = differ _ _ (λ e. omega (arith, e, i, j))
 same_wait_list (queues.Blackboard s) (queues.Blackboard t) i j = shifted 2048 (768 + s) (768 + t) ∙ shifted 768 s t
-same_wait_list (queues.Blackboard s) (queues.Event t) i j = differ _ _ (λ e. omega (arith, e, i, j))
-same_wait_list (queues.Blackboard s) (queues.Mutex t) i j = differ _ _ (λ e. omega (arith, e, i, j))
-same_wait_list (queues.Event s) queues.Normal i j = differ _ _ (λ e. omega (arith, e, i, j))
-same_wait_list (queues.Event s) (queues.Semaphore t) i j = differ _ _ (λ e. omega (arith, e, i, j))
-same_wait_list (queues.Event s) (queues.Buffer t) i j = differ _ _ (λ e. omega (arith, e, i, j))
-same_wait_list (queues.Event s) (queues.Blackboard t) i j = differ _ _ (λ e. omega (arith, e, i, j))
-same_wait_list (queues.Event s) (queues.Event t) i j = shifted 2048 (1024 + s) (1024 + t) ∙ shifted 1024 s t
-same_wait_list (queues.Event s) (queues.Mutex t) i j = differ _ _ (λ e. omega (arith, e, i, j))
-same_wait_list (queues.Mutex s) queues.Normal i j = differ _ _ (λ e. omega (arith, e, i, j))
-same_wait_list (queues.Mutex s) (queues.Semaphore t) i j = differ _ _ (λ e. omega (arith, e, i, j))
-same_wait_list (queues.Mutex s) (queues.Buffer t) i j = differ _ _ (λ e. omega (arith, e, i, j))
-same_wait_list (queues.Mutex s) (queues.Blackboard t) i j = differ _ _ (λ e. omega (arith, e, i, j))
-same_wait_list (queues.Mutex s) (queues.Event t) i j = differ _ _ (λ e. omega (arith, e, i, j))
+same_wait_list (queues.EventFlag s) (queues.EventFlag t) i j = shifted 2048 (1024 + s) (1024 + t) ∙ shifted 1024 s t
 same_wait_list (queues.Mutex s) (queues.Mutex t) i j = shifted 2048 (1280 + s) (1280 + t) ∙ shifted 1280 s t
+same_wait_list _ _ i j = differ _ _ (λ e. omega (arith, e, i, j))
 
 pub place_below : (q : Queue) → IsNumbered q → queue_place q < most_queues
 place_below queues.Normal i = omega arith
-place_below (queues.Semaphore s) i = omega (arith, i)
-place_below (queues.Buffer s) i = omega (arith, i)
-place_below (queues.Blackboard s) i = omega (arith, i)
-place_below (queues.Event s) i = omega (arith, i)
-place_below (queues.Mutex s) i = omega (arith, i)
+place_below _ i = omega (arith, i)
 
 -- an eligible process waits in no queue
 pub none_waits : (mode : Mode) (r : Record) → is_eligible mode r ≡ true → r.wait ≡ None
-none_waits mode r e = none_from r.wait (and_parts _ _ e).1 where
-  none_from : (o : Option Wait) → is_none o ≡ true → o ≡ None
-  none_from None is = refl
-  none_from (Some w) is = absurd (false≢true is)
+none_waits mode r e = (runnable mode r e).free
 
 pub no_queue : (mode : Mode) (r : Record) → is_eligible mode r ≡ true → queue_in r ≡ None
 no_queue mode r e = ap (λ (w : Option Wait). option_and_then queue_of w) (none_waits mode r e)
@@ -125,15 +90,6 @@ pub ready_below : (mode : Mode) (r : Record) (l : ℕ) → HasPlace mode r → i
 ready_below mode r l place e is =
     let same = same_Some _ _ (sym (listed_ready mode r e) ∙ is) in
     omega (arith, same, place.core e, place.priority e)
-
-same_queue : (q r : Queue) → is_same_queue q r ≡ true → q ≡ r
-same_queue queues.Normal queues.Normal e = refl
-same_queue (queues.Semaphore s) (queues.Semaphore t) e = ap queues.Semaphore (eqb-true s t e)
-same_queue (queues.Buffer b) (queues.Buffer c) e = ap queues.Buffer (eqb-true b c e)
-same_queue (queues.Blackboard b) (queues.Blackboard c) e = ap queues.Blackboard (eqb-true b c e)
-same_queue (queues.Event s) (queues.Event t) e = ap queues.Event (eqb-true s t e)
-same_queue (queues.Mutex m) (queues.Mutex n) e = ap queues.Mutex (eqb-true m n e)
-same_queue _ _ e = cc
 
 same_queues : (a b : Option Queue) (l : ℕ) → ((q : Queue) → a ≡ Some q → IsNumbered q) → ((q : Queue) → b ≡ Some q → IsNumbered q)
     → queue_list a ≡ Some l → queue_list b ≡ Some l → a ≡ b
@@ -197,10 +153,7 @@ in_wait_list mode r queue place i = elim (cases_Bool (is_eligible mode r)) [
 
 -- the discipline of a queue is the table's
 pub discipline_same : (old new : Roster) → new.disciplines ≡ old.disciplines → (o : Option Queue) → discipline_in new o ≡ discipline_in old o
-discipline_same old new e None = refl
-discipline_same old new e (Some queues.Normal) = refl
 discipline_same old new e (Some (queues.Semaphore s)) = rw e refl
 discipline_same old new e (Some (queues.Buffer b)) = rw e refl
-discipline_same old new e (Some (queues.Blackboard b)) = refl
-discipline_same old new e (Some (queues.Event v)) = refl
 discipline_same old new e (Some (queues.Mutex m)) = rw e refl
+discipline_same old new e _ = refl

@@ -1,9 +1,7 @@
 -- Each change of a process, and the lists: the process goes to its place as the newest there, or as
 -- the oldest, or keeps its place.
-use Rattle.std.proofs.Common.{◌≡◌, ◌≢◌, ℕ, ◌<◌, Bool, true, false, not, is_some, is_none, ◌&&◌, ◌||◌, List, [], ◌∷◌, Option, None, Some, length, inl, inr, refl, ap, sym, ◌∙◌, arith}
-use Rattle.std.specs.Prelude.{◌==◌}
-use Rattle.std.proofs.lemmas.Bool.{and_parts, cases_eq, cases_Bool, cond_both, eqb-true, false≢true}
-use Rattle.std.proofs.lemmas.List.{length-set}
+use Rattle.std.proofs.Common.{◌≡◌, ◌≢◌, ℕ, ◌+◌, ◌<◌, Bool, true, false, not, is_some, is_none, ◌&&◌, ◌||◌, List, [], ◌∷◌, Option, None, Some, length, inl, inr, refl, ap, sym, ◌∙◌, arith}
+use Rattle.std.proofs.lemmas.Bool.{and_parts, cases_Bool, cond_both, eqb-true, false≢true}
 use Rattle.std.proofs.lemmas.Option.{none-some}
 use Rattle.apex_types.specs.declared.Holding.{Holding}
 use Rattle.apex_types.specs.declared.Message.{Message}
@@ -11,45 +9,58 @@ use Rattle.apex_types.specs.declared.Mode.{Mode}
 use Rattle.apex_types.specs.declared.Record.{Record}
 use Rattle.apex_types.specs.declared.Wait.{Wait}
 use Rattle.apex_types.specs.declared.records.Suspender.TheVariants.{Other}
-use Rattle.apex_types.specs.declared.records.Wait.TheVariants.{Normal}
-use Rattle.apex_types.specs.Distinct.{IsStamped}
-use Rattle.apex_types.specs.Owners.{owns_some}
-use Rattle.apex_types.specs.Roster.{Roster, record_at, with_record, is_normal}
-use Rattle.apex_types.specs.Running.{current_priority, is_eligible, IsEligible, IsIneligible}
-use Rattle.apex_types.specs.Stamps as stamps
-use Rattle.apex_types.specs.Waiters.{goes_by_priority, queue_in}
-use Rattle.apex_types.proofs.Rosters.{changes_record, changes_newest, changes_oldest, at_record, at_newest}
-use Rattle.apex_types.proofs.DistinctStamps.{stamped_record, stamped_newest, stamped_oldest, stamped_advance_to, stamped_set_mode}
+use Rattle.apex_types.specs.declared.records.Wait.TheVariants.{Normal, Start}
+use Rattle.apex_types.specs.values.Distinct.{IsStamped}
+use Rattle.apex_types.specs.processes.Owners.{owns_some}
+use Rattle.apex_types.specs.processes.Roster.{Roster, record_at, with_record, is_normal}
+use Rattle.apex_types.specs.processes.Running.{current_priority, is_eligible, IsEligible, IsIneligible}
+use Rattle.apex_types.specs.processes.Stamps as stamps
+use Rattle.apex_types.specs.processes.Waiters.{goes_by_priority, queue_in}
+use Rattle.apex_types.proofs.Replaces.{Replaces, each_stays, replaces_newest, replaces_oldest, replaces_readied, replaces_record}
+use Rattle.apex_types.proofs.Rosters.{at_record, at_newest}
+use Rattle.apex_types.proofs.DistinctStamps.{stamped_advance_to, stamped_set_mode}
 use Rattle.apex_process.specs.Lists.{list_for, list_of}
 use Rattle.apex_process.proofs.Places.{listed_waiting, no_queue}
+use Rattle.apex_process.proofs.Starting.{start_cases}
 
--- process p alone has another record, and the next stamp upwards if it has a list
-pub record Renews (old new : Roster) (p : ℕ) : Type 0 where
+-- process p alone has another record
+pub record IsAlone (old new : Roster) (p : ℕ) : Type 0 where
   pub mode : new.mode ≡ old.mode
   pub disciplines : new.disciplines ≡ old.disciplines
   pub many : length new.records ≡ length old.records
   pub others : (q : ℕ) → q ≢ p → record_at new q ≡ record_at old q
   pub stamped : IsStamped new
+
+alone_by : {most : ℕ} {old new : Roster} {p : ℕ} {r : Record} → Replaces most old new p r → IsStamped old → IsAlone old new p
+alone_by has stamped =
+    record { mode = has.mode; disciplines = has.disciplines; many = has.many; others = has.others; stamped = has.stamped stamped }
+
+-- and the next stamp upwards if it has a list
+pub record Renews (old new : Roster) (p : ℕ) : Type 0 where
+  pub alone : IsAlone old new p
   pub newest : (l : ℕ) → list_of new p ≡ Some l → (record_at new p).since ≡ old.young
 
--- process p, which is eligible, alone has another record, and the next stamp downwards
+-- or, if it is eligible, the next stamp downwards
 pub record Ages (old new : Roster) (p : ℕ) : Type 0 where
-  pub mode : new.mode ≡ old.mode
-  pub disciplines : new.disciplines ≡ old.disciplines
-  pub many : length new.records ≡ length old.records
-  pub others : (q : ℕ) → q ≢ p → record_at new q ≡ record_at old q
-  pub stamped : IsStamped new
+  pub alone : IsAlone old new p
   pub eligible : IsEligible new p
   pub oldest : (record_at new p).since ≡ old.old
 
+-- a record with which a process keeps, in this mode, the place that it had with the other one
+pub record IsLike (old : Roster) (mode : Mode) (r s : Record) : Type 0 where
+  pub eligible : is_eligible mode r ≡ is_eligible old.mode s
+  pub queue : queue_in r ≡ queue_in s
+  pub since : r.since ≡ s.since
+  pub core : is_eligible old.mode s ≡ true → r.core ≡ s.core
+  pub priority : is_eligible old.mode s ≡ true → current_priority r ≡ current_priority s
+  pub rank : goes_by_priority old (queue_in s) ≡ true → current_priority r ≡ current_priority s
+
+like_itself : (old : Roster) (s : Record) → IsLike old old.mode s s
+like_itself old s = record { eligible = refl; queue = refl; since = refl; core = λ _. refl; priority = λ _. refl; rank = λ _. refl }
+
 -- process q keeps its place
-pub record AreAlike (old new : Roster) (q : ℕ) : Type 0 where
-  pub eligible : is_eligible new.mode (record_at new q) ≡ is_eligible old.mode (record_at old q)
-  pub queue : queue_in (record_at new q) ≡ queue_in (record_at old q)
-  pub since : (record_at new q).since ≡ (record_at old q).since
-  pub core : IsEligible old q → (record_at new q).core ≡ (record_at old q).core
-  pub priority : IsEligible old q → current_priority (record_at new q) ≡ current_priority (record_at old q)
-  pub rank : goes_by_priority old (queue_in (record_at old q)) ≡ true → current_priority (record_at new q) ≡ current_priority (record_at old q)
+abbrev pub AreAlike : Roster → Roster → ℕ → Type 0
+AreAlike old new q = IsLike old new.mode (record_at new q) (record_at old q)
 
 -- no process's place changes
 pub record Keeps (old new : Roster) : Type 0 where
@@ -71,15 +82,6 @@ suspended_out mode r = grind arith
 self_suspended_out : (mode : Mode) (r : Record) (due : Option ℕ) → is_eligible mode (stamps.self_suspended r due) ≡ false
 self_suspended_out mode r due = grind arith
 
--- a record with which the process keeps the place that it had with the other one
-pub record IsLike (old : Roster) (r s : Record) : Type 0 where
-  pub eligible : is_eligible old.mode r ≡ is_eligible old.mode s
-  pub queue : queue_in r ≡ queue_in s
-  pub since : r.since ≡ s.since
-  pub core : is_eligible old.mode s ≡ true → r.core ≡ s.core
-  pub priority : is_eligible old.mode s ≡ true → current_priority r ≡ current_priority s
-  pub rank : goes_by_priority old (queue_in s) ≡ true → current_priority r ≡ current_priority s
-
 pub none_read : (o : Option Wait) (found : Bool) → is_some o ≡ not found → is_none o ≡ found
 none_read None true e = refl
 none_read None false e = absurd (false≢true e)
@@ -93,21 +95,13 @@ none_from (Some w) e = absurd (false≢true e)
 module _ (old : Roster) (p : ℕ) (known : p < length old.records) (stamped : IsStamped old) where
   pub renews_newest : (r : Record) → Renews old (stamps.newest old p r) p
   renews_newest r = record {
-    mode = refl;
-    disciplines = refl;
-    many = (changes_newest old p r).count;
-    others = (changes_newest old p r).others;
-    stamped = stamped_newest old p known stamped r;
+    alone = alone_by (replaces_newest old p known r) stamped;
     newest = λ l _. ap (λ (s : Record). s.since) (at_newest old p known r);
   }
 
   pub renews_out : (r : Record) → r.since ≡ (record_at old p).since → list_for old.mode r ≡ None → Renews old (with_record old p r) p
   renews_out r same none = record {
-    mode = refl;
-    disciplines = refl;
-    many = (changes_record old p r).count;
-    others = (changes_record old p r).others;
-    stamped = stamped_record old p known stamped r same;
+    alone = alone_by (replaces_record old p known r same 0) stamped;
     newest = λ l e. absurd (none-some l (sym none ∙ rw (at_record old p known r) at e));
   }
 
@@ -118,45 +112,28 @@ module _ (old : Roster) (p : ℕ) (known : p < length old.records) (stamped : Is
   ages_oldest r eligible =
       let here = at_record old p known (record r { since = old.old }) in
       record {
-        mode = refl;
-        disciplines = refl;
-        many = (changes_oldest old p r).count;
-        others = (changes_oldest old p r).others;
-        stamped = stamped_oldest old p known stamped r;
+        alone = alone_by (replaces_oldest old p known r) stamped;
         eligible = ap (λ (s : Record). is_eligible old.mode s) here ∙ eligible;
         oldest = ap (λ (s : Record). s.since) here;
       }
 
   -- a record that is alike keeps the place
-  pub keeps_record : (r : Record) → IsLike old r (record_at old p) → Keeps old (with_record old p r)
-  keeps_record r like = record {
-    disciplines = refl;
-    many = (changes_record old p r).count;
-    stamped = stamped_record old p known stamped r like.since;
-    alike = λ q. elim (cases_eq q p) as (λ _. AreAlike old (with_record old p r) q) [
-      | inl e ↦ rw e (alike_here r like)
-      | inr apart ↦ alike_other r q apart
-    ];
-  } where
-    alike_here : (r : Record) → IsLike old r (record_at old p) → AreAlike old (with_record old p r) p
-    alike_here r like = let here = at_record old p known r in record {
-      eligible = rw here like.eligible;
-      queue = rw here like.queue;
-      since = rw here like.since;
-      core = λ e. rw here (like.core e);
-      priority = λ e. rw here (like.priority e);
-      rank = λ e. rw here (like.rank e);
-    }
-
-    alike_other : (r : Record) (q : ℕ) → q ≢ p → AreAlike old (with_record old p r) q
-    alike_other r q apart = let same = (changes_record old p r).others q apart in record {
-      eligible = rw same refl;
-      queue = rw same refl;
-      since = rw same refl;
-      core = λ _. rw same refl;
-      priority = λ _. rw same refl;
-      rank = λ _. rw same refl;
-    }
+  pub keeps_record : (r : Record) → IsLike old old.mode r (record_at old p) → Keeps old (with_record old p r)
+  keeps_record r like =
+      let has = replaces_record old p known r like.since 0 in
+      record {
+        disciplines = refl;
+        many = has.many;
+        stamped = has.stamped stamped;
+        alike = each_stays has (λ s t. IsLike old old.mode t s) (like_itself old) (record {
+          eligible = like.eligible;
+          queue = like.queue;
+          since = sym (ap (λ (s : Record). s.since) has.here) ∙ ap (λ (s : Record). s.since) (at_record old p known r) ∙ like.since;
+          core = like.core;
+          priority = like.priority;
+          rank = like.rank;
+        });
+      }
 
   pub keeps_deadline : (deadline : Option ℕ) → Keeps old (stamps.set_deadline old p deadline)
   keeps_deadline deadline = keeps_record (record (record_at old p) { deadline = deadline }) (record { eligible = refl; queue = refl; since = refl; core = λ _. refl; priority = λ _. refl; rank = λ _. refl })
@@ -208,9 +185,6 @@ module _ (old : Roster) (p : ℕ) (known : p < length old.records) (stamped : Is
   pub renews_release : Renews old (stamps.release old p) p
   renews_release = renews_readied (stamps.released_at old.now (record_at old p)) refl refl
 
-  pub renews_begin : (delay : ℕ) → Renews old (stamps.begin old p delay) p
-  renews_begin delay = cond_both {A = Roster} (delay == 0) _ _ (λ new. Renews old new p) (λ _. renews_release) (λ _. renews_block _ _)
-
   pub renews_inherit : (holding : Holding) → Renews old (stamps.inherit old p holding) p
   renews_inherit holding = renews_readied (stamps.awake (record (record_at old p) { owned = holding ∷ [] })) refl refl
 
@@ -229,16 +203,15 @@ module _ (old : Roster) (p : ℕ) (known : p < length old.records) (stamped : Is
       (λ _ _. renews_newest free)
       (λ out none. renews_out free refl (listed_none old.mode free out (none_from (record_at old p).wait (rw (at_record old p known free) at none)))))
 
-  woken_waitless : (r : Record) → r.wait ≡ None → (record_at (stamps.readied old p r) p).wait ≡ None
-  woken_waitless r none = cond_both {A = Roster} (is_eligible old.mode r) _ _ (λ new. (record_at new p).wait ≡ None)
-      (λ _. ap (λ (s : Record). s.wait) (at_newest old p known r) ∙ none) (λ _. ap (λ (s : Record). s.wait) (at_record old p known r) ∙ none)
+  woken_waitless : (r : Record) → r.since ≡ (record_at old p).since → r.wait ≡ None → (record_at (stamps.readied old p r) p).wait ≡ None
+  woken_waitless r same none = ap (λ (s : Record). s.wait) (replaces_readied old p known r same).here ∙ none
 
   waiter_out : is_none (record_at old p).wait ≡ false → is_eligible old.mode (record_at old p) ≡ false
   waiter_out waits = grind (arith, waits)
 
   pub keeps_resume : is_none (record_at (stamps.resume old p) p).wait ≡ false → Keeps old (stamps.resume old p)
   keeps_resume = cond_both {A = Roster} (stamps.is_by_itself (record_at old p).suspended) _ _ (λ new. is_none (record_at new p).wait ≡ false → Keeps old new)
-      (λ _ waits. absurd (false≢true (sym waits ∙ rw (woken_waitless (stamps.awake (record_at old p)) refl) refl)))
+      (λ _ waits. absurd (false≢true (sym waits ∙ rw (woken_waitless (stamps.awake (record_at old p)) refl refl) refl)))
       (λ _. cond_both {A = Roster} (is_eligible old.mode free) _ _ (λ new. is_none (record_at new p).wait ≡ false → Keeps old new)
       (λ e waits. absurd (false≢true (sym waits ∙ rw (at_newest old p known free) (and_parts _ _ e).1)))
       (λ out waits. keeps_record free (record {
@@ -250,30 +223,13 @@ module _ (old : Roster) (p : ℕ) (known : p < length old.records) (stamped : Is
         rank = λ _. refl;
       })))
 
--- a start resets the process first
 pub renews_start : (old : Roster) (p delay : ℕ) → p < length old.records → IsStamped old → Renews old (stamps.start old p delay) p
 renews_start old p delay known stamped =
-    cond_both {A = Roster} (is_normal old.mode) _ _ (λ new. Renews old new p)
-    (λ _. reset_first (renews_begin fresh p within fine delay))
-    (λ _. reset_first (renews_block fresh p within fine (Normal delay) None)) where
-      fresh : Roster
-      fresh = with_record old p (stamps.reset (record_at old p))
-
-      within : p < length fresh.records
-      within = rw (length-set old.records p (stamps.reset (record_at old p))) known
-
-      fine : IsStamped fresh
-      fine = stamped_record old p known stamped (stamps.reset (record_at old p)) refl
-
-      reset_first : {new : Roster} → Renews fresh new p → Renews old new p
-      reset_first renews = record {
-        mode = renews.mode;
-        disciplines = renews.disciplines;
-        many = renews.many ∙ length-set old.records p (stamps.reset (record_at old p));
-        others = λ q apart. renews.others q apart ∙ (changes_record old p (stamps.reset (record_at old p))).others q apart;
-        stamped = renews.stamped;
-        newest = renews.newest;
-      }
+    let r = stamps.reset (record_at old p) in
+    start_cases old p known delay (λ new. Renews old new p)
+    (λ _. renews_readied old p known stamped (stamps.released_at old.now r) refl refl)
+    (λ _. renews_newest old p known stamped (stamps.waiting r Start (Some (old.now + delay))))
+    (renews_newest old p known stamped (stamps.waiting r (Normal delay) None))
 
 -- no process's place changes with the time
 pub keeps_time : (old : Roster) (t : ℕ) → IsStamped old → Keeps old (stamps.advance_to old t)
@@ -281,7 +237,7 @@ keeps_time old t stamped = record {
   disciplines = refl;
   many = refl;
   stamped = stamped_advance_to old stamped t;
-  alike = λ q. record { eligible = refl; queue = refl; since = refl; core = λ _. refl; priority = λ _. refl; rank = λ _. refl };
+  alike = λ q. like_itself old (record_at old q);
 }
 
 -- a new base priority: a process that is eligible or waits by priority goes to its place, but for

@@ -3,11 +3,11 @@ use Rattle.std.proofs.Common.{◌≡◌, ℕ, ◌<◌, true, ◌&&◌, None, Som
 use Rattle.std.specs.Prelude.{◌==◌}
 use Rattle.std.proofs.lemmas.Bool.{and_parts}
 use Rattle.std.proofs.lemmas.Option.{same_Some}
-use Rattle.apex_types.specs.Limits.{most_cores}
+use Rattle.apex_types.specs.values.Limits.{most_cores}
 use Rattle.apex_types.specs.declared.records.Queue.{Queue}
-use Rattle.apex_types.specs.Roster.{Roster, record_at}
-use Rattle.apex_types.specs.Running.{current_priority, is_eligible, is_older, IsEligible, IsIneligible}
-use Rattle.apex_types.specs.Waiters.{discipline_of, queue_in, waits_before, waits_in}
+use Rattle.apex_types.specs.processes.Roster.{Roster, record_at}
+use Rattle.apex_types.specs.processes.Running.{current_priority, is_eligible, is_older, IsEligible, IsIneligible}
+use Rattle.apex_types.specs.processes.Waiters.{discipline_of, queue_in, waits_before, waits_in}
 use Rattle.apex_types.proofs.Starts.{stands_in as queue_is}
 use Rattle.apex_links.specs.Neighbours.{stands_in}
 use Rattle.apex_links.specs.Links.{list_at, IsFree}

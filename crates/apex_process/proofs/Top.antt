@@ -5,10 +5,10 @@ use Rattle.std.proofs.lemmas.Bool.{cases_lt, cases_Bool, and_parts, and_from, eq
 use Rattle.std.proofs.lemmas.Bool.Decides.{nat_tests}
 use Rattle.std.proofs.lemmas.Int.{ints}
 use Rattle.std.proofs.lemmas.Option.{get_or_from_slice_get, slice_get-get_or}
-use Rattle.apex_types.specs.Limits.{most_cores}
+use Rattle.apex_types.specs.values.Limits.{most_cores}
 use Rattle.apex_types.specs.declared.Record.{Record}
-use Rattle.apex_types.specs.Roster.{Roster, nobody, record_at}
-use Rattle.apex_types.specs.Running.{chosen, current_priority, is_before, is_eligible, is_older, runs_on, IsEligible}
+use Rattle.apex_types.specs.processes.Roster.{Roster, nobody, record_at}
+use Rattle.apex_types.specs.processes.Running.{chosen, current_priority, is_before, is_eligible, is_older, runs_on, IsEligible}
 use Rattle.apex_types.proofs.Choice.{place_is, place_found}
 use Rattle.apex_types.proofs.Orders.{before_strict}
 use Rattle.apex_links.specs.Neighbours.{stands_in}

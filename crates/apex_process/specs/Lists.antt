@@ -1,14 +1,14 @@
 -- The list of each process, and its place there: the ready lists, and the lists of the wait queues.
 use Rattle.std.specs.Prelude.{◌≡◌, ℕ, ◌<◌, Bool, true, false, ◌==◌, if◌then◌else◌, List, slice_set, Option, None, Some}
-use Rattle.apex_types.specs.Limits.{most_cores}
+use Rattle.apex_types.specs.values.Limits.{most_cores}
 use Rattle.apex_types.specs.declared.records.Discipline.{Discipline}
 use Rattle.apex_types.specs.declared.records.Mode.{Mode}
 use Rattle.apex_types.specs.declared.records.Queue.{Queue}
 use Rattle.apex_types.specs.declared.records.Record.{Record}
 use Rattle.apex_types.specs.declared.records.Discipline.TheVariants.{Fifo}
-use Rattle.apex_types.specs.Roster.{Roster, record_at}
-use Rattle.apex_types.specs.Running.{current_priority, is_eligible}
-use Rattle.apex_types.specs.Waiters.{discipline_of, queue_in, waits_before}
+use Rattle.apex_types.specs.processes.Roster.{Roster, record_at}
+use Rattle.apex_types.specs.processes.Running.{current_priority, is_eligible}
+use Rattle.apex_types.specs.processes.Waiters.{discipline_of, queue_in, waits_before}
 use Rattle.apex_links.specs.Neighbours.{stands_in}
 use Rattle.apex_links.specs.Links.{Links, list_at, pushed_back, pushed_front}
 use Rattle.apex_ready.specs.ReadyOrders.{ready_list}
@@ -24,7 +24,8 @@ queue_list (Some queue) = Some (wait_list queue)
 -- eligible, else that of the queue in which it waits; none if it waits in no queue
 abbrev pub list_for : Mode → Record → Option ℕ
 list_for mode r =
-    if is_eligible mode r then Some (ready_list r.core (current_priority r)) else queue_list (queue_in r)
+    if is_eligible mode r then Some (ready_list r.core (current_priority r))
+    else queue_list (queue_in r)
 
 -- the list of process p
 abbrev pub list_of : Roster → ℕ → Option ℕ
@@ -44,7 +45,8 @@ discipline_in roster (Some queue) = discipline_of roster queue
 -- process p goes before process q, by the discipline of the list of p
 abbrev pub goes_before : Roster → ℕ → ℕ → Bool
 goes_before roster p q =
-    waits_before (discipline_in roster (queue_in (record_at roster p))) (record_at roster p) (record_at roster q)
+    waits_before (discipline_in roster (queue_in (record_at roster p))) (record_at roster p)
+    (record_at roster q)
 
 -- each process is in its place's list alone, and each list is in this order
 pub record AreLists (place : ℕ → Option ℕ) (before : ℕ → ℕ → Bool) (links : Links) : Type 0 where
@@ -56,7 +58,8 @@ pub record AreLists (place : ℕ → Option ℕ) (before : ℕ → ℕ → Bool)
 pub record HasPlace (mode : Mode) (r : Record) : Type 0 where
   pub core : is_eligible mode r ≡ true → r.core < most_cores
   pub priority : is_eligible mode r ≡ true → current_priority r < 256
-  pub queue : is_eligible mode r ≡ false → (queue : Queue) → queue_in r ≡ Some queue → IsNumbered queue
+  pub queue : is_eligible mode r ≡ false → (queue : Queue) → queue_in r ≡ Some queue
+      → IsNumbered queue
 
 -- there is a list for each process
 abbrev pub HavePlaces : Roster → Type 0
@@ -82,7 +85,8 @@ noted priorities p priority (Some queue) = slice_set priorities p priority
 -- process p, which has this record, notes its priority if it waits in a queue
 abbrev pub noted_newest : Roster → List ℕ → ℕ → Record → List ℕ
 noted_newest roster priorities p r =
-    if is_eligible roster.mode r then priorities else noted priorities p (current_priority r) (queue_in r)
+    if is_eligible roster.mode r then priorities
+    else noted priorities p (current_priority r) (queue_in r)
 
 -- process p, which is eligible and has this record, goes to its ready list, as the oldest there
 abbrev pub placed_oldest : Links → ℕ → Record → Links

@@ -1,11 +1,11 @@
 -- A store over linked lists as a contract sees it: the processes, and all that it keeps of them
 -- besides.
 use Rattle.std.specs.Prelude.{◌≡◌, ℕ, ◌<◌, ◌≤◌, Bool, true, false, List, [], length}
-use Rattle.apex_types.specs.Limits.{most_processes}
-use Rattle.apex_types.specs.Distinct.{IsStamped}
-use Rattle.apex_types.specs.Roster.{Roster, record_at}
-use Rattle.apex_types.specs.Running.{current_priority}
-use Rattle.apex_types.specs.Waiters.{goes_by_priority, queue_in}
+use Rattle.apex_types.specs.values.Limits.{most_processes}
+use Rattle.apex_types.specs.values.Distinct.{IsStamped}
+use Rattle.apex_types.specs.processes.Roster.{Roster, record_at}
+use Rattle.apex_types.specs.processes.Running.{current_priority}
+use Rattle.apex_types.specs.processes.Waiters.{goes_by_priority, queue_in}
 use Rattle.apex_links.specs.Neighbours.{stands_in}
 use Rattle.apex_links.specs.Links.{Links, list_at}
 use Rattle.apex_ready.specs.ReadyOrders.{ready_lists, AreMarked}
@@ -44,7 +44,8 @@ pub record Queued : Type 0 where
 -- a process that waits in a queue in which the more urgent comes first waits there with its current
 -- priority
 abbrev pub AreNoted : Roster → List ℕ → Type 0
-AreNoted roster priorities = (p : ℕ) → goes_by_priority roster (queue_in (record_at roster p)) ≡ true
+AreNoted roster priorities =
+    (p : ℕ) → goes_by_priority roster (queue_in (record_at roster p)) ≡ true
     → priority_of priorities p ≡ current_priority (record_at roster p)
 
 -- each process, whose stamp is no other one's, is at its place in its list

@@ -1,7 +1,7 @@
 //! The ready lists and the wait queues of a partition, in one set of linked lists.
 ghost use Rattle.std.specs.Prelude.{◌≡◌, ◌+◌, ◌<◌, ◌≤◌, ℕ, [], true, length, replicate, slice_get, IfOk, MatchOption};
-ghost use Rattle.apex_types.specs.Limits.{most_cores, most_processes};
-ghost use Rattle.apex_types.specs.Running.{current_priority};
+ghost use Rattle.apex_types.specs.values.Limits.{most_cores, most_processes};
+ghost use Rattle.apex_types.specs.processes.Running.{current_priority};
 ghost use Rattle.apex_links.specs.Neighbours.{after_in, first_of, stands_in};
 ghost use Rattle.apex_links.specs.Links.{list_at, pushed_back, pushed_front, removed, IsFree, IsSound};
 ghost use Rattle.apex_ready.specs.ReadyOrders.{ready_list, IsIdle, IsTop};
@@ -36,16 +36,28 @@ impl Model for Lists {
 
     ghost Value = { Standings };
 
-    ghost view = { λ s. record { links = s.links; marks = s.orders; counts = s.queues.counts; priorities = s.queues.priorities } };
+    ghost view = { λ s. record {
+      links = s.links;
+      marks = s.orders;
+      counts = s.queues.counts;
+      priorities = s.queues.priorities;
+    } };
 
-    ghost invariant = { λ s. AreKept (record { links = s.links; marks = s.orders; counts = s.queues.counts; priorities = s.queues.priorities }) };
+    ghost invariant = { λ s. AreKept
+        (record {
+          links = s.links;
+          marks = s.orders;
+          counts = s.queues.counts;
+          priorities = s.queues.priorities;
+        }) };
 }
 
 impl Lists {
     /// The lists of n processes, none of which is ready or waits. Fails only for want of memory.
     pub(crate) fn new(alloc: Global, processes: u16) -> Result<Lists, AllocError>
         requires { processes ≤ most_processes }
-        ensures links { IfOk result (λ lists. lists.links ≡ record { processes = processes; lists = replicate all_lists [] }) }
+        ensures links { IfOk result (λ lists. lists.links
+            ≡ record { processes = processes; lists = replicate all_lists [] }) }
         ensures rows { IfOk result (λ lists. length lists.priorities ≡ processes) }
     {
         Ok(Lists {
@@ -99,8 +111,11 @@ impl Lists {
     #[inline(always)]
     pub(crate) fn put_newest(&mut self, records: &PlainStore, process: ProcessId, row: &Record)
         requires known { process < self.old.links.processes }
-        ensures links { self.new.links ≡ placed_newest records.now self.old.priorities (removed self.old.links process) process row.now }
-        ensures priorities { self.new.priorities ≡ noted_newest records.now self.old.priorities process row.now }
+        ensures links { self.new.links
+            ≡ placed_newest records.now self.old.priorities
+            (removed self.old.links process) process row.now }
+        ensures priorities { self.new.priorities
+            ≡ noted_newest records.now self.old.priorities process row.now }
         ensures place { HasPlace records.now.mode row.now }
     {
         self.leave(process);
@@ -119,7 +134,8 @@ impl Lists {
     /// record, as the oldest there.
     pub(crate) fn put_oldest(&mut self, process: ProcessId, row: &Record)
         requires known { process < self.old.links.processes }
-        ensures links { self.new.links ≡ placed_oldest (removed self.old.links process) process row.now }
+        ensures links { self.new.links
+            ≡ placed_oldest (removed self.old.links process) process row.now }
         ensures priorities { self.new.priorities ≡ self.old.priorities }
         ensures core { row.now.core < most_cores }
         ensures priority { current_priority row.now < 256 }
@@ -154,7 +170,8 @@ impl Lists {
 
     /// The longest ready process of the highest priority that has a ready process on the core.
     pub(crate) fn top(&self, core: CoreId) -> Option<ProcessId>
-        ensures value { MatchOption result (IsIdle self.now.links core) (λ p. IsTop self.now.links core p) }
+        ensures value { MatchOption result (IsIdle self.now.links core)
+            (λ p. IsTop self.now.links core p) }
         ensures known { core < most_cores }
     {
         self.orders.top(&self.links, core)
@@ -171,7 +188,8 @@ impl Lists {
     /// The process behind this one in its list.
     pub(crate) fn next(&self, process: ProcessId) -> Option<ProcessId>
         requires { process < self.now.links.processes }
-        ensures { (l : ℕ) → stands_in process (list_at self.now.links l) ≡ true → result ≡ after_in process (list_at self.now.links l) }
+        ensures { (l : ℕ) → stands_in process (list_at self.now.links l) ≡ true
+            → result ≡ after_in process (list_at self.now.links l) }
     {
         self.links.next(process)
     }

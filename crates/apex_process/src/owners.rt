@@ -1,6 +1,6 @@
 //! The owner of each mutex.
 ghost use Rattle.std.specs.Prelude.{◌≡◌, ◌≢◌, ◌<◌, ℕ, true, false, ◌==◌, if◌then◌else◌, IfOk, MatchOption};
-ghost use Rattle.apex_types.specs.Held.{holds};
+ghost use Rattle.apex_types.specs.processes.Held.{holds};
 ghost use Rattle.apex_process.specs.Owners.{is_owner, most_mutexes, most_owners, IsFirstAmong, IsFirstOwner, IsUnowned};
 
 use apex_types::{Holding, MutexId, ProcessId};
@@ -49,7 +49,9 @@ impl Owners {
     /// The process owns the mutex from now on.
     pub(crate) fn add(&mut self, mutex: MutexId, process: ProcessId)
         requires { process < most_owners }
-        ensures same { (p : ℕ) → p < most_owners → is_owner self.new mutex p ≡ (if p == process then true else is_owner self.old mutex p) }
+        ensures same { (p : ℕ) → p < most_owners
+            → is_owner self.new mutex p
+            ≡ (if p == process then true else is_owner self.old mutex p) }
         ensures others { (m p : ℕ) → m ≢ mutex → is_owner self.new m p ≡ is_owner self.old m p }
     {
         self.words[mutex.place()] |= 1 << (63 - process.place());
@@ -58,7 +60,9 @@ impl Owners {
     /// The process no longer owns the mutex.
     fn remove(&mut self, mutex: MutexId, process: ProcessId)
         requires { process < most_owners }
-        ensures same { (p : ℕ) → p < most_owners → is_owner self.new mutex p ≡ (if p == process then false else is_owner self.old mutex p) }
+        ensures same { (p : ℕ) → p < most_owners
+            → is_owner self.new mutex p
+            ≡ (if p == process then false else is_owner self.old mutex p) }
         ensures others { (m p : ℕ) → m ≢ mutex → is_owner self.new m p ≡ is_owner self.old m p }
     {
         self.words[mutex.place()] &= !(1 << (63 - process.place()));
@@ -67,9 +71,11 @@ impl Owners {
     /// The process, which holds these, owns no mutex from now on.
     pub(crate) fn leave(&mut self, process: ProcessId, held: &[Holding])
         requires process { process < most_owners }
-        requires held { (m : ℕ) → m < most_mutexes → is_owner self.old m process ≡ holds m held.now }
+        requires held { (m : ℕ) → m < most_mutexes
+            → is_owner self.old m process ≡ holds m held.now }
         ensures here { (m : ℕ) → m < most_mutexes → is_owner self.new m process ≡ false }
-        ensures others { (m p : ℕ) → p < most_owners → p ≢ process → is_owner self.new m p ≡ is_owner self.old m p }
+        ensures others { (m p : ℕ) → p < most_owners → p ≢ process
+            → is_owner self.new m p ≡ is_owner self.old m p }
     {
         for holding in held {
             self.remove(holding.mutex, process);
@@ -81,7 +87,8 @@ impl Owners {
         requires process { process < most_owners }
         requires none { (m : ℕ) → m < most_mutexes → is_owner self.old m process ≡ false }
         ensures here { (m : ℕ) → m < most_mutexes → is_owner self.new m process ≡ holds m held.now }
-        ensures others { (m p : ℕ) → p < most_owners → p ≢ process → is_owner self.new m p ≡ is_owner self.old m p }
+        ensures others { (m p : ℕ) → p < most_owners → p ≢ process
+            → is_owner self.new m p ≡ is_owner self.old m p }
     {
         for holding in held {
             self.add(holding.mutex, process);
@@ -91,9 +98,12 @@ impl Owners {
     /// The process, which holds the first of these, holds the other from now on.
     pub(crate) fn change(&mut self, process: ProcessId, before: &[Holding], after: &[Holding])
         requires process { process < most_owners }
-        requires held { (m : ℕ) → m < most_mutexes → is_owner self.old m process ≡ holds m before.now }
-        ensures here { (m : ℕ) → m < most_mutexes → is_owner self.new m process ≡ holds m after.now }
-        ensures others { (m p : ℕ) → p < most_owners → p ≢ process → is_owner self.new m p ≡ is_owner self.old m p }
+        requires held { (m : ℕ) → m < most_mutexes
+            → is_owner self.old m process ≡ holds m before.now }
+        ensures here { (m : ℕ) → m < most_mutexes
+            → is_owner self.new m process ≡ holds m after.now }
+        ensures others { (m p : ℕ) → p < most_owners → p ≢ process
+            → is_owner self.new m p ≡ is_owner self.old m p }
     {
         self.leave(process, before);
         self.enter(process, after);
@@ -101,7 +111,8 @@ impl Owners {
 
     /// The process of the lowest number that owns the mutex.
     pub(crate) fn first(&self, mutex: MutexId) -> Option<ProcessId>
-        ensures value { MatchOption result (IsUnowned self.now mutex) (λ p. IsFirstOwner self.now mutex p) }
+        ensures value { MatchOption result (IsUnowned self.now mutex)
+            (λ p. IsFirstOwner self.now mutex p) }
         ensures known { mutex < most_mutexes }
     {
         let word = self.words[mutex.place()];

@@ -1,10 +1,10 @@
 //! A store that keeps the ready processes, the waiters and the timers in linked lists.
 ghost use Rattle.std.specs.Prelude.{◌≡◌, ◌<◌, ◌&&◌, ◌||◌, not, length, IfOk};
-ghost use Rattle.apex_types.specs.Owners.{owns_some};
-ghost use Rattle.apex_types.specs.Roster.{opening_roster, record_at};
-ghost use Rattle.apex_types.specs.Running.{is_eligible};
-ghost use Rattle.apex_types.specs.Stamps.{is_level};
-ghost use Rattle.apex_types.specs.Waiters.{goes_by_priority, queue_in};
+ghost use Rattle.apex_types.specs.processes.Owners.{owns_some};
+ghost use Rattle.apex_types.specs.processes.Roster.{opening_roster, record_at};
+ghost use Rattle.apex_types.specs.processes.Running.{is_eligible};
+ghost use Rattle.apex_types.specs.processes.Stamps.{is_level};
+ghost use Rattle.apex_types.specs.processes.Waiters.{goes_by_priority, queue_in};
 ghost use Rattle.apex_process.specs.State.{AreListsOfState};
 
 use crate::lists::Lists;
@@ -14,8 +14,7 @@ use apex_store::{PlainStore, Store};
 use apex_table::Table;
 use apex_timeouts::Timers;
 use apex_types::{
-    CoreId, Discipline, Holding, Holdings, Message, Mode, MutexId, ProcessId, Queue, Record, State,
-    Wait,
+    CoreId, Discipline, Holding, Holdings, Message, Mode, MutexId, ProcessId, Queue, Record, Wait,
 };
 use std::alloc::{AllocError, Global};
 use std::marker::Model;
@@ -44,9 +43,16 @@ impl Model for QueueStore {
 
     ghost Value = { Queued };
 
-    ghost view = { λ s. record { roster = s.records; standings = s.lists; dues = s.timers.dues; deadlines = s.timers.deadlines; owners = s.owners } };
+    ghost view = { λ s. record {
+      roster = s.records;
+      standings = s.lists;
+      dues = s.timers.dues;
+      deadlines = s.timers.deadlines;
+      owners = s.owners;
+    } };
 
-    ghost invariant = { λ s. IsQueued s.records s.lists × AreTimers s.records s.timers.dues s.timers.deadlines × AreOwners s.records s.owners };
+    ghost invariant = { λ s. IsQueued s.records s.lists
+        × AreTimers s.records s.timers.dues s.timers.deadlines × AreOwners s.records s.owners };
 }
 
 /// The record of the process, at which the store looks.
@@ -96,7 +102,9 @@ fn goes_by_priority(records: &PlainStore, row: &Record) -> bool
 
 /// The process of this record goes to another place as it gets this base priority.
 fn moves_at(records: &PlainStore, row: &Record, base: u8) -> bool
-    ensures { result ≡ ((is_eligible records.now.mode row.now && not (owns_some row.now && is_level (record row.now { base = base }) row.now))
+    ensures { result ≡
+        ((is_eligible records.now.mode row.now
+        && not (owns_some row.now && is_level (record row.now { base = base }) row.now))
         || goes_by_priority records.now (queue_in row.now)) }
 {
     row.is_eligible(records.mode()) && !stays_at(row, base) || goes_by_priority(records, row)
@@ -164,20 +172,6 @@ impl Store for QueueStore {
 
     fn chosen(&self, core: CoreId) -> Option<ProcessId> {
         self.lists.top(core)
-    }
-
-    fn state(&self, process: ProcessId) -> State {
-        let row = read(&self.records, &self.reads, process);
-        if !row.started {
-            return State::Dormant;
-        }
-        if !row.is_eligible(self.records.mode()) {
-            return State::Waiting;
-        }
-        match self.chosen(row.core) {
-            Some(chosen) if chosen == process => State::Running,
-            _ => State::Ready,
-        }
     }
 
     fn first(&self, queue: Queue) -> Option<ProcessId> {

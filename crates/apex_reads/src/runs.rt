@@ -1,7 +1,7 @@
 //! A run by threads: one for each core, one for the ticker, and one for each reader.
 ghost use Rattle.std.specs.Prelude.{◌≡◌, ◌≤◌, length};
 ghost use Rattle.apex_board.specs.Boards.{most_readers};
-ghost use Rattle.apex_receipts.specs.Receipts.{voice_of};
+ghost use Rattle.apex_receipts.specs.Receipts.{IsNamedAfter};
 
 use crate::faults::ReadsFault;
 use crate::plans::ReadsPlan;
@@ -169,9 +169,7 @@ fn run_named<P: Naming + Send + Sync, R: Threads + Wait + Sync>(
     plan: ReadsPlan,
 ) -> Result<Counts, ReadsFault>
     requires table { P.table ≡ table }
-    requires book { P.book ≡ opened.book }
-    requires scribe { P.scribe ≡ opened.scribe }
-    requires voice { P.voice ≡ voice_of opened.cores opened.ticker }
+    requires named { IsNamedAfter P.book P.scribe P.voice opened }
     requires cores { length opened.cores ≡ table.cores }
     requires cell { P.cell ≡ board.cell }
 {

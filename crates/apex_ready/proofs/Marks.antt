@@ -78,33 +78,33 @@ highest_bit word some fits =
 
 -- the highest list of a core that is marked: its bit is the highest of its word, and no bit of a
 -- higher word is set
-pub highest_list : (words : List ℕ) (core turn j : ℕ) → turn < 4 → IsHighestBit (get_or words (4 * core + (3 - turn)) 0) j
-    → ((p : ℕ) → p < 256 → 256 ≤ p + 64 * turn → is_marked words (ready_list core p) ≡ false)
-    → IsHighest words core (64 * (3 - turn) + j)
-highest_list words core turn j inside top higher =
+pub highest_list : (words : List ℕ) (core round j : ℕ) → round < 4 → IsHighestBit (get_or words (4 * core + (3 - round)) 0) j
+    → ((p : ℕ) → p < 256 → 256 ≤ p + 64 * round → is_marked words (ready_list core p) ≡ false)
+    → IsHighest words core (64 * (3 - round) + j)
+highest_list words core round j inside top higher =
     let small = top.place in
     record {
       known = omega (arith, small, inside);
       marked =
-          let word : (256 * core + (64 * (3 - turn) + j)) / 64 ≡ 4 * core + (3 - turn) = omega (arith, inside, small) in
-          let bit : (256 * core + (64 * (3 - turn) + j)) % 64 ≡ j = omega (arith, small) in
+          let word : (256 * core + (64 * (3 - round) + j)) / 64 ≡ 4 * core + (3 - round) = omega (arith, inside, small) in
+          let bit : (256 * core + (64 * (3 - round) + j)) % 64 ≡ j = omega (arith, small) in
           rw (word, bit, top.set) refl;
-      highest = λ q above known. elim (cases_lt (q + 64 * turn) 256) [
+      highest = λ q above known. elim (cases_lt (q + 64 * round) 256) [
         | inr over ↦ higher q known over
         | inl under ↦
-            let word : (256 * core + q) / 64 ≡ 4 * core + (3 - turn) = omega (arith, inside, above, under) in
+            let word : (256 * core + q) / 64 ≡ 4 * core + (3 - round) = omega (arith, inside, above, under) in
             let bit : j < (256 * core + q) % 64 = omega (arith, inside, small, above, under) in
             rw (word, top.above ((256 * core + q) % 64) bit) refl
       ];
     }
 
 -- a word of zeros has no mark
-pub word_unmarked : (words : List ℕ) (core turn : ℕ) → turn < 4 → get_or words (4 * core + (3 - turn)) 0 ≡ 0
-    → ((p : ℕ) → p < 256 → 256 ≤ p + 64 * turn → is_marked words (ready_list core p) ≡ false)
-    → (p : ℕ) → p < 256 → 256 ≤ p + 64 * (turn + 1) → is_marked words (ready_list core p) ≡ false
-word_unmarked words core turn inside none higher p known here = elim (cases_lt (p + 64 * turn) 256) [
+pub word_unmarked : (words : List ℕ) (core round : ℕ) → round < 4 → get_or words (4 * core + (3 - round)) 0 ≡ 0
+    → ((p : ℕ) → p < 256 → 256 ≤ p + 64 * round → is_marked words (ready_list core p) ≡ false)
+    → (p : ℕ) → p < 256 → 256 ≤ p + 64 * (round + 1) → is_marked words (ready_list core p) ≡ false
+word_unmarked words core round inside none higher p known here = elim (cases_lt (p + 64 * round) 256) [
   | inr above ↦ higher p known above
   | inl below ↦
-      let word : (256 * core + p) / 64 ≡ 4 * core + (3 - turn) = omega (arith, inside) in
+      let word : (256 * core + p) / 64 ≡ 4 * core + (3 - round) = omega (arith, inside) in
       rw (word, none, bit_at-zero ((256 * core + p) % 64)) refl
 ]

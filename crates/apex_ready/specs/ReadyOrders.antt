@@ -24,7 +24,8 @@ pub record IsHighestBit (word j : ℕ) : Type 0 where
 
 -- the lists that are not empty are marked, and no others
 abbrev pub AreMarked : List ℕ → Links → Type 0
-AreMarked words links = (l : ℕ) → l < ready_lists → is_marked words l ≡ is_some (first_of (list_at links l))
+AreMarked words links =
+    (l : ℕ) → l < ready_lists → is_marked words l ≡ is_some (first_of (list_at links l))
 
 -- no list of the core is marked
 abbrev pub IsUnmarked : List ℕ → ℕ → Type 0
@@ -45,4 +46,5 @@ pub record IsTop (links : Links) (core n : ℕ) : Type 0 where
   pub priority : ℕ
   pub known : priority < 256
   pub front : first_of (list_at links (ready_list core priority)) ≡ Some n
-  pub highest : (q : ℕ) → priority < q → q < 256 → first_of (list_at links (ready_list core q)) ≡ None
+  pub highest : (q : ℕ) → priority < q → q < 256
+      → first_of (list_at links (ready_list core q)) ≡ None

@@ -1,6 +1,6 @@
 //! Which priorities of each core have a process that is ready.
 ghost use Rattle.std.specs.Prelude.{◌≡◌, ◌+◌, ◌-◌, ◌*◌, ◌<◌, ◌≤◌, ℕ, Bool, true, false, ◌==◌, if◌then◌else◌, length, Some, None, MatchOption};
-ghost use Rattle.apex_types.specs.Limits.{most_cores};
+ghost use Rattle.apex_types.specs.values.Limits.{most_cores};
 ghost use Rattle.apex_links.specs.Links.{list_at, pushed_back, pushed_front, removed, IsFree};
 ghost use Rattle.apex_ready.specs.ReadyOrders.{is_marked, ready_list, ready_lists, AreMarked, IsHighest, IsHighestBit, IsIdle, IsTop, IsUnmarked};
 
@@ -49,7 +49,8 @@ impl ReadyOrders {
     /// Marks the list, which has a process from now on.
     fn mark(&mut self, list: ListId)
         requires { list < ready_lists }
-        ensures { (l : ℕ) → l < ready_lists → is_marked self.new l ≡ (if l == list then true else is_marked self.old l) }
+        ensures { (l : ℕ) → l < ready_lists
+            → is_marked self.new l ≡ (if l == list then true else is_marked self.old l) }
     {
         let place = list.place();
         self.words[place / 64] |= 1 << (place % 64);
@@ -58,7 +59,8 @@ impl ReadyOrders {
     /// Takes the mark from the list, which has no process from now on.
     fn clear(&mut self, list: ListId)
         requires { list < ready_lists }
-        ensures { (l : ℕ) → l < ready_lists → is_marked self.new l ≡ (if l == list then false else is_marked self.old l) }
+        ensures { (l : ℕ) → l < ready_lists
+            → is_marked self.new l ≡ (if l == list then false else is_marked self.old l) }
     {
         let place = list.place();
         self.words[place / 64] &= !(1 << (place % 64));
@@ -125,12 +127,13 @@ impl ReadyOrders {
 
     /// The highest priority of the core whose list is marked.
     fn highest(&self, core: CoreId) -> Option<u8>
-        ensures value { MatchOption result (IsUnmarked self.now core) (λ p. IsHighest self.now core p) }
+        ensures value { MatchOption result (IsUnmarked self.now core)
+            (λ p. IsHighest self.now core p) }
         ensures known { core < most_cores }
     {
         let number = usize::from(core.number());
-        for turn in 0..4 {
-            let word = 3 - turn;
+        for round in 0..4 {
+            let word = 3 - round;
             let marks = self.words[4 * number + usize::from(word)];
             if marks != 0 {
                 return Some(64 * word + highest_bit(marks));

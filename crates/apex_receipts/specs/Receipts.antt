@@ -5,7 +5,7 @@ use Rattle.logbook.specs.Pages.{Book}
 use Rattle.apex_types.specs.declared.entries.Entry.{Entry}
 use Rattle.apex_types.specs.declared.entries.Who.{Who}
 use Rattle.apex_types.specs.declared.entries.Who.TheVariants.{Core, Ticker}
-use Rattle.apex_types.specs.Works.{is_turn_of}
+use Rattle.apex_types.specs.machine.Works.{is_turn_of}
 use Rattle.apex_receipts.specs.declared.law.Note.{Note}
 use Rattle.apex_receipts.specs.Notes.{entries_of, written}
 use Rattle.apex_receipts.specs.Rules.{Speech}
@@ -53,6 +53,14 @@ unspoken who = record { who = who; own = []; told = false }
 abbrev pub unspoken_cores : ℕ → List Spoken
 unspoken_cores cores = map (λ (core : ℕ). unspoken (Core core)) (range_with_len 0 cores)
 
+-- a voice after one entry more
+abbrev pub with_entry : Spoken → Entry → Spoken
+with_entry voice e = record { who = voice.who; own = voice.own ++ e ∷ []; told = voice.told }
+
+-- and after it learned that the history is full
+abbrev pub told_full : Spoken → Spoken
+told_full voice = record { who = voice.who; own = voice.own; told = true }
+
 -- an opened book as contracts see it: the book, and its speakers: the scribe, one for each core,
 -- and one for the ticker
 pub record Opening : Type 0 where
@@ -73,6 +81,11 @@ speaker_ids speakers = map (λ (s : Speech). s.id) speakers
 abbrev pub voice_of : List ℕ → ℕ → Who → ℕ
 voice_of cores ticker (Core core) = slice_index_or cores core 0
 voice_of cores ticker Ticker = ticker
+
+-- a partition is named after this opened book: it has the book, and speakers of it
+abbrev pub IsNamedAfter : Book → ℕ → (Who → ℕ) → Opening → Type 0
+IsNamedAfter book scribe voice opened =
+    (book ≡ opened.book) × (scribe ≡ opened.scribe) × (voice ≡ voice_of opened.cores opened.ticker)
 
 -- neither a core nor the ticker has more entries than were written down for its speaker
 abbrev pub IsLabelled : ℕ → (Who → ℕ) → List Note → Type 0

@@ -1,5 +1,5 @@
 -- The rule of the book, and the results of its steps.
-use Rattle.std.specs.Prelude.{◌≡◌, ℕ, ◌<◌, ◌≤◌, ◌⊎◌, true, false, List, [], ◌∷◌, ◌++◌, Some}
+use Rattle.std.specs.Prelude.{◌≡◌, ℕ, ◌<◌, ◌≤◌, ◌⊎◌, true, false, List, [], ◌∷◌, ◌++◌, Option, Some}
 use mathlib.Core.List.{IsPrefix}
 use Rattle.logbook.specs.Pages.{Book, Cell, Named, Nib, Step, View, cell, may_make}
 use Rattle.apex_types.specs.declared.entries.Entry.{Entry}
@@ -59,6 +59,11 @@ pub record HasSaid (own known : List Note) (n : Note) (log : List Note) : Type 0
   pub heard : HasHeard own known before n.by
   pub added : log ≡ before ++ n ∷ []
 
+-- speaker l has added a note for speaker o in this way, with this entry or with none
+abbrev pub HasAdded : ℕ → ℕ → Option Entry → List Note → List Note → List Note → Type 0
+HasAdded l o entry own known log =
+    (key : ℕ) × HasSaid own known (record { by = l; of = o; entry = entry; key = key }) log
+
 -- a speaker that has seen this log and knows these notes may add the note: it is for itself, or for
 -- a speaker that has more notes of its own than the first one has written for it
 abbrev pub MaySay : List Note → List Note → Note → Type 0
@@ -72,7 +77,8 @@ pub record HasMet (l o : ℕ) (own mine heard log : List Note) : Type 0 where
   pub most : written l o own ≤ said o mine
 
 -- and then wrote this entry down for o
-pub record HasWritten (l o : ℕ) (own mine heard : List Note) (e : Entry) (log : List Note) : Type 0 where
+pub record HasWritten (l o : ℕ) (own mine heard : List Note) (e : Entry)
+    (log : List Note) : Type 0 where
   pub before : List Note
   pub met : HasMet l o own mine heard before
   pub note : Note

@@ -15,7 +15,8 @@ pub fn meet(head: &Head, scribe: &mut Speaker, voice: &mut Speaker, heard: &Know
     ensures books { (scribe.new.book ≡ scribe.old.book) × (voice.new.book ≡ voice.old.book) }
     ensures ids { (scribe.new.id ≡ scribe.old.id) × (voice.new.id ≡ voice.old.id) }
     ensures voice { said voice.old.id voice.new.log ≡ said voice.old.id voice.old.log }
-    ensures met { HasMet scribe.old.id voice.old.id scribe.old.log voice.old.log heard.now.log scribe.new.log }
+    ensures met { HasMet scribe.old.id voice.old.id scribe.old.log voice.old.log heard.now.log
+        scribe.new.log }
 {
     scribe.hear(head, heard);
     voice.hear(head, scribe.seen());
@@ -34,7 +35,8 @@ pub fn write_for(
     ensures books { (scribe.new.book ≡ scribe.old.book) × (voice.new.book ≡ voice.old.book) }
     ensures ids { (scribe.new.id ≡ scribe.old.id) × (voice.new.id ≡ voice.old.id) }
     ensures voice { said voice.old.id voice.new.log ≡ said voice.old.id voice.old.log + 1 }
-    ensures written { HasWritten scribe.old.id voice.old.id scribe.old.log voice.old.log heard.now.log entry.entry.now scribe.new.log }
+    ensures written { HasWritten scribe.old.id voice.old.id scribe.old.log voice.old.log
+        heard.now.log entry.entry.now scribe.new.log }
 {
     let mut known = scribe.seen().again();
     known.learn(heard);

@@ -9,7 +9,7 @@ pub trait Naming {
     ghost use Rattle.atomic_table.specs.Seated.{TableId};
     ghost use Rattle.logbook.specs.Pages.{Book};
     ghost use Rattle.apex_types.specs.declared.entries.Who.{Who};
-    ghost use Rattle.apex_types.specs.Table.{Table};
+    ghost use Rattle.apex_types.specs.table.Table.{Table};
 
     ghost book: { Book };
 
@@ -32,7 +32,7 @@ impl Naming for Brand {
 
     ghost voice = { λ who. 0 };
 
-    ghost table = { record { profile = profiles.One; cores = 0; limit = 0; processes = []; semaphores = []; buffers = []; blackboards = []; events = []; mutexes = []; init = [] } };
+    ghost table = { record { profile = profiles.One; cores = 0; limit = 0; processes = []; semaphores = []; buffers = []; blackboards = []; event_flags = []; mutexes = []; init = [] } };
 
     ghost cell = { None };
 }

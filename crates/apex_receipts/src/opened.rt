@@ -1,8 +1,8 @@
 //! A book without a note, and its speakers.
 ghost use Rattle.std.specs.Prelude.{◌≡◌, ◌≤◌, ◌<◌, ◌∷◌, [], ℕ, length, slice_index_or, All, IfOk};
-ghost use Rattle.apex_types.specs.Limits.{most_cores};
+ghost use Rattle.apex_types.specs.values.Limits.{most_cores};
 ghost use Rattle.apex_types.specs.declared.entries.Who.TheVariants.{Core, Ticker};
-ghost use Rattle.apex_receipts.specs.Receipts.{IsSilent, speaker_ids, unspoken, unspoken_cores, voice_of};
+ghost use Rattle.apex_receipts.specs.Receipts.{IsNamedAfter, IsSilent, speaker_ids, unspoken, unspoken_cores};
 ghost use Rattle.apex_receipts.specs.Rules.{head_of};
 
 use crate::law::{Head, Known};
@@ -28,7 +28,7 @@ pub struct Opened {
 
 impl Model for Opened {
     ghost use Rattle.std.specs.Prelude.{◌≡◌, ◌≤◌, [], length, All};
-    ghost use Rattle.apex_types.specs.Limits.{most_cores};
+    ghost use Rattle.apex_types.specs.values.Limits.{most_cores};
     ghost use Rattle.apex_receipts.specs.Receipts.{IsSilent, Opening, speaker_ids};
     ghost use Rattle.apex_receipts.specs.Rules.{head_of};
 
@@ -41,8 +41,10 @@ impl Model for Opened {
       ticker = o.ticker.id;
     } };
 
-    ghost invariant = { λ o. (o.head ≡ head_of o.seen.book) × (o.seen.log ≡ []) × (length o.cores.items ≤ most_cores)
-        × IsSilent o.seen.book o.scribe × IsSilent o.seen.book o.ticker × All (IsSilent o.seen.book) o.cores.items };
+    ghost invariant = { λ o. (o.head ≡ head_of o.seen.book) × (o.seen.log ≡ [])
+        × (length o.cores.items ≤ most_cores)
+        × IsSilent o.seen.book o.scribe × IsSilent o.seen.book o.ticker
+        × All (IsSilent o.seen.book) o.cores.items };
 }
 
 /// A speaker of the book, which has written nothing.
@@ -82,9 +84,10 @@ fn voices<P: Naming>(
 ) -> Result<Vec<Voice<P>>, AllocError>
     requires book { seen.now.book ≡ P.book }
     requires empty { seen.now.log ≡ [] }
-    requires few { length speakers.items ≤ most_cores }
+    requires few_speakers { length speakers.items ≤ most_cores }
     requires silent { All (IsSilent P.book) speakers.items }
-    requires voice { (core : ℕ) → core < length speakers.items → P.voice (Core core) ≡ slice_index_or (speaker_ids speakers.items) core 0 }
+    requires voice { (core : ℕ) → core < length speakers.items
+        → P.voice (Core core) ≡ slice_index_or (speaker_ids speakers.items) core 0 }
     ensures { IfOk result (λ voices. voices.items ≡ unspoken_cores (length speakers.items)) }
 {
     let mut voices = Vec::with_capacity(alloc, speakers.len())?;
@@ -122,9 +125,7 @@ impl Opened {
         self,
         alloc: Global,
     ) -> Result<(Scribe<P>, Vec<Voice<P>>, Voice<P>), AllocError>
-        requires book { P.book ≡ self.book }
-        requires scribe { P.scribe ≡ self.scribe }
-        requires voice { P.voice ≡ voice_of self.cores self.ticker }
+        requires named { IsNamedAfter P.book P.scribe P.voice self }
         ensures scribe { IfOk result (λ parts. parts.0 ≡ []) }
         ensures voices { IfOk result (λ parts. parts.1.items ≡ unspoken_cores (length self.cores)) }
         ensures ticker { IfOk result (λ parts. parts.2 ≡ unspoken Ticker) }

@@ -26,7 +26,8 @@ impl<P: Naming> Model for Receipt<P> {
 
     ghost view = { λ r. record { entry = r.entry; place = r.place } };
 
-    ghost invariant = { λ r. (r.seen.book ≡ P.book) × Stands (entries_of P.scribe r.seen.log) r.entry r.place
+    ghost invariant = { λ r. (r.seen.book ≡ P.book)
+        × Stands (entries_of P.scribe r.seen.log) r.entry r.place
         × (ends P.scribe r.seen.log ≡ 0) };
 }
 

@@ -1,6 +1,6 @@
 //! The scribe, which writes the history down under the lock.
 ghost use Rattle.std.specs.Prelude.{◌≡◌, ◌+◌, ◌<◌, ◌≤◌, ◌^◌, true, [], ◌∷◌, ◌++◌, length};
-ghost use Rattle.apex_receipts.specs.Receipts.{Stands, own_entries};
+ghost use Rattle.apex_receipts.specs.Receipts.{Stands, own_entries, told_full, with_entry};
 ghost use Rattle.apex_receipts.specs.Rules.{head_of};
 
 use crate::law::Head;
@@ -33,7 +33,8 @@ impl<P: Naming> Model for Scribe<P> {
 
     ghost view = { λ s. entries_of P.scribe s.speaker.log };
 
-    ghost invariant = { λ s. (s.speaker.book ≡ P.book) × (s.speaker.id ≡ P.scribe) × (s.head ≡ head_of P.book)
+    ghost invariant = { λ s. (s.speaker.book ≡ P.book) × (s.speaker.id ≡ P.scribe)
+        × (s.head ≡ head_of P.book)
         × IsLabelled P.scribe P.voice s.speaker.log × (ends P.scribe s.speaker.log ≡ 0) };
 }
 
@@ -56,9 +57,9 @@ impl<P: Naming> Scribe<P> {
         requires who { entry.who ≡ voice.old.who }
         requires number { entry.number ≡ length self.old + 1 }
         requires room { length self.old < P.table.limit }
-        requires few { P.table.limit < 2 ^ 32 }
+        requires few_entries { P.table.limit < 2 ^ 32 }
         ensures history { self.new ≡ self.old ++ entry ∷ [] }
-        ensures voice { voice.new ≡ record { who = voice.old.who; own = voice.old.own ++ entry ∷ []; told = voice.old.told } }
+        ensures voice { voice.new ≡ with_entry voice.old entry }
         ensures receipt { result ≡ record { entry = entry; place = length voice.old.own + 1 } }
     {
         let head = &self.head;
@@ -78,7 +79,7 @@ impl<P: Naming> Scribe<P> {
     pub fn refuse(&mut self, voice: &mut Voice<P>)
         requires full { length self.old ≡ P.table.limit }
         ensures history { self.new ≡ self.old }
-        ensures voice { voice.new ≡ record { who = voice.old.who; own = voice.old.own; told = true } }
+        ensures voice { voice.new ≡ told_full voice.old }
     {
         self.settle(voice);
         voice.heard = self.speaker.seen().again();

@@ -1,9 +1,9 @@
 //! A speaker, which writes notes into the book and knows which of them are its own.
-ghost use Rattle.std.specs.Prelude.{◌≡◌, ℕ, ◌<◌, [], Some, None};
+ghost use Rattle.std.specs.Prelude.{◌≡◌, ◌<◌, [], Some, None};
 ghost use mathlib.Core.List.{IsPrefix};
 ghost use Rattle.logbook.specs.Pages.{may_write};
 ghost use Rattle.apex_receipts.specs.Notes.{said, written};
-ghost use Rattle.apex_receipts.specs.Rules.{HasHeard, HasSaid, MaySay, head_of};
+ghost use Rattle.apex_receipts.specs.Rules.{HasAdded, HasHeard, HasSaid, MaySay, head_of};
 
 use crate::law::{Call, Draft, Head, Hear, Known, Law, Note, Nothing, Say, Take};
 use apex_types::Entry;
@@ -30,9 +30,14 @@ impl Model for Speaker {
 
     ghost Value = { Speech };
 
-    ghost view = { λ s. record { book = s.seen.book; id = s.first.value.nib.key; log = s.seen.log } };
+    ghost view = { λ s. record {
+      book = s.seen.book;
+      id = s.first.value.nib.key;
+      log = s.seen.log;
+    } };
 
-    ghost invariant = { λ s. (s.pen.book ≡ s.seen.book) × (s.pen.nib.right ≡ may_write) × (s.pen.nib.key ≡ key_of s.first.value.nib.key s.seen.log) };
+    ghost invariant = { λ s. (s.pen.book ≡ s.seen.book) × (s.pen.nib.right ≡ may_write)
+        × (s.pen.nib.key ≡ key_of s.first.value.nib.key s.seen.log) };
 }
 
 /// Takes a pen, whose cell isn't home.
@@ -113,7 +118,8 @@ impl Speaker {
         requires book { known.now.book ≡ self.old.book }
         ensures book { self.new.book ≡ self.old.book }
         ensures id { self.new.id ≡ self.old.id }
-        ensures said { (key : ℕ) × HasSaid self.old.log known.now.log (record { by = self.old.id; of = self.old.id; entry = None; key = key }) self.new.log }
+        ensures said { HasAdded self.old.id self.old.id None self.old.log known.now.log
+            self.new.log }
     {
         let mut all = self.seen.again();
         all.learn(known);
@@ -129,10 +135,12 @@ impl Speaker {
     pub fn write(&mut self, head: &Head, other: &Speaker, entry: &Entry)
         requires head { head.now ≡ head_of self.old.book }
         requires book { other.now.book ≡ self.old.book }
-        requires called { written self.old.id other.now.id self.old.log < said other.now.id other.now.log }
+        requires called { written self.old.id other.now.id self.old.log
+            < said other.now.id other.now.log }
         ensures book { self.new.book ≡ self.old.book }
         ensures id { self.new.id ≡ self.old.id }
-        ensures said { (key : ℕ) × HasSaid self.old.log other.now.log (record { by = self.old.id; of = other.now.id; entry = Some entry.entry.now; key = key }) self.new.log }
+        ensures said { HasAdded self.old.id other.now.id (Some entry.entry.now)
+            self.old.log other.now.log self.new.log }
     {
         let mut all = self.seen.again();
         all.learn(&other.seen);

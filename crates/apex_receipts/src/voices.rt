@@ -29,9 +29,14 @@ impl<P: Naming> Model for Voice<P> {
 
     ghost Value = { Spoken };
 
-    ghost view = { λ v. record { who = v.who; own = own_entries v.who (entries_of P.scribe v.heard.log); told = v.told } };
+    ghost view = { λ v. record {
+      who = v.who;
+      own = own_entries v.who (entries_of P.scribe v.heard.log);
+      told = v.told;
+    } };
 
-    ghost invariant = { λ v. (v.speaker.book ≡ P.book) × (v.speaker.id ≡ P.voice v.who) × (v.heard.book ≡ P.book)
+    ghost invariant = { λ v. (v.speaker.book ≡ P.book) × (v.speaker.id ≡ P.voice v.who)
+        × (v.heard.book ≡ P.book)
         × (said (P.voice v.who) v.speaker.log ≡ v.count)
         × (v.count ≡ count_who v.who (entries_of P.scribe v.heard.log))
         × (v.told ≡ true → length (entries_of P.scribe v.heard.log) ≡ P.table.limit) };

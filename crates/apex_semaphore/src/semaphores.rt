@@ -1,12 +1,13 @@
 //! The semaphore as its services see it, and the services that semaphores alone have.
 ghost use Rattle.std.specs.Prelude.{◌≡◌, ◌≤◌, [], length, false};
-ghost use Rattle.apex_types.specs.Limits.{most_processes};
-ghost use Rattle.apex_types.specs.Callers.{IsReadyCaller};
-ghost use Rattle.apex_types.specs.Dues.{HasTime};
-ghost use Rattle.apex_types.specs.Roster.{Roster};
-ghost use Rattle.apex_types.specs.Rows.{Leaves};
-ghost use Rattle.apex_types.specs.SemaphoreServices as services;
-ghost use Rattle.apex_types.specs.Stamps.{HasManyStamps};
+ghost use Rattle.apex_types.specs.values.Limits.{most_processes};
+ghost use Rattle.apex_types.specs.services.Callers.{IsReadyCaller};
+ghost use Rattle.apex_types.specs.processes.Dues.{HasTime};
+ghost use Rattle.apex_types.specs.processes.Roster.{Roster};
+ghost use Rattle.apex_types.specs.services.Rows.{Leaves};
+ghost use Rattle.apex_types.specs.services.Premises.{CanServe};
+ghost use Rattle.apex_types.specs.services.SemaphoreServices as services;
+ghost use Rattle.apex_types.specs.processes.Stamps.{HasManyStamps};
 
 use apex_store::{Object, Store, grant, is_waiting_owner, wait_for};
 use apex_types::{
@@ -24,7 +25,7 @@ pub struct Semaphore {
 }
 
 impl Model for Semaphore {
-    ghost use Rattle.apex_types.specs.SemaphoreServices.{SemaphoreObject};
+    ghost use Rattle.apex_types.specs.services.SemaphoreServices.{SemaphoreObject};
 
     ghost Value = { SemaphoreObject };
 
@@ -66,7 +67,8 @@ impl Semaphore {
         requires caller { IsReadyCaller (S.roster store.old) caller.now }
         requires stamps { HasManyStamps (S.roster store.old) }
         requires time { HasTime (S.roster store.old) }
-        ensures { Leaves (services.wait_semaphore (S.roster store.old) self.old id caller.now timeout)
+        ensures { Leaves (services.wait_semaphore
+            (S.roster store.old) self.old id caller.now timeout)
             (S.roster store.new) self.new result [] [] }
     {
         if !self.created {
@@ -118,13 +120,13 @@ impl Semaphore {
 }
 
 impl Object for Semaphore {
-    type Kind = SemaphoreKind;
+    type IdKind = SemaphoreKind;
 
-    type Own = SemaphoreService;
+    type KindService = SemaphoreService;
 
-    ghost use Rattle.apex_types.specs.Roster.{Roster};
-    ghost use Rattle.apex_types.specs.SemaphoreServices.{semaphore_kind};
-    ghost use Rattle.apex_types.specs.Table.{SemaphoreConfig};
+    ghost use Rattle.apex_types.specs.processes.Roster.{Roster};
+    ghost use Rattle.apex_types.specs.services.SemaphoreServices.{semaphore_kind};
+    ghost use Rattle.apex_types.specs.table.Table.{SemaphoreConfig};
 
     ghost Config = { SemaphoreConfig };
 
@@ -157,12 +159,10 @@ impl Object for Semaphore {
         notices: &mut Notices,
     ) -> Reply
         requires stands { Unit {0} }
-        requires few { length (S.roster store.old).records ≤ most_processes }
         requires caller { IsReadyCaller (S.roster store.old) caller.now }
-        requires stamps { HasManyStamps (S.roster store.old) }
-        requires time { HasTime (S.roster store.old) }
-        requires room { length notices.old ≤ most_processes }
-        ensures { Leaves (services.semaphore_own (S.roster store.old) self.old id caller.now service.now)
+        requires can { CanServe (S.roster store.old) notices.old }
+        ensures { Leaves (services.semaphore_service
+            (S.roster store.old) self.old id caller.now service.now)
             (S.roster store.new) self.new result notices.old notices.new }
     {
         match service {

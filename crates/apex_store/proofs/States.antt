@@ -3,8 +3,8 @@ use Rattle.std.proofs.Common.{◌≡◌, ℕ, Bool, true, false, not, ◌&&◌, 
 use Rattle.std.proofs.lemmas.Bool.{and_parts, eqb-true, eq-eqb}
 use Rattle.apex_store.specs.Terms.{Mode, Record, State}
 use Rattle.apex_types.specs.declared.records.State.TheVariants.{Dormant, Ready, Running, Waiting}
-use Rattle.apex_types.specs.Roster.{Roster, nobody, record_at, is_normal}
-use Rattle.apex_types.specs.Running.{chosen, is_before, is_eligible, is_process, runs_on}
+use Rattle.apex_types.specs.processes.Roster.{Roster, nobody, record_at, is_normal}
+use Rattle.apex_types.specs.processes.Running.{chosen, is_before, is_eligible, is_process, runs_on}
 use Rattle.apex_types.proofs.Choice.{place_passes}
 use Rattle.apex_store.specs.Laws.{RunningIsChosen}
 

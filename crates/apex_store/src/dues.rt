@@ -1,7 +1,7 @@
 //! When waits end by themselves and deadlines pass.
 ghost use Rattle.std.specs.Prelude.{◌≡◌, ◌<◌, ◌≤◌, length, position, IfSome};
-ghost use Rattle.apex_types.specs.Limits.{most_processes};
-ghost use Rattle.apex_types.specs.Dues.{HasTime, IsFrom, due_after, earliest, is_due_at, is_missed_at, sooner};
+ghost use Rattle.apex_types.specs.values.Limits.{most_processes};
+ghost use Rattle.apex_types.specs.processes.Dues.{HasTime, IsFrom, due_after, earliest, is_due_at, is_missed_at, sooner};
 
 use crate::orders::{is_due_at, is_missed_at};
 use crate::store::Store;

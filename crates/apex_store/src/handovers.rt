@@ -1,10 +1,10 @@
 //! The hand-over of the mutexes that their owner has left to their first waiters.
 
 ghost use Rattle.std.specs.Prelude.{◌≡◌, ◌+◌, ◌<◌, ◌≤◌, length};
-ghost use Rattle.apex_types.specs.Handovers.{halted, hand_on, hand_over};
-ghost use Rattle.apex_types.specs.InTurn.{Makes};
-ghost use Rattle.apex_types.specs.Limits.{most_notices, most_owned};
-ghost use Rattle.apex_types.specs.Stamps.{HasStamps, HasStampsFor};
+ghost use Rattle.apex_types.specs.services.Handovers.{halted, hand_on, hand_over};
+ghost use Rattle.apex_types.specs.services.InTurn.{Makes};
+ghost use Rattle.apex_types.specs.values.Limits.{most_notices, most_owned};
+ghost use Rattle.apex_types.specs.processes.Stamps.{HasStamps, HasStampsFor};
 
 use crate::store::Store;
 use apex_types::{Holding, Notice, Notices, ProcessId, Queue, ReturnCode};
@@ -14,7 +14,8 @@ use apex_types::{Holding, Notice, Notices, ProcessId, Queue, ReturnCode};
 #[tactic(auto, using(apex_types::proofs::Starts::first_waits))]
 pub fn hand_over<S: Store>(store: &mut S, holding: &Holding, notices: &mut Notices)
     requires stamps { HasStamps (S.roster store.old) }
-    requires room { length notices.old + length (hand_over (S.roster store.old) holding.now).notices ≤ most_notices }
+    requires room { length notices.old + length (hand_over (S.roster store.old) holding.now).notices
+        ≤ most_notices }
     ensures { Makes (hand_over (S.roster store.old) holding.now)
         (S.roster store.new) notices.old notices.new }
 {
@@ -33,7 +34,8 @@ pub fn hand_over<S: Store>(store: &mut S, holding: &Holding, notices: &mut Notic
 /// Mutexes that were held so go on, one after the other, each to its first waiter.
 fn hand_on<S: Store>(store: &mut S, held: &[Holding], notices: &mut Notices)
     requires stamps { HasStampsFor (length held.now) (S.roster store.old) }
-    requires room { length notices.old + length (hand_on held.now (S.roster store.old)).notices ≤ most_notices }
+    requires room { length notices.old + length (hand_on held.now (S.roster store.old)).notices
+        ≤ most_notices }
     ensures { Makes (hand_on held.now (S.roster store.old))
         (S.roster store.new) notices.old notices.new }
 {
@@ -47,7 +49,8 @@ fn hand_on<S: Store>(store: &mut S, held: &[Holding], notices: &mut Notices)
 pub fn halt<S: Store>(store: &mut S, process: ProcessId, notices: &mut Notices)
     requires known { process < length (S.roster store.old).records }
     requires stamps { HasStampsFor most_owned (S.roster store.old) }
-    requires room { length notices.old + length (halted (S.roster store.old) process).notices ≤ most_notices }
+    requires room { length notices.old + length (halted (S.roster store.old) process).notices
+        ≤ most_notices }
     ensures { Makes (halted (S.roster store.old) process)
         (S.roster store.new) notices.old notices.new }
 {

@@ -1,6 +1,6 @@
 //! The meaning of the choices of every store.
-ghost use Rattle.apex_types.specs.Distinct.{HasDistinctStamps, IsStamped};
-ghost use Rattle.apex_types.specs.Roster.{opening_roster, record_at};
+ghost use Rattle.apex_types.specs.values.Distinct.{HasDistinctStamps, IsStamped};
+ghost use Rattle.apex_types.specs.processes.Roster.{opening_roster, record_at};
 ghost use Rattle.apex_store.specs.Laws as laws;
 
 use crate::store::Store;

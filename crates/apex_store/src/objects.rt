@@ -1,16 +1,17 @@
 //! Objects of any kind: the three services that each kind has, and how a call finds its object.
 
 ghost use Rattle.std.specs.Prelude.{◌≡◌, ℕ, ◌<◌, ◌≤◌, [], length};
-ghost use Rattle.apex_types.specs.Limits.{most_processes};
+ghost use Rattle.apex_types.specs.values.Limits.{most_processes};
 ghost use Rattle.apex_types.specs.declared.calls.ObjectCall.{ObjectCall};
-ghost use Rattle.apex_types.specs.Callers.{IsReadyCaller};
-ghost use Rattle.apex_types.specs.Dues.{HasTime};
-ghost use Rattle.apex_types.specs.Objects as objects;
-ghost use Rattle.apex_types.specs.Objects.{KindOf};
-ghost use Rattle.apex_types.specs.Roster.{Roster};
-ghost use Rattle.apex_types.specs.Rows.{Leaves};
-ghost use Rattle.apex_types.specs.Stamps.{HasManyStamps};
-ghost use Rattle.apex_types.specs.Table.{IsKnownObject};
+ghost use Rattle.apex_types.specs.services.Callers.{IsReadyCaller};
+ghost use Rattle.apex_types.specs.processes.Dues.{HasTime};
+ghost use Rattle.apex_types.specs.services.Objects as objects;
+ghost use Rattle.apex_types.specs.services.Objects.{ObjectKind};
+ghost use Rattle.apex_types.specs.processes.Roster.{Roster};
+ghost use Rattle.apex_types.specs.services.Rows.{Leaves};
+ghost use Rattle.apex_types.specs.services.Premises.{CanServe};
+ghost use Rattle.apex_types.specs.processes.Stamps.{HasManyStamps};
+ghost use Rattle.apex_types.specs.table.Table.{IsKnownObject};
 
 use crate::store::Store;
 use apex_types::{Caller, Id, Notices, ObjectCall, Reply, ReturnCode};
@@ -18,15 +19,15 @@ use apex_types::{Caller, Id, Notices, ObjectCall, Reply, ReturnCode};
 /// An object as its services see it.
 pub trait Object: Drop {
     /// The kind of its ids.
-    type Kind: Copy;
+    type IdKind: Copy;
 
     /// The services that this kind alone has.
-    type Own: Copy;
+    type KindService: Copy;
 
     /// The entry of an object of the kind in the table.
     ghost Config: { Type 0 };
 
-    ghost kind: { KindOf Config Self Self.Own };
+    ghost kind: { ObjectKind Config Self Self.KindService };
 
     /// The premise of the kind's services about the store, for the object at a place.
     ghost Stands: { Roster → ℕ → Type 0 };
@@ -39,7 +40,7 @@ pub trait Object: Drop {
         ensures { self.new ≡ kind.made self.old };
 
     /// The two numbers of the object's status.
-    fn status<S: Store>(&self, store: &S, id: Id<Self::Kind>) -> Reply
+    fn status<S: Store>(&self, store: &S, id: Id<Self::IdKind>) -> Reply
         requires stands { Stands (S.roster store.now) id }
         ensures { result ≡ kind.status (S.roster store.now) self.now id };
 
@@ -47,18 +48,15 @@ pub trait Object: Drop {
     fn serve<S: Store>(
         &mut self,
         store: &mut S,
-        id: Id<Self::Kind>,
+        id: Id<Self::IdKind>,
         caller: &Caller,
-        service: &Self::Own,
+        service: &Self::KindService,
         notices: &mut Notices,
     ) -> Reply
         requires stands { Stands (S.roster store.old) id }
-        requires few { length (S.roster store.old).records ≤ most_processes }
         requires caller { IsReadyCaller (S.roster store.old) caller.now }
-        requires stamps { HasManyStamps (S.roster store.old) }
-        requires time { HasTime (S.roster store.old) }
-        requires room { length notices.old ≤ most_processes }
-        ensures { Leaves (kind.own (S.roster store.old) self.old id caller.now service.now)
+        requires can { CanServe (S.roster store.old) notices.old }
+        ensures { Leaves (kind.kind_service (S.roster store.old) self.old id caller.now service.now)
             (S.roster store.new) self.new result notices.old notices.new };
 }
 
@@ -78,7 +76,7 @@ fn create<S: Store, O: Object>(store: &S, object: &mut O) -> Reply
 }
 
 /// GET_ID: INVALID_CONFIG if the object is not created.
-fn get_id<O: Object>(object: &O, id: Id<O::Kind>) -> Reply
+fn get_id<O: Object>(object: &O, id: Id<O::IdKind>) -> Reply
     ensures { (roster : Roster) → Leaves (objects.get_id O.kind roster object.now id)
         roster object.now result [] [] }
 {
@@ -90,7 +88,7 @@ fn get_id<O: Object>(object: &O, id: Id<O::Kind>) -> Reply
 }
 
 /// GET_STATUS: INVALID_PARAM if the object is not created.
-fn get_status<S: Store, O: Object>(store: &S, object: &O, id: Id<O::Kind>) -> Reply
+fn get_status<S: Store, O: Object>(store: &S, object: &O, id: Id<O::IdKind>) -> Reply
     requires stands { O.Stands (S.roster store.now) id }
     ensures { Leaves (objects.get_status O.kind (S.roster store.now) object.now id)
         (S.roster store.now) object.now result [] [] }
@@ -106,25 +104,23 @@ fn get_status<S: Store, O: Object>(store: &S, object: &O, id: Id<O::Kind>) -> Re
 fn serve_one<S: Store, O: Object>(
     store: &mut S,
     object: &mut O,
-    id: Id<O::Kind>,
+    id: Id<O::IdKind>,
     caller: &Caller,
-    call: &ObjectCall<Id<O::Kind>, O::Own>,
+    call: &ObjectCall<Id<O::IdKind>, O::KindService>,
     notices: &mut Notices,
 ) -> Reply
     requires stands { O.Stands (S.roster store.old) id }
-    requires few { length (S.roster store.old).records ≤ most_processes }
     requires caller { IsReadyCaller (S.roster store.old) caller.now }
-    requires stamps { HasManyStamps (S.roster store.old) }
-    requires time { HasTime (S.roster store.old) }
-    requires room { length notices.old ≤ most_processes }
-    ensures { Leaves (objects.object_service O.kind (S.roster store.old) object.old id caller.now call.now)
+    requires can { CanServe (S.roster store.old) notices.old }
+    ensures { Leaves (objects.object_service O.kind
+        (S.roster store.old) object.old id caller.now call.now)
         (S.roster store.new) object.new result notices.old notices.new }
 {
     match call {
         ObjectCall::Create(_) => create(store, object),
         ObjectCall::GetId(_) => get_id(object, id),
         ObjectCall::GetStatus(_) => get_status(store, object, id),
-        ObjectCall::Own(_, service) => object.serve(store, id, caller, service, notices),
+        ObjectCall::KindService(_, service) => object.serve(store, id, caller, service, notices),
     }
 }
 
@@ -132,7 +128,7 @@ fn serve_one<S: Store, O: Object>(
 fn no_entry<S: Store, O: Object>(
     store: &S,
     all: &[O],
-    call: &ObjectCall<Id<O::Kind>, O::Own>,
+    call: &ObjectCall<Id<O::IdKind>, O::KindService>,
 ) -> Reply
     ensures { Leaves (objects.no_entry (S.roster store.now) all.now call.now)
         (S.roster store.now) all.now result [] [] }
@@ -149,16 +145,13 @@ pub fn serve_object<S: Store, O: Object>(
     store: &mut S,
     all: &mut [O],
     caller: &Caller,
-    call: &ObjectCall<Id<O::Kind>, O::Own>,
+    call: &ObjectCall<Id<O::IdKind>, O::KindService>,
     notices: &mut Notices,
 ) -> Reply
     requires known { IsKnownObject (length all.old) call.now }
     requires stands { (i : ℕ) → i < length all.old → O.Stands (S.roster store.old) i }
-    requires few { length (S.roster store.old).records ≤ most_processes }
     requires caller { IsReadyCaller (S.roster store.old) caller.now }
-    requires stamps { HasManyStamps (S.roster store.old) }
-    requires time { HasTime (S.roster store.old) }
-    requires room { length notices.old ≤ most_processes }
+    requires can { CanServe (S.roster store.old) notices.old }
     ensures { Leaves (objects.object_deed O.kind (S.roster store.old) all.old caller.now call.now)
         (S.roster store.new) all.new result notices.old notices.new }
 {

@@ -1,9 +1,9 @@
 //! The records of a table's processes before any event.
 ghost use Rattle.std.specs.Prelude.{◌≡◌, ◌+◌, ◌<◌, ◌≤◌, [], ◌∷◌, ◌++◌, length, map, vec_capacity, vec_len, IfOk};
-ghost use Rattle.apex_types.specs.Limits.{most_processes};
-ghost use Rattle.apex_types.specs.Places.{map_places};
-ghost use Rattle.apex_types.specs.Roster.{ceilings_of, opening_record};
-ghost use Rattle.apex_types.specs.Table.{BufferConfig, MutexConfig, SemaphoreConfig};
+ghost use Rattle.apex_types.specs.values.Limits.{most_processes};
+ghost use Rattle.apex_types.specs.values.Places.{map_places};
+ghost use Rattle.apex_types.specs.processes.Roster.{ceilings_of, opening_record};
+ghost use Rattle.apex_types.specs.table.Table.{BufferConfig, MutexConfig, SemaphoreConfig};
 
 use apex_table::{ProcessConfig, Table};
 use apex_types::{BufferId, CoreId, Discipline, Holdings, MutexId, ProcessId, Record, SemaphoreId};
@@ -11,9 +11,10 @@ use std::alloc::{AllocError, Global};
 
 /// Adds the record of a process before any event: dormant on core 0, with the stamp of its place.
 fn push_opening(records: &mut Vec<Record>, place: usize, process: &ProcessConfig)
-    requires few { place < most_processes }
+    requires few_processes { place < most_processes }
     requires room { vec_len records.old < vec_capacity records.old }
-    ensures records { records.new.items ≡ records.old.items ++ opening_record place process.now ∷ [] }
+    ensures records { records.new.items ≡ records.old.items ++ opening_record place process.now
+        ∷ [] }
     ensures many { vec_len records.new ≡ vec_len records.old + 1 }
     ensures room { vec_capacity records.new ≡ vec_capacity records.old }
 {
@@ -45,9 +46,10 @@ fn push_opening(records: &mut Vec<Record>, place: usize, process: &ProcessConfig
 
 /// The records before any event.
 pub fn opening_records(alloc: Global, table: &Table) -> Result<Vec<Record>, AllocError>
-    ensures records { IfOk result (λ records. records.items ≡ map_places opening_record 0 table.now.processes) }
+    ensures records { IfOk result (λ records. records.items
+        ≡ map_places opening_record 0 table.now.processes) }
     ensures many { IfOk result (λ records. vec_len records ≡ length table.now.processes) }
-    ensures few { IfOk result (λ records. vec_len records ≤ most_processes) }
+    ensures few_processes { IfOk result (λ records. vec_len records ≤ most_processes) }
 {
     let count = table.process_count();
     let mut records = Vec::with_capacity(alloc, count)?;
@@ -60,7 +62,8 @@ pub fn opening_records(alloc: Global, table: &Table) -> Result<Vec<Record>, Allo
 
 /// The discipline of each buffer's queue.
 pub fn buffer_disciplines(alloc: Global, table: &Table) -> Result<Vec<Discipline>, AllocError>
-    ensures { IfOk result (λ disciplines. disciplines.items ≡ map (λ (b : BufferConfig). b.discipline) table.now.buffers) }
+    ensures { IfOk result (λ disciplines. disciplines.items
+        ≡ map (λ (b : BufferConfig). b.discipline) table.now.buffers) }
 {
     let count = table.buffer_count();
     let mut disciplines = Vec::with_capacity(alloc, count)?;
@@ -72,7 +75,8 @@ pub fn buffer_disciplines(alloc: Global, table: &Table) -> Result<Vec<Discipline
 
 /// The discipline of each semaphore's queue.
 pub fn semaphore_disciplines(alloc: Global, table: &Table) -> Result<Vec<Discipline>, AllocError>
-    ensures { IfOk result (λ disciplines. disciplines.items ≡ map (λ (s : SemaphoreConfig). s.discipline) table.now.semaphores) }
+    ensures { IfOk result (λ disciplines. disciplines.items
+        ≡ map (λ (s : SemaphoreConfig). s.discipline) table.now.semaphores) }
 {
     let count = table.semaphore_count();
     let mut disciplines = Vec::with_capacity(alloc, count)?;
@@ -84,7 +88,8 @@ pub fn semaphore_disciplines(alloc: Global, table: &Table) -> Result<Vec<Discipl
 
 /// The discipline of each mutex's queue.
 pub fn mutex_disciplines(alloc: Global, table: &Table) -> Result<Vec<Discipline>, AllocError>
-    ensures { IfOk result (λ disciplines. disciplines.items ≡ map (λ (m : MutexConfig). m.discipline) table.now.mutexes) }
+    ensures { IfOk result (λ disciplines. disciplines.items
+        ≡ map (λ (m : MutexConfig). m.discipline) table.now.mutexes) }
 {
     let count = table.mutex_count();
     let mut disciplines = Vec::with_capacity(alloc, count)?;

@@ -1,9 +1,9 @@
 //! The owner of a mutex.
 
 ghost use Rattle.std.specs.Prelude.{◌≡◌, ◌<◌, ◌≤◌, length, position, IfSome};
-ghost use Rattle.apex_types.specs.Callers.{IsReadyCaller};
-ghost use Rattle.apex_types.specs.Limits.{most_processes};
-ghost use Rattle.apex_types.specs.Owners.{is_owner, is_waiting_owner, owns};
+ghost use Rattle.apex_types.specs.services.Callers.{IsReadyCaller};
+ghost use Rattle.apex_types.specs.values.Limits.{most_processes};
+ghost use Rattle.apex_types.specs.processes.Owners.{is_owner, is_waiting_owner, owns};
 
 use crate::store::Store;
 use apex_types::{Caller, MutexId, ProcessId, Record, Timeout};

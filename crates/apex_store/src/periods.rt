@@ -1,9 +1,9 @@
 //! The releases of periodic processes.
 
 ghost use Rattle.std.specs.Prelude.{◌≡◌, ◌<◌, length};
-ghost use Rattle.apex_types.specs.Dues.{HasTime, IsFrom};
-ghost use Rattle.apex_types.specs.Periods.{HasNoFutureRelease, release_after};
-ghost use Rattle.apex_types.specs.Roster.{record_at};
+ghost use Rattle.apex_types.specs.processes.Dues.{HasTime, IsFrom};
+ghost use Rattle.apex_types.specs.processes.Periods.{HasNoFutureRelease, release_after};
+ghost use Rattle.apex_types.specs.processes.Roster.{record_at};
 
 use crate::store::Store;
 use apex_types::ProcessId;
@@ -14,7 +14,8 @@ pub fn next_release<S: Store>(store: &S, process: ProcessId) -> Option<u64>
     requires known { process < length (S.roster store.now).records }
     requires time { HasTime (S.roster store.now) }
     requires releases { HasNoFutureRelease (S.roster store.now) }
-    ensures value { result ≡ release_after (S.roster store.now).now (record_at (S.roster store.now) process) }
+    ensures value { result ≡ release_after (S.roster store.now).now
+        (record_at (S.roster store.now) process) }
     ensures later { IsFrom (S.roster store.now).now result }
 {
     let row = store.record(process);

@@ -1,13 +1,12 @@
 //! A store of one list of records, which answers each question by a scan.
 ghost use Rattle.std.specs.Prelude.{◌≡◌, ◌<◌, ◌≤◌, count_by, length, slice_index_or, IfOk};
-ghost use Rattle.apex_types.specs.Limits.{latest, most_processes};
-ghost use Rattle.apex_types.specs.Roster.{opening_roster, record_at, with_record};
-ghost use Rattle.apex_types.specs.Dues.{HasTime};
-ghost use Rattle.apex_types.specs.Periods.{deadline_from};
+ghost use Rattle.apex_types.specs.values.Limits.{latest, most_processes};
+ghost use Rattle.apex_types.specs.processes.Roster.{opening_roster, record_at, with_record};
+ghost use Rattle.apex_types.specs.processes.Dues.{HasTime};
+ghost use Rattle.apex_types.specs.processes.Periods.{deadline_from};
 ghost use Rattle.apex_types.specs.declared.records.Discipline.TheVariants.{Fifo};
-ghost use Rattle.apex_types.specs.Running.{is_process};
-ghost use Rattle.apex_types.specs.Stamps as stamps;
-ghost use Rattle.apex_types.specs.Waiters.{discipline_of, goes_by_priority, waits_in};
+ghost use Rattle.apex_types.specs.processes.Stamps as stamps;
+ghost use Rattle.apex_types.specs.processes.Waiters.{discipline_of, goes_by_priority, waits_in};
 
 use crate::dues::{earliest, first_due, first_missed};
 use crate::opening::{
@@ -19,7 +18,7 @@ use crate::scan::{Behind, Runnable, Waiting, first_of};
 use crate::store::Store;
 use apex_table::Table;
 use apex_types::{
-    CoreId, Discipline, Holding, Holdings, Message, Mode, MutexId, ProcessId, Queue, Record, State,
+    CoreId, Discipline, Holding, Holdings, Message, Mode, MutexId, ProcessId, Queue, Record,
     Suspender, Wait,
 };
 use std::alloc::{AllocError, Global};
@@ -45,24 +44,28 @@ pub struct PlainStore {
 
 impl Model for PlainStore {
     ghost use Rattle.std.specs.Prelude.{◌≤◌, length};
-    ghost use Rattle.apex_types.specs.Limits.{most_cores, most_owned, most_processes};
-    ghost use Rattle.apex_types.specs.Roster.{Roster};
+    ghost use Rattle.apex_types.specs.values.Limits.{most_cores, most_owned, most_processes};
+    ghost use Rattle.apex_types.specs.processes.Roster.{Roster};
 
     ghost Value = { Roster };
 
-    ghost view = { λ a. record { cores = a.cores; mode = a.mode; now = a.time; records = a.records.items; young = a.next_young; old = a.next_old; disciplines = record { semaphores = a.semaphores.items; buffers = a.buffers.items; mutexes = a.mutexes.items }; rules = record { ceilings = a.ceilings.items; most_owned = a.may_own } } };
+    ghost view = { λ a. record {
+      cores = a.cores;
+      mode = a.mode;
+      now = a.time;
+      records = a.records.items;
+      young = a.next_young;
+      old = a.next_old;
+      disciplines = record {
+        semaphores = a.semaphores.items;
+        buffers = a.buffers.items;
+        mutexes = a.mutexes.items;
+      };
+      rules = record { ceilings = a.ceilings.items; most_owned = a.may_own };
+    } };
 
-    ghost invariant = { λ a. (a.cores ≤ most_cores) × (length a.records.items ≤ most_processes) × (a.may_own ≤ most_owned) };
-}
-
-/// The process is this one.
-fn is_process(process: ProcessId, other: Option<ProcessId>) -> bool
-    ensures { result ≡ is_process process other }
-{
-    match other {
-        Some(other) => process == other,
-        None => false,
-    }
+    ghost invariant = { λ a. (a.cores ≤ most_cores) × (length a.records.items ≤ most_processes)
+        × (a.may_own ≤ most_owned) };
 }
 
 /// A suspension by another process stays when the process wakes, and one by itself ends.
@@ -189,7 +192,7 @@ impl PlainStore {
             Queue::Semaphore(semaphore) => discipline_at(&self.semaphores, semaphore.place()),
             Queue::Buffer(buffer) => discipline_at(&self.buffers, buffer.place()),
             Queue::Mutex(mutex) => discipline_at(&self.mutexes, mutex.place()),
-            Queue::Normal | Queue::Blackboard(_) | Queue::Event(_) => Discipline::Fifo,
+            Queue::Normal | Queue::Blackboard(_) | Queue::EventFlag(_) => Discipline::Fifo,
         }
     }
 
@@ -330,19 +333,6 @@ impl Store for PlainStore {
             core,
         };
         first_of(&order, &self.records)
-    }
-
-    fn state(&self, process: ProcessId) -> State {
-        let row = self.record(process);
-        if !row.started {
-            State::Dormant
-        } else if !row.is_eligible(self.mode) {
-            State::Waiting
-        } else if is_process(process, self.chosen(row.core)) {
-            State::Running
-        } else {
-            State::Ready
-        }
     }
 
     fn first(&self, queue: Queue) -> Option<ProcessId> {

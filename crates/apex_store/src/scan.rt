@@ -1,11 +1,11 @@
 //! The one search for the process that comes first.
 ghost use Rattle.std.specs.Prelude.{◌≡◌, ◌<◌, ◌≤◌, Bool, length, IfSome};
-ghost use Rattle.apex_types.specs.Limits.{most_processes};
+ghost use Rattle.apex_types.specs.values.Limits.{most_processes};
 ghost use Rattle.std.specs.Cmp.{IsStrictWeakOrder};
 ghost use Rattle.apex_types.specs.declared.records.Record.{Record};
-ghost use Rattle.apex_types.specs.Choice.{place_of_least};
-ghost use Rattle.apex_types.specs.Running.{is_before, runs_on};
-ghost use Rattle.apex_types.specs.Waiters.{waits_before, waits_behind, waits_in};
+ghost use Rattle.apex_types.specs.processes.Choice.{place_of_least};
+ghost use Rattle.apex_types.specs.processes.Running.{is_before, runs_on};
+ghost use Rattle.apex_types.specs.processes.Waiters.{waits_before, waits_behind, waits_in};
 ghost use Rattle.apex_types.proofs.Orders.{before_strict, waits_strict};
 
 use crate::orders;
@@ -99,7 +99,8 @@ impl Order for Behind {
 /// The first of those that the order looks at, by a scan of all records from the first one on.
 pub fn first_of<O: Order>(order: &O, records: &[Record]) -> Option<ProcessId>
     requires { length records.now ≤ most_processes }
-    ensures value { result ≡ place_of_least (O.passes order.now) (O.precedes order.now) records.now }
+    ensures value { result ≡ place_of_least (O.passes order.now)
+        (O.precedes order.now) records.now }
     ensures known { IfSome result (λ p. p < length records.now) }
 {
     let mut found: Option<ProcessId> = None;

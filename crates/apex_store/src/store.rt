@@ -1,14 +1,15 @@
 //! The trait `Store`: the processes of a partition, their mode and their time.
 ghost use Rattle.std.specs.Prelude.{◌≡◌, ◌<◌, ◌≤◌, ◌^◌, true, length, IfSome};
-ghost use Rattle.apex_types.specs.Limits.{latest, most_cores, most_owned};
-ghost use Rattle.apex_types.specs.Roster.{Roster, record_at};
-ghost use Rattle.apex_types.specs.Running.{chosen, process_state, IsEligible, IsIneligible};
-ghost use Rattle.apex_types.specs.Waiters.{first_waiter, next_waiter, waiter_count, waits_in};
-ghost use Rattle.apex_types.specs.Owners.{ceiling_of, owner};
-ghost use Rattle.apex_types.specs.Dues.{next_instant, first_due, first_missed, HasNoDeadlineBelow, HasNoDueBelow, HasTime, IsFrom};
-ghost use Rattle.apex_types.specs.Stamps as stamps;
+ghost use Rattle.apex_types.specs.values.Limits.{latest, most_cores, most_owned, most_processes};
+ghost use Rattle.apex_types.specs.processes.Roster.{Roster, record_at};
+ghost use Rattle.apex_types.specs.processes.Running.{chosen, process_state, IsEligible, IsIneligible};
+ghost use Rattle.apex_types.specs.processes.Waiters.{first_waiter, next_waiter, waiter_count, waits_in};
+ghost use Rattle.apex_types.specs.processes.Owners.{ceiling_of, owner};
+ghost use Rattle.apex_types.specs.processes.Dues.{next_instant, first_due, first_missed, HasNoDeadlineBelow, HasNoDueBelow, HasTime, IsFrom};
+ghost use Rattle.apex_types.specs.processes.Stamps as stamps;
 ghost use Rattle.apex_types.specs.declared.records.Queue.TheVariants as queues;
 
+use crate::orders::is_process;
 use apex_types::{
     CoreId, Holding, Holdings, Message, Mode, MutexId, ProcessId, Queue, Record, State, Wait,
 };
@@ -35,7 +36,8 @@ pub trait Store: Drop {
         ensures { result ≡ (roster self.now).now };
 
     fn process_count(&self) -> usize
-        ensures { result ≡ length (roster self.now).records };
+        ensures value { result ≡ length (roster self.now).records }
+        ensures range { result ≤ most_processes };
 
     fn record(&self, process: ProcessId) -> Record
         requires known { process < length (roster self.now).records }
@@ -48,7 +50,19 @@ pub trait Store: Drop {
 
     fn state(&self, process: ProcessId) -> State
         requires known { process < length (roster self.now).records }
-        ensures { result ≡ process_state (roster self.now) process };
+        ensures { result ≡ process_state (roster self.now) process }
+    {
+        let row = self.record(process);
+        if !row.started {
+            State::Dormant
+        } else if !row.is_eligible(self.mode()) {
+            State::Waiting
+        } else if is_process(process, self.chosen(row.core)) {
+            State::Running
+        } else {
+            State::Ready
+        }
+    }
 
     /// The first waiter of the queue, by its discipline.
     fn first(&self, queue: Queue) -> Option<ProcessId>
@@ -159,7 +173,8 @@ pub trait Store: Drop {
     /// The process, which owns no mutex and waits for this one, owns it so and wakes.
     fn inherit(&mut self, process: ProcessId, holding: Holding)
         requires known { process < length (roster self.old).records }
-        requires waits { waits_in (queues.Mutex holding.mutex) (record_at (roster self.old) process) ≡ true }
+        requires waits { waits_in (queues.Mutex holding.mutex) (record_at (roster self.old) process)
+            ≡ true }
         requires stamps { stamps.HasStamps (roster self.old) }
         ensures { roster self.new ≡ stamps.inherit (roster self.old) process holding };
 

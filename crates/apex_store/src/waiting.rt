@@ -1,10 +1,10 @@
 //! The beginning of a wait of the calling process.
 ghost use Rattle.std.specs.Prelude.{◌≡◌, [], length};
-ghost use Rattle.apex_types.specs.Callers.{IsReady};
-ghost use Rattle.apex_types.specs.Dues.{HasTime};
-ghost use Rattle.apex_types.specs.Rows.{Leaves};
-ghost use Rattle.apex_types.specs.Stamps.{HasManyStamps};
-ghost use Rattle.apex_types.specs.Waiting.{wait_for};
+ghost use Rattle.apex_types.specs.services.Callers.{IsReady};
+ghost use Rattle.apex_types.specs.processes.Dues.{HasTime};
+ghost use Rattle.apex_types.specs.services.Rows.{Leaves};
+ghost use Rattle.apex_types.specs.processes.Stamps.{HasManyStamps};
+ghost use Rattle.apex_types.specs.services.Waiting.{wait_for};
 
 use crate::dues::due_after;
 use crate::store::Store;

@@ -1,11 +1,11 @@
 //! The end of a wait whose condition holds.
 
 ghost use Rattle.std.specs.Prelude.{◌≡◌, ◌<◌, ◌≤◌, length};
-ghost use Rattle.apex_types.specs.Limits.{most_notices, most_processes};
-ghost use Rattle.apex_types.specs.InTurn.{Makes};
-ghost use Rattle.apex_types.specs.Messages.{is_unfit};
-ghost use Rattle.apex_types.specs.Stamps.{HasManyStamps, HasStamps};
-ghost use Rattle.apex_types.specs.Waking.{granted, grant_all};
+ghost use Rattle.apex_types.specs.values.Limits.{most_notices, most_processes};
+ghost use Rattle.apex_types.specs.services.InTurn.{Makes};
+ghost use Rattle.apex_types.specs.values.Messages.{is_unfit};
+ghost use Rattle.apex_types.specs.processes.Stamps.{HasManyStamps, HasStamps};
+ghost use Rattle.apex_types.specs.services.Waking.{granted, grant_all};
 
 use crate::store::Store;
 use apex_types::{Message, Notice, Notices, ProcessId, Queue, ReturnCode};
@@ -39,20 +39,19 @@ pub fn grant<S: Store>(
 }
 
 /// All processes that wait in the queue have what they waited for, in the queue's order.
-#[tactic(auto, unfolding(apex_types::specs::Waking::grant_all))]
+#[tactic(auto, unfolding(apex_types::specs::services::Waking::grant_all))]
 pub fn grant_all<S: Store>(
     store: &mut S,
     queue: &Queue,
     message: &Option<Message>,
     notices: &mut Notices,
 )
-    requires few { length (S.roster store.old).records ≤ most_processes }
     requires stamps { HasManyStamps (S.roster store.old) }
     requires room { length notices.old ≤ most_processes }
     ensures { Makes (grant_all queue.now message.now (S.roster store.old))
         (S.roster store.new) notices.old notices.new }
 {
-    for turn in 0..store.process_count() {
+    for round in 0..store.process_count() {
         match store.first(*queue) {
             Some(process) => grant(store, process, message, notices),
             None => return,

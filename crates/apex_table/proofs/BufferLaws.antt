@@ -2,8 +2,8 @@
 use Rattle.std.proofs.Common.{◌≤◌, refl}
 use Rattle.std.specs.Prelude.{codes}
 use Rattle.std.proofs.lemmas.Result.{IfOk-at_ok}
-use Rattle.apex_types.specs.Limits.{most_message, most_messages}
-use Rattle.apex_types.specs.Table.{IsLawfulBuffer}
+use Rattle.apex_types.specs.values.Limits.{most_message, most_messages}
+use Rattle.apex_types.specs.table.Table.{IsLawfulBuffer}
 use Rattle.apex_table.specs.Keys.{number_at, discipline_at}
 use Rattle.apex_table.specs.Buffers.{buffer, buffers}
 use Rattle.apex_table.proofs.Results.{ok_then}

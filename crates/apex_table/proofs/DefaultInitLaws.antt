@@ -1,17 +1,17 @@
 -- The default init list names entries of the table, and is short enough.
 use Rattle.std.proofs.Common.{◌≡◌, ℕ, ◌+◌, ◌*◌, ◌<◌, ◌≤◌, suc, Bool, true, false, cond, List, [], ◌∷◌, ◌++◌, length, refl, arith, length-append}
 use Rattle.std.specs.List.{AllByRecursion}
-use Rattle.apex_types.specs.Places.{map_places}
-use Rattle.apex_types.specs.Table.{ProcessConfig, Step, Table, IsLawfulStep}
+use Rattle.apex_types.specs.values.Places.{map_places}
+use Rattle.apex_types.specs.table.Table.{ProcessConfig, Step, Table, IsLawfulStep}
 use Rattle.apex_types.specs.declared.calls.Call.TheVariants as calls
-use Rattle.apex_types.specs.declared.calls.ObjectCall.TheVariants.{Own}
+use Rattle.apex_types.specs.declared.calls.ObjectCall.TheVariants.{KindService}
 use Rattle.apex_types.specs.declared.calls.Origin.TheVariants.{Init}
 use Rattle.apex_types.specs.declared.calls.PartitionCall.TheVariants.{SetPartitionMode}
 use Rattle.apex_types.specs.declared.calls.ProcessService.TheVariants.{InitializeCoreAffinity, Start}
 use Rattle.apex_types.specs.declared.calls.RequestedMode.TheVariants.{Normal}
 use Rattle.apex_types.proofs.Places.{length-map_places}
 use Rattle.apex_calls.specs.CallText.{count_of}
-use Rattle.apex_calls.specs.declared.catalogue.Kind.TheVariants.{Process, Semaphore, Buffer, Blackboard, Event, Mutex}
+use Rattle.apex_calls.specs.declared.catalogue.Kind.TheVariants.{Process, Semaphore, Buffer, Blackboard, EventFlag, Mutex}
 use Rattle.apex_table.specs.Terms.{Kind, Profile}
 use Rattle.apex_table.specs.DefaultInit.{bare, create, creates, creates_process, starts_process, joined, creates_objects, default_init}
 use Rattle.apex_table.specs.Objects.{Objects}
@@ -34,8 +34,8 @@ start_law P false step here = tt
 -- a fact of each step that a default init list of the table may have; of each process this is known
 pub record OfDefaults (table : Table) (Q : ProcessConfig → Type 0) (P : Step → Type 0) : Type 0 where
   pub created : (k : Kind) (i : ℕ) → i < count_of table k → P (bare (create k i))
-  pub placed : (p : ℕ) (entry : ProcessConfig) → p < length table.processes → Q entry → P (bare (calls.Process (Own p (InitializeCoreAffinity entry.core))))
-  pub started : (p : ℕ) → p < length table.processes → P (bare (calls.Process (Own p Start)))
+  pub placed : (p : ℕ) (entry : ProcessConfig) → p < length table.processes → Q entry → P (bare (calls.Process (KindService p (InitializeCoreAffinity entry.core))))
+  pub started : (p : ℕ) → p < length table.processes → P (bare (calls.Process (KindService p Start)))
   pub normal : P (bare (calls.Partition (SetPartitionMode Normal)))
 
 module _ (profile : Profile) (cores limit : ℕ) (ps : List ProcessConfig) (objects : Objects) (init : List Step) where
@@ -54,7 +54,7 @@ module _ (profile : Profile) (cores limit : ℕ) (ps : List ProcessConfig) (obje
         (created_all Semaphore objects.semaphores (omega arith))
         (created_all Buffer objects.buffers (omega arith)))
         (created_all Blackboard objects.blackboards (omega arith)))
-        (created_all Event objects.events (omega arith)))
+        (created_all EventFlag objects.event_flags (omega arith)))
         (created_all Mutex objects.mutexes (omega arith))
 
     pub default_steps : AllByRecursion Q ps → AllByRecursion P (default_init ps objects)
@@ -74,7 +74,7 @@ module _ (profile : Profile) (cores limit : ℕ) (ps : List ProcessConfig) (obje
   created_fits Semaphore i below k = record { known = below; literal = refl }
   created_fits Buffer i below k = record { known = below; literal = refl }
   created_fits Blackboard i below k = record { known = below; literal = refl }
-  created_fits Event i below k = record { known = below; literal = refl }
+  created_fits EventFlag i below k = record { known = below; literal = refl }
   created_fits Mutex i below k = record { known = below; literal = refl }
 
   fits_defaults : OfDefaults Whole (λ entry. Unit {0}) Fits
@@ -105,7 +105,7 @@ started_length p (entry ∷ rest) = start_length entry.start _ _ (length rest) (
 -- the number of objects
 abbrev pub object_count : Objects → ℕ
 object_count objects =
-    length objects.semaphores + length objects.buffers + length objects.blackboards + length objects.events
+    length objects.semaphores + length objects.buffers + length objects.blackboards + length objects.event_flags
     + length objects.mutexes
 
 pub default_init_length : (ps : List ProcessConfig) (objects : Objects) → length (default_init ps objects) ≤ object_count objects + 3 * length ps + 1

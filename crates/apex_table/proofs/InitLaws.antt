@@ -2,8 +2,8 @@
 use Rattle.std.proofs.Common.{ℕ, ◌+◌, ◌≤◌, List, [], length, Option, Some, None, IfSome, IfOk, arith}
 use Rattle.std.proofs.lemmas.Result.{IfOk-at_ok, IfOk-weaker}
 use Rattle.toml.specs.Data.{Data}
-use Rattle.apex_types.specs.Limits.{most_init_steps, most_objects, most_processes}
-use Rattle.apex_types.specs.Table.{ProcessConfig, Step, Table, IsLawfulStep}
+use Rattle.apex_types.specs.values.Limits.{most_init_steps, most_objects, most_processes}
+use Rattle.apex_types.specs.table.Table.{ProcessConfig, Step, Table, IsLawfulStep}
 use Rattle.apex_types.specs.declared.calls.Origin.TheVariants as origin
 use Rattle.apex_table.specs.declared.fault.Section.TheVariants.{Init}
 use Rattle.apex_table.specs.Terms.{Place, Profile}
@@ -72,6 +72,6 @@ init_list_law profile cores limit procs objects init names same some lawful None
     let semaphores : length objects.semaphores ≤ most_objects = lawful.semaphores.few in
     let buffers : length objects.buffers ≤ most_objects = lawful.buffers.few in
     let blackboards : length objects.blackboards ≤ most_objects = lawful.blackboards.few in
-    let events : length objects.events ≤ most_objects = lawful.events.few in
+    let event_flags : length objects.event_flags ≤ most_objects = lawful.event_flags.few in
     let mutexes : length objects.mutexes ≤ most_objects = lawful.mutexes.few in
     record { few = omega (arith, default_init_length procs objects); lawful = default_init_law profile cores limit procs objects init }

@@ -7,9 +7,9 @@ use Rattle.std.specs.Str.{bytes_eq}
 use Rattle.std.proofs.lemmas.Option.{none-some, same_Some}
 use Rattle.std.proofs.lemmas.Result.{IfOk-at_ok}
 use Rattle.toml.specs.Data.{Data, Members, get_member, as_integer, as_str}
-use Rattle.apex_types.specs.Limits.{most_span}
-use Rattle.apex_types.specs.Name.{is_name}
-use Rattle.apex_types.specs.Table.{IsSpan}
+use Rattle.apex_types.specs.values.Limits.{most_span}
+use Rattle.apex_types.specs.values.Name.{is_name}
+use Rattle.apex_types.specs.table.Table.{IsSpan}
 use Rattle.apex_table.specs.Terms.{Place, TableFault}
 use Rattle.apex_table.specs.declared.fault.TableFault.TheVariants.{WrongType, OutOfRange, BadName, DoubleName, TooMany}
 use Rattle.apex_table.specs.Outcome.{some_or}

@@ -7,10 +7,10 @@ use Rattle.std.proofs.lemmas.List.{length-map}
 use Rattle.std.proofs.lemmas.List.Elements.{All-from_recursion}
 use Rattle.std.proofs.lemmas.Result.{IfOk-at_ok}
 use Rattle.toml.specs.Data.{Members, get_member}
-use Rattle.apex_types.specs.Profiles.{processes_of, profile_of}
+use Rattle.apex_types.specs.table.Profiles.{processes_of, profile_of}
 use Rattle.apex_types.proofs.BothProfiles.{few_processes}
-use Rattle.apex_types.specs.Limits.{most_cores, most_entries, most_profile, usual_entries}
-use Rattle.apex_types.specs.Table.{Table, ProcessConfig, SemaphoreConfig, BufferConfig, BlackboardConfig, EventConfig, MutexConfig, no_process, no_semaphore, no_buffer, no_blackboard, no_event, no_mutex, Step, no_step, IsLawfulStep, IsLawfulProcess, IsLawfulSemaphore, IsLawfulBuffer, IsLawfulBlackboard, IsLawfulEvent, IsLawfulMutex, IsLawful}
+use Rattle.apex_types.specs.values.Limits.{most_cores, most_entries, most_profile, usual_entries}
+use Rattle.apex_types.specs.table.Table.{Table, ProcessConfig, SemaphoreConfig, BufferConfig, BlackboardConfig, EventFlagConfig, MutexConfig, no_process, no_semaphore, no_buffer, no_blackboard, no_event_flag, no_mutex, Step, no_step, IsLawfulStep, IsLawfulProcess, IsLawfulSemaphore, IsLawfulBuffer, IsLawfulBlackboard, IsLawfulEventFlag, IsLawfulMutex, IsLawful}
 use Rattle.apex_types.specs.declared.calls.Origin.TheVariants.{Init}
 use Rattle.apex_table.specs.Terms.{Profile}
 use Rattle.apex_table.specs.declared.fault.Section.TheVariants.{Top}
@@ -46,7 +46,7 @@ module _ (profile : Profile) (cores limit : ℕ) (drafts : List ProcessDraft) (p
         semaphores = length-map things.semaphores (λ (s : SemaphoreConfig). s.name);
         buffers = length-map things.buffers (λ (b : BufferConfig). b.name);
         blackboards = length-map things.blackboards (λ (b : BlackboardConfig). b.name);
-        events = length-map things.events (λ (e : EventConfig). e.name);
+        event_flags = length-map things.event_flags (λ (e : EventFlagConfig). e.name);
         mutexes = length-map things.mutexes (λ (m : MutexConfig). m.name);
       }
 
@@ -58,21 +58,21 @@ module _ (profile : Profile) (cores limit : ℕ) (drafts : List ProcessDraft) (p
     semaphore_count = sound.semaphores.few;
     buffer_count = sound.buffers.few;
     blackboard_count = sound.blackboards.few;
-    event_count = sound.events.few;
+    event_flag_count = sound.event_flags.few;
     mutex_count = sound.mutexes.few;
     init_count = init.few;
     processes = λ p below. all_from_start (IsLawfulProcess Whole) procs each p no_process below;
     semaphores = λ s below. All-from_recursion IsLawfulSemaphore things.semaphores sound.semaphores.all.each s no_semaphore below;
     buffers = λ b below. All-from_recursion IsLawfulBuffer things.buffers sound.buffers.all.each b no_buffer below;
     blackboards = λ b below. All-from_recursion IsLawfulBlackboard things.blackboards sound.blackboards.all.each b no_blackboard below;
-    events = λ e below. All-from_recursion IsLawfulEvent things.events sound.events.all.each e no_event below;
+    event_flags = λ e below. All-from_recursion IsLawfulEventFlag things.event_flags sound.event_flags.all.each e no_event_flag below;
     mutexes = λ m below. All-from_recursion IsLawfulMutex things.mutexes sound.mutexes.all.each m no_mutex below;
     init = λ k below. all_from_start (λ k step. IsLawfulStep Whole (Init k) step) steps init.lawful k no_step below;
     process_names = distinct;
     semaphore_names = sound.semaphores.all.distinct;
     buffer_names = sound.buffers.all.distinct;
     blackboard_names = sound.blackboards.all.distinct;
-    event_names = sound.events.all.distinct;
+    event_flag_names = sound.event_flags.all.distinct;
     mutex_names = sound.mutexes.all.distinct;
   }
 

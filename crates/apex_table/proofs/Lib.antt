@@ -14,7 +14,7 @@ pub mod ProcessLaws
 pub mod SemaphoreLaws
 pub mod BufferLaws
 pub mod BlackboardLaws
-pub mod EventLaws
+pub mod EventFlagLaws
 pub mod MutexLaws
 pub mod ObjectLaws
 pub mod ScriptLaws

@@ -4,7 +4,7 @@ use Rattle.std.specs.Prelude.{codes}
 use Rattle.std.specs.List.{list_all}
 use Rattle.std.specs.Str.{bytes_eq}
 use Rattle.std.proofs.lemmas.Bool.Decides.{nat_tests}
-use Rattle.apex_types.specs.Limits.{most_message}
+use Rattle.apex_types.specs.values.Limits.{most_message}
 use Rattle.apex_table.specs.Terms.{Place}
 use Rattle.apex_table.specs.declared.fault.TableFault.TheVariants.{OutOfRange}
 use Rattle.apex_table.specs.Words.{is_digit, pairs_value, message_bytes}

@@ -2,8 +2,8 @@
 use Rattle.std.proofs.Common.{◌≤◌, refl}
 use Rattle.std.specs.Prelude.{codes}
 use Rattle.std.proofs.lemmas.Result.{IfOk-at_ok}
-use Rattle.apex_types.specs.Limits.{most_priority}
-use Rattle.apex_types.specs.Table.{IsLawfulMutex}
+use Rattle.apex_types.specs.values.Limits.{most_priority}
+use Rattle.apex_types.specs.table.Table.{IsLawfulMutex}
 use Rattle.apex_table.specs.Keys.{number_at, discipline_at}
 use Rattle.apex_table.specs.Mutexes.{mutex, mutexes}
 use Rattle.apex_table.proofs.Results.{ok_then}

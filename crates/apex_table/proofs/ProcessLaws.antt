@@ -3,9 +3,9 @@ use Rattle.std.proofs.Common.{◌≡◌, ℕ, ◌-◌, ◌<◌, ◌≤◌, Bool,
 use Rattle.std.specs.Prelude.{codes}
 use Rattle.std.proofs.lemmas.Result.{IfOk-at_ok, IfOk-weaker}
 use Rattle.toml.specs.Data.{Data, Members}
-use Rattle.apex_types.specs.Limits.{most_priority, most_steps}
-use Rattle.apex_types.specs.Name.{is_name}
-use Rattle.apex_types.specs.Table.{IsSpan}
+use Rattle.apex_types.specs.values.Limits.{most_priority, most_steps}
+use Rattle.apex_types.specs.values.Name.{is_name}
+use Rattle.apex_types.specs.table.Table.{IsSpan}
 use Rattle.apex_table.specs.Terms.{Place, Profile}
 use Rattle.apex_table.specs.Keys.{text, array_at, at_most, number_at, number_or, span_or_infinite, truth_or, deadline_or_soft}
 use Rattle.apex_table.specs.Processes.{ProcessDraft, some_process, texts, some_step, script_at, process, processes}

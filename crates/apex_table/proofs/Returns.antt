@@ -10,16 +10,16 @@ use Rattle.std.proofs.lemmas.Fmt.{decimal_digit, digits_decimal, digits_value-de
 use Rattle.std.proofs.lemmas.List.Elements.{All-from_recursion}
 use Rattle.std.proofs.lemmas.List.Splits.{slice_split_at, slice_split_none}
 use Rattle.std.proofs.lemmas.Slice.Eq.{bytes_eq-Decides}
-use Rattle.apex_types.specs.Name.{is_name, is_visible}
-use Rattle.apex_types.specs.Numbers.{digits_value, has_leading_zero, number_of}
-use Rattle.apex_types.specs.Table.{Step}
+use Rattle.apex_types.specs.values.Name.{is_name, is_visible}
+use Rattle.apex_types.specs.values.Numbers.{digits_value, has_leading_zero, number_of}
+use Rattle.apex_types.specs.table.Table.{Step}
 use Rattle.apex_types.specs.declared.calls.Call.TheVariants as calls
-use Rattle.apex_types.specs.declared.calls.ObjectCall.TheVariants.{Own}
+use Rattle.apex_types.specs.declared.calls.ObjectCall.TheVariants.{KindService}
 use Rattle.apex_types.specs.declared.calls.PartitionCall.TheVariants.{SetPartitionMode}
 use Rattle.apex_types.specs.declared.calls.ProcessService.TheVariants.{InitializeCoreAffinity, Start}
 use Rattle.apex_types.specs.declared.calls.RequestedMode.TheVariants.{Normal}
 use Rattle.apex_calls.specs.CallText.{spaced}
-use Rattle.apex_calls.specs.declared.catalogue.Kind.TheVariants.{Process, Semaphore, Buffer, Blackboard, Event, Mutex}
+use Rattle.apex_calls.specs.declared.catalogue.Kind.TheVariants.{Process, Semaphore, Buffer, Blackboard, EventFlag, Mutex}
 use Rattle.apex_table.specs.Terms.{Kind, Origin, Place}
 use Rattle.apex_table.specs.DefaultInit.{bare, create}
 use Rattle.apex_table.specs.Names.{Names, names_in}
@@ -97,7 +97,7 @@ create_words Process name = codes "CREATE_PROCESS" ∷ name ∷ []
 create_words Semaphore name = codes "CREATE_SEMAPHORE" ∷ name ∷ []
 create_words Buffer name = codes "CREATE_BUFFER" ∷ name ∷ []
 create_words Blackboard name = codes "CREATE_BLACKBOARD" ∷ name ∷ []
-create_words Event name = codes "CREATE_EVENT" ∷ name ∷ []
+create_words EventFlag name = codes "CREATE_EVENT" ∷ name ∷ []
 create_words Mutex name = codes "CREATE_MUTEX" ∷ name ∷ []
 
 module _ (at : Place) (origin : Origin) (names : Names) where
@@ -107,14 +107,14 @@ module _ (at : Place) (origin : Origin) (names : Names) where
   created_read Semaphore name i good found = rw (name_some name good, good, found) refl
   created_read Buffer name i good found = rw (name_some name good, good, found) refl
   created_read Blackboard name i good found = rw (name_some name good, good, found) refl
-  created_read Event name i good found = rw (name_some name good, good, found) refl
+  created_read EventFlag name i good found = rw (name_some name good, good, found) refl
   created_read Mutex name i good found = rw (name_some name good, good, found) refl
 
-  started_read : (name : List ℕ) (i : ℕ) → is_name name ≡ true → position_from (bytes_eq name) 0 names.processes ≡ Some i → step_of at origin names (codes "START" ∷ name ∷ []) ≡ Ok (bare (calls.Process (Own i Start)))
+  started_read : (name : List ℕ) (i : ℕ) → is_name name ≡ true → position_from (bytes_eq name) 0 names.processes ≡ Some i → step_of at origin names (codes "START" ∷ name ∷ []) ≡ Ok (bare (calls.Process (KindService i Start)))
   unfolding row_step with_word
   started_read name i good found = rw (name_some name good, found) refl
 
-  placed_read : (name : List ℕ) (i core : ℕ) → is_name name ≡ true → position_from (bytes_eq name) 0 names.processes ≡ Some i → core < 256 → step_of at origin names (codes "INITIALIZE_PROCESS_CORE_AFFINITY" ∷ name ∷ decimal core ∷ []) ≡ Ok (bare (calls.Process (Own i (InitializeCoreAffinity core))))
+  placed_read : (name : List ℕ) (i core : ℕ) → is_name name ≡ true → position_from (bytes_eq name) 0 names.processes ≡ Some i → core < 256 → step_of at origin names (codes "INITIALIZE_PROCESS_CORE_AFFINITY" ∷ name ∷ decimal core ∷ []) ≡ Ok (bare (calls.Process (KindService i (InitializeCoreAffinity core))))
   unfolding row_step with_word
   placed_read name i core good found small =
       let few : nat_le core 255 ≡ true = grind (arith, nat_tests) in
@@ -146,16 +146,16 @@ module _ (at : Place) (origin : Origin) (names : Names) where
       written _ (codes "CREATE_BUFFER") (name ∷ []) (visible_clear (codes "CREATE_BUFFER") refl) (name_clear name good, tt) (created_read Buffer name i good found)
   created_written Blackboard name i good found =
       written _ (codes "CREATE_BLACKBOARD") (name ∷ []) (visible_clear (codes "CREATE_BLACKBOARD") refl) (name_clear name good, tt) (created_read Blackboard name i good found)
-  created_written Event name i good found =
-      written _ (codes "CREATE_EVENT") (name ∷ []) (visible_clear (codes "CREATE_EVENT") refl) (name_clear name good, tt) (created_read Event name i good found)
+  created_written EventFlag name i good found =
+      written _ (codes "CREATE_EVENT") (name ∷ []) (visible_clear (codes "CREATE_EVENT") refl) (name_clear name good, tt) (created_read EventFlag name i good found)
   created_written Mutex name i good found =
       written _ (codes "CREATE_MUTEX") (name ∷ []) (visible_clear (codes "CREATE_MUTEX") refl) (name_clear name good, tt) (created_read Mutex name i good found)
 
-  pub started_written : (name : List ℕ) (i : ℕ) → is_name name ≡ true → position_from (bytes_eq name) 0 names.processes ≡ Some i → IsWritten (bare (calls.Process (Own i Start)))
+  pub started_written : (name : List ℕ) (i : ℕ) → is_name name ≡ true → position_from (bytes_eq name) 0 names.processes ≡ Some i → IsWritten (bare (calls.Process (KindService i Start)))
   started_written name i good found =
       written _ (codes "START") (name ∷ []) (visible_clear (codes "START") refl) (name_clear name good, tt) (started_read name i good found)
 
-  pub placed_written : (name : List ℕ) (i core : ℕ) → is_name name ≡ true → position_from (bytes_eq name) 0 names.processes ≡ Some i → core < 256 → IsWritten (bare (calls.Process (Own i (InitializeCoreAffinity core))))
+  pub placed_written : (name : List ℕ) (i core : ℕ) → is_name name ≡ true → position_from (bytes_eq name) 0 names.processes ≡ Some i → core < 256 → IsWritten (bare (calls.Process (KindService i (InitializeCoreAffinity core))))
   placed_written name i core good found small =
       written _ (codes "INITIALIZE_PROCESS_CORE_AFFINITY") (name ∷ decimal core ∷ [])
       (visible_clear (codes "INITIALIZE_PROCESS_CORE_AFFINITY") refl)

@@ -7,12 +7,12 @@ use Rattle.std.proofs.lemmas.List.{map-append}
 use Rattle.std.proofs.lemmas.Map.Keys.{IsDistinct-push}
 use Rattle.std.proofs.lemmas.Result.{IfOk-at_ok, IfOk-weaker}
 use Rattle.toml.specs.Data.{Data, Members, get_member}
-use Rattle.apex_types.specs.Name.{is_name}
+use Rattle.apex_types.specs.values.Name.{is_name}
 use Rattle.apex_table.specs.Terms.{Place}
 use Rattle.apex_table.specs.Fault.{section_word}
 use Rattle.apex_table.specs.Outcome.{each, place}
 use Rattle.apex_table.specs.Keys.{known, table, array, name_at}
-use Rattle.apex_table.specs.Sections.{SectionHead, KindOf, tables, entry, next_entry, section}
+use Rattle.apex_table.specs.Sections.{SectionHead, EntryKind, tables, entry, next_entry, section}
 use Rattle.apex_table.proofs.Results.{ok_then, both_ok, each_keeps, each_length, all_push}
 use Rattle.apex_table.proofs.KeyLaws.{optional_law, at_most_law, IsNew, name_law}
 
@@ -21,7 +21,7 @@ tables_law head =
     optional_law [] _ (λ ds. length ds ≤ head.most) (omega arith) (λ d.
     ok_then (array (place head.section 0) d) _ (λ ds. length ds ≤ head.most) (λ ds _. at_most_law (place head.section 0) head.most ds))
 
-section_few : {A : Type 0} (kind : KindOf A) (top : Members) → IfOk (section kind top) (λ xs. length xs ≤ kind.head.most)
+section_few : {A : Type 0} (kind : EntryKind A) (top : Members) → IfOk (section kind top) (λ xs. length xs ≤ kind.head.most)
 unfolding section
 section_few kind top =
     let given : Option Data = get_member (section_word kind.head.section) top in
@@ -30,29 +30,29 @@ section_few kind top =
     IfOk-weaker (each (next_entry kind) [] ds) _ _ (λ xs h. omega arith) (each_length (next_entry kind) [] ds))
 
 -- an entry is sound and has the name that was read
-pub record IsRead {A : Type 0} (kind : KindOf A) (IsSound : A → Type 0) (name : List ℕ) (x : A) : Type 0 where
+pub record IsRead {A : Type 0} (kind : EntryKind A) (IsSound : A → Type 0) (name : List ℕ) (x : A) : Type 0 where
   pub sound : IsSound x
   pub named : kind.name_of x ≡ name
 
 -- an entry that is read with a well-formed name is sound
-abbrev pub ReadsSound : {A : Type 0} → KindOf A → (A → Type 0) → Type 0
+abbrev pub ReadsSound : {A : Type 0} → EntryKind A → (A → Type 0) → Type 0
 ReadsSound kind IsSound = (at : Place) (name : List ℕ) (ms : Members) → IsTrue (is_name name) → IfOk (kind.read at name ms) (IsRead kind IsSound name)
 
 -- the entries are sound, and their names differ
-pub record AreSound {A : Type 0} (kind : KindOf A) (IsSound : A → Type 0) (xs : List A) : Type 0 where
+pub record AreSound {A : Type 0} (kind : EntryKind A) (IsSound : A → Type 0) (xs : List A) : Type 0 where
   pub each : AllByRecursion IsSound xs
   pub distinct : IsDistinct bytes_eq (map kind.name_of xs)
 
 -- the facts about a section that is read
-pub record IsSection {A : Type 0} (kind : KindOf A) (IsSound : A → Type 0) (xs : List A) : Type 0 where
+pub record IsSection {A : Type 0} (kind : EntryKind A) (IsSound : A → Type 0) (xs : List A) : Type 0 where
   pub few : length xs ≤ kind.head.most
   pub all : AreSound kind IsSound xs
 
-no_entry : {A : Type 0} (kind : KindOf A) (IsSound : A → Type 0) → AreSound kind IsSound []
+no_entry : {A : Type 0} (kind : EntryKind A) (IsSound : A → Type 0) → AreSound kind IsSound []
 unfolding IsDistinct
 no_entry kind IsSound = record { each = tt; distinct = tt }
 
-module _ {A : Type 0} (kind : KindOf A) (IsSound : A → Type 0) (reads : ReadsSound kind IsSound) where
+module _ {A : Type 0} (kind : EntryKind A) (IsSound : A → Type 0) (reads : ReadsSound kind IsSound) where
   next_entry_law : (before : List A) (d : Data) → AreSound kind IsSound before → IfOk (next_entry kind before d) (λ x. AreSound kind IsSound (before ++ x ∷ []))
   unfolding entry
   next_entry_law before d all =

@@ -10,9 +10,9 @@ use Rattle.std.proofs.lemmas.Fmt.{decimal-digits_value}
 use Rattle.std.proofs.lemmas.Option.{none-some, same_Some}
 use Rattle.std.proofs.lemmas.Slice.Eq.{bytes_eq-Decides}
 use Rattle.std.proofs.lemmas.Str.Parse.{IsNumeralModel, numerals_by_weight, tells_all_ascii_digits}
-use Rattle.apex_types.specs.Limits.{most_message, most_span}
-use Rattle.apex_types.specs.Numbers.{digits_value, has_leading_zero, number_of, at_most, at_least}
-use Rattle.apex_types.specs.Texts.{byte_text, bytes_text}
+use Rattle.apex_types.specs.values.Limits.{most_message, most_span}
+use Rattle.apex_types.specs.values.Numbers.{digits_value, has_leading_zero, number_of, at_most, at_least}
+use Rattle.apex_types.specs.text.Texts.{byte_text, bytes_text}
 use Rattle.apex_types.specs.declared.calls.RequestedMode.TheVariants.{Idle, Normal}
 use Rattle.apex_types.specs.declared.calls.Timeout.TheVariants.{Poll, Ticks, Infinite}
 use Rattle.apex_calls.specs.CallText.{timeout_text, mode_text}

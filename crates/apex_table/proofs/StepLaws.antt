@@ -7,15 +7,15 @@ use Rattle.std.proofs.lemmas.List.Splits.{join_with_byte-slice_split}
 use Rattle.std.proofs.lemmas.Option.{none-some, same_Some}
 use Rattle.std.proofs.lemmas.Result.{IfOk-weaker}
 use Rattle.std.proofs.lemmas.Slice.Eq.{bytes_eq-Decides}
-use Rattle.apex_types.specs.Calls.{origin_of, message_in, unknown}
-use Rattle.apex_types.specs.Table.{IsKnown, IsLawfulStep, IsLiteral, IsMessageOf, Step, Table}
-use Rattle.apex_types.specs.Texts.{bytes_text}
+use Rattle.apex_types.specs.services.Calls.{origin_of, message_in, unknown}
+use Rattle.apex_types.specs.table.Table.{IsKnown, IsLawfulStep, IsLiteral, IsMessageOf, Step, Table}
+use Rattle.apex_types.specs.text.Texts.{bytes_text}
 use Rattle.apex_types.specs.declared.calls.Named.TheVariants.{Known, Unknown}
 use Rattle.apex_types.specs.declared.calls.Origin.TheVariants.{Script}
 use Rattle.apex_calls.specs.Catalogue.{Row, IsRow, rows, row_in, row_of}
 use Rattle.apex_calls.specs.Parts.{IsInRange, call_of}
 use Rattle.apex_calls.specs.CallText.{IsKnownWord, call_words, count_of, named_text, row_words, spaced, word_text}
-use Rattle.apex_calls.specs.declared.catalogue.Kind.TheVariants.{Process, Semaphore, Buffer, Blackboard, Event, Mutex}
+use Rattle.apex_calls.specs.declared.catalogue.Kind.TheVariants.{Process, Semaphore, Buffer, Blackboard, EventFlag, Mutex}
 use Rattle.apex_calls.specs.declared.catalogue.Service.TheVariants as services
 use Rattle.apex_calls.specs.declared.catalogue.Shape.TheVariants.{Entry, Named, Number, Timeout, Message, Mode}
 use Rattle.apex_calls.proofs.Rows.{row_of_word_law}
@@ -36,7 +36,7 @@ pub record AreNamesOf (table : Table) (names : Names) : Type 0 where
   pub semaphores : length names.semaphores ≡ length table.semaphores
   pub buffers : length names.buffers ≡ length table.buffers
   pub blackboards : length names.blackboards ≡ length table.blackboards
-  pub events : length names.events ≡ length table.events
+  pub event_flags : length names.event_flags ≡ length table.event_flags
   pub mutexes : length names.mutexes ≡ length table.mutexes
 
 many_names : (table : Table) (names : Names) → AreNamesOf table names → (k : Kind) → length (names_in names k) ≡ count_of table k
@@ -44,7 +44,7 @@ many_names table names same Process = same.processes
 many_names table names same Semaphore = same.semaphores
 many_names table names same Buffer = same.buffers
 many_names table names same Blackboard = same.blackboards
-many_names table names same Event = same.events
+many_names table names same EventFlag = same.event_flags
 many_names table names same Mutex = same.mutexes
 
 -- the literal is what the word gives, where it gives one

@@ -6,13 +6,13 @@ use Rattle.std.specs.Str.{bytes_eq}
 use Rattle.std.proofs.lemmas.List.{length-map}
 use Rattle.std.proofs.lemmas.Result.{IfOk-at_ok}
 use Rattle.toml.specs.Data.{Members, get_member}
-use Rattle.apex_types.specs.Limits.{most_cores, most_entries, most_profile, usual_entries}
-use Rattle.apex_types.specs.Name.{is_name}
-use Rattle.apex_types.specs.Profiles.{profile_of}
-use Rattle.apex_types.specs.Table.{Table, ProcessConfig, SemaphoreConfig, BufferConfig, BlackboardConfig, EventConfig, MutexConfig, no_process, no_semaphore, no_buffer, no_blackboard, no_event, no_mutex, process_config, Step, step_at, no_step, literal_text, IsLawful}
+use Rattle.apex_types.specs.values.Limits.{most_cores, most_entries, most_profile, usual_entries}
+use Rattle.apex_types.specs.values.Name.{is_name}
+use Rattle.apex_types.specs.table.Profiles.{profile_of}
+use Rattle.apex_types.specs.table.Table.{Table, ProcessConfig, SemaphoreConfig, BufferConfig, BlackboardConfig, EventFlagConfig, MutexConfig, no_process, no_semaphore, no_buffer, no_blackboard, no_event_flag, no_mutex, process_config, Step, step_at, no_step, literal_text, IsLawful}
 use Rattle.apex_types.specs.declared.calls.Origin.TheVariants as origin
 use Rattle.apex_calls.specs.CallText.{call_text, call_words, count_of, name_of, spaced}
-use Rattle.apex_calls.specs.declared.catalogue.Kind.TheVariants.{Process, Semaphore, Buffer, Blackboard, Event, Mutex}
+use Rattle.apex_calls.specs.declared.catalogue.Kind.TheVariants.{Process, Semaphore, Buffer, Blackboard, EventFlag, Mutex}
 use Rattle.apex_table.specs.declared.fault.Section.TheVariants as sections
 use Rattle.apex_table.specs.declared.fault.TableFault.TheVariants.{BadInitStep}
 use Rattle.apex_table.specs.Terms.{Kind, Origin, Place, Profile, TableFault}
@@ -49,7 +49,7 @@ module _ (table : Table) where
   name_same Semaphore i = name_anywhere (λ (e : SemaphoreConfig). e.name) no_semaphore refl table.semaphores i
   name_same Buffer i = name_anywhere (λ (e : BufferConfig). e.name) no_buffer refl table.buffers i
   name_same Blackboard i = name_anywhere (λ (e : BlackboardConfig). e.name) no_blackboard refl table.blackboards i
-  name_same Event i = name_anywhere (λ (e : EventConfig). e.name) no_event refl table.events i
+  name_same EventFlag i = name_anywhere (λ (e : EventFlagConfig). e.name) no_event_flag refl table.event_flags i
   name_same Mutex i = name_anywhere (λ (e : MutexConfig). e.name) no_mutex refl table.mutexes i
 
   names_same : name_at (table_names table) ≡ name_of table
@@ -61,7 +61,7 @@ module _ (table : Table) where
     semaphores = length-map table.semaphores (λ (e : SemaphoreConfig). e.name);
     buffers = length-map table.buffers (λ (e : BufferConfig). e.name);
     blackboards = length-map table.blackboards (λ (e : BlackboardConfig). e.name);
-    events = length-map table.events (λ (e : EventConfig). e.name);
+    event_flags = length-map table.event_flags (λ (e : EventFlagConfig). e.name);
     mutexes = length-map table.mutexes (λ (e : MutexConfig). e.name);
   }
 
@@ -83,7 +83,7 @@ module _ (table : Table) where
     distinct_names Semaphore = lawful.semaphore_names
     distinct_names Buffer = lawful.buffer_names
     distinct_names Blackboard = lawful.blackboard_names
-    distinct_names Event = lawful.event_names
+    distinct_names EventFlag = lawful.event_flag_names
     distinct_names Mutex = lawful.mutex_names
 
     good_name : (k : Kind) (i : ℕ) → i < count_of table k → is_name (name_of table k i) ≡ true
@@ -91,7 +91,7 @@ module _ (table : Table) where
     good_name Semaphore i below = (lawful.semaphores i below).name
     good_name Buffer i below = (lawful.buffers i below).name
     good_name Blackboard i below = (lawful.blackboards i below).name
-    good_name Event i below = (lawful.events i below).name
+    good_name EventFlag i below = (lawful.event_flags i below).name
     good_name Mutex i below = (lawful.mutexes i below).name
 
     many_names : (k : Kind) → length (names_in (table_names table) k) ≡ count_of table k
@@ -99,7 +99,7 @@ module _ (table : Table) where
     many_names Semaphore = own_names.semaphores
     many_names Buffer = own_names.buffers
     many_names Blackboard = own_names.blackboards
-    many_names Event = own_names.events
+    many_names EventFlag = own_names.event_flags
     many_names Mutex = own_names.mutexes
 
     -- a name that is an entry's is good, and found at its place

@@ -1,13 +1,13 @@
 -- The kind of blackboards.
 use Rattle.std.specs.Prelude.{codes, ℕ, List, [], ◌∷◌, map, Result, Ok}
 use Rattle.toml.specs.Data.{Members}
-use Rattle.apex_types.specs.Limits.{most_message, most_objects}
-use Rattle.apex_types.specs.Table.{BlackboardConfig}
+use Rattle.apex_types.specs.values.Limits.{most_message, most_objects}
+use Rattle.apex_types.specs.table.Table.{BlackboardConfig}
 use Rattle.apex_table.specs.Terms.{Place, TableFault}
 use Rattle.apex_table.specs.declared.fault.Section.TheVariants.{Blackboard}
 use Rattle.apex_table.specs.Outcome.{◌>>=◌}
 use Rattle.apex_table.specs.Keys.{number_at}
-use Rattle.apex_table.specs.Sections.{KindOf}
+use Rattle.apex_table.specs.Sections.{EntryKind}
 
 -- the names of blackboards
 abbrev pub blackboard_names : List BlackboardConfig → List (List ℕ)
@@ -20,9 +20,14 @@ blackboard at name ms = do
   Ok (record { name = name; length = length })
 
 -- the kind of blackboards
-abbrev pub blackboards : KindOf BlackboardConfig
+abbrev pub blackboards : EntryKind BlackboardConfig
 blackboards = record {
-  head = record { section = Blackboard; most = most_objects; keys = codes "name" ∷ codes "length" ∷ [] };
+  head =
+      record {
+        section = Blackboard;
+        most = most_objects;
+        keys = codes "name" ∷ codes "length" ∷ [];
+      };
   name_of = λ b. b.name;
   read = blackboard;
 }

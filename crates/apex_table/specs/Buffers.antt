@@ -1,13 +1,13 @@
 -- The kind of buffers.
 use Rattle.std.specs.Prelude.{codes, ℕ, List, [], ◌∷◌, map, Result, Ok}
 use Rattle.toml.specs.Data.{Members}
-use Rattle.apex_types.specs.Limits.{most_message, most_messages, most_objects}
-use Rattle.apex_types.specs.Table.{BufferConfig}
+use Rattle.apex_types.specs.values.Limits.{most_message, most_messages, most_objects}
+use Rattle.apex_types.specs.table.Table.{BufferConfig}
 use Rattle.apex_table.specs.Terms.{Place, TableFault}
 use Rattle.apex_table.specs.declared.fault.Section.TheVariants.{Buffer}
 use Rattle.apex_table.specs.Outcome.{◌>>=◌}
 use Rattle.apex_table.specs.Keys.{number_at, discipline_at}
-use Rattle.apex_table.specs.Sections.{KindOf}
+use Rattle.apex_table.specs.Sections.{EntryKind}
 
 -- the names of buffers
 abbrev pub buffer_names : List BufferConfig → List (List ℕ)
@@ -22,9 +22,14 @@ buffer at name ms = do
   Ok (record { name = name; length = length; capacity = capacity; discipline = discipline })
 
 -- the kind of buffers
-abbrev pub buffers : KindOf BufferConfig
+abbrev pub buffers : EntryKind BufferConfig
 buffers = record {
-  head = record { section = Buffer; most = most_objects; keys = codes "name" ∷ codes "length" ∷ codes "capacity" ∷ codes "discipline" ∷ [] };
+  head =
+      record {
+        section = Buffer;
+        most = most_objects;
+        keys = codes "name" ∷ codes "length" ∷ codes "capacity" ∷ codes "discipline" ∷ [];
+      };
   name_of = λ b. b.name;
   read = buffer;
 }

@@ -1,7 +1,7 @@
 -- The text of a fault.
 use Rattle.std.specs.Prelude.{codes, decimal, ℕ, List, [], ◌++◌, Option, Some, None}
 use Rattle.apex_table.specs.declared.fault.Section.{Section}
-use Rattle.apex_table.specs.declared.fault.Section.TheVariants.{Top, Process, Semaphore, Buffer, Blackboard, Event, Mutex, Init}
+use Rattle.apex_table.specs.declared.fault.Section.TheVariants.{Top, Process, Semaphore, Buffer, Blackboard, EventFlag, Mutex, Init}
 use Rattle.apex_table.specs.Terms.{Place, TableFault}
 use Rattle.apex_table.specs.declared.fault.TableFault.TheVariants.{Memory, NotToml, MissingKey, WrongType, OutOfRange, BadName, DoubleName, UnknownName, UnknownKey, BadStep, BadInitStep, TooMany}
 
@@ -12,7 +12,7 @@ section_word Process = codes "process"
 section_word Semaphore = codes "semaphore"
 section_word Buffer = codes "buffer"
 section_word Blackboard = codes "blackboard"
-section_word Event = codes "event"
+section_word EventFlag = codes "event"
 section_word Mutex = codes "mutex"
 section_word Init = codes "init"
 

@@ -1,8 +1,8 @@
 -- The init list that a table gives: its texts, and their steps.
 use Rattle.std.specs.Prelude.{ℕ, ◌+◌, Bool, if◌then◌else◌, List, [], length, Option, Some, None, Result, Ok, Err}
 use Rattle.toml.specs.Data.{Data}
-use Rattle.apex_types.specs.Limits.{most_init_steps}
-use Rattle.apex_types.specs.Table.{ProcessConfig, Step}
+use Rattle.apex_types.specs.values.Limits.{most_init_steps}
+use Rattle.apex_types.specs.table.Table.{ProcessConfig, Step}
 use Rattle.apex_table.specs.Terms.{Call, Origin, Place, TableFault}
 use Rattle.apex_types.specs.declared.calls.Origin.TheVariants as origin
 use Rattle.apex_calls.specs.Catalogue.{row_of}
@@ -58,6 +58,7 @@ abbrev pub init_steps : Names → List (List ℕ) → Result (List Step) TableFa
 init_steps names ts = each (next_init_step names) [] ts
 
 -- the init list that the table gives, or else the default one
-abbrev pub init_list : Names → List ProcessConfig → Objects → Option (List (List ℕ)) → Result (List Step) TableFault
+abbrev pub init_list : Names → List ProcessConfig → Objects → Option (List (List ℕ))
+    → Result (List Step) TableFault
 init_list names processes objects (Some ts) = init_steps names ts
 init_list names processes objects None = Ok (default_init processes objects)

@@ -4,8 +4,8 @@ use Rattle.std.specs.Prelude.{codes, ℕ, ℤ, pos, negsuc, Bool, true, ◌&&◌
 use Rattle.std.specs.List.{list_any}
 use Rattle.std.specs.Str.{bytes_eq}
 use Rattle.toml.specs.Data.{Data, Items, no_items, item, Members, no_members, member, get_member, as_str, as_integer, as_bool, as_array, as_table}
-use Rattle.apex_types.specs.Limits.{most_span}
-use Rattle.apex_types.specs.Name.{is_name}
+use Rattle.apex_types.specs.values.Limits.{most_span}
+use Rattle.apex_types.specs.values.Name.{is_name}
 use Rattle.apex_table.specs.Terms.{DeadlineType, Discipline, Place, TableFault}
 use Rattle.apex_types.specs.declared.records.DeadlineType.TheVariants.{Soft, Hard}
 use Rattle.apex_types.specs.declared.records.Discipline.TheVariants.{Fifo, Priority}
@@ -31,7 +31,8 @@ abbrev pub required : Place → List ℕ → Members → Result Data TableFault
 required at key ms = some_or (MissingKey at) (get_member key ms)
 
 -- a key with a default
-abbrev pub optional : {A : Type 0} → A → (Data → Result A TableFault) → Option Data → Result A TableFault
+abbrev pub optional : {A : Type 0} → A → (Data → Result A TableFault) → Option Data
+    → Result A TableFault
 optional default read None = Ok default
 optional default read (Some d) = read d
 

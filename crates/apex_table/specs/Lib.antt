@@ -7,7 +7,7 @@ pub mod Processes
 pub mod Semaphores
 pub mod Buffers
 pub mod Blackboards
-pub mod Events
+pub mod EventFlags
 pub mod Mutexes
 pub mod Objects
 pub mod Names

@@ -1,13 +1,13 @@
 -- The kind of mutexes.
 use Rattle.std.specs.Prelude.{codes, ℕ, List, [], ◌∷◌, map, Result, Ok}
 use Rattle.toml.specs.Data.{Members}
-use Rattle.apex_types.specs.Limits.{most_objects, most_priority}
-use Rattle.apex_types.specs.Table.{MutexConfig}
+use Rattle.apex_types.specs.values.Limits.{most_objects, most_priority}
+use Rattle.apex_types.specs.table.Table.{MutexConfig}
 use Rattle.apex_table.specs.Terms.{Place, TableFault}
 use Rattle.apex_table.specs.declared.fault.Section.TheVariants.{Mutex}
 use Rattle.apex_table.specs.Outcome.{◌>>=◌}
 use Rattle.apex_table.specs.Keys.{number_at, discipline_at}
-use Rattle.apex_table.specs.Sections.{KindOf}
+use Rattle.apex_table.specs.Sections.{EntryKind}
 
 -- the names of mutexes
 abbrev pub mutex_names : List MutexConfig → List (List ℕ)
@@ -21,9 +21,14 @@ mutex at name ms = do
   Ok (record { name = name; ceiling = ceiling; discipline = discipline })
 
 -- the kind of mutexes
-abbrev pub mutexes : KindOf MutexConfig
+abbrev pub mutexes : EntryKind MutexConfig
 mutexes = record {
-  head = record { section = Mutex; most = most_objects; keys = codes "name" ∷ codes "ceiling" ∷ codes "discipline" ∷ [] };
+  head =
+      record {
+        section = Mutex;
+        most = most_objects;
+        keys = codes "name" ∷ codes "ceiling" ∷ codes "discipline" ∷ [];
+      };
   name_of = λ m. m.name;
   read = mutex;
 }

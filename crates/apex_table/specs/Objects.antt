@@ -1,14 +1,14 @@
 -- The objects of a table, kind by kind.
 use Rattle.std.specs.Prelude.{List, Result, Ok}
 use Rattle.toml.specs.Data.{Members}
-use Rattle.apex_types.specs.Table.{SemaphoreConfig, BufferConfig, BlackboardConfig, EventConfig, MutexConfig}
+use Rattle.apex_types.specs.table.Table.{SemaphoreConfig, BufferConfig, BlackboardConfig, EventFlagConfig, MutexConfig}
 use Rattle.apex_table.specs.Terms.{TableFault}
 use Rattle.apex_table.specs.Outcome.{◌>>=◌}
 use Rattle.apex_table.specs.Sections.{section}
 use Rattle.apex_table.specs.Semaphores.{semaphores}
 use Rattle.apex_table.specs.Buffers.{buffers}
 use Rattle.apex_table.specs.Blackboards.{blackboards}
-use Rattle.apex_table.specs.Events.{events}
+use Rattle.apex_table.specs.EventFlags.{event_flags}
 use Rattle.apex_table.specs.Mutexes.{mutexes}
 
 -- the objects of each kind, in the order of the table
@@ -16,7 +16,7 @@ pub record Objects : Type 0 where
   pub semaphores : List SemaphoreConfig
   pub buffers : List BufferConfig
   pub blackboards : List BlackboardConfig
-  pub events : List EventConfig
+  pub event_flags : List EventFlagConfig
   pub mutexes : List MutexConfig
 
 -- the sections of objects, in the order of the checks
@@ -25,6 +25,12 @@ objects top = do
   semaphores ← section semaphores top
   buffers ← section buffers top
   blackboards ← section blackboards top
-  events ← section events top
+  event_flags ← section event_flags top
   mutexes ← section mutexes top
-  Ok (record { semaphores = semaphores; buffers = buffers; blackboards = blackboards; events = events; mutexes = mutexes })
+  Ok (record {
+    semaphores = semaphores;
+    buffers = buffers;
+    blackboards = blackboards;
+    event_flags = event_flags;
+    mutexes = mutexes;
+  })

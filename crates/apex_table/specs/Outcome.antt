@@ -6,7 +6,8 @@ use Rattle.apex_table.specs.declared.fault.TableFault.TheVariants.{Memory}
 
 infixl 10 ◌>>=◌
 -- the first fault ends a reading
-abbrev pub ◌>>=◌ : {A B : Type 0} → Result A TableFault → (A → Result B TableFault) → Result B TableFault
+abbrev pub ◌>>=◌ : {A B : Type 0} → Result A TableFault → (A → Result B TableFault)
+    → Result B TableFault
 (Ok x) >>= f = f x
 (Err e) >>= f = Err e
 
@@ -21,7 +22,8 @@ made f (Ok x) = Ok (f x)
 made f (Err e) = Err e
 
 -- reads each element; a reading gets the values of those before it
-abbrev pub each : {A B : Type 0} → (List A → B → Result A TableFault) → List A → List B → Result (List A) TableFault
+abbrev pub each : {A B : Type 0} → (List A → B → Result A TableFault) → List A → List B
+    → Result (List A) TableFault
 each read done [] = Ok done
 each read done (y ∷ ys) = read done y >>= λ x. each read (done ++ x ∷ []) ys
 

@@ -1,14 +1,14 @@
 -- The kind of processes, whose scripts are still texts.
 use Rattle.std.specs.Prelude.{codes, ℕ, ◌-◌, Bool, true, false, List, [], ◌∷◌, map, Result, Ok, Err}
 use Rattle.toml.specs.Data.{Data, Members}
-use Rattle.apex_types.specs.Limits.{most_priority, most_steps}
-use Rattle.apex_types.specs.Profiles.{processes_of}
+use Rattle.apex_types.specs.values.Limits.{most_priority, most_steps}
+use Rattle.apex_types.specs.table.Profiles.{processes_of}
 use Rattle.apex_table.specs.declared.fault.Section.TheVariants.{Process}
 use Rattle.apex_table.specs.Terms.{Attributes, Place, Profile, TableFault}
 use Rattle.apex_table.specs.declared.fault.TableFault.TheVariants.{MissingKey, OutOfRange}
 use Rattle.apex_table.specs.Outcome.{◌>>=◌, each, place}
 use Rattle.apex_table.specs.Keys.{text, array_at, at_most, number_at, number_or, span_or_infinite, truth_or, deadline_or_soft}
-use Rattle.apex_table.specs.Sections.{KindOf}
+use Rattle.apex_table.specs.Sections.{EntryKind}
 
 -- a process whose script is still text
 pub record ProcessDraft : Type 0 where
@@ -54,7 +54,8 @@ process cores at name ms = do
   script ← script_at at loops ms
   Ok (record {
     name = name;
-    attributes = record { priority = priority; period = period; capacity = capacity; deadline = deadline };
+    attributes =
+        record { priority = priority; period = period; capacity = capacity; deadline = deadline };
     core = core;
     loops = loops;
     start = start;
@@ -69,7 +70,7 @@ process_keys =
     ∷ codes "loop" ∷ codes "start" ∷ codes "script" ∷ []
 
 -- the kind of processes, in a profile and on `cores` cores
-abbrev pub processes : Profile → ℕ → KindOf ProcessDraft
+abbrev pub processes : Profile → ℕ → EntryKind ProcessDraft
 processes profile cores = record {
   head = record { section = Process; most = processes_of profile; keys = process_keys };
   name_of = λ p. p.name;

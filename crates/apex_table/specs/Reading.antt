@@ -3,9 +3,9 @@ use Rattle.std.specs.Prelude.{codes, ℕ, if◌then◌else◌, List, [], ◌∷�
 use Rattle.std.specs.Str.{is_utf8}
 use Rattle.toml.specs.Data.{Members, get_member}
 use Rattle.toml.specs.Parse.{parse_document}
-use Rattle.apex_types.specs.Limits.{most_cores, most_entries, most_profile, usual_entries}
-use Rattle.apex_types.specs.Profiles.{profile_of}
-use Rattle.apex_types.specs.Table.{ProcessConfig, Step, Table}
+use Rattle.apex_types.specs.values.Limits.{most_cores, most_entries, most_profile, usual_entries}
+use Rattle.apex_types.specs.table.Profiles.{profile_of}
+use Rattle.apex_types.specs.table.Table.{ProcessConfig, Step, Table}
 use Rattle.apex_table.specs.declared.fault.Section.TheVariants.{Top}
 use Rattle.apex_table.specs.Terms.{Profile, TableFault}
 use Rattle.apex_table.specs.declared.fault.TableFault.TheVariants.{NotToml}
@@ -35,7 +35,7 @@ table_with profile cores limit processes objects init = record {
   semaphores = objects.semaphores;
   buffers = objects.buffers;
   blackboards = objects.blackboards;
-  events = objects.events;
+  event_flags = objects.event_flags;
   mutexes = objects.mutexes;
   init = init;
 }

@@ -15,23 +15,26 @@ pub record SectionHead : Type 0 where
   pub keys : List (List ℕ)
 
 abbrev pub head_of : Head → SectionHead
-head_of head = record { section = head.section; most = head.most; keys = map (λ k. k.now) head.keys.now }
+head_of head =
+    record { section = head.section; most = head.most; keys = map (λ k. k.now) head.keys.now }
 
 -- a kind of entries: its section, the name of an entry, and the reading of the entry of a name
-pub record KindOf (A : Type 0) : Type 0 where
+pub record EntryKind (A : Type 0) : Type 0 where
   pub head : SectionHead
   pub name_of : A → List ℕ
   pub read : Place → List ℕ → Members → Result A TableFault
 
-abbrev pub kind_of : {A : Type 0} → SectionHead → (A → List ℕ) → (Place → List ℕ → Members → Result A TableFault) → KindOf A
+abbrev pub kind_of : {A : Type 0} → SectionHead → (A → List ℕ)
+    → (Place → List ℕ → Members → Result A TableFault) → EntryKind A
 kind_of head name_of read = record { head = head; name_of = name_of; read = read }
 
 -- the tables of a section; none if it is absent
 abbrev pub tables : SectionHead → Option Data → Result (List Data) TableFault
-tables head o = optional [] (λ d. array (place head.section 0) d >>= at_most (place head.section 0) head.most) o
+tables head o =
+    optional [] (λ d. array (place head.section 0) d >>= at_most (place head.section 0) head.most) o
 
 -- an entry; the names of those before it are taken
-unfoldable pub entry : {A : Type 0} → KindOf A → Place → List A → Data → Result A TableFault
+unfoldable pub entry : {A : Type 0} → EntryKind A → Place → List A → Data → Result A TableFault
 entry kind at before d = do
   t ← table at d
   ms ← known at kind.head.keys t
@@ -39,9 +42,10 @@ entry kind at before d = do
   kind.read at name ms
 
 -- the entry after those before
-abbrev pub next_entry : {A : Type 0} → KindOf A → List A → Data → Result A TableFault
+abbrev pub next_entry : {A : Type 0} → EntryKind A → List A → Data → Result A TableFault
 next_entry kind before d = entry kind (place kind.head.section (length before + 1)) before d
 
 -- the section of a kind
-unfoldable pub section : {A : Type 0} → KindOf A → Members → Result (List A) TableFault
-section kind top = tables kind.head (get_member (section_word kind.head.section) top) >>= each (next_entry kind) []
+unfoldable pub section : {A : Type 0} → EntryKind A → Members → Result (List A) TableFault
+section kind top =
+    tables kind.head (get_member (section_word kind.head.section) top) >>= each (next_entry kind) []

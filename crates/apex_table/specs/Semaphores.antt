@@ -1,13 +1,13 @@
 -- The kind of semaphores.
 use Rattle.std.specs.Prelude.{codes, ℕ, List, [], ◌∷◌, map, Result, Ok}
 use Rattle.toml.specs.Data.{Members}
-use Rattle.apex_types.specs.Limits.{most_objects, most_value}
-use Rattle.apex_types.specs.Table.{SemaphoreConfig}
+use Rattle.apex_types.specs.values.Limits.{most_objects, most_value}
+use Rattle.apex_types.specs.table.Table.{SemaphoreConfig}
 use Rattle.apex_table.specs.Terms.{Place, TableFault}
 use Rattle.apex_table.specs.declared.fault.Section.TheVariants.{Semaphore}
 use Rattle.apex_table.specs.Outcome.{◌>>=◌}
 use Rattle.apex_table.specs.Keys.{number_at, discipline_at}
-use Rattle.apex_table.specs.Sections.{KindOf}
+use Rattle.apex_table.specs.Sections.{EntryKind}
 
 -- the names of semaphores
 abbrev pub semaphore_names : List SemaphoreConfig → List (List ℕ)
@@ -22,9 +22,14 @@ semaphore at name ms = do
   Ok (record { name = name; maximum = maximum; initial = initial; discipline = discipline })
 
 -- the kind of semaphores
-abbrev pub semaphores : KindOf SemaphoreConfig
+abbrev pub semaphores : EntryKind SemaphoreConfig
 semaphores = record {
-  head = record { section = Semaphore; most = most_objects; keys = codes "name" ∷ codes "maximum" ∷ codes "initial" ∷ codes "discipline" ∷ [] };
+  head =
+      record {
+        section = Semaphore;
+        most = most_objects;
+        keys = codes "name" ∷ codes "maximum" ∷ codes "initial" ∷ codes "discipline" ∷ [];
+      };
   name_of = λ s. s.name;
   read = semaphore;
 }

@@ -1,6 +1,6 @@
 -- The text of a step: its call, as a line writes it, is the one text that is read as the step.
 use Rattle.std.specs.Prelude.{◌≡◌, ℕ, ◌+◌, ◌<◌, List, length, map, Option, option_map, Ok, slice_get}
-use Rattle.apex_types.specs.Table.{Table, Step, ProcessConfig, SemaphoreConfig, BufferConfig, BlackboardConfig, EventConfig, MutexConfig, process_config, step_at, IsLawful}
+use Rattle.apex_types.specs.table.Table.{Table, Step, ProcessConfig, SemaphoreConfig, BufferConfig, BlackboardConfig, EventFlagConfig, MutexConfig, process_config, step_at, IsLawful}
 use Rattle.apex_types.specs.declared.calls.Origin.TheVariants as origin
 use Rattle.apex_calls.specs.CallText.{call_text}
 use Rattle.apex_table.specs.declared.fault.Section.TheVariants.{Process, Init}
@@ -16,27 +16,33 @@ table_names table = record {
   semaphores = map (λ (e : SemaphoreConfig). e.name) table.semaphores;
   buffers = map (λ (e : BufferConfig). e.name) table.buffers;
   blackboards = map (λ (e : BlackboardConfig). e.name) table.blackboards;
-  events = map (λ (e : EventConfig). e.name) table.events;
+  event_flags = map (λ (e : EventFlagConfig). e.name) table.event_flags;
   mutexes = map (λ (e : MutexConfig). e.name) table.mutexes;
 }
 
 -- the text of the step's call is read as the step, and no other text is
 pub record HasText (table : Table) (at : Place) (origin : Origin) (given : Step) : Type 0 where
   pub read : step at origin (table_names table) (call_text table given.call) ≡ Ok given
-  pub alone : (text : List ℕ) → step at origin (table_names table) text ≡ Ok given → text ≡ call_text table given.call
+  pub alone : (text : List ℕ) → step at origin (table_names table) text ≡ Ok given
+      → text ≡ call_text table given.call
 
 -- so it is with each step of the table
 pub record HaveTexts (table : Table) : Type 0 where
-  pub scripts : (p k : ℕ) → p < length table.processes → k < length (process_config table p).script → HasText table (place Process (p + 1)) (origin.Script p k) (step_at (process_config table p).script k)
-  pub init : (k : ℕ) → k < length table.init → HasText table (place Init (k + 1)) (origin.Init k) (step_at table.init k)
+  pub scripts : (p k : ℕ) → p < length table.processes → k < length (process_config table p).script
+      → HasText table (place Process (p + 1)) (origin.Script p k)
+      (step_at (process_config table p).script k)
+  pub init : (k : ℕ) → k < length table.init
+      → HasText table (place Init (k + 1)) (origin.Init k) (step_at table.init k)
 
 -- the texts of the steps of a table's scripts
 abbrev pub script_texts : Table → List (List (List ℕ))
-script_texts table = map (λ (p : ProcessConfig). map (λ (s : Step). call_text table s.call) p.script) table.processes
+script_texts table =
+    map (λ (p : ProcessConfig). map (λ (s : Step). call_text table s.call) p.script) table.processes
 
 -- the text of the step at a place of a process's script, if there is such a step
 abbrev pub step_text : Table → ℕ → ℕ → Option (List ℕ)
-step_text table p k = option_map (λ (s : Step). call_text table s.call) (slice_get (process_config table p).script k)
+step_text table p k =
+    option_map (λ (s : Step). call_text table s.call) (slice_get (process_config table p).script k)
 
 -- the table is lawful, and these are the texts of its scripts
 pub record IsWithTexts (texts : List (List (List ℕ))) (table : Table) : Type 0 where

@@ -3,7 +3,7 @@
 use Rattle.std.specs.Prelude.{ℕ, Bool, true, false, ◌&&◌, not, if◌then◌else◌, List, [], ◌∷◌, length, Option, None, Some, is_some, Result, Ok, Err}
 use Rattle.std.specs.List.{position_from}
 use Rattle.std.specs.Str.{bytes_eq}
-use Rattle.apex_types.specs.Table.{Step}
+use Rattle.apex_types.specs.table.Table.{Step}
 use Rattle.apex_types.specs.declared.calls.Named.TheVariants.{Known, Unknown}
 use Rattle.apex_calls.specs.Catalogue.{Row, rows, row_in}
 use Rattle.apex_calls.specs.Parts.{none, call_of}
@@ -42,41 +42,54 @@ nothing = record { arguments = none; literal = [] }
 
 -- one more argument
 abbrev pub with_entry : Given → ℕ → Given
-with_entry given i = record { arguments = record given.arguments { entry = i }; literal = given.literal }
+with_entry given i =
+    record { arguments = record given.arguments { entry = i }; literal = given.literal }
 
 abbrev pub with_number : Given → ℕ → Given
-with_number given n = record { arguments = record given.arguments { number = n }; literal = given.literal }
+with_number given n =
+    record { arguments = record given.arguments { number = n }; literal = given.literal }
 
 abbrev pub with_timeout : Given → TimeoutOf → Given
-with_timeout given t = record { arguments = record given.arguments { timeout = t }; literal = given.literal }
+with_timeout given t =
+    record { arguments = record given.arguments { timeout = t }; literal = given.literal }
 
 abbrev pub with_mode : Given → RequestedMode → Given
-with_mode given mode = record { arguments = record given.arguments { mode = mode }; literal = given.literal }
+with_mode given mode =
+    record { arguments = record given.arguments { mode = mode }; literal = given.literal }
 
 -- a name, and the place of its entry; a name that no entry has is the literal of the step of this origin
 abbrev pub with_name : Given → Origin → List ℕ → Option ℕ → Given
-with_name given origin name (Some i) = record { arguments = record given.arguments { named = Known i }; literal = given.literal }
-with_name given origin name None = record { arguments = record given.arguments { named = Unknown origin }; literal = name }
+with_name given origin name (Some i) =
+    record { arguments = record given.arguments { named = Known i }; literal = given.literal }
+with_name given origin name None =
+    record { arguments = record given.arguments { named = Unknown origin }; literal = name }
 
 -- the bytes of a message, which are the literal of the step of this origin
 abbrev pub with_message : Given → Origin → List ℕ → Given
 with_message given origin bytes = record {
-  arguments = record given.arguments { message = record { origin = origin; length = length bytes } };
+  arguments =
+      record given.arguments { message = record { origin = origin; length = length bytes } };
   literal = bytes;
 }
 
 -- the values with that of a word of this shape, after those before it, in the step of this origin
 unfoldable pub with_word : Place → Origin → Names → Given → Shape → List ℕ → Result Given TableFault
-with_word at origin names given (Entry kind) word = made (with_entry given) (entry_of at (names_in names kind) word)
+with_word at origin names given (Entry kind) word =
+    made (with_entry given) (entry_of at (names_in names kind) word)
 with_word at origin names given (Named kind) word =
-    made (λ name. with_name given origin name (position_from (bytes_eq name) 0 (names_in names kind))) (well_formed at word)
-with_word at origin names given (Number low high) word = made (with_number given) (number at low high word)
+    made (λ name. with_name given origin name
+    (position_from (bytes_eq name) 0 (names_in names kind))) (well_formed at word)
+with_word at origin names given (Number low high) word =
+    made (with_number given) (number at low high word)
 with_word at origin names given Timeout word = made (with_timeout given) (timeout at word)
-with_word at origin names given Message word = made (with_message given origin) (message_bytes at word)
-with_word at origin names given Mode word = made (with_mode given) (some_or (BadStep at) (requested_mode word))
+with_word at origin names given Message word =
+    made (with_message given origin) (message_bytes at word)
+with_word at origin names given Mode word =
+    made (with_mode given) (some_or (BadStep at) (requested_mode word))
 
 -- the values with those of all words, from left to right
-abbrev pub with_words : Place → Origin → Names → Given → List Shape → List (List ℕ) → Result Given TableFault
+abbrev pub with_words : Place → Origin → Names → Given → List Shape → List (List ℕ)
+    → Result Given TableFault
 with_words at origin names given (shape ∷ shapes) (word ∷ ws) =
     with_word at origin names given shape word >>= λ more. with_words at origin names more shapes ws
 with_words at origin names given _ _ = Ok given
@@ -88,7 +101,8 @@ step_with row given = record { call = call_of row.service given.arguments; liter
 -- the step of a row's service, by the words behind the service
 unfoldable pub row_step : Place → Origin → Names → Row → List (List ℕ) → Result Step TableFault
 row_step at origin names row ws =
-    if have_forms row.shapes ws then made (step_with row) (with_words at origin names nothing row.shapes ws)
+    if have_forms row.shapes ws
+    then made (step_with row) (with_words at origin names nothing row.shapes ws)
     else Err (BadStep at)
 
 -- the step of these words

@@ -4,11 +4,11 @@ use Rattle.std.specs.Prelude.{codes, ℕ, ◌+◌, ◌*◌, ◌%◌, ◌==◌, �
 use Rattle.std.specs.Char.{digit_value, is_ascii_digit}
 use Rattle.std.specs.List.{list_all, slice_split, position_from}
 use Rattle.std.specs.Str.{bytes_eq}
-use Rattle.apex_types.specs.Limits.{most_message, most_span}
+use Rattle.apex_types.specs.values.Limits.{most_message, most_span}
 use Rattle.apex_table.specs.Terms.{Place, RequestedMode, TableFault, Timeout}
 use Rattle.apex_types.specs.declared.calls.RequestedMode.TheVariants.{Idle, Normal}
 use Rattle.apex_types.specs.declared.calls.Timeout.TheVariants.{Poll, Ticks, Infinite}
-use Rattle.apex_types.specs.Numbers.{number_of, at_least, at_most}
+use Rattle.apex_types.specs.values.Numbers.{number_of, at_least, at_most}
 use Rattle.apex_table.specs.declared.fault.TableFault.TheVariants.{OutOfRange, UnknownName}
 use Rattle.apex_table.specs.Outcome.{made, some_or}
 

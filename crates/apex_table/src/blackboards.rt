@@ -5,7 +5,7 @@ use crate::configs::BlackboardConfig;
 use crate::fault::{Place, Section, TableFault};
 use crate::keys;
 use crate::named::Named;
-use crate::sections::{Head, Kind};
+use crate::sections::{EntryKind, Head};
 use apex_types::{MOST_MESSAGE, MOST_OBJECTS, Name};
 use std::alloc::Global;
 use toml::Table;
@@ -22,7 +22,7 @@ impl Named for BlackboardConfig {
 #[derive(Drop)]
 pub struct Blackboards;
 
-impl<'a> Kind<'a> for Blackboards {
+impl<'a> EntryKind<'a> for Blackboards {
     type Entry = BlackboardConfig;
 
     ghost head = { λ _. blackboards.head };

@@ -5,7 +5,7 @@ use crate::configs::BufferConfig;
 use crate::fault::{Place, Section, TableFault};
 use crate::keys;
 use crate::named::Named;
-use crate::sections::{Head, Kind};
+use crate::sections::{EntryKind, Head};
 use apex_types::{MOST_MESSAGE, MOST_MESSAGES, MOST_OBJECTS, Name};
 use std::alloc::Global;
 use toml::Table;
@@ -22,7 +22,7 @@ impl Named for BufferConfig {
 #[derive(Drop)]
 pub struct Buffers;
 
-impl<'a> Kind<'a> for Buffers {
+impl<'a> EntryKind<'a> for Buffers {
     type Entry = BufferConfig;
 
     ghost head = { λ _. buffers.head };

@@ -1,7 +1,7 @@
 //! The attributes of a process, and of an object of each kind, in the table.
 ghost use Rattle.std.specs.Prelude.{◌≡◌, ◌≤◌, length};
-ghost use Rattle.apex_types.specs.Limits.{most_literal};
-ghost use Rattle.apex_types.specs.Table.{step_at, call_in};
+ghost use Rattle.apex_types.specs.values.Limits.{most_literal};
+ghost use Rattle.apex_types.specs.table.Table.{step_at, call_in};
 
 use crate::listed::{call_in, literal_in};
 use apex_types::{Attributes, Call, CoreId, Discipline, Name, Step};
@@ -19,11 +19,18 @@ pub struct ProcessConfig {
 }
 
 impl Model for ProcessConfig {
-    ghost use Rattle.apex_types.specs.Table.{ProcessConfig};
+    ghost use Rattle.apex_types.specs.table.Table.{ProcessConfig};
 
     ghost Value = { ProcessConfig };
 
-    ghost view = { λ p. record { name = p.name; attributes = p.attributes; core = p.core; loops = p.loops; start = p.starts; script = p.script.items } };
+    ghost view = { λ p. record {
+      name = p.name;
+      attributes = p.attributes;
+      core = p.core;
+      loops = p.loops;
+      start = p.starts;
+      script = p.script.items;
+    } };
 }
 
 impl ProcessConfig {
@@ -35,7 +42,14 @@ impl ProcessConfig {
         starts: bool,
         script: Vec<Step>,
     ) -> ProcessConfig
-        ensures { result ≡ record { name = name; attributes = attributes; core = core; loops = loops; start = starts; script = script.items } }
+        ensures { result ≡ record {
+          name = name;
+          attributes = attributes;
+          core = core;
+          loops = loops;
+          start = starts;
+          script = script.items;
+        } }
     {
         ProcessConfig {
             name,
@@ -114,11 +128,16 @@ pub struct SemaphoreConfig {
 }
 
 impl Model for SemaphoreConfig {
-    ghost use Rattle.apex_types.specs.Table.{SemaphoreConfig};
+    ghost use Rattle.apex_types.specs.table.Table.{SemaphoreConfig};
 
     ghost Value = { SemaphoreConfig };
 
-    ghost view = { λ s. record { name = s.name; maximum = s.maximum; initial = s.initial; discipline = s.discipline } };
+    ghost view = { λ s. record {
+      name = s.name;
+      maximum = s.maximum;
+      initial = s.initial;
+      discipline = s.discipline;
+    } };
 }
 
 impl SemaphoreConfig {
@@ -128,7 +147,12 @@ impl SemaphoreConfig {
         initial: u16,
         discipline: Discipline,
     ) -> SemaphoreConfig
-        ensures { result ≡ record { name = name; maximum = maximum; initial = initial; discipline = discipline } }
+        ensures { result ≡ record {
+          name = name;
+          maximum = maximum;
+          initial = initial;
+          discipline = discipline;
+        } }
     {
         SemaphoreConfig {
             name,
@@ -176,16 +200,26 @@ pub struct BufferConfig {
 }
 
 impl Model for BufferConfig {
-    ghost use Rattle.apex_types.specs.Table.{BufferConfig};
+    ghost use Rattle.apex_types.specs.table.Table.{BufferConfig};
 
     ghost Value = { BufferConfig };
 
-    ghost view = { λ b. record { name = b.name; length = b.length; capacity = b.capacity; discipline = b.discipline } };
+    ghost view = { λ b. record {
+      name = b.name;
+      length = b.length;
+      capacity = b.capacity;
+      discipline = b.discipline;
+    } };
 }
 
 impl BufferConfig {
     pub(crate) fn new(name: Name, length: u8, capacity: u8, discipline: Discipline) -> BufferConfig
-        ensures { result ≡ record { name = name; length = length; capacity = capacity; discipline = discipline } }
+        ensures { result ≡ record {
+          name = name;
+          length = length;
+          capacity = capacity;
+          discipline = discipline;
+        } }
     {
         BufferConfig {
             name,
@@ -231,7 +265,7 @@ pub struct BlackboardConfig {
 }
 
 impl Model for BlackboardConfig {
-    ghost use Rattle.apex_types.specs.Table.{BlackboardConfig};
+    ghost use Rattle.apex_types.specs.table.Table.{BlackboardConfig};
 
     ghost Value = { BlackboardConfig };
 
@@ -259,25 +293,25 @@ impl BlackboardConfig {
     }
 }
 
-/// An event as the table gives it (ARINC 653 Part 1, events).
+/// An event flag as the table gives it (ARINC 653 Part 1, events).
 #[derive(Drop)]
-pub struct EventConfig {
+pub struct EventFlagConfig {
     name: Name,
 }
 
-impl Model for EventConfig {
-    ghost use Rattle.apex_types.specs.Table.{EventConfig};
+impl Model for EventFlagConfig {
+    ghost use Rattle.apex_types.specs.table.Table.{EventFlagConfig};
 
-    ghost Value = { EventConfig };
+    ghost Value = { EventFlagConfig };
 
     ghost view = { λ e. record { name = e.name } };
 }
 
-impl EventConfig {
-    pub(crate) fn new(name: Name) -> EventConfig
+impl EventFlagConfig {
+    pub(crate) fn new(name: Name) -> EventFlagConfig
         ensures { result ≡ record { name = name } }
     {
-        EventConfig { name }
+        EventFlagConfig { name }
     }
 
     pub fn name(&self) -> &Name
@@ -296,7 +330,7 @@ pub struct MutexConfig {
 }
 
 impl Model for MutexConfig {
-    ghost use Rattle.apex_types.specs.Table.{MutexConfig};
+    ghost use Rattle.apex_types.specs.table.Table.{MutexConfig};
 
     ghost Value = { MutexConfig };
 

@@ -1,7 +1,7 @@
 //! The init list of a table that has none.
 ghost use Rattle.std.specs.Prelude.{◌≡◌, ◌<◌, ◌≤◌, ◌++◌, length, IfOk};
-ghost use Rattle.apex_types.specs.Limits.{most_objects, most_processes};
-ghost use Rattle.apex_types.specs.Places.{map_places};
+ghost use Rattle.apex_types.specs.values.Limits.{most_objects, most_processes};
+ghost use Rattle.apex_types.specs.values.Places.{map_places};
 ghost use Rattle.apex_table.specs.DefaultInit.{create, creates, creates_objects, default_init};
 
 use crate::configs::ProcessConfig;
@@ -23,7 +23,7 @@ fn create(kind: Kind, place: usize) -> Call
         Kind::Semaphore => Call::Semaphore(ObjectCall::Create(Named::Known(Id::at(place)))),
         Kind::Buffer => Call::Buffer(ObjectCall::Create(Named::Known(Id::at(place)))),
         Kind::Blackboard => Call::Blackboard(ObjectCall::Create(Named::Known(Id::at(place)))),
-        Kind::Event => Call::Event(ObjectCall::Create(Named::Known(Id::at(place)))),
+        Kind::EventFlag => Call::EventFlag(ObjectCall::Create(Named::Known(Id::at(place)))),
         Kind::Mutex => Call::Mutex(ObjectCall::Create(Named::Known(Id::at(place)))),
     }
 }
@@ -31,7 +31,8 @@ fn create(kind: Kind, place: usize) -> Call
 /// Adds the CREATE of each of these objects, which are of the kind.
 fn create_each<E>(init: &mut Vec<Step>, kind: Kind, objects: &[E]) -> Result<(), AllocError>
     requires { length objects.now ≤ most_objects }
-    ensures { IfOk result (λ _. init.new.items ≡ init.old.items ++ map_places (creates kind) 0 objects.now) }
+    ensures { IfOk result (λ _. init.new.items ≡ init.old.items
+        ++ map_places (creates kind) 0 objects.now) }
 {
     for (place, _) in objects.iter().enumerate() {
         init.push(Step::of(create(kind, place)))?;
@@ -48,7 +49,7 @@ fn create_objects(alloc: Global, objects: &Objects) -> Result<Vec<Step>, AllocEr
     create_each(&mut init, Kind::Semaphore, &objects.semaphores)?;
     create_each(&mut init, Kind::Buffer, &objects.buffers)?;
     create_each(&mut init, Kind::Blackboard, &objects.blackboards)?;
-    create_each(&mut init, Kind::Event, &objects.events)?;
+    create_each(&mut init, Kind::EventFlag, &objects.event_flags)?;
     create_each(&mut init, Kind::Mutex, &objects.mutexes)?;
     Ok(init)
 }
@@ -68,12 +69,12 @@ pub fn default_init(
         let id = ProcessId::at(place as u8);
         let affinity = ProcessService::InitializeCoreAffinity(process.core().number());
         init.push(Step::of(create(Kind::Process, place)))?;
-        init.push(Step::of(Call::Process(ObjectCall::Own(id, affinity))))?;
+        init.push(Step::of(Call::Process(ObjectCall::KindService(id, affinity))))?;
     }
     for (place, process) in processes.iter().enumerate() {
         if process.starts() {
             let id = ProcessId::at(place as u8);
-            init.push(Step::of(Call::Process(ObjectCall::Own(id, ProcessService::Start))))?;
+            init.push(Step::of(Call::Process(ObjectCall::KindService(id, ProcessService::Start))))?;
         }
     }
     init.push(Step::of(Call::Partition(PartitionCall::SetPartitionMode(RequestedMode::Normal))))?;

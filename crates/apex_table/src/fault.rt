@@ -1,6 +1,6 @@
 //! The faults of a table's text, and their places.
 ghost use Rattle.std.specs.Prelude.{◌≡◌, ◌+◌, ◌<◌, ◌≤◌, ◌++◌, length, Some};
-ghost use Rattle.apex_types.specs.Limits.{most_init_steps};
+ghost use Rattle.apex_types.specs.values.Limits.{most_init_steps};
 ghost use Rattle.apex_table.specs.Fault.{section_word, place_text, place_after, fault_text};
 ghost use Rattle.apex_table.specs.Outcome.{place};
 ghost use Rattle.apex_table.specs.declared.fault.TableFault.TheVariants.{Memory};
@@ -17,7 +17,7 @@ pub enum Section {
     Semaphore,
     Buffer,
     Blackboard,
-    Event,
+    EventFlag,
     Mutex,
     Init,
 }
@@ -34,7 +34,7 @@ impl Section {
             Section::Semaphore => "semaphore",
             Section::Buffer => "buffer",
             Section::Blackboard => "blackboard",
-            Section::Event => "event",
+            Section::EventFlag => "event",
             Section::Mutex => "mutex",
             Section::Init => "init",
         }

@@ -1,6 +1,6 @@
 //! The init list that a table gives.
 ghost use Rattle.std.specs.Prelude.{◌≡◌, ◌<◌, ◌≤◌, map, length, option_map, IfOk, IfSome};
-ghost use Rattle.apex_types.specs.Limits.{most_init_steps, most_processes};
+ghost use Rattle.apex_types.specs.values.Limits.{most_init_steps, most_processes};
 ghost use Rattle.toml.specs.View.{view};
 ghost use Rattle.apex_table.specs.Outcome.{Gives};
 ghost use Rattle.apex_table.specs.Init.{next_text, texts, given_texts, init_texts, is_init_call, init_step, next_init_step, init_steps, init_list};
@@ -53,8 +53,9 @@ pub fn init_texts<'a>(
     alloc: Global,
     value: Option<&'a Value>,
 ) -> Result<Option<Vec<&'a str>>, TableFault>
-    ensures gives { Gives (option_map (λ v. map (λ t. t.now) v.items)) result (init_texts (option_map (λ v. view v.now) value.entry)) }
-    ensures few { IfOk result (λ o. IfSome o (λ v. length v.items ≤ most_init_steps)) }
+    ensures gives { Gives (option_map (λ v. map (λ t. t.now) v.items)) result
+        (init_texts (option_map (λ v. view v.now) value.entry)) }
+    ensures few_steps { IfOk result (λ o. IfSome o (λ v. length v.items ≤ most_init_steps)) }
 {
     match value {
         Some(value) => Ok(Some(given_texts(alloc, value)?)),
@@ -124,7 +125,9 @@ pub fn init_list(
 ) -> Result<Vec<Step>, TableFault>
     requires processes { length processes.now ≤ most_processes }
     requires texts { IfSome texts (λ v. length v.items ≤ most_init_steps) }
-    ensures { Gives (λ v. v.items) result (init_list names.now processes.now objects.now (option_map (λ v. map (λ t. t.now) v.items) texts.entry)) }
+    ensures { Gives (λ v. v.items) result
+        (init_list names.now processes.now objects.now
+        (option_map (λ v. map (λ t. t.now) v.items) texts.entry)) }
 {
     match texts {
         Some(texts) => init_steps(alloc, names, &texts),

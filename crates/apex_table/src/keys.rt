@@ -31,7 +31,8 @@ fn has_only(names: &[&str], table: &Table) -> bool
 
 /// Refuses a key that is none of these.
 pub fn only(at: Place, names: &[&str], table: &Table) -> Result<(), TableFault>
-    ensures { Gives (λ _. table_view table.now) result (known at (map (λ k. k.now) names.now) (table_view table.now)) }
+    ensures { Gives (λ _. table_view table.now) result
+        (known at (map (λ k. k.now) names.now) (table_view table.now)) }
 {
     if has_only(names, table) {
         Ok(())
@@ -143,7 +144,8 @@ pub fn number_or(
     name: &str,
 ) -> Result<u32, TableFault>
     requires { (low ≤ default) × (default ≤ high) }
-    ensures gives { Gives (λ n. n) result (number_or at default low high name.now (table_view table.now)) }
+    ensures gives { Gives (λ n. n) result
+        (number_or at default low high name.now (table_view table.now)) }
     ensures range { IfOk result (λ n. (low ≤ n) × (n ≤ high)) }
 {
     match key(table, name) {

@@ -5,7 +5,7 @@ mod blackboards;
 mod buffers;
 mod configs;
 mod default_init;
-mod events;
+mod event_flags;
 mod fault;
 mod init;
 mod keys;
@@ -24,7 +24,7 @@ mod table;
 mod texts;
 
 pub use configs::{
-    BlackboardConfig, BufferConfig, EventConfig, MutexConfig, ProcessConfig, SemaphoreConfig,
+    BlackboardConfig, BufferConfig, EventFlagConfig, MutexConfig, ProcessConfig, SemaphoreConfig,
 };
 pub use fault::{Place, Section, TableFault};
 pub use reading::read_table;

@@ -1,7 +1,7 @@
 //! The calls and the literals of a list of steps.
 ghost use Rattle.std.specs.Prelude.{◌≡◌, ◌≤◌, length};
-ghost use Rattle.apex_types.specs.Limits.{most_literal};
-ghost use Rattle.apex_types.specs.Table.{step_at, call_in};
+ghost use Rattle.apex_types.specs.values.Limits.{most_literal};
+ghost use Rattle.apex_types.specs.table.Table.{step_at, call_in};
 
 use apex_types::{Call, Step};
 

@@ -5,7 +5,7 @@ use crate::configs::MutexConfig;
 use crate::fault::{Place, Section, TableFault};
 use crate::keys;
 use crate::named::Named;
-use crate::sections::{Head, Kind};
+use crate::sections::{EntryKind, Head};
 use apex_types::{MOST_OBJECTS, MOST_PRIORITY, Name};
 use std::alloc::Global;
 use toml::Table;
@@ -22,7 +22,7 @@ impl Named for MutexConfig {
 #[derive(Drop)]
 pub struct Mutexes;
 
-impl<'a> Kind<'a> for Mutexes {
+impl<'a> EntryKind<'a> for Mutexes {
     type Entry = MutexConfig;
 
     ghost head = { λ _. mutexes.head };

@@ -1,6 +1,6 @@
 //! The names of a table's things, kind by kind.
 ghost use Rattle.std.specs.Prelude.{◌≡◌, ◌≤◌, map, length, IfOk};
-ghost use Rattle.apex_types.specs.Limits.{most_processes};
+ghost use Rattle.apex_types.specs.values.Limits.{most_processes};
 ghost use Rattle.apex_table.specs.Names.{names_in, names_of};
 
 use crate::named::Named;
@@ -18,24 +18,31 @@ pub struct Names {
     semaphores: Vec<Name>,
     buffers: Vec<Name>,
     blackboards: Vec<Name>,
-    events: Vec<Name>,
+    event_flags: Vec<Name>,
     mutexes: Vec<Name>,
 }
 
 impl Model for Names {
     ghost use Rattle.std.specs.Prelude.{◌≤◌, length};
-    ghost use Rattle.apex_types.specs.Limits.{most_objects, most_processes};
+    ghost use Rattle.apex_types.specs.values.Limits.{most_objects, most_processes};
     ghost use Rattle.apex_table.specs.Names.{Names};
 
     ghost Value = { Names };
 
-    ghost view = { λ n. record { processes = n.processes.items; semaphores = n.semaphores.items; buffers = n.buffers.items; blackboards = n.blackboards.items; events = n.events.items; mutexes = n.mutexes.items } };
+    ghost view = { λ n. record {
+      processes = n.processes.items;
+      semaphores = n.semaphores.items;
+      buffers = n.buffers.items;
+      blackboards = n.blackboards.items;
+      event_flags = n.event_flags.items;
+      mutexes = n.mutexes.items;
+    } };
 
     ghost invariant = { λ n. (length n.processes.items ≤ most_processes)
         × (length n.semaphores.items ≤ most_objects)
         × (length n.buffers.items ≤ most_objects)
         × (length n.blackboards.items ≤ most_objects)
-        × (length n.events.items ≤ most_objects)
+        × (length n.event_flags.items ≤ most_objects)
         × (length n.mutexes.items ≤ most_objects) };
 }
 
@@ -61,7 +68,7 @@ impl Names {
             semaphores: listed(alloc, &objects.semaphores)?,
             buffers: listed(alloc, &objects.buffers)?,
             blackboards: listed(alloc, &objects.blackboards)?,
-            events: listed(alloc, &objects.events)?,
+            event_flags: listed(alloc, &objects.event_flags)?,
             mutexes: listed(alloc, &objects.mutexes)?,
         })
     }
@@ -69,14 +76,14 @@ impl Names {
     /// The names of the things of this kind.
     pub fn of_kind(&self, kind: &Kind) -> &[Name]
         ensures value { result.now ≡ names_in self.now kind.now }
-        ensures few { length result.now ≤ most_processes }
+        ensures few_names { length result.now ≤ most_processes }
     {
         match kind {
             Kind::Process => &self.processes,
             Kind::Semaphore => &self.semaphores,
             Kind::Buffer => &self.buffers,
             Kind::Blackboard => &self.blackboards,
-            Kind::Event => &self.events,
+            Kind::EventFlag => &self.event_flags,
             Kind::Mutex => &self.mutexes,
         }
     }

@@ -5,8 +5,10 @@ ghost use Rattle.apex_table.specs.Objects.{objects};
 
 use crate::blackboards::Blackboards;
 use crate::buffers::Buffers;
-use crate::configs::{BlackboardConfig, BufferConfig, EventConfig, MutexConfig, SemaphoreConfig};
-use crate::events::Events;
+use crate::configs::{
+    BlackboardConfig, BufferConfig, EventFlagConfig, MutexConfig, SemaphoreConfig,
+};
+use crate::event_flags::EventFlags;
 use crate::fault::TableFault;
 use crate::mutexes::Mutexes;
 use crate::sections::read_section;
@@ -20,23 +22,29 @@ pub struct Objects {
     pub semaphores: Vec<SemaphoreConfig>,
     pub buffers: Vec<BufferConfig>,
     pub blackboards: Vec<BlackboardConfig>,
-    pub events: Vec<EventConfig>,
+    pub event_flags: Vec<EventFlagConfig>,
     pub mutexes: Vec<MutexConfig>,
 }
 
 impl Model for Objects {
     ghost use Rattle.std.specs.Prelude.{◌≤◌, length};
-    ghost use Rattle.apex_types.specs.Limits.{most_objects};
+    ghost use Rattle.apex_types.specs.values.Limits.{most_objects};
     ghost use Rattle.apex_table.specs.Objects.{Objects};
 
     ghost Value = { Objects };
 
-    ghost view = { λ o. record { semaphores = o.semaphores.items; buffers = o.buffers.items; blackboards = o.blackboards.items; events = o.events.items; mutexes = o.mutexes.items } };
+    ghost view = { λ o. record {
+      semaphores = o.semaphores.items;
+      buffers = o.buffers.items;
+      blackboards = o.blackboards.items;
+      event_flags = o.event_flags.items;
+      mutexes = o.mutexes.items;
+    } };
 
     ghost invariant = { λ o. (length o.semaphores.items ≤ most_objects)
         × (length o.buffers.items ≤ most_objects)
         × (length o.blackboards.items ≤ most_objects)
-        × (length o.events.items ≤ most_objects)
+        × (length o.event_flags.items ≤ most_objects)
         × (length o.mutexes.items ≤ most_objects) };
 }
 
@@ -50,7 +58,7 @@ impl Objects {
             semaphores: read_section(alloc, &Semaphores, top)?,
             buffers: read_section(alloc, &Buffers, top)?,
             blackboards: read_section(alloc, &Blackboards, top)?,
-            events: read_section(alloc, &Events, top)?,
+            event_flags: read_section(alloc, &EventFlags, top)?,
             mutexes: read_section(alloc, &Mutexes, top)?,
         })
     }

@@ -1,6 +1,6 @@
 //! The section of processes.
 ghost use Rattle.std.specs.Prelude.{◌≡◌, ◌≤◌, map, length, IfOk};
-ghost use Rattle.apex_types.specs.Limits.{most_cores, most_init_steps, most_steps};
+ghost use Rattle.apex_types.specs.values.Limits.{most_cores, most_init_steps, most_steps};
 ghost use Rattle.toml.specs.View.{view, table_view};
 ghost use Rattle.apex_table.specs.Outcome.{Gives};
 ghost use Rattle.apex_table.specs.Sections.{head_of};
@@ -9,7 +9,7 @@ ghost use Rattle.apex_table.specs.Processes.{some_process, texts, some_step, scr
 use crate::fault::{Place, Section, TableFault};
 use crate::keys;
 use crate::named::Named;
-use crate::sections::{Head, Kind};
+use crate::sections::{EntryKind, Head};
 use apex_types::{Attributes, CoreId, MOST_PRIORITY, MOST_STEPS, Name, Profile};
 use std::alloc::Global;
 use std::marker::Model;
@@ -28,13 +28,20 @@ pub struct Draft<'a> {
 
 impl<'a> Model for Draft<'a> {
     ghost use Rattle.std.specs.Prelude.{◌≤◌, map, length};
-    ghost use Rattle.apex_types.specs.Limits.{most_steps};
+    ghost use Rattle.apex_types.specs.values.Limits.{most_steps};
     ghost use Rattle.apex_table.specs.Sections.{head_of};
     ghost use Rattle.apex_table.specs.Processes.{ProcessDraft};
 
     ghost Value = { ProcessDraft };
 
-    ghost view = { λ d. record { name = d.name; attributes = d.attributes; core = d.core; loops = d.loops; start = d.starts; script = map (λ t. t.now) d.script.items } };
+    ghost view = { λ d. record {
+      name = d.name;
+      attributes = d.attributes;
+      core = d.core;
+      loops = d.loops;
+      start = d.starts;
+      script = map (λ t. t.now) d.script.items;
+    } };
 
     ghost invariant = { λ d. length d.script.items ≤ most_steps };
 }
@@ -75,8 +82,9 @@ fn script_at<'a>(
     loops: bool,
     table: &'a Table,
 ) -> Result<Vec<&'a str>, TableFault>
-    ensures gives { Gives (λ v. map (λ t. t.now) v.items) result (script_at at loops (table_view table.now)) }
-    ensures few { IfOk result (λ v. length v.items ≤ most_steps) }
+    ensures gives { Gives (λ v. map (λ t. t.now) v.items) result
+        (script_at at loops (table_view table.now)) }
+    ensures few_steps { IfOk result (λ v. length v.items ≤ most_steps) }
 {
     let items = keys::array_at(at, table, "script")?;
     keys::at_most(at, MOST_STEPS, items)?;
@@ -96,7 +104,7 @@ pub struct Processes {
     ghost in_range: { (1 ≤ cores) × (cores ≤ most_cores) },
 }
 
-impl<'a> Kind<'a> for Processes {
+impl<'a> EntryKind<'a> for Processes {
     type Entry = Draft<'a>;
 
     ghost head = { λ k. (processes k.profile k.cores).head };
@@ -105,7 +113,7 @@ impl<'a> Kind<'a> for Processes {
 
     fn head(&self) -> Head<'static>
         ensures head { head_of result ≡ (processes self.now.profile self.now.cores).head }
-        ensures few { result.most ≤ most_init_steps }
+        ensures few_entries { result.most ≤ most_init_steps }
     {
         Head {
             section: Section::Process,

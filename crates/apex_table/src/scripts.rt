@@ -1,6 +1,6 @@
 //! The scripts of a table's processes.
 ghost use Rattle.std.specs.Prelude.{◌≡◌, ◌<◌, ◌≤◌, map, length, IfOk};
-ghost use Rattle.apex_types.specs.Limits.{most_processes, most_steps};
+ghost use Rattle.apex_types.specs.values.Limits.{most_processes, most_steps};
 ghost use Rattle.apex_table.specs.Outcome.{Gives};
 ghost use Rattle.apex_table.specs.Scripts.{script, next_entry, with_scripts};
 
@@ -20,7 +20,8 @@ fn script(
     texts: &[&str],
 ) -> Result<Vec<Step>, TableFault>
     requires texts { length texts.now ≤ most_steps }
-    ensures { Gives (λ v. v.items) result (script at process names.now (map (λ t. t.now) texts.now)) }
+    ensures { Gives (λ v. v.items) result
+        (script at process names.now (map (λ t. t.now) texts.now)) }
 {
     let mut steps = Vec::new(alloc);
     for text in texts {
@@ -37,7 +38,7 @@ fn next_entry(
     before: &[ProcessConfig],
     draft: &Draft,
 ) -> Result<ProcessConfig, TableFault>
-    requires few { length before.now < most_processes }
+    requires few_processes { length before.now < most_processes }
     ensures { Gives (λ p. p) result (next_entry names.now before.now draft.now) }
 {
     let at = Place::next(Section::Process, before.len());

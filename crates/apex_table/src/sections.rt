@@ -1,6 +1,6 @@
 //! A section of any kind, entry by entry.
 ghost use Rattle.std.specs.Prelude.{◌≡◌, ◌<◌, ◌≤◌, ℕ, List, length, map, option_map, Result, IfOk};
-ghost use Rattle.apex_types.specs.Limits.{most_init_steps};
+ghost use Rattle.apex_types.specs.values.Limits.{most_init_steps};
 ghost use Rattle.toml.specs.Data.{Members};
 ghost use Rattle.toml.specs.View.{view, table_view};
 ghost use Rattle.apex_table.specs.Outcome.{Gives};
@@ -22,7 +22,7 @@ pub struct Head<'k> {
 }
 
 /// A kind of entries.
-pub trait Kind<'a> {
+pub trait EntryKind<'a> {
     ghost use Rattle.apex_table.specs.declared.fault.Place.{Place};
     ghost use Rattle.apex_table.specs.declared.fault.TableFault.{TableFault};
 
@@ -34,7 +34,7 @@ pub trait Kind<'a> {
 
     fn head(&self) -> Head<'static>
         ensures head { head_of result ≡ head self.now }
-        ensures few { result.most ≤ most_init_steps };
+        ensures few_entries { result.most ≤ most_init_steps };
 
     /// Reads the entry of this name.
     fn entry(
@@ -48,8 +48,9 @@ pub trait Kind<'a> {
 }
 
 fn tables<'a>(head: Head<'_>, value: Option<&'a Value>) -> Result<&'a [Value], TableFault>
-    ensures gives { Gives (λ s. map view s.now) result (tables (head_of head.entry) (option_map (λ v. view v.now) value.entry)) }
-    ensures few { IfOk result (λ s. length s.now ≤ head.entry.most) }
+    ensures gives { Gives (λ s. map view s.now) result
+        (tables (head_of head.entry) (option_map (λ v. view v.now) value.entry)) }
+    ensures few_entries { IfOk result (λ s. length s.now ≤ head.entry.most) }
 {
     let at = Place::of(head.section);
     match value {
@@ -63,7 +64,7 @@ fn tables<'a>(head: Head<'_>, value: Option<&'a Value>) -> Result<&'a [Value], T
 }
 
 #[tactic(auto, unfolding(crate::specs::Sections::entry))]
-fn next_entry<'a, K: Kind<'a>>(
+fn next_entry<'a, K: EntryKind<'a>>(
     alloc: Global,
     head: Head<'_>,
     kind: &K,
@@ -71,7 +72,9 @@ fn next_entry<'a, K: Kind<'a>>(
     value: &'a Value,
 ) -> Result<K::Entry, TableFault>
     requires { length before.now < most_init_steps }
-    ensures { Gives (λ e. e) result (next_entry (kind_of (head_of head.entry) K.Entry.name_of (K.read kind.now)) before.now (view value.now)) }
+    ensures { Gives (λ e. e) result
+        (next_entry (kind_of (head_of head.entry) K.Entry.name_of (K.read kind.now)) before.now
+        (view value.now)) }
 {
     let at = Place::next(head.section, before.len());
     let table = keys::table(at, value)?;
@@ -82,13 +85,15 @@ fn next_entry<'a, K: Kind<'a>>(
 
 /// The entries of a kind, from the top of the table.
 #[tactic(auto, unfolding(crate::specs::Sections::section))]
-pub fn read_section<'a, K: Kind<'a>>(
+pub fn read_section<'a, K: EntryKind<'a>>(
     alloc: Global,
     kind: &K,
     top: &'a Table,
 ) -> Result<Vec<K::Entry>, TableFault>
-    ensures gives { Gives (λ v. v.items) result (section (kind_of (K.head kind.now) K.Entry.name_of (K.read kind.now)) (table_view top.now)) }
-    ensures few { IfOk result (λ v. length v.items ≤ (K.head kind.now).most) }
+    ensures gives { Gives (λ v. v.items) result
+        (section (kind_of (K.head kind.now) K.Entry.name_of (K.read kind.now))
+        (table_view top.now)) }
+    ensures few_entries { IfOk result (λ v. length v.items ≤ (K.head kind.now).most) }
 {
     let head = kind.head();
     let items = tables(head, keys::key(top, head.section.word()))?;

@@ -5,7 +5,7 @@ use crate::configs::SemaphoreConfig;
 use crate::fault::{Place, Section, TableFault};
 use crate::keys;
 use crate::named::Named;
-use crate::sections::{Head, Kind};
+use crate::sections::{EntryKind, Head};
 use apex_types::{MOST_OBJECTS, MOST_VALUE, Name};
 use std::alloc::Global;
 use toml::Table;
@@ -22,7 +22,7 @@ impl Named for SemaphoreConfig {
 #[derive(Drop)]
 pub struct Semaphores;
 
-impl<'a> Kind<'a> for Semaphores {
+impl<'a> EntryKind<'a> for Semaphores {
     type Entry = SemaphoreConfig;
 
     ghost head = { λ _. semaphores.head };

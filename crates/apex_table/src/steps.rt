@@ -58,7 +58,8 @@ fn with_words(
     shapes: &[Shape],
     words: &[&str],
 ) -> Result<Given, TableFault>
-    ensures { Gives (λ g. g) result (with_words at origin.now names.now nothing shapes.now (map (λ w. w.now) words.now)) }
+    ensures { Gives (λ g. g) result
+        (with_words at origin.now names.now nothing shapes.now (map (λ w. w.now) words.now)) }
 {
     let mut given = Given::nothing();
     let mut shapes_left = shapes;
@@ -85,7 +86,8 @@ fn row_step(
     words: &[&str],
 ) -> Result<Step, TableFault>
     requires { IsRow (view row.now) }
-    ensures { Gives (λ s. s) result (row_step at origin.now names.now (view row.now) (map (λ w. w.now) words.now)) }
+    ensures { Gives (λ s. s) result
+        (row_step at origin.now names.now (view row.now) (map (λ w. w.now) words.now)) }
 {
     if !have_forms(row.2, words) {
         return Err(TableFault::BadStep(at));

@@ -1,12 +1,12 @@
 //! A partition's table.
 ghost use Rattle.std.specs.Prelude.{◌≡◌, ◌<◌, ◌≤◌, length, option_map, slice_get};
-ghost use Rattle.apex_types.specs.Limits.{most_cores, most_entries, most_literal, most_objects, most_processes};
-ghost use Rattle.apex_types.specs.Table.{IsLawful, process_config, semaphore_config, buffer_config, blackboard_config, event_config, mutex_config, call_in, literal_text};
+ghost use Rattle.apex_types.specs.values.Limits.{most_cores, most_entries, most_literal, most_objects, most_processes};
+ghost use Rattle.apex_types.specs.table.Table.{IsLawful, process_config, semaphore_config, buffer_config, blackboard_config, event_flag_config, mutex_config, call_in, literal_text};
 ghost use Rattle.apex_table.specs.Reading.{table_with};
 ghost use Rattle.apex_table.specs.StepTexts.{step_text, IsWithTexts};
 
 use crate::configs::{
-    BlackboardConfig, BufferConfig, EventConfig, MutexConfig, ProcessConfig, SemaphoreConfig,
+    BlackboardConfig, BufferConfig, EventFlagConfig, MutexConfig, ProcessConfig, SemaphoreConfig,
 };
 use crate::listed::{call_in, literal_in};
 use crate::objects::Objects;
@@ -30,15 +30,17 @@ pub struct Table {
 }
 
 impl Model for Table {
-    ghost use Rattle.apex_types.specs.Table.{Table};
+    ghost use Rattle.apex_types.specs.table.Table.{Table};
     ghost use Rattle.apex_table.specs.Reading.{table_with};
     ghost use Rattle.apex_table.specs.StepTexts.{IsWithTexts};
 
     ghost Value = { Table };
 
-    ghost view = { λ t. table_with t.profile t.cores t.limit t.processes.items t.objects t.init.items };
+    ghost view = { λ t. table_with t.profile t.cores t.limit t.processes.items t.objects
+        t.init.items };
 
-    ghost invariant = { λ t. IsWithTexts t.texts.items (table_with t.profile t.cores t.limit t.processes.items t.objects t.init.items) };
+    ghost invariant = { λ t. IsWithTexts t.texts.items
+        (table_with t.profile t.cores t.limit t.processes.items t.objects t.init.items) };
 }
 
 impl Table {
@@ -51,7 +53,8 @@ impl Table {
         init: Vec<Step>,
         texts: Vec<ScriptTexts>,
     ) -> Table
-        requires { IsWithTexts texts.items (table_with profile cores limit processes.items objects init.items) }
+        requires { IsWithTexts texts.items
+            (table_with profile cores limit processes.items objects init.items) }
         ensures { result ≡ table_with profile cores limit processes.items objects init.items }
     {
         Table {
@@ -153,20 +156,20 @@ impl Table {
         &self.objects.blackboards[id.place()]
     }
 
-    pub fn event_count(&self) -> usize
-        ensures value { result ≡ length self.now.events }
+    pub fn event_flag_count(&self) -> usize
+        ensures value { result ≡ length self.now.event_flags }
         ensures range { result ≤ most_objects }
     {
-        self.objects.events.len()
+        self.objects.event_flags.len()
     }
 
-    /// The event of this id.
-    pub fn event(&self, id: EventId) -> &EventConfig
-        requires { id < length self.now.events }
-        ensures place { slice_get self.now.events id ≡ Some result.now }
-        ensures entry { result.now ≡ event_config self.now id }
+    /// The event flag of this id.
+    pub fn event_flag(&self, id: EventId) -> &EventFlagConfig
+        requires { id < length self.now.event_flags }
+        ensures place { slice_get self.now.event_flags id ≡ Some result.now }
+        ensures entry { result.now ≡ event_flag_config self.now id }
     {
-        &self.objects.events[id.place()]
+        &self.objects.event_flags[id.place()]
     }
 
     pub fn mutex_count(&self) -> usize

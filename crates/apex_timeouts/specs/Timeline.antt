@@ -35,7 +35,10 @@ IsOrdered instants ps = IsSorted (is_after instants) ps
 -- process p, which is not on the line, has this instant from now on
 abbrev pub armed : Times → ℕ → ℕ → Times
 armed times p instant =
-    record { order = placed (is_later times.instants p instant) p times.order; instants = slice_set times.instants p instant }
+    record {
+      order = placed (is_later times.instants p instant) p times.order;
+      instants = slice_set times.instants p instant;
+    }
 
 -- process p is not on the line from now on
 abbrev pub disarmed : Times → ℕ → Times

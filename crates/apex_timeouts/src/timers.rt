@@ -1,6 +1,6 @@
 //! The dues and the deadlines of a partition.
 ghost use Rattle.std.specs.Prelude.{◌≡◌, ◌<◌, length, IfOk, IfSome};
-ghost use Rattle.apex_types.specs.Dues.{sooner};
+ghost use Rattle.apex_types.specs.processes.Dues.{sooner};
 ghost use Rattle.apex_timeouts.specs.Timeline.{due_at, empty_line, next_of, without_due_at, IsReset, IsTimed};
 
 use crate::timeline::Timeline;

@@ -1,10 +1,10 @@
 -- Facts that both profiles keep to.
 use Rattle.std.proofs.Common.{lit≤, ◌≤◌, length, arith}
-use Rattle.apex_types.specs.Terms.{Profile}
+use Rattle.apex_types.specs.values.Terms.{Profile}
 use Rattle.apex_types.specs.declared.profiles.Profile.TheVariants.{One, Two}
-use Rattle.apex_types.specs.Limits.{most_owned, most_processes}
-use Rattle.apex_types.specs.Profiles.{owned_of, processes_of}
-use Rattle.apex_types.specs.Table.{IsLawful, Table}
+use Rattle.apex_types.specs.values.Limits.{most_owned, most_processes}
+use Rattle.apex_types.specs.table.Profiles.{owned_of, processes_of}
+use Rattle.apex_types.specs.table.Table.{IsLawful, Table}
 
 pub few_processes : (profile : Profile) → processes_of profile ≤ most_processes
 few_processes One = lit≤ tt

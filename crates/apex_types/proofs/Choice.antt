@@ -9,9 +9,9 @@ use Rattle.std.proofs.lemmas.List.Folds.{list_any_at, list_any_none}
 use Rattle.std.proofs.lemmas.List.Quantifiers.{position-Some}
 use Rattle.std.proofs.lemmas.List.Sums.{position_or_len_is}
 use Rattle.std.proofs.lemmas.Option.{slice_get-get_or, slice_get_within, get_or_from_slice_get}
-use Rattle.apex_types.specs.Terms.{Record}
-use Rattle.apex_types.specs.Choice.{is_preceded, place_of_least, IsLeast}
-use Rattle.apex_types.specs.Roster.{nobody}
+use Rattle.apex_types.specs.values.Terms.{Record}
+use Rattle.apex_types.specs.processes.Choice.{is_preceded, place_of_least, IsLeast}
+use Rattle.apex_types.specs.processes.Roster.{nobody}
 
 -- of two records at different places, one comes before the other
 pub record IsTotalOn (before : Record → Record → Bool) (rs : List Record) : Type 0 where

@@ -3,13 +3,13 @@ use Rattle.std.proofs.Common.{◌≡◌, ◌≢◌, ℕ, ◌+◌, ◌<◌, ◌<�
 use Rattle.std.proofs.lemmas.Bool.{cases_eq, cond_both}
 use Rattle.std.proofs.lemmas.Int.{ints}
 use Rattle.std.proofs.lemmas.List.{length-set}
-use Rattle.apex_types.specs.Terms.{Mode, Record}
-use Rattle.apex_types.specs.Roster.{Roster, record_at, with_record, nobody, opening_record, opening_roster}
-use Rattle.apex_types.specs.Table.{Table, no_process}
-use Rattle.apex_types.specs.Running.{is_eligible}
-use Rattle.apex_types.specs.Stamps.{newest, oldest, readied, awake, unsuspended, is_by_itself, resume, advance_to, without_due_of, without_deadline_of, take_due, take_missed, set_mode}
-use Rattle.apex_types.specs.Distinct.{IsStamped}
-use Rattle.apex_types.specs.Dues.{first_due, first_missed}
+use Rattle.apex_types.specs.values.Terms.{Mode, Record}
+use Rattle.apex_types.specs.processes.Roster.{Roster, record_at, with_record, nobody, opening_record, opening_roster}
+use Rattle.apex_types.specs.table.Table.{Table, no_process}
+use Rattle.apex_types.specs.processes.Running.{is_eligible}
+use Rattle.apex_types.specs.processes.Stamps.{newest, oldest, readied, awake, unsuspended, is_by_itself, resume, advance_to, without_due_of, without_deadline_of, take_due, take_missed, set_mode}
+use Rattle.apex_types.specs.values.Distinct.{IsStamped}
+use Rattle.apex_types.specs.processes.Dues.{first_due, first_missed}
 use Rattle.apex_types.proofs.Dues.{first_due_within, first_missed_within}
 use Rattle.apex_types.proofs.Places.{length-map_places, get_or-map_places}
 use Rattle.apex_types.proofs.Rosters.{changes_record, changes_newest, changes_oldest, at_record, at_newest}

@@ -8,12 +8,12 @@ use Rattle.std.proofs.lemmas.List.{get_or_past}
 use Rattle.std.proofs.lemmas.List.Quantifiers.{position-Some}
 use Rattle.std.proofs.lemmas.List.Sums.{prefix_len_passes}
 use Rattle.std.proofs.lemmas.Option.{none-some, same_Some}
-use Rattle.apex_types.specs.Terms.{Record, Timeout}
-use Rattle.apex_types.specs.Roster.{Roster, nobody, record_at}
+use Rattle.apex_types.specs.values.Terms.{Record, Timeout}
+use Rattle.apex_types.specs.processes.Roster.{Roster, nobody, record_at}
 use Rattle.apex_types.specs.declared.calls.Timeout.TheVariants.{Poll, Ticks, Infinite}
-use Rattle.apex_types.specs.Dues.{sooner, earliest, next_instant, is_instant, is_due_at, is_missed_at, first_due, first_missed, due_after, IsAwaited, IsFrom, HasNoDueBelow, HasNoPastDue, HasNoDeadlineBelow, HasNoPastDeadline}
-use Rattle.apex_types.specs.Periods.{deadline_from}
-use Rattle.apex_types.specs.Ticks.{not_beyond, tick_goal}
+use Rattle.apex_types.specs.processes.Dues.{sooner, earliest, next_instant, is_instant, is_due_at, is_missed_at, first_due, first_missed, due_after, IsAwaited, IsFrom, HasNoDueBelow, HasNoPastDue, HasNoDeadlineBelow, HasNoPastDeadline}
+use Rattle.apex_types.specs.processes.Periods.{deadline_from}
+use Rattle.apex_types.specs.machine.Ticks.{not_beyond, tick_goal}
 
 -- the sooner of two is no later than the one
 sooner_than_one : (one other : Option ℕ) (u : ℕ) → one ≡ Some u → (t : ℕ) × (sooner one other ≡ Some t) × (t ≤ u)

@@ -1,42 +1,33 @@
 -- Mutexes that change hands: the facts that changes of processes keep.
 use Rattle.std.proofs.Common.{lit≤, ◌≡◌, ◌≢◌, ℕ, ◌+◌, ◌<◌, ◌≤◌, Bool, true, false, ◌||◌, List, [], ◌∷◌, ◌++◌, Option, None, Some, length, refl, sym, ◌∙◌, ap, inl, inr, arith}
 use Rattle.std.specs.Option.{option_and_then}
-use Rattle.std.proofs.lemmas.Bool.{both_ways, cases_Bool, cond_both, eq-eqb, eqb-true, false_from_ne_true, or_left, or_right}
+use Rattle.std.proofs.lemmas.Bool.{both_ways, cases_Bool, eq-eqb, eqb-true, false_from_ne_true, or_left, or_right}
 use Rattle.std.proofs.lemmas.List.{length-append}
 use Rattle.std.proofs.lemmas.Option.{none-some}
-use Rattle.apex_types.specs.Terms.{Holding, Queue, Record, Wait}
+use Rattle.apex_types.specs.values.Terms.{Holding, Queue, Record, Wait}
 use Rattle.apex_types.specs.declared.records.Queue.TheVariants as queues
-use Rattle.apex_types.specs.declared.records.Wait.TheVariants.{Normal, Start, Time, Period, Semaphore, Receive, Send, Blackboard, Event, Mutex}
-use Rattle.apex_types.specs.Dues.{IsFrom}
-use Rattle.apex_types.specs.Held.{holding_of, holds, in_order, is_of, with_depth, without}
-use Rattle.apex_types.specs.Limits.{most_depth}
-use Rattle.apex_types.specs.Handovers.{hand_over, hand_to, halted, hand_on}
-use Rattle.apex_types.specs.Owners.{HasOrderlyOwners, IsLawfulHolding, owns}
-use Rattle.apex_types.specs.Queues.{queue_of}
-use Rattle.apex_types.specs.Roster.{Roster, is_normal, record_at, with_record}
-use Rattle.apex_types.specs.Running.{is_eligible}
-use Rattle.apex_types.specs.Stamps.{HasOrderlyStarts, awake, block, is_level, newest, oldest, own, stop, stopped, waiting}
-use Rattle.apex_types.specs.Waiters.{first_waiter}
+use Rattle.apex_types.specs.declared.records.Wait.TheVariants.{Mutex}
+use Rattle.apex_types.specs.processes.Dues.{IsFrom}
+use Rattle.apex_types.specs.processes.Held.{holding_of, holds, in_order, is_of, with_depth, without}
+use Rattle.apex_types.specs.values.Limits.{most_depth}
+use Rattle.apex_types.specs.services.Handovers.{hand_over, hand_to, halted, hand_on}
+use Rattle.apex_types.specs.processes.Owners.{HasOrderlyOwners, IsLawfulHolding, owns}
+use Rattle.apex_types.specs.processes.Queues.{queue_of}
+use Rattle.apex_types.specs.processes.Roster.{Roster, is_normal, record_at}
+use Rattle.apex_types.specs.processes.Stamps.{HasOrderlyStarts, awake, block, own, readied, stop, stopped, waiting}
+use Rattle.apex_types.specs.processes.Waiters.{first_waiter}
 use Rattle.apex_types.proofs.Held.{fewer_without, held_before, holds_apart, holds_at_depth, holds_gone, holds_in_order, holds_more, is_held, lawful_at_depth, lawful_in_order, lawful_more, lawful_without, many_at_depth, many_in_order, nothing_held, or_false}
 use Rattle.apex_types.proofs.Owners.{AreOwnedBut, Hands, all_owned, but_none, none_waiting, owned_then, owners_waiting}
-use Rattle.apex_types.proofs.Reaches.{Moves, Reaches, moves_of, moves_more, moves_then, moves_readied, moves_levelled, moves_stop, moves_block, periods_newest, periods_oldest, periods_record, periods_stop, own_stays, reaches_none, reaches_of, another_record, another_newest, another_oldest, awake_fits, own_fits}
+use Rattle.apex_types.proofs.Reaches.{Moves, Reaches, moves_by, moves_more, moves_then, moves_stop, moves_block, periods_by, periods_stop, own_stays, reaches_none, awake_fits, own_fits}
+use Rattle.apex_types.proofs.Replaces.{Replaces, replaces_levelled, replaces_newest, replaces_readied, replaces_record}
 use Rattle.apex_types.proofs.Periods.{KeepsPeriods, stays_same, stays_then}
 use Rattle.apex_types.proofs.Starts.{first_stands, first_within, queued_normal, waits_there}
 use Rattle.apex_types.proofs.Waking.{none_waits}
 
 -- a process in the queue of a mutex waits for it
 pub mutex_wait : (w : Option Wait) (m : ℕ) → option_and_then queue_of w ≡ Some (queues.Mutex m) → w ≡ Some (Mutex m)
-mutex_wait None m e = cc
-mutex_wait (Some (Normal delay)) m e = cc
-mutex_wait (Some Start) m e = cc
-mutex_wait (Some Time) m e = cc
-mutex_wait (Some Period) m e = cc
-mutex_wait (Some (Semaphore s)) m e = cc
-mutex_wait (Some (Receive b)) m e = cc
-mutex_wait (Some (Send b message)) m e = cc
-mutex_wait (Some (Blackboard b)) m e = cc
-mutex_wait (Some (Event v)) m e = cc
 mutex_wait (Some (Mutex n)) m e = cc
+mutex_wait _ m e = cc
 
 -- a mutex that no process owns goes to its first waiter
 module _ (roster : Roster) (holding : Holding) where
@@ -53,23 +44,25 @@ module _ (roster : Roster) (holding : Holding) where
   pub few_handed_over : length (hand_over roster holding).notices ≤ 1
   few_handed_over = few_told (first_waiter roster queue)
 
+  -- the record with which a waiter owns it
+  abbrev heir : ℕ → Record
+  heir q = awake (record (record_at roster q) { owned = first ∷ [] })
+
+  inherits : (q : ℕ) → first_waiter roster queue ≡ Some q → Replaces 1 roster (readied roster q (heir q)) q (heir q)
+  inherits q is = replaces_readied roster q (first_within roster queue q is) (heir q) refl
+
   moves_to : (found : Option ℕ) → first_waiter roster queue ≡ found → HasOrderlyStarts roster
       → Moves (length (hand_to roster holding found).notices) roster (hand_to roster holding found).roster
-  moves_to None is starts = moves_of (reaches_none 0 roster)
+  moves_to None is starts = (reaches_none 0 roster).moves
   moves_to (Some q) is starts =
       let r : Record = record (record_at roster q) { owned = first ∷ [] } in
-      let known = first_within roster queue q is in
-      moves_readied roster q known (awake r) refl
-      (awake_fits roster q known r refl refl (queued_normal roster starts q queue (first_stands roster queue q is) refl))
+      moves_by (inherits q is) (awake_fits roster q (first_within roster queue q is) r refl refl
+      (queued_normal roster starts q queue (first_stands roster queue q is) refl))
 
   periods_to : (found : Option ℕ) → first_waiter roster queue ≡ found → KeepsPeriods roster (hand_to roster holding found).roster
   periods_to None is = λ p. stays_same (record_at roster p)
   periods_to (Some q) is =
-      let r : Record = awake (record (record_at roster q) { owned = first ∷ [] }) in
-      let known = first_within roster queue q is in
-      let stays = own_stays roster q known r refl refl refl refl (λ _. refl) in
-      cond_both {A = Roster} (is_eligible roster.mode r) (newest roster q r) (with_record roster q r) (KeepsPeriods roster)
-      (λ _. periods_newest roster q known r stays) (λ _. periods_record roster q known r stays)
+      periods_by (inherits q is) (own_stays roster q (first_within roster queue q is) (heir q) refl refl refl refl (λ _. refl))
 
   pub periods_hand_over : KeepsPeriods roster (hand_over roster holding).roster
   periods_hand_over = periods_to (first_waiter roster queue) refl
@@ -107,16 +100,9 @@ module _ (roster : Roster) (holding : Holding) where
     inherits_to None is = none_waiting roster holding lost but (λ p waits.
         both_ways _ (none_waits roster queue is p) (waits_there queue (record_at roster p) (ap (option_and_then queue_of) waits)))
     inherits_to (Some q) is =
-        let r : Record = awake (record (record_at roster q) { owned = first ∷ [] }) in
-        let young : Record = record r { since = roster.young } in
-        let known = first_within roster queue q is in
         let waits = mutex_wait (record_at roster q).wait holding.mutex (first_stands roster queue q is) in
         let hands = hands_heir q (but.without q holding.mutex waits) in
-        cond_both {A = Roster} (is_eligible roster.mode r) (newest roster q r) (with_record roster q r) (AreOwnedBut lost)
-        (λ _. owned_then roster (newest roster q r) q young (another_newest roster q known r) (holding ∷ lost) lost but hands
-        (λ n e. none-some (Mutex n) e))
-        (λ _. owned_then roster (with_record roster q r) q r (another_record roster q known r) (holding ∷ lost) lost but hands
-        (λ n e. none-some (Mutex n) e))
+        owned_then (inherits q is) (holding ∷ lost) lost but hands (λ n e. none-some (Mutex n) e)
 
     pub inherits_hand_over : AreOwnedBut lost (hand_over roster holding).roster
     inherits_hand_over = inherits_to (first_waiter roster queue) refl
@@ -133,7 +119,7 @@ few_handed_on (holding ∷ held) roster =
 
 moves_hand_on : (held : List Holding) (roster : Roster) → HasOrderlyStarts roster
     → Moves (length (hand_on held roster).notices) roster (hand_on held roster).roster
-moves_hand_on [] roster starts = moves_of (reaches_none 0 roster)
+moves_hand_on [] roster starts = (reaches_none 0 roster).moves
 moves_hand_on (holding ∷ held) roster starts =
     let handed = hand_over roster holding in
     let others = hand_on held handed.roster in
@@ -156,35 +142,32 @@ module _ (roster : Roster) (p : ℕ) (known : p < length roster.records) where
   abbrev mine : List Holding
   mine = (record_at roster p).owned
 
+  -- process p owns these from now on
+  owns_now : (owned : List Holding)
+      → Replaces 1 roster (own roster p owned) p (record (record_at roster p) { owned = owned })
+  owns_now owned = replaces_levelled roster p known (record (record_at roster p) { owned = owned }) refl
+
   pub moves_own : (owned : List Holding) → Moves 1 roster (own roster p owned)
   moves_own owned =
-      let r : Record = record (record_at roster p) { owned = owned } in
-      moves_levelled roster p known r refl (own_fits roster p known r
+      moves_by (owns_now owned) (own_fits roster p known _
       (record { attributes = refl; started = refl; wait = refl; due = refl; deadline = refl; release = refl }) (λ h. h))
 
   periods_own : (owned : List Holding) → KeepsPeriods roster (own roster p owned)
-  periods_own owned =
-      let r : Record = record (record_at roster p) { owned = owned } in
-      let stays = own_stays roster p known r refl refl refl refl (λ e. e) in
-      cond_both {A = Roster} (is_level r (record_at roster p)) (with_record roster p r) (oldest roster p r) (KeepsPeriods roster)
-      (λ _. periods_record roster p known r stays) (λ _. periods_oldest roster p known r stays)
+  periods_own owned = periods_by (owns_now owned) (own_stays roster p known _ refl refl refl refl (λ e. e))
 
-  -- process p, which waits for none, owns these from now on
+  -- if it waits for none
   owned_own : (owned left : List Holding) → (record_at roster p).wait ≡ None → HasOrderlyOwners roster
       → Hands roster p owned [] left → AreOwnedBut left (own roster p owned)
   owned_own owned left free orderly hands =
-      let r : Record = record (record_at roster p) { owned = owned } in
-      let aged : Record = record r { since = roster.old } in
-      let idle : (n : ℕ) → (record_at roster p).wait ≡ Some (Mutex n) → ⊥ = λ n is. none-some (Mutex n) (sym free ∙ is) in
-      cond_both {A = Roster} (is_level r (record_at roster p)) (with_record roster p r) (oldest roster p r) (AreOwnedBut left)
-      (λ _. owned_then roster (with_record roster p r) p r (another_record roster p known r) [] left (but_none roster orderly) hands idle)
-      (λ _. owned_then roster (oldest roster p r) p aged (another_oldest roster p known r) [] left (but_none roster orderly) hands idle)
+      owned_then (owns_now owned) [] left (but_none roster orderly) hands (λ n is. none-some (Mutex n) (sym free ∙ is))
 
   pub reaches_own : (owned : List Holding) → (record_at roster p).wait ≡ None
       → (HasOrderlyOwners roster → Hands roster p owned [] []) → Reaches 1 roster (own roster p owned)
-  reaches_own owned free hands =
-      reaches_of (moves_own owned) (λ orderly. all_owned (own roster p owned) (owned_own owned [] free orderly (hands orderly)))
-      (periods_own owned)
+  reaches_own owned free hands = record {
+    moves = moves_own owned;
+    owners = λ orderly. all_owned (own roster p owned) (owned_own owned [] free orderly (hands orderly));
+    periods = periods_own owned;
+  }
 
   none_lost : {A : Type 0} (n : ℕ) → holds n [] ≡ true → A
   none_lost n is = absurd (both_ways false refl is)
@@ -260,13 +243,14 @@ module _ (roster : Roster) (p : ℕ) (known : p < length roster.records) where
         let given = own roster p (without m mine) in
         let handed = hand_over given holding in
         let moves = moves_own (without m mine) in
-        reaches_of
-        (moves_more (1 + length handed.notices) 2 (omega (arith, few_handed_over given holding))
-        (moves_then 1 (length handed.notices) moves (moves_hand_over given holding (moves.starts starts))))
-        (λ orderly.
-        all_owned handed.roster (inherits_hand_over given holding []
-        (owned_own (without m mine) (holding ∷ []) free orderly (hands_without orderly))))
-        (λ q. stays_then (periods_own (without m mine) q) (periods_hand_over given holding q))
+        record {
+          moves = moves_more (1 + length handed.notices) 2 (omega (arith, few_handed_over given holding))
+              (moves_then 1 (length handed.notices) moves (moves_hand_over given holding (moves.starts starts)));
+          owners = λ orderly.
+              all_owned handed.roster (inherits_hand_over given holding []
+              (owned_own (without m mine) (holding ∷ []) free orderly (hands_without orderly)));
+          periods = λ q. stays_then (periods_own (without m mine) q) (periods_hand_over given holding q);
+        }
 
   -- process p is stopped, and the mutexes that it owned go on
   hands_all : HasOrderlyOwners roster → Hands roster p [] [] (in_order mine)
@@ -281,9 +265,8 @@ module _ (roster : Roster) (p : ℕ) (known : p < length roster.records) where
 
   owned_stopped : HasOrderlyOwners roster → HasOrderlyOwners (halted roster p).roster
   owned_stopped orderly =
-      let r = stopped (record_at roster p) in
       owned_hand_on (in_order mine) (stop roster p)
-      (owned_then roster (stop roster p) p r (another_record roster p known r) [] (in_order mine) (but_none roster orderly)
+      (owned_then (replaces_record roster p known (stopped (record_at roster p)) refl 0) [] (in_order mine) (but_none roster orderly)
       (hands_all orderly) (λ n is. none-some (Mutex n) is))
 
   -- a stop gives at most one notice for each mutex that the process owned, and at most one stamp
@@ -297,19 +280,21 @@ module _ (roster : Roster) (p : ℕ) (known : p < length roster.records) where
   reaches_halted starts =
       let stops = moves_stop roster p known in
       let told = length (halted roster p).notices in
-      reaches_of
-      (moves_more (0 + told) told (omega arith)
-      (moves_then 0 told stops (moves_hand_on (in_order mine) (stop roster p) (stops.starts starts))))
-      owned_stopped (λ q. stays_then (periods_stop roster p known q) (periods_hand_on (in_order mine) (stop roster p) q))
+      record {
+        moves = moves_more (0 + told) told (omega arith)
+            (moves_then 0 told stops (moves_hand_on (in_order mine) (stop roster p) (stops.starts starts)));
+        owners = owned_stopped;
+        periods = λ q. stays_then (periods_stop roster p known q) (periods_hand_on (in_order mine) (stop roster p) q);
+      }
 
   -- process p, which owns no mutex, waits for one that another owns
   pub reaches_await : (m : ℕ) (due : Option ℕ) → IsFrom roster.now due → (record_at roster p).started ≡ true → (is_normal roster.mode ≡ false → ⊥)
       → (record_at roster p).owned ≡ [] → (other : ℕ) → owns m (record_at roster other) ≡ true
       → Reaches 1 roster (block roster p (Mutex m) due)
   reaches_await m due later begun normal without other owning =
-      let r : Record = record (waiting (record_at roster p) (Mutex m) due) { since = roster.young } in
-      let blocked = waiting (record_at roster p) (Mutex m) due in
-      reaches_of (moves_block roster p known (Mutex m) due later (λ e. cc) begun normal) (λ orderly.
-      owners_waiting roster (block roster p (Mutex m) due) p r (another_newest roster p known blocked) m
-      orderly refl without refl other owning)
-      (periods_newest roster p known blocked (own_stays roster p known blocked refl refl refl refl (λ _. refl)))
+      let has = replaces_newest roster p known (waiting (record_at roster p) (Mutex m) due) in
+      record {
+        moves = moves_block roster p known (Mutex m) due later (λ e. cc) begun normal;
+        owners = λ orderly. owners_waiting has m orderly refl without refl other owning;
+        periods = periods_by has (own_stays roster p known _ refl refl refl refl (λ _. refl));
+      }

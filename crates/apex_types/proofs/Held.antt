@@ -3,11 +3,11 @@ use Rattle.std.proofs.Common.{lit≤, ◌≡◌, ◌≢◌, ℕ, suc, ◌≤◌,
 use Rattle.std.proofs.lemmas.Bool.{both_ways, cases_Bool, cases_eq, cond_both, eq-eqb, eqb-false, eqb-true, ne_eqb, or_from, or_left, or_parts, or_right}
 use Rattle.std.proofs.lemmas.List.{length-map}
 use Rattle.std.proofs.lemmas.Option.{none-some, same_Some}
-use Rattle.apex_types.specs.Held.{at_depth, holding_of, holds, holds_none, in_order, inserted, is_of, with_depth, without}
-use Rattle.apex_types.specs.Limits.{most_depth}
-use Rattle.apex_types.specs.Owners.{AreLawful, IsLawfulHolding}
-use Rattle.apex_types.specs.Roster.{Roster}
-use Rattle.apex_types.specs.Terms.{Holding}
+use Rattle.apex_types.specs.processes.Held.{at_depth, holding_of, holds, holds_none, in_order, inserted, is_of, with_depth, without}
+use Rattle.apex_types.specs.values.Limits.{most_depth}
+use Rattle.apex_types.specs.processes.Owners.{AreLawful, IsLawfulHolding}
+use Rattle.apex_types.specs.processes.Roster.{Roster}
+use Rattle.apex_types.specs.values.Terms.{Holding}
 
 pub or_false : (a : Bool) → (a || false) ≡ a
 or_false true = refl

@@ -1,8 +1,8 @@
 -- Changes of several processes, one after the other.
 use Rattle.std.proofs.Common.{◌≡◌, ℕ, zero, suc, List, ◌++◌, Option, None, Some, refl, append-nil, append_assoc}
-use Rattle.apex_types.specs.Terms.{Notice}
-use Rattle.apex_types.specs.Roster.{Roster}
-use Rattle.apex_types.specs.InTurn.{Changed, unchanged, behind, next_and, in_turn}
+use Rattle.apex_types.specs.values.Terms.{Notice}
+use Rattle.apex_types.specs.processes.Roster.{Roster}
+use Rattle.apex_types.specs.services.InTurn.{Changed, unchanged, behind, next_and, in_turn}
 
 module _ (next : Roster → Option ℕ) (change : Roster → ℕ → Changed) where
   -- no process is next

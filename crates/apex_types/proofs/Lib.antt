@@ -4,6 +4,7 @@ pub mod InTurn
 pub mod Choice
 pub mod Orders
 pub mod DistinctStamps
+pub mod Replaces
 pub mod Starts
 pub mod BothProfiles
 pub mod Held

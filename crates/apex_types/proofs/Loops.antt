@@ -1,8 +1,8 @@
 -- Loops that make changes of several processes in turn.
 use Rattle.std.proofs.Common.{◌≡◌, ℕ, suc, ◌+◌, ◌-◌, ◌≤◌, List, Option, None, Some, sym, ap, ◌∙◌, arith, append-nil}
-use Rattle.apex_types.specs.Terms.{Notice}
-use Rattle.apex_types.specs.InTurn.{Changed, unchanged, behind, in_turn, Makes}
-use Rattle.apex_types.specs.Roster.{Roster}
+use Rattle.apex_types.specs.values.Terms.{Notice}
+use Rattle.apex_types.specs.services.InTurn.{Changed, unchanged, behind, in_turn, Makes}
+use Rattle.apex_types.specs.processes.Roster.{Roster}
 use Rattle.apex_types.proofs.InTurn.{in_turn-none, in_turn-some}
 
 module _ (next : Roster → Option ℕ) (change : Roster → ℕ → Changed) where

@@ -5,16 +5,16 @@ use Rattle.std.proofs.lemmas.Bool.{both_ways, cond_both}
 use Rattle.std.proofs.lemmas.Int.{ints}
 use Rattle.std.proofs.lemmas.List.{length-map}
 use Rattle.std.proofs.lemmas.Option.{none-some}
-use Rattle.apex_types.specs.Terms.{Mode, Record}
+use Rattle.apex_types.specs.values.Terms.{Mode, Record}
 use Rattle.apex_types.specs.declared.records.Mode.TheVariants as mode
 use Rattle.apex_types.specs.declared.records.Wait.TheVariants.{Start, Period, Mutex}
-use Rattle.apex_types.specs.Roster.{Roster, nobody, record_at, is_cold_start, is_normal}
-use Rattle.apex_types.specs.Held.{holds}
-use Rattle.apex_types.specs.Owners.{AreLawfullyOwned}
-use Rattle.apex_types.specs.Running.{is_eligible}
-use Rattle.apex_types.specs.Periods.{IsInTime}
-use Rattle.apex_types.specs.Stamps.{readied, begin, released_at, release, block, stopped, set_mode}
-use Rattle.apex_types.specs.PartitionServices.{enter_idle}
+use Rattle.apex_types.specs.processes.Roster.{Roster, nobody, record_at, is_cold_start, is_normal}
+use Rattle.apex_types.specs.processes.Held.{holds}
+use Rattle.apex_types.specs.processes.Owners.{AreLawfullyOwned}
+use Rattle.apex_types.specs.processes.Running.{is_eligible}
+use Rattle.apex_types.specs.processes.Periods.{IsInTime}
+use Rattle.apex_types.specs.processes.Stamps.{readied, begin, released_at, release, block, stopped, set_mode}
+use Rattle.apex_types.specs.services.PartitionServices.{enter_idle}
 use Rattle.apex_types.proofs.DistinctStamps.{stamped_set_mode}
 use Rattle.apex_types.proofs.Periods.{StaysInPeriod, no_period, stays_same}
 use Rattle.apex_types.proofs.Owners.{owners_kept}
@@ -39,16 +39,18 @@ normal_late mode.Normal e = refl
 -- the entry into NORMAL
 pub reaches_set_mode : (roster : Roster) (mode : Mode) → is_normal mode ≡ true → Reaches 0 roster (set_mode roster mode)
 reaches_set_mode roster mode normal = record {
-  many = refl;
-  time = refl;
-  rules = refl;
-  stamps = omega (arith, ints);
-  older = omega (arith, ints);
-  stamped = λ stamped. stamped_set_mode roster stamped mode;
-  times = λ before p. before p;
-  one = λ before p h. before p h;
-  starts = λ before. record { dormant = before.dormant; early = λ e. absurd (both_ways _ e normal); undue = λ e. absurd (both_ways _ e normal) };
-  late = λ _. normal_late mode normal;
+  moves = record {
+    many = refl;
+    time = refl;
+    rules = refl;
+    stamps = omega (arith, ints);
+    older = omega (arith, ints);
+    stamped = λ stamped. stamped_set_mode roster stamped mode;
+    times = λ before p. before p;
+    one = λ before p h. before p h;
+    starts = λ before. record { dormant = before.dormant; early = λ e. absurd (both_ways _ e normal); undue = λ e. absurd (both_ways _ e normal) };
+    late = λ _. normal_late mode normal;
+  };
   owners = owners_kept roster (set_mode roster mode) (record { rules = refl; owned = λ q. refl; mutex = λ q m is. is });
   periods = λ p. stays_same (record_at roster p);
 }
@@ -68,31 +70,33 @@ reaches_enter_idle roster =
     let unowned : (p : ℕ) → (record_at (enter_idle roster) p).owned ≡ [] = λ p. ap (λ (r : Record). r.owned) (at p) in
     let undue : (p : ℕ) → (record_at (enter_idle roster) p).due ≡ None = λ p. ap (λ (r : Record). r.due) (at p) in
     record {
-      many = many;
-      time = refl;
-      rules = refl;
-      stamps = omega (arith, ints);
-      older = omega (arith, ints);
-      stamped = λ stamped. record {
-        given = λ p within. rw (same p) (stamped.given p (rw many at within));
-        newer = λ p within. rw (same p) (stamped.newer p (rw many at within));
-        distinct = record {
-          distinct = λ p q within there e. stamped.distinct.distinct p q (rw many at within) (rw many at there) (sym (same p) ∙ e ∙ same q);
+      moves = record {
+        many = many;
+        time = refl;
+        rules = refl;
+        stamps = omega (arith, ints);
+        older = omega (arith, ints);
+        stamped = λ stamped. record {
+          given = λ p within. rw (same p) (stamped.given p (rw many at within));
+          newer = λ p within. rw (same p) (stamped.newer p (rw many at within));
+          distinct = record {
+            distinct = λ p q within there e. stamped.distinct.distinct p q (rw many at within) (rw many at there) (sym (same p) ∙ e ∙ same q);
+          };
         };
+        times = λ before p. subst (IsInTime roster.now) (sym (at p)) (record {
+          due = λ t e. absurd (none-some t e);
+          deadline = λ t e. absurd (none-some t e);
+          release = (before p).release;
+          period = λ w. absurd (none-some Period w);
+        });
+        one = λ before p h. free p;
+        starts = λ before. record {
+          dormant = λ p e. free p;
+          early = λ e p h. absurd (both_ways _ (ap (λ (r : Record). r.started) (at p)) h);
+          undue = λ e p. undue p;
+        };
+        late = λ _. refl;
       };
-      times = λ before p. subst (IsInTime roster.now) (sym (at p)) (record {
-        due = λ t e. absurd (none-some t e);
-        deadline = λ t e. absurd (none-some t e);
-        release = (before p).release;
-        period = λ w. absurd (none-some Period w);
-      });
-      one = λ before p h. free p;
-      starts = λ before. record {
-        dormant = λ p e. free p;
-        early = λ e p h. absurd (both_ways _ (ap (λ (r : Record). r.started) (at p)) h);
-        undue = λ e p. undue p;
-      };
-      late = λ _. refl;
       owners = λ before. record {
         most = before.most;
         owned = λ p. subst (AreLawfullyOwned (enter_idle roster)) (sym (unowned p)) (record { lawful = tt; few = omega arith });

@@ -4,10 +4,10 @@ use Rattle.std.proofs.Common.{◌≡◌, ◌≢◌, true, false, arith}
 use Rattle.std.specs.Cmp.{IsStrictWeakOrder}
 use Rattle.std.proofs.lemmas.Bool.Decides.{nat_tests}
 use Rattle.std.proofs.lemmas.Int.{ints}
-use Rattle.apex_types.specs.Terms.{Discipline, Record}
+use Rattle.apex_types.specs.values.Terms.{Discipline, Record}
 use Rattle.apex_types.specs.declared.records.Discipline.TheVariants.{Fifo, Priority}
-use Rattle.apex_types.specs.Waiters.{waits_before}
-use Rattle.apex_types.specs.Running.{is_before, is_older}
+use Rattle.apex_types.specs.processes.Waiters.{waits_before}
+use Rattle.apex_types.specs.processes.Running.{is_before, is_older}
 
 pub older_strict : IsStrictWeakOrder is_older
 older_strict = record {

@@ -3,12 +3,13 @@ use Rattle.std.proofs.Common.{◌≡◌, ◌≢◌, ℕ, ◌≤◌, ◌⊎◌, t
 use Rattle.std.proofs.lemmas.List.{get_or_past}
 use Rattle.std.proofs.lemmas.List.Quantifiers.{position-Some}
 use Rattle.std.proofs.lemmas.Bool.{both_ways, cases_Bool, cases_eq, cases_lt, eqb-true, or_from, or_right}
-use Rattle.apex_types.specs.Terms.{Holding, Record, Wait}
+use Rattle.apex_types.specs.values.Terms.{Holding, Record, Wait}
 use Rattle.apex_types.specs.declared.records.Wait.TheVariants.{Mutex}
-use Rattle.apex_types.specs.Held.{holds, is_of}
-use Rattle.apex_types.specs.Owners.{AreLawful, AreLawfullyOwned, HasOrderlyOwners, IsLawfulHolding, WaitsForOwner, owner, owns}
-use Rattle.apex_types.specs.Roster.{MutexRules, Roster, nobody, record_at}
+use Rattle.apex_types.specs.processes.Held.{holds, is_of}
+use Rattle.apex_types.specs.processes.Owners.{AreLawful, AreLawfullyOwned, HasOrderlyOwners, IsLawfulHolding, WaitsForOwner, owner, owns}
+use Rattle.apex_types.specs.processes.Roster.{MutexRules, Roster, nobody, record_at}
 use Rattle.apex_types.proofs.Dues.{position_none}
+use Rattle.apex_types.proofs.Replaces.{Replaces, each_stays}
 
 -- the owner that is found owns the mutex; if none is found, no process owns it
 pub owner_owns : (roster : Roster) (m p : ℕ) → owner roster m ≡ Some p → owns m (record_at roster p) ≡ true
@@ -62,25 +63,12 @@ pub record IsSameOwner (roster : Roster) (p : ℕ) (r : Record) : Type 0 where
   pub owned : r.owned ≡ (record_at roster p).owned
   pub mutex : (m : ℕ) → r.wait ≡ Some (Mutex m) → (record_at roster p).wait ≡ Some (Mutex m)
 
--- process p has this record, and the others keep theirs
-pub record HasAnother (old new : Roster) (p : ℕ) (r : Record) : Type 0 where
-  pub rules : new.rules ≡ old.rules
-  pub here : record_at new p ≡ r
-  pub others : (q : ℕ) → q ≢ p → record_at new q ≡ record_at old q
-
-module _ (old new : Roster) (p : ℕ) (r : Record) (has : HasAnother old new p r) where
+module _ {most : ℕ} {old new : Roster} {p : ℕ} {r : Record} (has : Replaces most old new p r) where
   pub same_owner : IsSameOwner old p r → KeepsOwners old new
   same_owner same = record {
     rules = has.rules;
-    owned = λ q. elim (cases_eq q p) [
-      | inl e ↦ ap (λ (k : ℕ). (record_at new k).owned) e ∙ ap (λ (x : Record). x.owned) has.here ∙ same.owned ∙ sym (ap (λ (k : ℕ). (record_at old k).owned) e)
-      | inr apart ↦ ap (λ (x : Record). x.owned) (has.others q apart)
-    ];
-    mutex = λ q m is. elim (cases_eq q p) [
-      | inl e ↦ ap (λ (k : ℕ). (record_at old k).wait) e
-          ∙ same.mutex m (sym (ap (λ (x : Record). x.wait) has.here) ∙ sym (ap (λ (k : ℕ). (record_at new k).wait) e) ∙ is)
-      | inr apart ↦ sym (ap (λ (x : Record). x.wait) (has.others q apart)) ∙ is
-    ];
+    owned = each_stays has (λ s t. t.owned ≡ s.owned) (λ _. refl) same.owned;
+    mutex = each_stays has (λ s t. (m : ℕ) → t.wait ≡ Some (Mutex m) → s.wait ≡ Some (Mutex m)) (λ _ m is. is) same.mutex;
   }
 
 -- mutexes are owned in order but for these, which are held lawfully and which no process owns, so
@@ -141,7 +129,7 @@ pub record Hands (roster : Roster) (p : ℕ) (owned lost left : List Holding) : 
   pub taken : (n : ℕ) → holds n lost ≡ true → holds n left ≡ false → holds n owned ≡ true
 
 -- so mutexes are owned in order but for those that are lost afterwards
-module _ (old new : Roster) (p : ℕ) (r : Record) (has : HasAnother old new p r) (lost left : List Holding)
+module _ {most : ℕ} {old new : Roster} {p : ℕ} {r : Record} (has : Replaces most old new p r) (lost left : List Holding)
     (but : AreOwnedBut lost old) (hands : Hands old p r.owned lost left)
     (idle : (n : ℕ) → r.wait ≡ Some (Mutex n) → ⊥) where
   owns_here : (n : ℕ) → owns n (record_at new p) ≡ holds n r.owned
@@ -233,14 +221,11 @@ mutex_of (Some (Mutex m)) = m
 mutex_of _ = 0
 
 -- process p, which owns none, begins to wait for mutex m, which another owns
-module _ (old new : Roster) (p : ℕ) (r : Record) (has : HasAnother old new p r) (m : ℕ) (orderly : HasOrderlyOwners old)
+module _ {most : ℕ} {old new : Roster} {p : ℕ} {r : Record} (has : Replaces most old new p r) (m : ℕ) (orderly : HasOrderlyOwners old)
     (same : r.owned ≡ (record_at old p).owned) (without : (record_at old p).owned ≡ []) (waits : r.wait ≡ Some (Mutex m))
     (other : ℕ) (owning : owns m (record_at old other) ≡ true) where
   same_owned : (q : ℕ) → (record_at new q).owned ≡ (record_at old q).owned
-  same_owned q = elim (cases_eq q p) [
-    | inl e ↦ ap (λ (k : ℕ). (record_at new k).owned) e ∙ ap (λ (x : Record). x.owned) has.here ∙ same ∙ sym (ap (λ (k : ℕ). (record_at old k).owned) e)
-    | inr apart ↦ ap (λ (x : Record). x.owned) (has.others q apart)
-  ]
+  same_owned = each_stays has (λ s t. t.owned ≡ s.owned) (λ _. refl) same
 
   pub owners_waiting : HasOrderlyOwners new
   owners_waiting = record {

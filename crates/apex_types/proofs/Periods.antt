@@ -3,10 +3,10 @@ use Rattle.std.proofs.Common.{◌≡◌, ℕ, ◌+◌, ◌-◌, ◌*◌, ◌/◌
 use Rattle.std.proofs.Math.Nat.{add-mul, div-mul-le_self, mod-eq-sub-div-mul, mod-lt, mul-le-mul_right}
 use Rattle.std.proofs.lemmas.Bool.{cases_lt}
 use Rattle.std.proofs.lemmas.Option.{none-some, same_Some}
-use Rattle.apex_types.specs.Terms.{Record}
-use Rattle.apex_types.specs.Dues.{IsFrom}
-use Rattle.apex_types.specs.Periods.{IsWholePeriodsAfter, awaits_first, next_release, release_after}
-use Rattle.apex_types.specs.Roster.{Roster, record_at}
+use Rattle.apex_types.specs.values.Terms.{Record}
+use Rattle.apex_types.specs.processes.Dues.{IsFrom}
+use Rattle.apex_types.specs.processes.Periods.{IsWholePeriodsAfter, awaits_first, next_release, release_after}
+use Rattle.apex_types.specs.processes.Roster.{Roster, record_at}
 
 -- no period has passed
 pub no_period : (period : Option ℕ) (t : ℕ) → IsWholePeriodsAfter period t t
@@ -48,8 +48,8 @@ stays_then {r} {s} {t} first second = record {
   dormant = λ e. second.dormant (first.dormant e);
 }
 
--- the next release of a process that was released by now is above now, a period on at the most, and
--- whole periods later, and no other such instant is sooner
+-- the next release of a process is above now, and whole periods later, and no other such instant is
+-- sooner
 module _ (now release period : ℕ) (some : 1 ≤ period) where
   abbrev passed : ℕ
   passed = (now - release) / period
@@ -62,14 +62,8 @@ module _ (now release period : ℕ) (some : 1 ≤ period) where
       let rest = mod-eq-sub-div-mul (now - release) period in
       omega (arith, one_more, rest, mod-lt (now - release) some)
 
-  pub next_near : release ≤ now → next_release now release period ≤ now + period
-  next_near before = omega (arith, before, one_more, div-mul-le_self (now - release) period)
-
   pub next_once : (k : ℕ) × (1 ≤ k) × (next_release now release period ≡ release + k * period)
   next_once = (passed + 1, omega arith, refl)
-
-  pub next_whole : IsWholePeriodsAfter (Some period) release (next_release now release period)
-  next_whole = (passed + 1, refl)
 
   pub next_least : (k : ℕ) → 1 ≤ k → now < release + k * period → next_release now release period ≤ release + k * period
   next_least k once later = elim (cases_lt passed k) [

@@ -1,27 +1,27 @@
 -- From one roster to another by changes of single processes at one instant: the facts that such
 -- changes keep.
-use Rattle.std.proofs.Common.{◌≡◌, ◌≢◌, ℕ, zero, suc, ◌+◌, ◌<◌, ◌≤◌, ◌≤ℤ◌, ℤ, pos, ◌+ℤ◌, ◌==◌, ◌||◌, true, false, ◌&&◌, not, ◌++◌, length, Option, None, Some, refl, sym, ◌∙◌, ap, subst, inl, inr, arith}
+use Rattle.std.proofs.Common.{◌≡◌, ◌≢◌, ℕ, zero, suc, ◌+◌, ◌<◌, ◌≤◌, ◌≤ℤ◌, pos, ◌+ℤ◌, ◌==◌, ◌||◌, true, false, ◌&&◌, not, ◌++◌, length, Option, None, Some, refl, sym, ◌∙◌, ap, subst, inl, inr, arith}
 use Rattle.std.proofs.lemmas.Bool.{both_ways, cases_eq, cond_both}
 use Rattle.std.proofs.lemmas.Int.{ints}
 use Rattle.std.proofs.lemmas.List.{length-append, set-set}
 use Rattle.std.proofs.lemmas.Option.{none-some}
-use Rattle.apex_types.specs.Terms.{Message, Record, Suspender, Wait}
+use Rattle.apex_types.specs.values.Terms.{Message, Record, Suspender, Wait}
 use Rattle.apex_types.specs.declared.records.Suspender.TheVariants.{Itself, Other}
 use Rattle.apex_types.specs.declared.records.Wait.TheVariants.{Normal, Start, Period, Mutex}
-use Rattle.apex_types.specs.Roster.{Roster, record_at, with_record, is_cold_start, is_normal}
-use Rattle.apex_types.specs.Owners.{HasOrderlyOwners, owns_some}
-use Rattle.apex_types.specs.Running.{is_eligible}
-use Rattle.apex_types.specs.Dues.{HasNoDeadlineBelow, HasNoDueBelow, IsFrom}
-use Rattle.apex_types.specs.Periods.{AreInTime, IsInTime, IsReleased, IsWholePeriodsAfter, awaits_first, release_after}
-use Rattle.apex_types.specs.Distinct.{IsStamped}
-use Rattle.apex_types.specs.Waiters.{goes_by_priority, queue_in}
-use Rattle.apex_types.specs.Stamps.{WaitsForOne, HasOrderlyStarts, suspension_awake, newest, oldest, readied, is_level, levelled, reset, begin, released_at, start, stop, stopped, is_by_itself, suspend, self_suspended, suspend_self, unsuspended, resume, set_priority, awake, waiting, block, unblock, release, place_newest, without_due, set_deadline, await_release, advance_to, set_core, set_step, receive}
-use Rattle.apex_types.specs.InTurn.{Changed, next_and, in_turn}
-use Rattle.apex_types.proofs.Rosters.{changes_record, changes_newest, changes_oldest, at_record, at_newest}
-use Rattle.apex_types.proofs.DistinctStamps.{stamped_record, stamped_newest, stamped_oldest}
+use Rattle.apex_types.specs.processes.Roster.{Roster, record_at, with_record, is_cold_start, is_normal}
+use Rattle.apex_types.specs.processes.Owners.{HasOrderlyOwners, owns_some}
+use Rattle.apex_types.specs.processes.Running.{is_eligible}
+use Rattle.apex_types.specs.processes.Dues.{HasNoDeadlineBelow, HasNoDueBelow, IsFrom}
+use Rattle.apex_types.specs.processes.Periods.{AreInTime, IsInTime, IsReleased, IsWholePeriodsAfter, awaits_first, release_after}
+use Rattle.apex_types.specs.values.Distinct.{IsStamped}
+use Rattle.apex_types.specs.processes.Waiters.{goes_by_priority, queue_in}
+use Rattle.apex_types.specs.processes.Stamps.{WaitsForOne, HasOrderlyStarts, suspension_awake, newest, readied, is_level, reset, begin, released_at, start, stop, stopped, is_by_itself, suspend, self_suspended, suspend_self, unsuspended, resume, set_priority, awake, waiting, block, unblock, release, place_newest, without_due, set_deadline, await_release, advance_to, set_core, set_step, receive}
+use Rattle.apex_types.specs.services.InTurn.{Changed, next_and, in_turn}
+use Rattle.apex_types.proofs.Rosters.{at_record}
 use Rattle.apex_types.proofs.Dues.{deadline_later, from_now}
 use Rattle.apex_types.proofs.Periods.{KeepsPeriods, StaysInPeriod, no_period, periods_then, stays_same, stays_then}
-use Rattle.apex_types.proofs.Owners.{IsSameOwner, HasAnother, owners_kept, same_owner}
+use Rattle.apex_types.proofs.Owners.{IsSameOwner, owners_kept, same_owner}
+use Rattle.apex_types.proofs.Replaces.{Replaces, each_stays, replaces_newest, replaces_readied, replaces_record}
 use Rattle.apex_types.proofs.Starts.{IsOrderlyIn, orderly_at, orderly_all}
 
 -- as many records, the same time, the same rules of mutexes, and at most `most` new stamps; stamps
@@ -42,49 +42,9 @@ pub record Moves (most : ℕ) (old new : Roster) : Type 0 where
 -- the same, and mutexes that are owned in order are so afterwards, and releases follow each other
 -- by whole periods
 pub record Reaches (most : ℕ) (old new : Roster) : Type 0 where
-  pub many : length new.records ≡ length old.records
-  pub time : new.now ≡ old.now
-  pub rules : new.rules ≡ old.rules
-  pub stamps : new.young ≤ℤ (old.young +ℤ pos most)
-  pub older : old.old ≤ℤ (new.old +ℤ pos most)
-  pub stamped : IsStamped old → IsStamped new
-  pub times : AreInTime old → AreInTime new
-  pub one : WaitsForOne old → WaitsForOne new
-  pub starts : HasOrderlyStarts old → HasOrderlyStarts new
-  pub late : is_cold_start old.mode ≡ false → is_cold_start new.mode ≡ false
+  pub moves : Moves most old new
   pub owners : HasOrderlyOwners old → HasOrderlyOwners new
   pub periods : KeepsPeriods old new
-
-pub reaches_of : {most : ℕ} {old new : Roster} → Moves most old new
-    → (HasOrderlyOwners old → HasOrderlyOwners new) → KeepsPeriods old new → Reaches most old new
-reaches_of moves owners periods = record {
-  many = moves.many;
-  time = moves.time;
-  rules = moves.rules;
-  stamps = moves.stamps;
-  older = moves.older;
-  stamped = moves.stamped;
-  times = moves.times;
-  one = moves.one;
-  starts = moves.starts;
-  late = moves.late;
-  owners = owners;
-  periods = periods;
-}
-
-pub moves_of : {most : ℕ} {old new : Roster} → Reaches most old new → Moves most old new
-moves_of reaches = record {
-  many = reaches.many;
-  time = reaches.time;
-  rules = reaches.rules;
-  stamps = reaches.stamps;
-  older = reaches.older;
-  stamped = reaches.stamped;
-  times = reaches.times;
-  one = reaches.one;
-  starts = reaches.starts;
-  late = reaches.late;
-}
 
 pub moves_then : {first second third : Roster} (n m : ℕ) → Moves n first second → Moves m second third → Moves (n + m) first third
 moves_then n m g h = record {
@@ -116,26 +76,31 @@ moves_more n m few g = record {
 
 pub reaches_none : (most : ℕ) (roster : Roster) → Reaches most roster roster
 reaches_none most roster = record {
-  many = refl;
-  time = refl;
-  rules = refl;
-  stamps = omega (arith, ints);
-  older = omega (arith, ints);
-  stamped = λ h. h;
-  times = λ h. h;
-  one = λ h. h;
-  starts = λ h. h;
-  late = λ h. h;
+  moves = record {
+    many = refl;
+    time = refl;
+    rules = refl;
+    stamps = omega (arith, ints);
+    older = omega (arith, ints);
+    stamped = λ h. h;
+    times = λ h. h;
+    one = λ h. h;
+    starts = λ h. h;
+    late = λ h. h;
+  };
   owners = λ h. h;
   periods = λ p. stays_same (record_at roster p);
 }
 
 pub reaches_then : {first second third : Roster} (n m : ℕ) → Reaches n first second → Reaches m second third → Reaches (n + m) first third
-reaches_then n m g h =
-    reaches_of (moves_then n m (moves_of g) (moves_of h)) (λ o. h.owners (g.owners o)) (λ p. stays_then (g.periods p) (h.periods p))
+reaches_then n m g h = record {
+  moves = moves_then n m g.moves h.moves;
+  owners = λ o. h.owners (g.owners o);
+  periods = λ p. stays_then (g.periods p) (h.periods p);
+}
 
 pub reaches_more : {old new : Roster} (n m : ℕ) → n ≤ m → Reaches n old new → Reaches m old new
-reaches_more n m few g = reaches_of (moves_more n m few (moves_of g)) g.owners g.periods
+reaches_more n m few g = record { moves = moves_more n m few g.moves; owners = g.owners; periods = g.periods }
 
 -- an event reaches the same, but it may start a process that was dormant, and in COLD_START bind
 -- one to another core
@@ -149,7 +114,7 @@ pub record Arrives (most : ℕ) (old new : Roster) : Type 0 where
 
 pub arrives_of : {most : ℕ} {old new : Roster} → Reaches most old new → Arrives most old new
 arrives_of reaches = record {
-  moves = moves_of reaches;
+  moves = reaches.moves;
   owners = reaches.owners;
   attributes = λ p. (reaches.periods p).attributes;
   released = λ p is. (reaches.periods p).later is.1;
@@ -169,7 +134,7 @@ arrives_more n m few g = record {
 pub arrives_then : {first second third : Roster} (n m : ℕ) → Reaches n first second
     → ((p : ℕ) → (record_at second p).started ≡ (record_at first p).started) → Arrives m second third → Arrives (n + m) first third
 arrives_then {first} {second} {third} n m g started h = record {
-  moves = moves_then n m (moves_of g) h.moves;
+  moves = moves_then n m g.moves h.moves;
   owners = λ o. h.owners (g.owners o);
   attributes = λ p. h.attributes p ∙ (g.periods p).attributes;
   released = λ p is.
@@ -178,7 +143,7 @@ arrives_then {first} {second} {third} n m g started h = record {
       periods_then (record_at first p).attributes.period (record_at first p).release (record_at second p).release (record_at third p).release
       (stays.later is.1)
       (subst (λ attributes. IsWholePeriodsAfter attributes.period (record_at second p).release (record_at third p).release) stays.attributes again);
-  cores = λ late p. h.cores (g.late late) p ∙ (g.periods p).core;
+  cores = λ late p. h.cores (g.moves.late late) p ∙ (g.periods p).core;
 }
 
 -- the two agree in all on which the laws of time and of starts depend
@@ -197,151 +162,43 @@ pub record Fits (roster : Roster) (r : Record) : Type 0 where
   pub starts : HasOrderlyStarts roster → IsOrderlyIn roster.mode r
 
 -- one process has another record
-module _ (roster : Roster) (p : ℕ) (known : p < length roster.records) where
+module _ {most : ℕ} {roster new : Roster} {p : ℕ} {r : Record} (has : Replaces most roster new p r) where
   -- a property of every record, and of the new one, holds of every record afterwards
-  all_stay : (P : Record → Type 0) (r : Record) → ((q : ℕ) → P (record_at roster q)) → P r → (q : ℕ) → P (record_at (with_record roster p r) q)
-  all_stay P r before here q =
-      elim (cases_eq q p) [
-        | inl same ↦ subst P (sym (ap (record_at (with_record roster p r)) same ∙ at_record roster p known r)) here
-        | inr apart ↦ subst P (sym ((changes_record roster p r).others q apart)) (before q)
-      ]
-
-  one_stays : (r : Record) → Fits roster r → WaitsForOne roster → WaitsForOne (with_record roster p r)
-  one_stays r fits before = all_stay (λ (x : Record). is_by_itself x.suspended ≡ true → x.wait ≡ None) r before (fits.one before)
-
-  times_stay : (r : Record) → Fits roster r → AreInTime roster → AreInTime (with_record roster p r)
-  times_stay r fits before = all_stay (IsInTime roster.now) r before (fits.time before)
-
-  starts_stay : (r : Record) → Fits roster r → HasOrderlyStarts roster → HasOrderlyStarts (with_record roster p r)
-  starts_stay r fits before =
-      orderly_all (with_record roster p r) (all_stay (IsOrderlyIn roster.mode) r (orderly_at roster before) (fits.starts before))
-
-  pub moves_record : (r : Record) → r.since ≡ (record_at roster p).since → Fits roster r → Moves 0 roster (with_record roster p r)
-  moves_record r same fits =
-      let changes = changes_record roster p r in
-      record {
-        many = changes.count;
-        time = refl;
-        rules = refl;
-        stamps = omega (arith, ints);
-        older = omega (arith, ints);
-        stamped = λ stamped. stamped_record roster p known stamped r same;
-        times = times_stay r fits;
-        one = one_stays r fits;
-        starts = starts_stay r fits;
-        late = λ l. l;
-      }
+  all_stay : (P : Record → Type 0) → ((q : ℕ) → P (record_at roster q)) → P (record r { since = has.stamp }) → (q : ℕ) → P (record_at new q)
+  all_stay P before here q = each_stays has (λ s t. P s → P t) (λ _ is. is) (λ _. here) q (before q)
 
   -- no law but that of stamps depends on the record's stamp
-  fits_stamped : (r : Record) (since : ℤ) → Fits roster r → Fits roster (record r { since = since })
-  fits_stamped r since fits = record {
-    time = λ before. let is = fits.time before in record { due = is.due; deadline = is.deadline; release = is.release; period = is.period };
-    one = fits.one;
-    starts = λ before. let is = fits.starts before in record { dormant = is.dormant; early = is.early; undue = is.undue };
+  pub moves_by : Fits roster r → Moves most roster new
+  moves_by fits = record {
+    many = has.many;
+    time = has.time;
+    rules = has.rules;
+    stamps = has.stamps;
+    older = has.older;
+    stamped = has.stamped;
+    times = λ before q. rw has.time
+        (all_stay (IsInTime roster.now) before
+        (let is = fits.time before in record { due = is.due; deadline = is.deadline; release = is.release; period = is.period }) q);
+    one = λ before. all_stay (λ (x : Record). is_by_itself x.suspended ≡ true → x.wait ≡ None) before (fits.one before);
+    starts = λ before. orderly_all new (λ q. rw has.mode
+        (all_stay (IsOrderlyIn roster.mode) (orderly_at roster before)
+        (let is = fits.starts before in record { dormant = is.dormant; early = is.early; undue = is.undue }) q));
+    late = λ l. ap is_cold_start has.mode ∙ l;
   }
 
-  pub moves_newest : (r : Record) → Fits roster r → Moves 1 roster (newest roster p r)
-  moves_newest r fits =
-      let changes = changes_newest roster p r in
-      let young : Record = record r { since = roster.young } in
-      let fits_so = fits_stamped r roster.young fits in
-      record {
-        many = changes.count;
-        time = refl;
-        rules = refl;
-        stamps = changes.one_more;
-        older = omega (arith, ints);
-        stamped = λ stamped. stamped_newest roster p known stamped r;
-        times = times_stay young fits_so;
-        one = one_stays young fits_so;
-        starts = λ before. let after = starts_stay young fits_so before in record { dormant = after.dormant; early = after.early; undue = after.undue };
-        late = λ l. l;
-      }
-
-  pub moves_oldest : (r : Record) → Fits roster r → Moves 1 roster (oldest roster p r)
-  moves_oldest r fits =
-      let changes = changes_oldest roster p r in
-      let aged : Record = record r { since = roster.old } in
-      let fits_so = fits_stamped r roster.old fits in
-      record {
-        many = changes.count;
-        time = refl;
-        rules = refl;
-        stamps = changes.one_more;
-        older = omega (arith, ints);
-        stamped = λ stamped. stamped_oldest roster p known stamped r;
-        times = times_stay aged fits_so;
-        one = one_stays aged fits_so;
-        starts = λ before. let after = starts_stay aged fits_so before in record { dormant = after.dormant; early = after.early; undue = after.undue };
-        late = λ l. l;
-      }
-
-  pub moves_readied : (r : Record) → r.since ≡ (record_at roster p).since → Fits roster r → Moves 1 roster (readied roster p r)
-  moves_readied r same fits =
-      cond_both {A = Roster} (is_eligible roster.mode r) _ _ (Moves 1 roster)
-      (λ _. moves_newest r fits) (λ _. moves_more 0 1 (omega arith) (moves_record r same fits))
-
-  pub moves_levelled : (r : Record) → r.since ≡ (record_at roster p).since → Fits roster r → Moves 1 roster (levelled roster p r)
-  moves_levelled r same fits =
-      cond_both {A = Roster} (is_level r (record_at roster p)) _ _ (Moves 1 roster)
-      (λ _. moves_more 0 1 (omega arith) (moves_record r same fits)) (λ _. moves_oldest r fits)
-
-  -- the process has another record, and the others keep theirs
-  pub another_record : (r : Record) → HasAnother roster (with_record roster p r) p r
-  another_record r = record { rules = refl; here = at_record roster p known r; others = (changes_record roster p r).others }
-
-  pub another_newest : (r : Record) → HasAnother roster (newest roster p r) p (record r { since = roster.young })
-  another_newest r = record { rules = refl; here = at_newest roster p known r; others = (changes_newest roster p r).others }
-
-  pub another_oldest : (r : Record) → HasAnother roster (oldest roster p r) p (record r { since = roster.old })
-  another_oldest r = record { rules = refl; here = at_record roster p known (record r { since = roster.old }); others = (changes_oldest roster p r).others }
+  owners_by : IsSameOwner roster p r → HasOrderlyOwners roster → HasOrderlyOwners new
+  owners_by owner = owners_kept roster new (same_owner has owner)
 
   -- if the process stays in its period, all do
-  periods_kept : (new : Roster) (r : Record) → HasAnother roster new p r → StaysInPeriod (record_at roster p) r → KeepsPeriods roster new
-  periods_kept new r has stays q =
-      elim (cases_eq q p) [
-        | inl same ↦
-            subst (λ (k : ℕ). StaysInPeriod (record_at roster k) (record_at new k)) (sym same)
-            (subst (StaysInPeriod (record_at roster p)) (sym has.here) stays)
-        | inr apart ↦ subst (StaysInPeriod (record_at roster q)) (sym (has.others q apart)) (stays_same (record_at roster q))
-      ]
+  pub periods_by : StaysInPeriod (record_at roster p) r → KeepsPeriods roster new
+  periods_by is =
+      each_stays has StaysInPeriod stays_same
+      (record { attributes = is.attributes; core = is.core; later = is.later; still = is.still; dormant = is.dormant })
 
-  pub periods_record : (r : Record) → StaysInPeriod (record_at roster p) r → KeepsPeriods roster (with_record roster p r)
-  periods_record r = periods_kept (with_record roster p r) r (another_record r)
+  reaches_by : Fits roster r → IsSameOwner roster p r → StaysInPeriod (record_at roster p) r → Reaches most roster new
+  reaches_by fits owner stays = record { moves = moves_by fits; owners = owners_by owner; periods = periods_by stays }
 
-  pub periods_newest : (r : Record) → StaysInPeriod (record_at roster p) r → KeepsPeriods roster (newest roster p r)
-  periods_newest r stays =
-      periods_kept (newest roster p r) (record r { since = roster.young }) (another_newest r)
-      (record { attributes = stays.attributes; core = stays.core; later = stays.later; still = stays.still; dormant = stays.dormant })
-
-  pub periods_oldest : (r : Record) → StaysInPeriod (record_at roster p) r → KeepsPeriods roster (oldest roster p r)
-  periods_oldest r stays =
-      periods_kept (oldest roster p r) (record r { since = roster.old }) (another_oldest r)
-      (record { attributes = stays.attributes; core = stays.core; later = stays.later; still = stays.still; dormant = stays.dormant })
-
-  pub reaches_record : (r : Record) → r.since ≡ (record_at roster p).since → Fits roster r → IsSameOwner roster p r
-      → StaysInPeriod (record_at roster p) r → Reaches 0 roster (with_record roster p r)
-  reaches_record r same fits owner stays =
-      reaches_of (moves_record r same fits)
-      (owners_kept roster (with_record roster p r) (same_owner roster (with_record roster p r) p r (another_record r) owner))
-      (periods_record r stays)
-
-  owners_newest : (r : Record) → IsSameOwner roster p r → HasOrderlyOwners roster → HasOrderlyOwners (newest roster p r)
-  owners_newest r owner =
-      let young : Record = record r { since = roster.young } in
-      owners_kept roster (newest roster p r)
-      (same_owner roster (newest roster p r) p young (another_newest r) (record { owned = owner.owned; mutex = owner.mutex }))
-
-  pub reaches_newest : (r : Record) → Fits roster r → IsSameOwner roster p r → StaysInPeriod (record_at roster p) r
-      → Reaches 1 roster (newest roster p r)
-  reaches_newest r fits owner stays = reaches_of (moves_newest r fits) (owners_newest r owner) (periods_newest r stays)
-
-  pub reaches_readied : (r : Record) → r.since ≡ (record_at roster p).since → Fits roster r → IsSameOwner roster p r
-      → StaysInPeriod (record_at roster p) r → Reaches 1 roster (readied roster p r)
-  reaches_readied r same fits owner stays =
-      cond_both {A = Roster} (is_eligible roster.mode r) _ _ (Reaches 1 roster)
-      (λ _. reaches_newest r fits owner stays) (λ _. reaches_more 0 1 (omega arith) (reaches_record r same fits owner stays))
-
+module _ (roster : Roster) (p : ℕ) (known : p < length roster.records) where
   -- a record that is not suspended by itself
   awake_one : (suspended : Option Suspender) → is_by_itself (suspension_awake suspended) ≡ true → ⊥
   awake_one None h = both_ways false refl h
@@ -441,9 +298,17 @@ module _ (roster : Roster) (p : ℕ) (known : p < length roster.records) where
     dormant = λ e. started ∙ e;
   }
 
+  -- a change of the process's own record in parts on which no law depends
+  reaches_alike : {most : ℕ} {new : Roster} {r : Record} → Replaces most roster new p r → IsAlike r (record_at roster p)
+      → r.owned ≡ (record_at roster p).owned → r.core ≡ (record_at roster p).core
+      → (is_by_itself r.suspended ≡ true → is_by_itself (record_at roster p).suspended ≡ true) → Reaches most roster new
+  reaches_alike {most} {new} {r} has is owned core suspended =
+      reaches_by has (own_fits r is suspended) (own_mutex r owned is.wait)
+      (own_stays r is.attributes core is.release is.started (λ e. ap awaits_first is.wait ∙ e))
+
   pub reaches_unblock : (is_normal roster.mode ≡ false → ⊥) → Reaches 1 roster (unblock roster p)
   reaches_unblock normal =
-      reaches_readied (awake (record_at roster p)) refl (awake_fits (record_at roster p) refl refl normal)
+      reaches_by (replaces_readied roster p known (awake (record_at roster p)) refl) (awake_fits (record_at roster p) refl refl normal)
       (no_wait _ refl (λ m is. none-some (Mutex m) is)) (awake_stays (record_at roster p) refl refl refl refl)
 
   -- a release: the first one after a start, or one that is whole periods later
@@ -452,14 +317,14 @@ module _ (roster : Roster) (p : ℕ) (known : p < length roster.records) where
       → IsWholePeriodsAfter (record_at roster p).attributes.period (record_at roster p).release roster.now)
       → Reaches 1 roster (release roster p)
   reaches_release normal later =
-      reaches_readied (released_at roster.now (record_at roster p)) refl (released_fits (record_at roster p) normal)
+      reaches_by (replaces_readied roster p known (released_at roster.now (record_at roster p)) refl) (released_fits (record_at roster p) normal)
       (no_wait _ refl (λ m is. none-some (Mutex m) is))
       (record { attributes = refl; core = refl; later = later; still = λ _. refl; dormant = λ e. e })
 
   pub moves_block : (wait : Wait) (due : Option ℕ) → IsFrom roster.now due → IsAligned (record_at roster p) wait due
       → (record_at roster p).started ≡ true → (is_normal roster.mode ≡ false → ⊥) → Moves 1 roster (block roster p wait due)
   moves_block wait due later aligned begun normal =
-      moves_newest (waiting (record_at roster p) wait due)
+      moves_by (replaces_newest roster p known (waiting (record_at roster p) wait due))
       (waiting_fits (record_at roster p) refl refl wait due later aligned begun normal)
 
   -- a wait for another thing than a mutex
@@ -468,7 +333,7 @@ module _ (roster : Roster) (p : ℕ) (known : p < length roster.records) where
       → ((m : ℕ) → Some wait ≡ Some (Mutex m) → ⊥)
       → (awaits_first (record_at roster p).wait ≡ false → awaits_first (Some wait) ≡ false) → Reaches 1 roster (block roster p wait due)
   reaches_block wait due later aligned begun normal other still =
-      reaches_newest (waiting (record_at roster p) wait due)
+      reaches_by (replaces_newest roster p known (waiting (record_at roster p) wait due))
       (waiting_fits (record_at roster p) refl refl wait due later aligned begun normal)
       (no_wait _ refl other) (own_stays (waiting (record_at roster p) wait due) refl refl refl refl still)
 
@@ -520,43 +385,15 @@ module _ (roster : Roster) (p : ℕ) (known : p < length roster.records) where
     pub cores : (q : ℕ) → (record_at new q).core ≡ (record_at roster q).core
     pub others : (q : ℕ) → q ≢ p → record_at new q ≡ record_at roster q
 
-  starts_newest : (r : Record) → Fits roster r → IsSameOwner roster p r → r.attributes ≡ (record_at roster p).attributes
-      → r.core ≡ (record_at roster p).core → Starts (newest roster p r)
-  starts_newest r fits owner same core = record {
-    moves = moves_newest r fits;
-    owners = owners_newest r owner;
-    attributes = λ q. elim (cases_eq q p) [
-      | inl here ↦ rw (here, (another_newest r).here) same
-      | inr apart ↦ rw ((another_newest r).others q apart) refl
-    ];
-    cores = λ q. elim (cases_eq q p) [
-      | inl here ↦ rw (here, (another_newest r).here) core
-      | inr apart ↦ rw ((another_newest r).others q apart) refl
-    ];
-    others = (another_newest r).others;
+  starts_by : {new : Roster} {r : Record} → Replaces 1 roster new p r → Fits roster r → IsSameOwner roster p r
+      → r.attributes ≡ (record_at roster p).attributes → r.core ≡ (record_at roster p).core → Starts new
+  starts_by has fits owner same core = record {
+    moves = moves_by has fits;
+    owners = owners_by has owner;
+    attributes = each_stays has (λ s t. t.attributes ≡ s.attributes) (λ _. refl) same;
+    cores = each_stays has (λ s t. t.core ≡ s.core) (λ _. refl) core;
+    others = has.others;
   }
-
-  starts_record : (r : Record) → r.since ≡ (record_at roster p).since → Fits roster r → IsSameOwner roster p r
-      → r.attributes ≡ (record_at roster p).attributes → r.core ≡ (record_at roster p).core → Starts (with_record roster p r)
-  starts_record r since fits owner same core = record {
-    moves = moves_more 0 1 (omega arith) (moves_record r since fits);
-    owners = owners_kept roster (with_record roster p r) (same_owner roster (with_record roster p r) p r (another_record r) owner);
-    attributes = λ q. elim (cases_eq q p) [
-      | inl here ↦ rw (here, (another_record r).here) same
-      | inr apart ↦ rw ((another_record r).others q apart) refl
-    ];
-    cores = λ q. elim (cases_eq q p) [
-      | inl here ↦ rw (here, (another_record r).here) core
-      | inr apart ↦ rw ((another_record r).others q apart) refl
-    ];
-    others = (another_record r).others;
-  }
-
-  starts_readied : (r : Record) → r.since ≡ (record_at roster p).since → Fits roster r → IsSameOwner roster p r
-      → r.attributes ≡ (record_at roster p).attributes → r.core ≡ (record_at roster p).core → Starts (readied roster p r)
-  starts_readied r since fits owner same core =
-      cond_both {A = Roster} (is_eligible roster.mode r) (newest roster p r) (with_record roster p r) Starts
-      (λ _. starts_newest r fits owner same core) (λ _. starts_record r since fits owner same core)
 
   pub starts : (delay : ℕ) → Starts (start roster p delay)
   starts delay =
@@ -564,9 +401,9 @@ module _ (roster : Roster) (p : ℕ) (known : p < length roster.records) where
       let due = Some (roster.now + delay) in
       cond_both {A = Roster} (is_normal roster.mode) (begin fresh p delay) (block fresh p (Normal delay) None) Starts
       (λ normal. cond_both {A = Roster} (delay == 0) (release fresh p) (block fresh p Start due) Starts
-      (λ _. subst Starts (sym fresh_released) (starts_readied (released_at roster.now r) refl (released_fits r (late normal)) (no_wait _ refl (λ m is. none-some (Mutex m) is)) refl refl))
-      (λ _. subst Starts (sym (fresh_blocked Start due)) (starts_newest (waiting r Start due) (waiting_fits r refl refl Start due (from_now roster.now delay) (λ e. cc) refl (late normal)) (no_wait _ refl (λ m is. cc)) refl refl)))
-      (λ _. subst Starts (sym (fresh_blocked (Normal delay) None)) (starts_newest (waiting r (Normal delay) None) (early_fits delay) (no_wait _ refl (λ m is. cc)) refl refl))
+      (λ _. subst Starts (sym fresh_released) (starts_by (replaces_readied roster p known (released_at roster.now r) refl) (released_fits r (late normal)) (no_wait _ refl (λ m is. none-some (Mutex m) is)) refl refl))
+      (λ _. subst Starts (sym (fresh_blocked Start due)) (starts_by (replaces_newest roster p known (waiting r Start due)) (waiting_fits r refl refl Start due (from_now roster.now delay) (λ e. cc) refl (late normal)) (no_wait _ refl (λ m is. cc)) refl refl)))
+      (λ _. subst Starts (sym (fresh_blocked (Normal delay) None)) (starts_by (replaces_newest roster p known (waiting r (Normal delay) None)) (early_fits delay) (no_wait _ refl (λ m is. cc)) refl refl))
 
   -- the start of a dormant process
   pub arrives_start : (delay : ℕ) → (record_at roster p).started ≡ false → Arrives 1 roster (start roster p delay)
@@ -598,11 +435,11 @@ module _ (roster : Roster) (p : ℕ) (known : p < length roster.records) where
   }
 
   pub moves_stop : Moves 0 roster (stop roster p)
-  moves_stop = moves_record (stopped (record_at roster p)) refl stopped_fits
+  moves_stop = moves_by (replaces_record roster p known (stopped (record_at roster p)) refl 0) stopped_fits
 
   -- a stop keeps the release
   pub periods_stop : KeepsPeriods roster (stop roster p)
-  periods_stop = periods_record (stopped (record_at roster p)) (record {
+  periods_stop = periods_by (replaces_record roster p known (stopped (record_at roster p)) refl 0) (record {
     attributes = refl;
     core = refl;
     later = λ _. no_period (record_at roster p).attributes.period (record_at roster p).release;
@@ -612,12 +449,12 @@ module _ (roster : Roster) (p : ℕ) (known : p < length roster.records) where
 
   pub reaches_suspend : Reaches 0 roster (suspend roster p)
   reaches_suspend =
-      reaches_record _ refl (own_fits _ (record { attributes = refl; started = refl; wait = refl; due = refl; deadline = refl; release = refl }) (λ h. absurd (both_ways false refl h))) (own_mutex _ refl refl)
-      (own_stays _ refl refl refl refl (λ e. e))
+      reaches_alike (replaces_record roster p known _ refl 0) (record { attributes = refl; started = refl; wait = refl; due = refl; deadline = refl; release = refl }) refl refl
+      (λ h. absurd (both_ways false refl h))
 
   pub reaches_suspend_self : (due : Option ℕ) → IsFrom roster.now due → (record_at roster p).started ≡ true → (is_normal roster.mode ≡ false → ⊥)
       → Reaches 1 roster (suspend_self roster p due)
-  reaches_suspend_self due later begun normal = reaches_newest (self_suspended (record_at roster p) due) (record {
+  reaches_suspend_self due later begun normal = reaches_by (replaces_newest roster p known (self_suspended (record_at roster p) due)) (record {
     time = λ before. record { due = later; deadline = (before p).deadline; release = (before p).release; period = λ w. absurd (none-some Period w) };
     one = λ before h. refl;
     starts = λ before. record { dormant = λ e. refl; early = λ e. absurd (normal e); undue = λ e. absurd (normal e) };
@@ -627,27 +464,25 @@ module _ (roster : Roster) (p : ℕ) (known : p < length roster.records) where
   reaches_resume normal =
       cond_both {A = Roster} (is_by_itself (record_at roster p).suspended) _ _ (Reaches 1 roster)
       (λ by. reaches_unblock (normal by))
-      (λ _. reaches_readied (unsuspended (record_at roster p)) refl (own_fits _ (record { attributes = refl; started = refl; wait = refl; due = refl; deadline = refl; release = refl }) (λ h. absurd (both_ways false refl h)))
-      (own_mutex _ refl refl) (own_stays _ refl refl refl refl (λ e. e)))
+      (λ _. reaches_alike (replaces_readied roster p known (unsuspended (record_at roster p)) refl) (record { attributes = refl; started = refl; wait = refl; due = refl; deadline = refl; release = refl }) refl refl
+      (λ h. absurd (both_ways false refl h)))
 
   pub reaches_set_priority : (base : ℕ) → Reaches 1 roster (set_priority roster p base)
   reaches_set_priority base =
       let r = record_at roster p in
       let changed : Record = record r { base = base } in
-      let fits : Fits roster changed = own_fits _ (record { attributes = refl; started = refl; wait = refl; due = refl; deadline = refl; release = refl }) (λ h. h) in
-      let same : IsSameOwner roster p changed = own_mutex _ refl refl in
-      let stays_in = own_stays changed refl refl refl refl (λ e. e) in
+      let alike : IsAlike changed r = record { attributes = refl; started = refl; wait = refl; due = refl; deadline = refl; release = refl } in
       let stays = owns_some r && is_level changed r in
       cond_both {A = Roster} ((is_eligible roster.mode r && not stays) || goes_by_priority roster (queue_in r)) _ _ (Reaches 1 roster)
-      (λ _. reaches_newest changed fits same stays_in)
-      (λ _. reaches_more 0 1 (omega arith) (reaches_record changed refl fits same stays_in))
+      (λ _. reaches_alike (replaces_newest roster p known changed) alike refl refl (λ h. h))
+      (λ _. reaches_alike (replaces_record roster p known changed refl 1) alike refl refl (λ h. h))
 
   pub reaches_place_newest : Reaches 1 roster (place_newest roster p)
   reaches_place_newest =
-      reaches_newest (record_at roster p) (own_fits _ (record { attributes = refl; started = refl; wait = refl; due = refl; deadline = refl; release = refl }) (λ h. h)) (own_mutex _ refl refl) (own_stays _ refl refl refl refl (λ e. e))
+      reaches_alike (replaces_newest roster p known (record_at roster p)) (record { attributes = refl; started = refl; wait = refl; due = refl; deadline = refl; release = refl }) refl refl (λ h. h)
 
   pub reaches_without_due : Reaches 0 roster (without_due roster p)
-  reaches_without_due = reaches_record _ refl (record {
+  reaches_without_due = reaches_by (replaces_record roster p known _ refl 0) (record {
     time = λ before. record {
       due = λ t e. absurd (none-some t e);
       deadline = (before p).deadline;
@@ -659,7 +494,7 @@ module _ (roster : Roster) (p : ℕ) (known : p < length roster.records) where
   }) (own_mutex _ refl refl) (own_stays _ refl refl refl refl (λ e. e))
 
   pub reaches_set_deadline : (deadline : Option ℕ) → IsFrom roster.now deadline → Reaches 0 roster (set_deadline roster p deadline)
-  reaches_set_deadline deadline later = reaches_record _ refl (record {
+  reaches_set_deadline deadline later = reaches_by (replaces_record roster p known _ refl 0) (record {
     time = λ before. let is = before p in record { due = is.due; deadline = later; release = is.release; period = is.period };
     one = λ before. before p;
     starts = λ before. record { dormant = before.dormant p; early = λ e. before.early e p; undue = λ e. before.undue e p };
@@ -667,33 +502,29 @@ module _ (roster : Roster) (p : ℕ) (known : p < length roster.records) where
 
   pub moves_set_core : (core : ℕ) → Moves 0 roster (set_core roster p core)
   moves_set_core core =
-      moves_record _ refl (own_fits _ (record { attributes = refl; started = refl; wait = refl; due = refl; deadline = refl; release = refl }) (λ h. h))
+      moves_by (replaces_record roster p known _ refl 0) (own_fits _ (record { attributes = refl; started = refl; wait = refl; due = refl; deadline = refl; release = refl }) (λ h. h))
 
   -- a process is bound to another core in COLD_START
   pub arrives_set_core : (core : ℕ) → is_cold_start roster.mode ≡ true → Arrives 0 roster (set_core roster p core)
   arrives_set_core core early =
-      let new = set_core roster p core in
       let r : Record = record (record_at roster p) { core = core } in
-      let has = another_record r in
+      let has = replaces_record roster p known r refl 0 in
       record {
         moves = moves_set_core core;
-        owners = owners_kept roster new (same_owner roster new p r has (own_mutex r refl refl));
-        attributes = λ q. elim (cases_eq q p) [
-          | inl here ↦ rw (here, has.here) refl
-          | inr apart ↦ rw (has.others q apart) refl
-        ];
-        released = λ q was. elim (cases_eq q p) [
-          | inl here ↦ rw (here, has.here) (no_period (record_at roster p).attributes.period (record_at roster p).release)
-          | inr apart ↦ rw (has.others q apart) (no_period (record_at roster q).attributes.period (record_at roster q).release)
-        ];
+        owners = owners_by has (own_mutex r refl refl);
+        attributes = each_stays has (λ s t. t.attributes ≡ s.attributes) (λ _. refl) refl;
+        released = λ q _. each_stays has (λ s t. IsWholePeriodsAfter s.attributes.period s.release t.release)
+            (λ s. no_period s.attributes.period s.release) (no_period r.attributes.period r.release) q;
         cores = λ late. absurd (both_ways _ late early);
       }
 
   pub reaches_set_step : (step : ℕ) → Reaches 0 roster (set_step roster p step)
-  reaches_set_step step = reaches_record _ refl (own_fits _ (record { attributes = refl; started = refl; wait = refl; due = refl; deadline = refl; release = refl }) (λ h. h)) (own_mutex _ refl refl) (own_stays _ refl refl refl refl (λ e. e))
+  reaches_set_step step =
+      reaches_alike (replaces_record roster p known _ refl 0) (record { attributes = refl; started = refl; wait = refl; due = refl; deadline = refl; release = refl }) refl refl (λ h. h)
 
   pub reaches_receive : (message : Message) → Reaches 0 roster (receive roster p message)
-  reaches_receive message = reaches_record _ refl (own_fits _ (record { attributes = refl; started = refl; wait = refl; due = refl; deadline = refl; release = refl }) (λ h. h)) (own_mutex _ refl refl) (own_stays _ refl refl refl refl (λ e. e))
+  reaches_receive message =
+      reaches_alike (replaces_record roster p known _ refl 0) (record { attributes = refl; started = refl; wait = refl; due = refl; deadline = refl; release = refl }) refl refl (λ h. h)
 
 -- a periodic process waits for its next release
 pub reaches_await_release : (roster : Roster) (p : ℕ) → p < length roster.records → IsFrom roster.now (release_after roster.now (record_at roster p))
@@ -703,7 +534,7 @@ reaches_await_release roster p known later aligned begun normal =
     let cleared = set_deadline roster p None in
     let r : Record = record (record_at roster p) { deadline = None } in
     let here : record_at cleared p ≡ r = at_record roster p known r in
-    let known_so : p < length cleared.records = rw (reaches_set_deadline roster p known None (λ t e. absurd (none-some t e))).many known in
+    let known_so : p < length cleared.records = rw (reaches_set_deadline roster p known None (λ t e. absurd (none-some t e))).moves.many known in
     reaches_then 0 1 (reaches_set_deadline roster p known None (λ t e. absurd (none-some t e)))
     (reaches_block cleared p known_so Period (release_after roster.now (record_at roster p)) later
     (λ _ t e. subst (λ (x : Record). IsWholePeriodsAfter x.attributes.period x.release t) (sym here) (aligned t e))
@@ -712,12 +543,9 @@ reaches_await_release roster p known later aligned begun normal =
 -- a move to a step starts and stops no process
 pub started_step : (roster : Roster) (p step : ℕ) → p < length roster.records → (q : ℕ)
     → (record_at (set_step roster p step) q).started ≡ (record_at roster q).started
-started_step roster p step known q =
-    let r : Record = record (record_at roster p) { step = step } in
-    elim (cases_eq q p) [
-      | inl here ↦ rw here (ap (λ (x : Record). x.started) (at_record roster p known r))
-      | inr apart ↦ ap (λ (x : Record). x.started) ((changes_record roster p r).others q apart)
-    ]
+started_step roster p step known =
+    each_stays (replaces_record roster p known (record (record_at roster p) { step = step }) refl 0)
+    (λ s t. t.started ≡ s.started) (λ _. refl) refl
 
 -- time that passes over no due and no deadline leaves every process in time
 pub in_time_later : (roster : Roster) (t : ℕ) → AreInTime roster → roster.now ≤ t → HasNoDueBelow roster t → HasNoDeadlineBelow roster t

@@ -2,9 +2,9 @@
 use Rattle.std.proofs.Common.{◌≡◌, ◌≢◌, ℕ, ◌<◌, ◌≤ℤ◌, pos, ◌+ℤ◌, None, length, arith}
 use Rattle.std.proofs.lemmas.Int.{ints}
 use Rattle.std.proofs.lemmas.List.{get_or-set_other, get_or-set_same, length-set}
-use Rattle.apex_types.specs.Terms.{Record}
-use Rattle.apex_types.specs.Roster.{Roster, nobody, record_at, with_record}
-use Rattle.apex_types.specs.Stamps.{newest, oldest, without_due}
+use Rattle.apex_types.specs.values.Terms.{Record}
+use Rattle.apex_types.specs.processes.Roster.{Roster, nobody, record_at, with_record}
+use Rattle.apex_types.specs.processes.Stamps.{newest, oldest, without_due}
 
 -- only the record of process p may differ, and at most one stamp is given
 pub record ChangesOne (before after : Roster) (p : ℕ) : Type 0 where

@@ -2,12 +2,12 @@
 -- effect if no guard holds, is a property of the row.
 use Rattle.std.proofs.Common.{◌≡◌, ℕ, Bool, false, cond, refl}
 use Rattle.std.proofs.lemmas.Bool.{cond_both}
-use Rattle.apex_types.specs.Terms.{Caller, ReturnCode}
+use Rattle.apex_types.specs.values.Terms.{Caller, ReturnCode}
 use Rattle.apex_types.specs.declared.entries.Caller.TheVariants.{Process, Init, Nobody}
 use Rattle.apex_types.specs.declared.entries.ReturnCode.TheVariants.{InvalidMode}
-use Rattle.apex_types.specs.Roster.{Roster}
-use Rattle.apex_types.specs.Rows.{Outcome, refused, by_process}
-use Rattle.apex_types.specs.Satisfied.{is_no_error}
+use Rattle.apex_types.specs.processes.Roster.{Roster}
+use Rattle.apex_types.specs.services.Rows.{Outcome, refused, by_process}
+use Rattle.apex_types.specs.services.Satisfied.{is_no_error}
 
 module _ {X : Type 0} (roster : Roster) (object : X) (P : Outcome X → Type 0)
     (refuses : (code : ReturnCode) → is_no_error code ≡ false → P (refused roster object code)) where

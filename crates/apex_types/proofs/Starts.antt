@@ -1,19 +1,19 @@
 -- The order of starts: changes of single processes keep it.
-use Rattle.std.proofs.Common.{◌≡◌, ℕ, zero, suc, ◌<◌, ◌≤◌, arith, ◌&&◌, Bool, true, false, Option, None, Some, is_none, length, refl, sym, ◌∙◌, ap}
+use Rattle.std.proofs.Common.{◌≡◌, ℕ, ◌<◌, ◌&&◌, Bool, true, false, Option, None, Some, is_none, length, refl, sym, ◌∙◌, ap}
 use Rattle.std.proofs.lemmas.Bool.{and_parts, both_ways, eqb-true, eq-eqb}
 use Rattle.std.proofs.lemmas.Option.{none-some, same_Some}
-use Rattle.apex_types.specs.Terms.{Message, Mode, Queue, Record, Wait}
+use Rattle.apex_types.specs.values.Terms.{Mode, Queue, Record, Wait}
 use Rattle.apex_types.specs.declared.records.Queue.TheVariants as queues
-use Rattle.apex_types.specs.declared.records.Wait.TheVariants.{Normal, Start, Time, Period, Semaphore, Receive, Send, Blackboard, Event, Mutex}
-use Rattle.apex_types.specs.Roster.{Roster, nobody, record_at, is_normal}
-use Rattle.apex_types.specs.Running.{is_eligible, chosen, runs_on, is_before}
-use Rattle.apex_types.specs.Periods.{awaits_first}
-use Rattle.apex_types.specs.Stamps.{HasOrderlyStarts, ReadiesNobody, is_free, may_wait, receive, set_step}
-use Rattle.apex_types.specs.Callers.{IsReady}
+use Rattle.apex_types.specs.declared.records.Wait.TheVariants.{Normal}
+use Rattle.apex_types.specs.processes.Roster.{Roster, nobody, record_at, is_normal}
+use Rattle.apex_types.specs.processes.Running.{is_eligible, chosen, runs_on, is_before}
+use Rattle.apex_types.specs.processes.Periods.{awaits_first}
+use Rattle.apex_types.specs.processes.Stamps.{HasOrderlyStarts, is_free, may_wait, set_step}
+use Rattle.apex_types.specs.services.Callers.{IsReady}
 use Rattle.apex_types.proofs.Rosters.{at_record}
-use Rattle.std.proofs.lemmas.List.{get_or_past, length-set}
-use Rattle.apex_types.specs.Queues.{is_queue, is_same_queue}
-use Rattle.apex_types.specs.Waiters.{queue_in, waits_in, waits_before, discipline_of, first_waiter}
+use Rattle.std.proofs.lemmas.List.{length-set}
+use Rattle.apex_types.specs.processes.Queues.{is_queue, is_same_queue}
+use Rattle.apex_types.specs.processes.Waiters.{queue_in, waits_in, waits_before, discipline_of, first_waiter}
 use Rattle.apex_types.proofs.Choice.{place_passes, place_within}
 
 -- the order of starts, of one record
@@ -67,12 +67,6 @@ ready_step roster p step ready =
     let r : Record = record (record_at roster p) { step = step } in
     record { known = rw (length-set roster.records p r) ready.known; eligible = rw (at_record roster p ready.known r) ready.eligible }
 
--- and when it receives a message
-pub ready_receive : (roster : Roster) (p : ℕ) (message : Message) → IsReady roster p → IsReady (receive roster p message) p
-ready_receive roster p message ready =
-    let r : Record = record (record_at roster p) { inbox = Some message } in
-    record { known = rw (length-set roster.records p r) ready.known; eligible = rw (at_record roster p ready.known r) ready.eligible }
-
 -- the chosen process of a core is ready
 pub chosen_ready : (roster : Roster) (core p : ℕ) → chosen roster core ≡ Some p → IsReady roster p
 unfolding runs_on
@@ -91,31 +85,13 @@ chosen_core roster core p e =
 pub waitless_queue : (r : Record) (q : Queue) → r.wait ≡ None → queue_in r ≡ Some q → ⊥
 waitless_queue r q free is = none-some q (rw free at is)
 
--- the entry into NORMAL makes no process eligible
-
-pub readies_nobody : (roster : Roster) → HasOrderlyStarts roster → is_normal roster.mode ≡ false → (mode : Mode) (p : ℕ)
-    → is_eligible mode (record_at roster p) ≡ true → is_eligible roster.mode (record_at roster p) ≡ true
-readies_nobody roster orderly early mode p e =
-    let is = runnable mode (record_at roster p) e in
-    absurd (waitless_queue (record_at roster p) queues.Normal is.free (orderly.early early p is.started))
-
--- of two processes neither becomes eligible by this mode
-pub two_unready : (roster : Roster) (mode : Mode) → length roster.records ≡ 2
-    → is_eligible mode (record_at roster 0) ≡ false → is_eligible mode (record_at roster 1) ≡ false → ReadiesNobody roster mode
-two_unready roster mode two first second zero e = absurd (both_ways _ first e)
-two_unready roster mode two first second (suc zero) e = absurd (both_ways _ second e)
-two_unready roster mode two first second (suc (suc p)) e =
-    let past : length roster.records ≤ suc (suc p) = omega arith in
-    let none : record_at roster (suc (suc p)) ≡ nobody = get_or_past roster.records (suc (suc p)) nobody past in
-    absurd (both_ways _ (ap (λ (r : Record). r.started) none) (runnable mode (record_at roster (suc (suc p))) e).started)
-
 -- two queues that are the same are equal
-same_queue : (q r : Queue) → is_same_queue q r ≡ true → q ≡ r
+pub same_queue : (q r : Queue) → is_same_queue q r ≡ true → q ≡ r
 same_queue queues.Normal queues.Normal e = refl
 same_queue (queues.Semaphore s) (queues.Semaphore t) e = ap queues.Semaphore (eqb-true s t e)
 same_queue (queues.Buffer b) (queues.Buffer c) e = ap queues.Buffer (eqb-true b c e)
 same_queue (queues.Blackboard b) (queues.Blackboard c) e = ap queues.Blackboard (eqb-true b c e)
-same_queue (queues.Event s) (queues.Event t) e = ap queues.Event (eqb-true s t e)
+same_queue (queues.EventFlag s) (queues.EventFlag t) e = ap queues.EventFlag (eqb-true s t e)
 same_queue (queues.Mutex m) (queues.Mutex n) e = ap queues.Mutex (eqb-true m n e)
 same_queue _ _ e = cc
 
@@ -124,7 +100,7 @@ queue_itself queues.Normal = refl
 queue_itself (queues.Semaphore s) = eq-eqb s s refl
 queue_itself (queues.Buffer b) = eq-eqb b b refl
 queue_itself (queues.Blackboard b) = eq-eqb b b refl
-queue_itself (queues.Event e) = eq-eqb e e refl
+queue_itself (queues.EventFlag e) = eq-eqb e e refl
 queue_itself (queues.Mutex m) = eq-eqb m m refl
 
 is_queue_some : (q : Queue) (found : Option Queue) → is_queue q found ≡ true → found ≡ Some q
@@ -160,17 +136,8 @@ queued_started roster orderly p q e = waiter_started (record_at roster p) (recor
 
 -- a process in the queue of those that wait for NORMAL may begin another wait
 pub normal_free : (wait : Option Wait) → queue_in (record nobody { wait = wait }) ≡ Some queues.Normal → is_free wait ≡ true
-normal_free None e = cc
 normal_free (Some (Normal delay)) e = refl
-normal_free (Some Start) e = cc
-normal_free (Some Time) e = cc
-normal_free (Some Period) e = cc
-normal_free (Some (Semaphore s)) e = cc
-normal_free (Some (Receive b)) e = cc
-normal_free (Some (Send b message)) e = cc
-normal_free (Some (Blackboard b)) e = cc
-normal_free (Some (Event v)) e = cc
-normal_free (Some (Mutex m)) e = cc
+normal_free _ e = cc
 
 pub first_may_wait : (roster : Roster) → HasOrderlyStarts roster → (p : ℕ) → first_waiter roster queues.Normal ≡ Some p → may_wait (record_at roster p) ≡ true
 first_may_wait roster orderly p e =
@@ -187,17 +154,8 @@ queued_normal roster orderly p q e apart early =
 
 -- a process in that queue awaits its first release
 normal_first : (wait : Option Wait) → queue_in (record nobody { wait = wait }) ≡ Some queues.Normal → awaits_first wait ≡ true
-normal_first None e = cc
 normal_first (Some (Normal delay)) e = refl
-normal_first (Some Start) e = cc
-normal_first (Some Time) e = cc
-normal_first (Some Period) e = cc
-normal_first (Some (Semaphore s)) e = cc
-normal_first (Some (Receive b)) e = cc
-normal_first (Some (Send b message)) e = cc
-normal_first (Some (Blackboard b)) e = cc
-normal_first (Some (Event v)) e = cc
-normal_first (Some (Mutex m)) e = cc
+normal_first _ e = cc
 
 pub first_awaits : (roster : Roster) (p : ℕ) → first_waiter roster queues.Normal ≡ Some p → awaits_first (record_at roster p).wait ≡ true
 first_awaits roster p e = normal_first (record_at roster p).wait (first_stands roster queues.Normal p e)

@@ -4,15 +4,15 @@ use Rattle.std.proofs.Common.{◌≡◌, ℕ, zero, suc, ◌+◌, ◌<◌, ◌�
 use Rattle.std.proofs.lemmas.Bool.{both_ways, cases_Bool, cases_lt, cond_both}
 use Rattle.std.proofs.lemmas.List.{get_or_past}
 use Rattle.std.proofs.lemmas.List.Sums.{count_by-le-length, sum_by-set}
-use Rattle.apex_types.specs.Terms.{Message, Queue, Record}
+use Rattle.apex_types.specs.values.Terms.{Message, Queue, Record}
 use Rattle.apex_types.specs.declared.records.Queue.TheVariants as queues
-use Rattle.apex_types.specs.InTurn.{Changed, next_and, in_turn}
-use Rattle.apex_types.specs.Queues.{is_same_queue}
-use Rattle.apex_types.specs.Roster.{Roster, nobody, record_at, with_record}
-use Rattle.apex_types.specs.Running.{is_eligible}
-use Rattle.apex_types.specs.Stamps.{HasOrderlyStarts, awake, newest, readied, receive}
-use Rattle.apex_types.specs.Waiters.{discipline_of, first_waiter, waiter_count, waits_before, waits_in}
-use Rattle.apex_types.specs.Waking.{first_in, granted, grant_all}
+use Rattle.apex_types.specs.services.InTurn.{Changed, next_and, in_turn}
+use Rattle.apex_types.specs.processes.Queues.{is_same_queue}
+use Rattle.apex_types.specs.processes.Roster.{Roster, nobody, record_at, with_record}
+use Rattle.apex_types.specs.processes.Running.{is_eligible}
+use Rattle.apex_types.specs.processes.Stamps.{HasOrderlyStarts, awake, newest, readied, receive}
+use Rattle.apex_types.specs.processes.Waiters.{discipline_of, first_waiter, waiter_count, waits_before, waits_in}
+use Rattle.apex_types.specs.services.Waking.{first_in, granted, grant_all}
 use Rattle.apex_types.proofs.Choice.{place_none, place_passes}
 use Rattle.apex_types.proofs.Orders.{waits_strict}
 use Rattle.apex_types.proofs.Reaches.{Reaches, reaches_then, reaches_unblock, reaches_receive, reaches_in_turn}
@@ -29,7 +29,7 @@ reach_granted (Some message) roster p queue apart starts is =
     let known = first_within roster queue p is in
     let got = reaches_receive roster p known message in
     reaches_then 0 1 got
-    (reaches_unblock (receive roster p message) p (rw got.many known)
+    (reaches_unblock (receive roster p message) p (rw got.moves.many known)
     (queued_normal roster starts p queue (first_stands roster queue p is) apart))
 
 -- it is given one stamp at the most
@@ -62,7 +62,7 @@ pub reach_grant_all : (queue : Queue) (message : Option Message) (roster : Roste
 unfolding grant_all
 reach_grant_all queue message roster apart starts =
     reaches_in_turn (first_in queue) (granted message) HasOrderlyStarts
-    (λ r p before is. (reach_granted message r p queue apart before is).starts before)
+    (λ r p before is. (reach_granted message r p queue apart before is).moves.starts before)
     (λ r p before is. reach_granted message r p queue apart before is)
     (length roster.records) roster starts
 
@@ -117,7 +117,7 @@ granted_leaves queue (Some message) roster p known waits =
     let here : record_at got p ≡ r = at_record roster p known r in
     let same = received_waits queue (record_at roster p) message in
     let count = counted queue roster p known r in
-    let known_so : p < length got.records = rw (reaches_receive roster p known message).many known in
+    let known_so : p < length got.records = rw (reaches_receive roster p known message).moves.many known in
     let waits_so : waits_in queue (record_at got p) ≡ true = rw here (same ∙ waits) in
     let left = leaves queue got p known_so (record_at got p) waits_so in
     omega (arith, left, rw same at count)

@@ -1,6 +1,6 @@
 //! The services with their arguments, as a step asks for them.
 ghost use Rattle.std.specs.Prelude.{◌≡◌};
-ghost use Rattle.apex_types.specs.Calls.{known, object_of};
+ghost use Rattle.apex_types.specs.services.Calls.{known, object_of};
 
 use crate::identifiers::{BlackboardId, BufferId, EventId, MutexId, ProcessId, SemaphoreId};
 use crate::spans::Span;
@@ -71,7 +71,7 @@ pub enum ObjectCall<I, W> {
     GetId(Named<I>),
     GetStatus(I),
     /// A service that this kind alone has.
-    Own(I, W),
+    KindService(I, W),
 }
 
 impl<I: Copy> Named<I> {
@@ -93,7 +93,7 @@ impl<I: Copy, W> ObjectCall<I, W> {
     {
         match self {
             ObjectCall::Create(named) | ObjectCall::GetId(named) => named.known(),
-            ObjectCall::GetStatus(id) | ObjectCall::Own(id, _) => Some(*id),
+            ObjectCall::GetStatus(id) | ObjectCall::KindService(id, _) => Some(*id),
         }
     }
 }
@@ -166,16 +166,16 @@ pub enum BlackboardService {
 /// A call of a service of blackboards.
 pub type BlackboardCall = ObjectCall<BlackboardId, BlackboardService>;
 
-/// A service of events, except for the three that each kind has.
+/// A service of event flags, except for the three that each kind has.
 #[derive(Clone, Copy, PartialEq, Eq)]
-pub enum EventService {
+pub enum EventFlagService {
     Set,
     Reset,
     Wait(Timeout),
 }
 
-/// A call of a service of events.
-pub type EventCall = ObjectCall<EventId, EventService>;
+/// A call of a service of event flags.
+pub type EventFlagCall = ObjectCall<EventId, EventFlagService>;
 
 /// A service of mutexes, except for the three that each kind has.
 #[derive(Clone, Copy, PartialEq, Eq)]
@@ -197,7 +197,7 @@ pub enum Call {
     Semaphore(SemaphoreCall),
     Buffer(BufferCall),
     Blackboard(BlackboardCall),
-    Event(EventCall),
+    EventFlag(EventFlagCall),
     Mutex(MutexCall),
     /// Work of n units, n from 1 to 1,048,576. One turn begins it, and the core's next one ends it.
     Work(Span),

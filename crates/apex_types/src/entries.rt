@@ -1,6 +1,6 @@
 //! The entries of a history: the event, its caller and call, the reply, and the notices.
 ghost use Rattle.std.specs.Prelude.{◌≡◌, ◌<◌, ◌≤◌, [], ◌∷◌, ◌++◌, length};
-ghost use Rattle.apex_types.specs.Limits.{most_notices};
+ghost use Rattle.apex_types.specs.values.Limits.{most_notices};
 
 use crate::calls::{Call, Message};
 use crate::identifiers::{CoreId, ProcessId};
@@ -143,7 +143,7 @@ impl Notices {
 
     pub fn as_slice(&self) -> &[Notice]
         ensures value { result.now ≡ self.now }
-        ensures few { length result.now ≤ most_notices }
+        ensures few_notices { length result.now ≤ most_notices }
     {
         self.notices.as_slice()
     }
@@ -196,7 +196,7 @@ pub struct LentEntry<'a> {
 
 impl<'a> Model for LentEntry<'a> {
     ghost use Rattle.std.specs.Prelude.{◌≤◌, length};
-    ghost use Rattle.apex_types.specs.Limits.{most_notices};
+    ghost use Rattle.apex_types.specs.values.Limits.{most_notices};
     ghost use Rattle.apex_types.specs.declared.entries.Entry.{Entry};
 
     ghost Value = { Entry };

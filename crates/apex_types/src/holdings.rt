@@ -1,7 +1,7 @@
 //! The mutexes that a process owns.
 ghost use Rattle.std.specs.Prelude.{◌≡◌, ◌<◌, ◌≤◌, [], ◌∷◌, ◌++◌, length};
-ghost use Rattle.apex_types.specs.Limits.{most_owned};
-ghost use Rattle.apex_types.specs.Held.{at_depth, holding_of, holds, holds_none, in_order, inserted, is_of, raised, with_depth, without};
+ghost use Rattle.apex_types.specs.values.Limits.{most_owned};
+ghost use Rattle.apex_types.specs.processes.Held.{at_depth, holding_of, holds, holds_none, in_order, inserted, is_of, raised, with_depth, without};
 
 use crate::identifiers::MutexId;
 use crate::limits::MOST_OWNED;
@@ -31,7 +31,7 @@ impl Model for Holdings {
     ghost use Rattle.std.specs.Prelude.{List, take, length};
     ghost use Rattle.std.proofs.Common.{sym, length-take-le};
     ghost use Rattle.apex_types.specs.declared.holdings.Holding.{Holding};
-    ghost use Rattle.apex_types.specs.Held.{padded, AreHeldIn};
+    ghost use Rattle.apex_types.specs.processes.Held.{padded, AreHeldIn};
 
     ghost Value = { List Holding };
 
@@ -127,7 +127,7 @@ impl Holdings {
 
     pub fn as_slice(&self) -> &[Holding]
         ensures value { result.now ≡ self.now }
-        ensures few { length result.now ≤ most_owned }
+        ensures few_owned { length result.now ≤ most_owned }
     {
         &self.places[..usize::from(self.count)]
     }

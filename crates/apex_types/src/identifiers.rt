@@ -1,6 +1,6 @@
 //! The numbers of cores, processes and objects.
 ghost use Rattle.std.specs.Prelude.{◌≡◌, ◌+◌, ◌<◌};
-ghost use Rattle.apex_types.specs.Limits.{most_cores};
+ghost use Rattle.apex_types.specs.values.Limits.{most_cores};
 
 use std::marker::{Model, PhantomData};
 
@@ -12,7 +12,7 @@ pub struct CoreId {
 
 impl Model for CoreId {
     ghost use Rattle.std.specs.Prelude.{ℕ, ◌<◌};
-    ghost use Rattle.apex_types.specs.Limits.{most_cores};
+    ghost use Rattle.apex_types.specs.values.Limits.{most_cores};
 
     ghost Value = { ℕ };
 
@@ -103,9 +103,9 @@ pub struct BufferKind;
 #[derive(Clone, Copy, PartialEq, Eq)]
 pub struct BlackboardKind;
 
-/// The kind of an id of an event of APEX.
+/// The kind of an id of an event flag.
 #[derive(Clone, Copy, PartialEq, Eq)]
-pub struct EventKind;
+pub struct EventFlagKind;
 
 /// The kind of an id of a mutex.
 #[derive(Clone, Copy, PartialEq, Eq)]
@@ -123,8 +123,8 @@ pub type BufferId = Id<BufferKind>;
 /// A blackboard of the partition.
 pub type BlackboardId = Id<BlackboardKind>;
 
-/// An event of APEX, which is up or down. An `Event` is a turn or a tick of the partition.
-pub type EventId = Id<EventKind>;
+/// An event flag, which is up or down: the standard calls it an event. An `Event` is a turn or a tick.
+pub type EventId = Id<EventFlagKind>;
 
 /// A mutex of the partition.
 pub type MutexId = Id<MutexKind>;

@@ -19,15 +19,15 @@ mod steps;
 mod works;
 
 pub use calls::{
-    BlackboardCall, BlackboardService, BufferCall, BufferService, Call, CallerCall, EventCall,
-    EventService, Message, MutexCall, MutexService, Named, ObjectCall, Origin, PartitionCall,
+    BlackboardCall, BlackboardService, BufferCall, BufferService, Call, CallerCall, EventFlagCall,
+    EventFlagService, Message, MutexCall, MutexService, Named, ObjectCall, Origin, PartitionCall,
     ProcessCall, ProcessService, RequestedMode, SemaphoreCall, SemaphoreService, TimeCall, Timeout,
 };
 pub use entries::{Caller, Entry, Event, Full, LentEntry, Notice, Notices, Reply, ReturnCode, Who};
 pub use holdings::{Holding, Holdings};
 pub use identifiers::{
-    BlackboardId, BlackboardKind, BufferId, BufferKind, CoreId, EventId, EventKind, Id, MutexId,
-    MutexKind, ProcessId, ProcessKind, SemaphoreId, SemaphoreKind,
+    BlackboardId, BlackboardKind, BufferId, BufferKind, CoreId, EventFlagKind, EventId, Id,
+    MutexId, MutexKind, ProcessId, ProcessKind, SemaphoreId, SemaphoreKind,
 };
 pub use limits::{
     MOST_CORES, MOST_DEPTH, MOST_ENTRIES, MOST_INIT_STEPS, MOST_LINE, MOST_LITERAL, MOST_MESSAGE,

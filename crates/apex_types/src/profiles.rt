@@ -1,7 +1,7 @@
 //! The profiles of a partition.
 ghost use Rattle.std.specs.Prelude.{◌≡◌, ◌≤◌};
-ghost use Rattle.apex_types.specs.Limits.{most_owned, most_processes};
-ghost use Rattle.apex_types.specs.Profiles.{owned_of, processes_of, profile_of};
+ghost use Rattle.apex_types.specs.values.Limits.{most_owned, most_processes};
+ghost use Rattle.apex_types.specs.table.Profiles.{owned_of, processes_of, profile_of};
 
 use crate::limits::{MOST_OWNED, MOST_OWNED_IN_ONE, MOST_PROCESSES, MOST_PROCESSES_IN_ONE};
 

@@ -1,11 +1,11 @@
 //! The record of a process, with its mode, its state and its waits.
 ghost use Rattle.std.specs.Prelude.{◌≡◌};
-ghost use Rattle.apex_types.specs.Roster.{is_normal};
-ghost use Rattle.apex_types.specs.Running.{current_priority, is_eligible};
-ghost use Rattle.apex_types.specs.Stamps.{is_by_itself};
-ghost use Rattle.apex_types.specs.Owners.{owns, owns_some};
-ghost use Rattle.apex_types.specs.Queues.{queue_of};
-ghost use Rattle.apex_types.specs.Waiters.{queue_in};
+ghost use Rattle.apex_types.specs.processes.Roster.{is_normal};
+ghost use Rattle.apex_types.specs.processes.Running.{current_priority, is_eligible};
+ghost use Rattle.apex_types.specs.processes.Stamps.{is_by_itself};
+ghost use Rattle.apex_types.specs.processes.Owners.{owns, owns_some};
+ghost use Rattle.apex_types.specs.processes.Queues.{queue_of};
+ghost use Rattle.apex_types.specs.processes.Waiters.{queue_in};
 
 use crate::calls::Message;
 use crate::holdings::Holdings;
@@ -55,8 +55,8 @@ pub enum Wait {
     Send(BufferId, Message),
     /// A message on the blackboard.
     Blackboard(BlackboardId),
-    /// That the event is up.
-    Event(EventId),
+    /// That the event flag is up.
+    EventFlag(EventId),
     /// That the mutex is free.
     Mutex(MutexId),
 }
@@ -70,7 +70,7 @@ pub enum Queue {
     /// Receivers, or senders.
     Buffer(BufferId),
     Blackboard(BlackboardId),
-    Event(EventId),
+    EventFlag(EventId),
     Mutex(MutexId),
 }
 
@@ -84,7 +84,7 @@ impl Wait {
             Wait::Semaphore(semaphore) => Some(Queue::Semaphore(*semaphore)),
             Wait::Receive(buffer) | Wait::Send(buffer, _) => Some(Queue::Buffer(*buffer)),
             Wait::Blackboard(blackboard) => Some(Queue::Blackboard(*blackboard)),
-            Wait::Event(event) => Some(Queue::Event(*event)),
+            Wait::EventFlag(event_flag) => Some(Queue::EventFlag(*event_flag)),
             Wait::Mutex(mutex) => Some(Queue::Mutex(*mutex)),
             Wait::Start | Wait::Time | Wait::Period => None,
         }

@@ -11,7 +11,7 @@ pub struct Span {
 
 impl Model for Span {
     ghost use Rattle.std.specs.Prelude.{ℕ, ◌≤◌};
-    ghost use Rattle.apex_types.specs.Limits.{most_span};
+    ghost use Rattle.apex_types.specs.values.Limits.{most_span};
 
     ghost Value = { ℕ };
 

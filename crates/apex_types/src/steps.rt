@@ -1,6 +1,6 @@
 //! A step of a script or of an init list.
 ghost use Rattle.std.specs.Prelude.{◌≡◌, ◌≤◌, [], length};
-ghost use Rattle.apex_types.specs.Limits.{most_literal};
+ghost use Rattle.apex_types.specs.values.Limits.{most_literal};
 
 use crate::calls::Call;
 use crate::limits::MOST_LITERAL;
@@ -60,7 +60,7 @@ pub struct Step {
 }
 
 impl Model for Step {
-    ghost use Rattle.apex_types.specs.Table.{Step};
+    ghost use Rattle.apex_types.specs.table.Table.{Step};
 
     ghost Value = { Step };
 

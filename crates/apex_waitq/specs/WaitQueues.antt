@@ -21,7 +21,7 @@ queue_place queues.Normal = 0
 queue_place (queues.Semaphore s) = 256 + s
 queue_place (queues.Buffer b) = 512 + b
 queue_place (queues.Blackboard b) = 768 + b
-queue_place (queues.Event e) = 1024 + e
+queue_place (queues.EventFlag e) = 1024 + e
 queue_place (queues.Mutex m) = 1280 + m
 
 -- the number of the queue's object is below 256
@@ -30,7 +30,7 @@ IsNumbered queues.Normal = ⊤
 IsNumbered (queues.Semaphore s) = s < 256
 IsNumbered (queues.Buffer b) = b < 256
 IsNumbered (queues.Blackboard b) = b < 256
-IsNumbered (queues.Event e) = e < 256
+IsNumbered (queues.EventFlag e) = e < 256
 IsNumbered (queues.Mutex m) = m < 256
 
 -- the list of a queue

@@ -16,7 +16,7 @@ pub(crate) fn queue_place(queue: Queue) -> u16
         Queue::Semaphore(semaphore) => 256 + semaphore.place() as u16,
         Queue::Buffer(buffer) => 512 + buffer.place() as u16,
         Queue::Blackboard(blackboard) => 768 + blackboard.place() as u16,
-        Queue::Event(event) => 1024 + event.place() as u16,
+        Queue::EventFlag(event_flag) => 1024 + event_flag.place() as u16,
         Queue::Mutex(mutex) => 1280 + mutex.place() as u16,
     }
 }

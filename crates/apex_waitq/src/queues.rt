@@ -78,7 +78,8 @@ impl WaitQueues {
         requires process { process < links.old.processes }
         requires processes { links.old.processes ≤ length self.now.priorities }
         requires free { IsFree links.old process }
-        ensures { links.new ≡ queued_in self.now.priorities links.old list discipline process priority }
+        ensures { links.new
+            ≡ queued_in self.now.priorities links.old list discipline process priority }
     {
         match discipline {
             Discipline::Fifo => links.push_back(list, process),
@@ -106,10 +107,11 @@ impl WaitQueues {
         requires lists { first_list + most_queues ≤ length links.old.lists }
         requires process { process < links.old.processes }
         requires processes { links.old.processes ≤ length self.old.priorities }
-        requires few { links.old.processes < 2 ^ 16 }
+        requires few_processes { links.old.processes < 2 ^ 16 }
         requires free { IsFree links.old process }
         requires counted { AreCounted self.old.counts links.old }
-        ensures links { links.new ≡ joined self.old.priorities links.old queue discipline process priority }
+        ensures links { links.new
+            ≡ joined self.old.priorities links.old queue discipline process priority }
         ensures priorities { self.new.priorities ≡ slice_set self.old.priorities process priority }
         ensures counted { AreCounted self.new.counts links.new }
         ensures numbered { IsNumbered queue }
@@ -154,9 +156,10 @@ impl WaitQueues {
         requires lists { first_list + most_queues ≤ length links.old.lists }
         requires process { process < links.old.processes }
         requires processes { links.old.processes ≤ length self.old.priorities }
-        requires few { links.old.processes < 2 ^ 16 }
+        requires few_processes { links.old.processes < 2 ^ 16 }
         requires counted { AreCounted self.old.counts links.old }
-        ensures links { links.new ≡ requeued self.old.priorities links.old queue discipline process priority }
+        ensures links { links.new
+            ≡ requeued self.old.priorities links.old queue discipline process priority }
         ensures priorities { self.new.priorities ≡ slice_set self.old.priorities process priority }
         ensures counted { AreCounted self.new.counts links.new }
     {

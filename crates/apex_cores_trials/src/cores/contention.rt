@@ -13,7 +13,6 @@ use std::alloc::{AllocError, Global};
 use std::process::Abort;
 use std::str;
 use std::sync::Wait;
-use std::test::Fail;
 use std::thread::Threads;
 
 /// A storm on this table, in which the gate backs off `pauses` times in each work.
@@ -92,15 +91,19 @@ fn push_processes(text: &mut String, cores: [&str; 3]) -> Result<(), AllocError>
     Ok(())
 }
 
-/// The table of a storm.
-fn storm_table(alloc: Global) -> Result<String, AllocError> {
-    let mut text = String::new(alloc);
+fn push_table(text: &mut String) -> Result<(), AllocError> {
     text.push_str("cores = 8\nhistory = 8192\n")?;
     for cores in NEIGHBOURS {
-        push_processes(&mut text, cores)?;
+        push_processes(text, cores)?;
     }
-    text.push_str(OBJECTS)?;
-    Ok(text)
+    text.push_str(OBJECTS)
+}
+
+/// The table of a storm.
+fn storm_table<R: Abort>(rt: &R, alloc: Global) -> String {
+    let mut text = String::new(alloc);
+    push_table(&mut text).expect(rt, "memory");
+    text
 }
 
 /// The number of the last entry of a core or of the ticker.
@@ -124,21 +127,22 @@ fn confirm_last<P: Naming, R: Abort>(rt: &R, closed: &Closed<P>, receipts: &[Rec
 }
 
 /// The tasks of a storm: those of the reader, if there is one, of the cores and of the ticker.
-fn tasks_of<P: Naming>(
+fn tasks_of<P: Naming, R: Abort>(
+    rt: &R,
     alloc: Global,
     seats: Vec<Seat<P>>,
     ticker: Ticker<P>,
     reader: Option<Reader<P>>,
-) -> Result<Vec<Task<P>>, Fail> {
+) -> Vec<Task<P>> {
     let mut tasks = Vec::new(alloc);
     if let Some(reader) = reader {
-        tasks.push(Task::Reader(reader))?;
+        tasks.push(Task::Reader(reader)).expect(rt, "memory");
     }
     for seat in seats {
-        tasks.push(Task::Core(seat))?;
+        tasks.push(Task::Core(seat)).expect(rt, "memory");
     }
-    tasks.push(Task::Ticker(ticker))?;
-    Ok(tasks)
+    tasks.push(Task::Ticker(ticker)).expect(rt, "memory");
+    tasks
 }
 
 /// What the threads of a storm gave back: the seats in the order of their cores with the receipts of their
@@ -153,43 +157,32 @@ struct Found<P: Naming> {
 
 impl<P: Naming> Found<P> {
     /// A core made all its turns.
-    fn put_core<R: Abort>(&mut self, rt: &R, report: CoreReport<P>) -> Result<(), Fail> {
+    fn put_core<R: Abort>(&mut self, rt: &R, report: CoreReport<P>) {
         assert!(rt; report.turns == TURNS && !report.full);
         let receipt = report.last.expect(rt, "there were turns");
-        self.receipts.push(receipt)?;
-        self.seats.push(report.seat)?;
-        Ok(())
+        self.receipts.push(receipt).expect(rt, "memory");
+        self.seats.push(report.seat).expect(rt, "memory");
     }
 
-    /// The ticker made all its ticks.
-    fn put_ticker<R: Abort>(&mut self, rt: &R, ticker: Ticker<P>) {
-        assert!(rt; ticker.count() == TICKS);
-        self.ticker = Some(ticker);
-    }
-
-    fn put<R: Abort>(&mut self, rt: &R, report: Report<P>) -> Result<(), Fail> {
+    /// The ticker made all its ticks, and the reader saw neither the entries nor the time go back.
+    fn put<R: Abort>(&mut self, rt: &R, report: Report<P>) {
         match report {
             Report::Core(report) => self.put_core(rt, report),
             Report::Ticker(report) => {
-                self.put_ticker(rt, report.ticker);
-                Ok(())
+                assert!(rt; report.ticker.count() == TICKS);
+                self.ticker = Some(report.ticker);
             }
             Report::Reader(read) => {
                 assert!(rt; read.backwards == 0);
                 self.reader = Some(read.reader);
-                Ok(())
             }
-            Report::Beside(_) => Err(Fail::from("a storm has no holder")),
+            Report::Beside(_) => panic!(rt; "a storm has no holder"),
         }
     }
 }
 
-/// What these threads gave back. The reader saw neither the entries nor the time go back.
-fn found_in<P: Naming, R: Abort>(
-    rt: &R,
-    alloc: Global,
-    reports: Vec<Report<P>>,
-) -> Result<Found<P>, Fail> {
+/// What these threads gave back.
+fn found_in<P: Naming, R: Abort>(rt: &R, alloc: Global, reports: Vec<Report<P>>) -> Found<P> {
     let mut found = Found {
         seats: Vec::new(alloc),
         receipts: Vec::new(alloc),
@@ -197,9 +190,9 @@ fn found_in<P: Naming, R: Abort>(
         reader: None,
     };
     for report in reports {
-        found.put(rt, report)?;
+        found.put(rt, report);
     }
-    Ok(found)
+    found
 }
 
 /// The entries of the whole crew.
@@ -214,52 +207,30 @@ fn tell<P: Naming, R: Abort + Wait>(rt: &R, closed: &mut Closed<P>, reader: Opti
 }
 
 /// All ways to read the value of S from these lines of a storm on this table agree with its value by the entries.
-fn agrees<R: Abort>(
-    rt: &R,
-    alloc: Global,
-    text: &str,
-    lines: &[u8],
-    value: u64,
-) -> Result<(), Fail> {
-    let history = str::from_utf8(lines)?;
+fn agrees<R: Abort>(rt: &R, alloc: Global, text: &str, lines: &[u8], value: u64) {
+    let history = str::from_utf8(lines).expect(rt, "the lines are text");
     assert!(rt; history.lines().count() == ALL as usize);
     assert!(rt; value_by_lines(history) == Some(value));
-    assert!(rt; is_value_by_run(alloc, text, history, value)?);
-    Ok(())
+    assert!(rt; is_value_by_run(rt, alloc, text, history, value));
 }
 
-/// What is left of a storm: the closed partition, the receipts of the cores' last turns, and the reader, if
-/// there is one.
-#[derive(Drop)]
-struct Ended<P: Naming> {
-    closed: Closed<P>,
-    receipts: Vec<Receipt<P>>,
-    reader: Option<Reader<P>>,
+/// The history has all entries that were planned, and the value of S is the same by its lines, by its
+/// entries, and in the listing of a kernel that makes its events anew.
+fn look_at<P: Naming, R: Abort>(rt: &R, alloc: Global, closed: Closed<P>, text: &str) {
+    let value = value_by_entries(closed.entries()).expect(rt, "no more waits than units");
+    let lines = lines_of(rt, alloc, closed);
+    agrees(rt, alloc, text, lines.as_slice(), value);
 }
 
-/// Closes the partition, whose ticker is there.
-fn close_with<P: Naming, R: Abort>(
-    rt: &R,
-    alloc: Global,
-    shared: Shared<P>,
-    seats: Vec<Seat<P>>,
-    ticker: Option<Ticker<P>>,
-    cores: usize,
-) -> Result<Closed<P>, Fail>
-    requires { cores ≡ P.table.cores }
-{
-    let ticker = ticker.expect(rt, "the ticker came back");
-    close(rt, alloc, shared, seats, ticker, cores)
-}
-
-/// Closes the partition of these threads.
-fn end<P: Naming, R: Abort>(
+/// Closes the partition of these threads, confirms the receipts, tells the reader, and looks at the history.
+fn settle<P: Naming, R: Abort + Wait>(
     rt: &R,
     alloc: Global,
     shared: Shared<P>,
     found: Found<P>,
     cores: usize,
-) -> Result<Ended<P>, Fail>
+    text: &str,
+)
     requires { cores ≡ P.table.cores }
 {
     let Found {
@@ -268,53 +239,11 @@ fn end<P: Naming, R: Abort>(
         ticker,
         reader,
     } = found;
-    let closed = close_with(rt, alloc, shared, seats, ticker, cores)?;
-    Ok(Ended {
-        closed,
-        receipts,
-        reader,
-    })
-}
-
-/// Confirms the receipts, and tells the reader.
-fn confirm_and_tell<P: Naming, R: Abort + Wait>(rt: &R, ended: Ended<P>) -> Closed<P> {
-    let Ended {
-        mut closed,
-        receipts,
-        reader,
-    } = ended;
+    let ticker = ticker.expect(rt, "the ticker came back");
+    let mut closed = close(rt, alloc, shared, seats, ticker, cores);
     confirm_last(rt, &closed, receipts.as_slice());
     tell(rt, &mut closed, reader);
-    closed
-}
-
-/// The history has all entries that were planned, and the value of S is the same by its lines, by its
-/// entries, and in the listing of a kernel that makes its events anew.
-fn look_at<P: Naming, R: Abort>(
-    rt: &R,
-    alloc: Global,
-    closed: Closed<P>,
-    text: &str,
-) -> Result<(), Fail> {
-    let value = value_by_entries(closed.entries()).expect(rt, "no more waits than units");
-    let lines = lines_of(alloc, closed)?;
-    agrees(rt, alloc, text, lines.as_slice(), value)
-}
-
-/// Closes the partition of these threads, and looks at what is left.
-fn settle<P: Naming, R: Abort + Wait>(
-    rt: &R,
-    alloc: Global,
-    shared: Shared<P>,
-    found: Found<P>,
-    cores: usize,
-    text: &str,
-) -> Result<(), Fail>
-    requires { cores ≡ P.table.cores }
-{
-    let ended = end(rt, alloc, shared, found, cores)?;
-    let closed = confirm_and_tell(rt, ended);
-    look_at(rt, alloc, closed, text)
+    look_at(rt, alloc, closed, text);
 }
 
 /// Runs a storm on this partition, whose table has `cores` cores, by threads, and closes it.
@@ -324,7 +253,7 @@ pub fn weather<P: Naming + Send + Sync, R: Abort + Threads + Wait + Sync>(
     open: Open<P>,
     cores: usize,
     storm: Storm<'_>,
-) -> Result<(), Fail>
+)
     requires { cores ≡ P.table.cores }
 {
     let Open {
@@ -333,10 +262,10 @@ pub fn weather<P: Naming + Send + Sync, R: Abort + Threads + Wait + Sync>(
         ticker,
         reader,
     } = open;
-    let tasks = tasks_of(alloc, seats, ticker, reader)?;
+    let tasks = tasks_of(rt, alloc, seats, ticker, reader);
     let (reports, shared) = run_all(rt, alloc, shared, storm.pauses, tasks);
-    let found = found_in(rt, alloc, reports?)?;
-    settle(rt, alloc, shared, found, cores, storm.table)
+    let found = found_in(rt, alloc, reports);
+    settle(rt, alloc, shared, found, cores, storm.table);
 }
 
 /// Weathers this number of storms, one after the other.
@@ -346,8 +275,8 @@ fn weather_all<R: Abort + Threads + Wait + Sync>(
     storms: u32,
     pauses: u32,
     has_reader: bool,
-) -> Result<(), Fail> {
-    let text = storm_table(alloc)?;
+) {
+    let text = storm_table(rt, alloc);
     let table = text.as_str();
     for _time in 0..storms {
         open_and_play(
@@ -356,24 +285,23 @@ fn weather_all<R: Abort + Threads + Wait + Sync>(
             table,
             has_reader,
             Play::Storm(Storm { table, pauses }),
-        )?;
+        );
     }
-    Ok(())
 }
 
 #[test]
-fn twenty_storms_are_weathered(rt: HostRuntime) -> Result<(), Fail> {
-    weather_all(&rt, rt.alloc(), 20, 0, false)
+fn twenty_storms_are_weathered(rt: HostRuntime) {
+    weather_all(&rt, rt.alloc(), 20, 0, false);
 }
 
 // While a process backs off at the gate, others move it and stop it, so that much of its work is lost.
 #[test]
-fn a_storm_is_weathered_where_work_takes_time(rt: HostRuntime) -> Result<(), Fail> {
-    weather_all(&rt, rt.alloc(), 1, 10, false)
+fn a_storm_is_weathered_where_work_takes_time(rt: HostRuntime) {
+    weather_all(&rt, rt.alloc(), 1, 10, false);
 }
 
 // Neither the entries nor the time go back while eight cores and the ticker are at work.
 #[test]
-fn ten_thousand_reads_beside_a_storm(rt: HostRuntime) -> Result<(), Fail> {
-    weather_all(&rt, rt.alloc(), 1, 0, true)
+fn ten_thousand_reads_beside_a_storm(rt: HostRuntime) {
+    weather_all(&rt, rt.alloc(), 1, 0, true);
 }

@@ -6,8 +6,8 @@ use apex_partition::{Naming, Reader, Seat, Shared, Ticker};
 use apex_types::{CoreId, ProcessId};
 use crossbeam_utils::Backoff;
 use std::alloc::Global;
+use std::process::Abort;
 use std::sync::Wait;
-use std::test::Fail;
 use std::thread;
 use std::thread::{JoinHandle, Scope, Threads};
 
@@ -81,67 +81,66 @@ fn work<P: Naming, R: Wait>(
     }
 }
 
-fn start<'s, E, P: Naming + Send + Sync + 's, R: Threads + Wait + Sync>(
+fn start<'s, E, P: Naming + Send + Sync + 's, R: Abort + Threads + Wait + Sync>(
     rt: &'s R,
     scope: &'s Scope<'s, E>,
     shared: &'s Shared<P>,
     common: &'s Common,
     task: Task<P>,
-) -> Result<JoinHandle<Report<P>>, Fail> {
-    match scope.spawn(move || work(rt, shared, common, task)) {
-        Ok(handle) => Ok(handle),
-        Err(_refused) => Err(Fail::from("no thread")),
-    }
+) -> JoinHandle<Report<P>> {
+    let started = scope.spawn(move || work(rt, shared, common, task));
+    started.expect(rt, "a thread")
 }
 
 /// Starts a thread for each task, in their order.
-fn start_all<'s, E, P: Naming + Send + Sync + 's, R: Threads + Wait + Sync>(
+fn start_all<'s, E, P: Naming + Send + Sync + 's, R: Abort + Threads + Wait + Sync>(
     rt: &'s R,
     alloc: Global,
     scope: &'s Scope<'s, E>,
     shared: &'s Shared<P>,
     common: &'s Common,
     tasks: Vec<Task<P>>,
-) -> Result<Vec<JoinHandle<Report<P>>>, Fail> {
+) -> Vec<JoinHandle<Report<P>>> {
     let mut started = Vec::new(alloc);
     for task in tasks {
-        started.push(start(rt, scope, shared, common, task)?)?;
+        let handle = start(rt, scope, shared, common, task);
+        started.push(handle).expect(rt, "memory");
     }
-    Ok(started)
+    started
 }
 
 /// Joins the threads in the order in which they were started.
-fn join_all<P: Naming, R: Threads>(
+fn join_all<P: Naming, R: Abort + Threads>(
     rt: &R,
     alloc: Global,
     started: Vec<JoinHandle<Report<P>>>,
-) -> Result<Vec<Report<P>>, Fail> {
+) -> Vec<Report<P>> {
     let mut reports = Vec::new(alloc);
     for handle in started {
-        reports.push(handle.join(rt))?;
+        reports.push(handle.join(rt)).expect(rt, "memory");
     }
-    Ok(reports)
+    reports
 }
 
-fn run_in<'s, E, P: Naming + Send + Sync + 's, R: Threads + Wait + Sync>(
+fn run_in<'s, E, P: Naming + Send + Sync + 's, R: Abort + Threads + Wait + Sync>(
     rt: &'s R,
     alloc: Global,
     scope: &'s Scope<'s, E>,
     shared: &'s Shared<P>,
     common: &'s Common,
     tasks: Vec<Task<P>>,
-) -> Result<Vec<Report<P>>, Fail> {
-    let started = start_all(rt, alloc, scope, shared, common, tasks)?;
+) -> Vec<Report<P>> {
+    let started = start_all(rt, alloc, scope, shared, common, tasks);
     join_all(rt, alloc, started)
 }
 
-fn run_on<'x, P: Naming + Send + Sync, R: Threads + Wait + Sync>(
+fn run_on<'x, P: Naming + Send + Sync, R: Abort + Threads + Wait + Sync>(
     rt: &'x R,
     alloc: Global,
     shared: &'x Shared<P>,
     common: &'x Common,
     tasks: Vec<Task<P>>,
-) -> Result<Vec<Report<P>>, Fail> {
+) -> Vec<Report<P>> {
     thread::scope(thread::scope_env(), rt, move |scope| {
         run_in(rt, alloc, scope, shared, common, tasks)
     })
@@ -149,13 +148,13 @@ fn run_on<'x, P: Naming + Send + Sync, R: Threads + Wait + Sync>(
 
 /// Has each task done in a thread of its own, with a gate that backs off `pauses` times in each work, and joins
 /// the threads: the reports in the order of the tasks, and the partition.
-pub fn run_all<P: Naming + Send + Sync, R: Threads + Wait + Sync>(
+pub fn run_all<P: Naming + Send + Sync, R: Abort + Threads + Wait + Sync>(
     rt: &R,
     alloc: Global,
     shared: Shared<P>,
     pauses: u32,
     tasks: Vec<Task<P>>,
-) -> (Result<Vec<Report<P>>, Fail>, Shared<P>) {
+) -> (Vec<Report<P>>, Shared<P>) {
     let common = Common {
         gate: Pauses { times: pauses },
         told: Told::new(),

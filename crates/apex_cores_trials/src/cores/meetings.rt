@@ -6,9 +6,9 @@ use apex_table::read_table;
 use apex_types::{CoreId, ProcessId};
 use crossbeam_utils::Backoff;
 use std::alloc::Global;
+use std::process::Abort;
 use std::sync::Wait;
 use std::sync::atomic::{AtomicBool, Ordering};
-use std::test::Fail;
 use std::thread::Threads;
 
 const TABLE: &str = r#"
@@ -64,35 +64,30 @@ impl Gate for Meeting {
 const TURNS: u32 = 30_000;
 
 /// The number of entries of a run over this gate.
-fn run_over<R: Threads + Wait + Sync>(
-    rt: &R,
-    alloc: Global,
-    gate: &Meeting,
-) -> Result<usize, Fail> {
-    let table = read_table(alloc, TABLE.as_bytes())?;
+fn run_over<R: Abort + Threads + Wait + Sync>(rt: &R, alloc: Global, gate: &Meeting) -> usize {
+    let table = read_table(alloc, TABLE.as_bytes()).expect(rt, "the table is lawful");
     let plan = RunPlan {
         turns: TURNS,
         ticks: 0,
     };
-    let closed = run_partition(rt, alloc, table, plan, gate)?;
-    Ok(entry_count(closed))
+    let closed = run_partition(rt, alloc, table, plan, gate);
+    entry_count(closed.expect(rt, "threads and memory"))
 }
 
 // If one thread served both cores, or held the lock while it worked, or never came to the gate,
 // they would not meet.
 #[test]
-fn two_cores_work_at_once(rt: HostRuntime) -> Result<(), Fail> {
+fn two_cores_work_at_once(rt: HostRuntime) {
     let gate = Meeting {
         first: AtomicBool::new(false),
         second: AtomicBool::new(false),
         missed: AtomicBool::new(false),
     };
-    let entries = run_over(&rt, rt.alloc(), &gate)?;
+    let entries = run_over(&rt, rt.alloc(), &gate);
     assert!(rt; entries == 2 * TURNS as usize);
     let (first, second) = (
         gate.first.load(Ordering::SeqCst),
         gate.second.load(Ordering::SeqCst),
     );
     assert!(rt; first && second && !gate.missed.load(Ordering::SeqCst));
-    Ok(())
 }

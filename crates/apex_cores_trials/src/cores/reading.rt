@@ -10,7 +10,6 @@ use std::mem::drop;
 use std::process::Abort;
 use std::sync::Wait;
 use std::sync::atomic::{AtomicU64, Ordering};
-use std::test::Fail;
 use std::thread::Threads;
 
 /// The reads of a reader beside a storm.
@@ -111,11 +110,19 @@ fn have_met<P: Naming>(reports: &[Report<P>]) -> bool {
 }
 
 /// The holder's task and the reader's.
-fn beside<P: Naming>(alloc: Global, reader: Reader<P>) -> Result<Vec<Task<P>>, Fail> {
+fn beside<P: Naming, R: Abort>(rt: &R, alloc: Global, reader: Reader<P>) -> Vec<Task<P>> {
     let mut tasks = Vec::new(alloc);
-    tasks.push(Task::ReaderBesideHolder(reader))?;
-    tasks.push(Task::Holder)?;
-    Ok(tasks)
+    tasks
+        .push(Task::ReaderBesideHolder(reader))
+        .expect(rt, "memory");
+    tasks.push(Task::Holder).expect(rt, "memory");
+    tasks
+}
+
+/// The partition and its reader. The seats and the ticker are let go.
+fn with_reader<P: Naming, R: Abort>(rt: &R, open: Open<P>) -> (Shared<P>, Reader<P>) {
+    let Open { shared, reader, .. } = open;
+    (shared, reader.expect(rt, "the partition has one reader"))
 }
 
 /// The partition's reader reads while another thread holds the lock.
@@ -123,18 +130,15 @@ pub fn hold_the_lock<P: Naming + Send + Sync, R: Abort + Threads + Wait + Sync>(
     rt: &R,
     alloc: Global,
     open: Open<P>,
-) -> Result<(), Fail> {
-    let Open { shared, reader, .. } = open;
-    let reader = reader.expect(rt, "the partition has one reader");
-    let tasks = beside(alloc, reader)?;
-    let (reports, shared) = run_all(rt, alloc, shared, 0, tasks);
+) {
+    let (shared, reader) = with_reader(rt, open);
+    let (reports, shared) = run_all(rt, alloc, shared, 0, beside(rt, alloc, reader));
     drop(shared);
-    assert!(rt; have_met(reports?.as_slice()));
-    Ok(())
+    assert!(rt; have_met(reports.as_slice()));
 }
 
 // If a reader took the lock, it could not read while another thread holds it.
 #[test]
-fn a_reader_reads_while_another_thread_holds_the_lock(rt: HostRuntime) -> Result<(), Fail> {
-    open_and_play(&rt, rt.alloc(), WAITER_AND_SIGNALLER, true, Play::HeldLock)
+fn a_reader_reads_while_another_thread_holds_the_lock(rt: HostRuntime) {
+    open_and_play(&rt, rt.alloc(), WAITER_AND_SIGNALLER, true, Play::HeldLock);
 }

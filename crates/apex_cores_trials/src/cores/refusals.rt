@@ -5,9 +5,9 @@ use apex_cores::{Gate, RunFault, RunPlan, Starts, run_partition_with};
 use apex_table::read_table;
 use apex_types::{CoreId, ProcessId};
 use std::alloc::Global;
+use std::process::Abort;
 use std::sync::Wait;
 use std::sync::atomic::{AtomicU32, Ordering};
-use std::test::Fail;
 use std::thread::Threads;
 
 /// Core 0 makes the four turns of the init list and then works in every second turn; the others are idle.
@@ -86,14 +86,14 @@ struct Outcome {
 }
 
 /// Runs the partition of this table, of which the thread of this number is refused.
-fn run_without<R: Threads + Wait + Sync>(
+fn run_without<R: Abort + Threads + Wait + Sync>(
     rt: &R,
     alloc: Global,
     text: &str,
     plan: RunPlan,
     refused: u32,
-) -> Result<Outcome, Fail> {
-    let table = read_table(alloc, text.as_bytes())?;
+) -> Outcome {
+    let table = read_table(alloc, text.as_bytes()).expect(rt, "the table is lawful");
     let gate = Counter::new();
     let mut starts = AllBut {
         refused,
@@ -104,35 +104,37 @@ fn run_without<R: Threads + Wait + Sync>(
         Ok(closed) => Ok(entry_count(closed)),
         Err(fault) => Err(fault),
     };
-    Ok(Outcome {
+    Outcome {
         entries,
         starts,
         works: gate.calls(),
-    })
-}
-
-// The threads that had begun have come to their end when the run has, so that all work of core 0
-// was done.
-#[test]
-fn a_refused_thread_is_told_once_the_others_have_ended(rt: HostRuntime) -> Result<(), Fail> {
-    for refused in 0..4u32 {
-        let run = run_without(&rt, rt.alloc(), THREE_CORES, PLAN, refused)?;
-        assert!(rt; run.entries == Err(RunFault::NoThread), "thread {refused}");
-        assert!(rt; run.starts.asked == refused + 1, "thread {refused}");
-        assert!(rt; run.starts.is_in_turn, "thread {refused}");
-        let works = if refused == 0 { 0 } else { WORKS };
-        assert!(rt; run.works == works, "thread {refused}");
     }
-    Ok(())
+}
+
+/// Whether the run answers that the thread of this number was refused, once those before it have ended.
+fn is_told_of_refusal(run: &Outcome, refused: u32) -> bool {
+    // The threads that had begun have come to their end when the run has, so that all work of core 0 was done.
+    let works = if refused == 0 { 0 } else { WORKS };
+    run.entries == Err(RunFault::NoThread)
+        && run.starts.asked == refused.saturating_add(1)
+        && run.starts.is_in_turn
+        && run.works == works
 }
 
 #[test]
-fn no_thread_is_refused_where_all_may_start(rt: HostRuntime) -> Result<(), Fail> {
-    let run = run_without(&rt, rt.alloc(), THREE_CORES, PLAN, 4)?;
+fn a_refused_thread_is_told_once_the_others_have_ended(rt: HostRuntime) {
+    for refused in 0..4u32 {
+        let run = run_without(&rt, rt.alloc(), THREE_CORES, PLAN, refused);
+        assert!(rt; is_told_of_refusal(&run, refused), "thread {refused}");
+    }
+}
+
+#[test]
+fn no_thread_is_refused_where_all_may_start(rt: HostRuntime) {
+    let run = run_without(&rt, rt.alloc(), THREE_CORES, PLAN, 4);
     assert!(rt; run.entries == Ok(6017));
     assert!(rt; run.starts.asked == 4 && run.starts.is_in_turn);
     assert!(rt; run.works == WORKS);
-    Ok(())
 }
 
 /// The process works once a tick has come after its wait began.
@@ -149,13 +151,12 @@ script = ["TIMED_WAIT 1", "work 1"]
 
 // If the ticker's thread began only once the core's had ended, no work would ever begin.
 #[test]
-fn the_ticker_ticks_while_the_core_takes_turns(rt: HostRuntime) -> Result<(), Fail> {
+fn the_ticker_ticks_while_the_core_takes_turns(rt: HostRuntime) {
     let plan = RunPlan {
         turns: 30_000,
         ticks: 30_000,
     };
-    let run = run_without(&rt, rt.alloc(), WAITER_FOR_TIME, plan, 2)?;
+    let run = run_without(&rt, rt.alloc(), WAITER_FOR_TIME, plan, 2);
     assert!(rt; run.entries == Ok(60_000));
     assert!(rt; run.works == 1);
-    Ok(())
 }

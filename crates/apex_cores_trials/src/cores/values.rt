@@ -1,19 +1,19 @@
 //! The value that a history leaves of its semaphore S, read in three ways.
-ghost use Rattle.std.specs.Prelude.{All, IfOk, IsTrue};
+ghost use Rattle.std.specs.Prelude.{All, IsTrue};
 ghost use Rattle.apex_dispatch.specs.Events.{IsWithin};
 
 use apex_dispatch::Kernel;
 use apex_history::{Counted, Entries, Page, read_line};
 use apex_store::PlainStore;
-use apex_table::{Table, read_table};
+use apex_table::read_table;
 use apex_types::{
     Call, Caller, Event, LentEntry, MOST_PROCESSES, MOST_TICKS, Notice, ObjectCall, ProcessId,
     Reply, ReturnCode, SemaphoreService,
 };
 use std::alloc::Global;
 use std::mem::drop;
+use std::process::Abort;
 use std::str;
-use std::test::Fail;
 
 /// The value of S before any event.
 const INITIAL: u64 = 2;
@@ -54,7 +54,7 @@ fn service_of(call: &Option<Call>) -> Option<SemaphoreService> {
     let Call::Semaphore(call) = call else {
         return None;
     };
-    let ObjectCall::Own(_, service) = call else {
+    let ObjectCall::KindService(_, service) = call else {
         return None;
     };
     Some(*service)
@@ -135,59 +135,68 @@ fn is_within(cores: u8, event: &Event) -> bool
 }
 
 /// The event that the line names, for a kernel with `cores` cores.
-fn event_of(cores: u8, line: &str) -> Result<Event, Fail>
-    ensures { IfOk result (IsWithin cores) }
+fn event_of<R: Abort>(rt: &R, cores: u8, line: &str) -> Event
+    ensures { IsWithin cores result }
 {
-    match read_line(line.as_bytes()) {
-        Ok(event) if is_within(cores, &event) => Ok(event),
-        _ => Err(Fail::from("a line that names no event")),
-    }
+    let event = read_line(line.as_bytes()).expect(rt, "the line names an event");
+    let is_known = is_within(cores, &event);
+    assert!(rt; is_known);
+    event
 }
 
 /// The events that the lines name, for a kernel with `cores` cores.
-fn events_of(alloc: Global, cores: u8, history: &str) -> Result<Vec<Event>, Fail>
-    ensures { IfOk result (λ events. All (IsWithin cores) events.items) }
+fn events_of<R: Abort>(rt: &R, alloc: Global, cores: u8, history: &str) -> Vec<Event>
+    ensures { All (IsWithin cores) result.items }
 {
     let mut events = Vec::new(alloc);
     for line in history.lines() {
-        events.push(event_of(cores, line)?)?;
+        let event = event_of(rt, cores, line);
+        events.push(event).expect(rt, "memory");
     }
-    Ok(events)
+    events
 }
 
-/// A kernel that has made the events of these lines.
-fn run_again(alloc: Global, table: Table, history: &str) -> Result<Kernel<PlainStore>, Fail> {
-    let events = events_of(alloc, table.cores(), history)?;
-    let store = PlainStore::new(alloc, &table)?;
-    let mut kernel = Kernel::boot(alloc, table, store)?;
-    kernel.run(events.as_slice())?;
-    Ok(kernel)
+/// A kernel of this table before any event.
+fn booted<R: Abort>(rt: &R, alloc: Global, text: &str) -> Kernel<PlainStore> {
+    let table = read_table(alloc, text.as_bytes()).expect(rt, "the table is lawful");
+    let store = PlainStore::new(alloc, &table).expect(rt, "memory");
+    Kernel::boot(alloc, table, store).expect(rt, "memory")
 }
 
-fn print_listing(alloc: Global, kernel: &Kernel<PlainStore>) -> Result<Vec<u8>, Fail> {
+fn print_listing<R: Abort>(rt: &R, alloc: Global, kernel: &Kernel<PlainStore>) -> Vec<u8> {
     let mut listing = Vec::new(alloc);
-    let mut page = Page::new(alloc)?;
-    kernel.print_status(&mut page, &mut Counted::new(&mut listing))?;
-    Ok(listing)
+    let mut page = Page::new(alloc).expect(rt, "memory");
+    let printed = kernel.print_status(&mut page, &mut Counted::new(&mut listing));
+    printed.expect(rt, "memory");
+    listing
 }
 
-/// The listing of the kernel, which is let go.
-fn listing_of(alloc: Global, kernel: Kernel<PlainStore>) -> Result<Vec<u8>, Fail> {
-    let listing = print_listing(alloc, &kernel);
+/// The listing of a kernel of this table that has made the events of these lines.
+fn listing_of<R: Abort>(rt: &R, alloc: Global, text: &str, history: &str) -> Vec<u8> {
+    let mut kernel = booted(rt, alloc, text);
+    let events = events_of(rt, alloc, kernel.table().cores(), history);
+    assert!(rt; kernel.run(events.as_slice()).is_ok());
+    let listing = print_listing(rt, alloc, &kernel);
     drop(kernel);
     listing
 }
 
 /// Whether a listing shows this value.
-fn shows(alloc: Global, listing: &[u8], value: u64) -> Result<bool, Fail> {
-    let row = format!(in alloc; "\nsemaphore 1 name S value {value} waiting ")?;
-    Ok(str::from_utf8(listing)?.contains(row.as_str()))
+fn shows<R: Abort>(rt: &R, alloc: Global, listing: &[u8], value: u64) -> bool {
+    let row = format!(in alloc; "\nsemaphore 1 name S value {value} waiting ");
+    let row = row.expect(rt, "memory");
+    let listing = str::from_utf8(listing).expect(rt, "the listing is text");
+    listing.contains(row.as_str())
 }
 
 /// Whether the status listing of a kernel that has made the events of these lines shows this value.
-pub fn is_value_by_run(alloc: Global, text: &str, history: &str, value: u64) -> Result<bool, Fail> {
-    let table = read_table(alloc, text.as_bytes())?;
-    let kernel = run_again(alloc, table, history)?;
-    let listing = listing_of(alloc, kernel)?;
-    shows(alloc, listing.as_slice(), value)
+pub fn is_value_by_run<R: Abort>(
+    rt: &R,
+    alloc: Global,
+    text: &str,
+    history: &str,
+    value: u64,
+) -> bool {
+    let listing = listing_of(rt, alloc, text, history);
+    shows(rt, alloc, listing.as_slice(), value)
 }

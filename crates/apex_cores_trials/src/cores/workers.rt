@@ -1,6 +1,6 @@
 //! The workers of one core and of the ticker, one after the other.
 ghost use Rattle.std.specs.Prelude.{◌≡◌, None, length};
-ghost use Rattle.apex_receipts.specs.Receipts.{voice_of};
+ghost use Rattle.apex_receipts.specs.Receipts.{IsNamedAfter};
 
 use crate::openings::read;
 use apex_cores::{CoreReport, Gate, TickerReport, run_core, run_ticker};
@@ -13,7 +13,6 @@ use std::mem::drop;
 use std::process::Abort;
 use std::sync::Wait;
 use std::sync::atomic::{AtomicU64, Ordering};
-use std::test::Fail;
 
 // Four turns of the init list, then P's work, its end, P's stop, and idle turns.
 const WORKER: &str = r#"
@@ -175,27 +174,19 @@ fn work_until_full<P: Naming, R: Abort + Wait>(
     shared
 }
 
-fn open_and_work<P: Naming, R: Abort + Wait>(
-    rt: &R,
-    alloc: Global,
-    table: Table,
-    opened: Opened,
-) -> Result<(), Fail>
+fn open_and_work<P: Naming, R: Abort + Wait>(rt: &R, alloc: Global, table: Table, opened: Opened)
     requires table { P.table ≡ table }
-    requires book { P.book ≡ opened.book }
-    requires scribe { P.scribe ≡ opened.scribe }
-    requires voice { P.voice ≡ voice_of opened.cores opened.ticker }
+    requires named { IsNamedAfter P.book P.scribe P.voice opened }
     requires cores { length opened.cores ≡ table.cores }
     requires cell { P.cell ≡ None }
 {
-    let (shared, mut seats, ticker) = open::<P>(alloc, table, opened)?;
+    let (shared, mut seats, ticker) = open::<P>(alloc, table, opened).expect(rt, "memory");
     let seat = seats.pop().expect(rt, "the core has a seat");
     drop(work_until_full(rt, shared, seat, ticker));
-    Ok(())
 }
 
 #[test]
-fn workers_stop_at_a_full_history(rt: HostRuntime) -> Result<(), Fail> {
-    let (table, opened) = read(rt.alloc(), WORKER)?;
-    open_and_work::<Brand, HostRuntime>(&rt, rt.alloc(), table, opened)
+fn workers_stop_at_a_full_history(rt: HostRuntime) {
+    let (table, opened) = read(&rt, rt.alloc(), WORKER);
+    open_and_work::<Brand, HostRuntime>(&rt, rt.alloc(), table, opened);
 }

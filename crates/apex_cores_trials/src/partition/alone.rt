@@ -6,7 +6,6 @@ use apex_table::read_table;
 use apex_types::{CoreId, Full};
 use std::mem::drop;
 use std::process::Abort;
-use std::test::Fail;
 
 /// The number of entries that fill the history of `ALONE`.
 pub const MOST_ALONE: u32 = 3;
@@ -44,12 +43,11 @@ fn is_full(rt: &impl Abort, partition: &mut Partition) -> bool {
 }
 
 #[test]
-fn a_full_history_refuses_both_events(rt: HostRuntime) -> Result<(), Fail> {
-    let table = read_table(rt.alloc(), ALONE.as_bytes())?;
-    let mut partition = Partition::boot(rt.alloc(), table)?;
+fn a_full_history_refuses_both_events(rt: HostRuntime) {
+    let table = read_table(rt.alloc(), ALONE.as_bytes()).expect(&rt, "the table is lawful");
+    let mut partition = Partition::boot(rt.alloc(), table).expect(&rt, "memory");
     fill(&rt, &mut partition);
     assert!(rt; is_full(&rt, &mut partition));
     assert!(rt; partition.entries().len() == MOST_ALONE as usize);
     drop(partition);
-    Ok(())
 }

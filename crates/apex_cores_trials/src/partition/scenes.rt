@@ -10,7 +10,6 @@ use apex_partition::{Closed, Naming, Reader, Receipt, Seat, Ticker};
 use std::alloc::Global;
 use std::process::Abort;
 use std::sync::Wait;
-use std::test::Fail;
 
 /// The steps on a table of two cores, and what they leave.
 #[derive(Clone, Copy)]
@@ -53,12 +52,12 @@ fn take_steps<P: Naming, R: Abort + Wait>(
     alloc: Global,
     open: &mut Open<P>,
     steps: &[Step],
-) -> Result<Vec<Receipt<P>>, Fail> {
+) -> Vec<Receipt<P>> {
     let mut receipts = Vec::new(alloc);
     for step in steps {
-        take_step(rt, open, &mut receipts, step)?;
+        take_step(rt, open, &mut receipts, step);
     }
-    Ok(receipts)
+    receipts
 }
 
 /// Each receipt is confirmed by the entry of its number.
@@ -94,14 +93,16 @@ fn are_texts(bytes: &[u8], texts: &[&str]) -> bool {
     rest.is_empty()
 }
 
-/// Closes the partition, whose reader is told of the whole history.
-fn close_and_tell<P: Naming, R: Abort + Wait>(
+/// Closes the partition, whose reader is told of the whole history, confirms the receipts, and looks at the lines
+/// of the history.
+fn end<P: Naming, R: Abort + Wait>(
     rt: &R,
     alloc: Global,
     open: Open<P>,
     cores: usize,
-    last: &Shown,
-) -> Result<Closed<P>, Fail>
+    receipts: &[Receipt<P>],
+    scene: &Scene<'_>,
+)
     requires { cores ≡ P.table.cores }
 {
     let Open {
@@ -110,39 +111,13 @@ fn close_and_tell<P: Naming, R: Abort + Wait>(
         ticker,
         reader,
     } = open;
-    let mut closed = close(rt, alloc, shared, seats, ticker, cores)?;
+    let mut closed = close(rt, alloc, shared, seats, ticker, cores);
     let reader = reader.expect(rt, "the partition has one reader");
-    assert!(rt; is_told(rt, &mut closed, reader, last));
-    Ok(closed)
-}
-
-/// Confirms the receipts: the lines of the history.
-fn look_at<P: Naming, R: Abort>(
-    rt: &R,
-    alloc: Global,
-    closed: Closed<P>,
-    receipts: &[Receipt<P>],
-) -> Result<Vec<u8>, Fail> {
+    assert!(rt; is_told(rt, &mut closed, reader, &scene.last));
     assert!(rt; closed.table().cores() == 2);
     confirm_in_order(rt, &closed, receipts);
-    lines_of(alloc, closed)
-}
-
-/// Closes the partition, and looks at what the steps leave.
-fn end<P: Naming, R: Abort + Wait>(
-    rt: &R,
-    alloc: Global,
-    open: Open<P>,
-    cores: usize,
-    receipts: &[Receipt<P>],
-    scene: &Scene<'_>,
-) -> Result<(), Fail>
-    requires { cores ≡ P.table.cores }
-{
-    let closed = close_and_tell(rt, alloc, open, cores, &scene.last)?;
-    let lines = look_at(rt, alloc, closed, receipts)?;
+    let lines = lines_of(rt, alloc, closed);
     assert!(rt; are_texts(lines.as_slice(), scene.lines));
-    Ok(())
 }
 
 /// Plays the steps on an open partition, whose table has `cores` cores, closes it, and looks at what they
@@ -153,12 +128,12 @@ pub fn act_out<P: Naming, R: Abort + Wait>(
     mut open: Open<P>,
     cores: usize,
     scene: &Scene<'_>,
-) -> Result<(), Fail>
+)
     requires { cores ≡ P.table.cores }
 {
-    let receipts = take_steps(rt, alloc, &mut open, scene.steps)?;
+    let receipts = take_steps(rt, alloc, &mut open, scene.steps);
     assert!(rt; is_left(&open, scene));
-    end(rt, alloc, open, cores, receipts.as_slice(), scene)
+    end(rt, alloc, open, cores, receipts.as_slice(), scene);
 }
 
 /// Nine turns of core 0, and one of core 1, in which the signal wakes the waiter.
@@ -192,14 +167,14 @@ const TEN_TURNS: Scene<'static> = Scene {
 };
 
 #[test]
-fn look_sees_the_ten_turns_of_two_seats(rt: HostRuntime) -> Result<(), Fail> {
+fn look_sees_the_ten_turns_of_two_seats(rt: HostRuntime) {
     open_and_play(
         &rt,
         rt.alloc(),
         TEN_TURNS.table,
         true,
         Play::Scene(&TEN_TURNS),
-    )
+    );
 }
 
 /// A turn, a tick and a turn fill the history. Core 1 and the ticker ask twice for more; core 0 does not.
@@ -229,8 +204,8 @@ const FILLED: Scene<'static> = Scene {
 };
 
 #[test]
-fn a_seat_that_was_told_full_is_told_so_again(rt: HostRuntime) -> Result<(), Fail> {
-    open_and_play(&rt, rt.alloc(), FILLED.table, true, Play::Scene(&FILLED))
+fn a_seat_that_was_told_full_is_told_so_again(rt: HostRuntime) {
+    open_and_play(&rt, rt.alloc(), FILLED.table, true, Play::Scene(&FILLED));
 }
 
 /// The steps of `TEN_TURNS`, with what the reader sees before them, before the last one and after it.
@@ -278,12 +253,12 @@ const READ_BETWEEN: Scene<'static> = Scene {
 };
 
 #[test]
-fn front_of_two_seats(rt: HostRuntime) -> Result<(), Fail> {
+fn front_of_two_seats(rt: HostRuntime) {
     open_and_play(
         &rt,
         rt.alloc(),
         READ_BETWEEN.table,
         true,
         Play::Scene(&READ_BETWEEN),
-    )
+    );
 }

@@ -6,7 +6,6 @@ use apex_partition::{Front, Naming, Partition, Reader, Receipt};
 use apex_types::{Full, MOST_TICKS, ProcessId};
 use std::process::Abort;
 use std::sync::Wait;
-use std::test::Fail;
 
 /// What the front of two cores shows: the entries, the time, and the number of the process that each core runs,
 /// which is 0 if it runs none.
@@ -116,12 +115,11 @@ fn keep<P: Naming, R: Abort>(
     receipts: &mut Vec<Receipt<P>>,
     got: Result<Receipt<P>, Full>,
     place: Option<u32>,
-) -> Result<(), Fail> {
+) {
     assert!(rt; is_at(&got, place));
     if let Ok(receipt) = got {
-        receipts.push(receipt)?;
+        receipts.push(receipt).expect(rt, "memory");
     }
-    Ok(())
 }
 
 /// Takes the step, and keeps the receipt of its event.
@@ -130,17 +128,15 @@ pub fn take_step<P: Naming, R: Abort + Wait>(
     open: &mut Open<P>,
     receipts: &mut Vec<Receipt<P>>,
     step: &Step,
-) -> Result<(), Fail> {
+) {
     match step {
         Step::Turn(seat, place) => keep(rt, receipts, turn(rt, open, *seat), *place),
         Step::Tick(ticks, place) => keep(rt, receipts, tick(rt, open, *ticks), *place),
         Step::Look(entries) => {
             assert!(rt; is_seen(rt, open, receipts.as_slice(), *entries));
-            Ok(())
         }
         Step::Read(shown) => {
             assert!(rt; is_read(rt, &mut open.reader, shown));
-            Ok(())
         }
     }
 }

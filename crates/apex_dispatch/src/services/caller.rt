@@ -1,12 +1,12 @@
 //! The services of process management that a process asks for itself.
 
 ghost use Rattle.std.specs.Prelude.{◌≡◌, ◌<◌, ◌≤◌, [], length};
-ghost use Rattle.apex_types.specs.CallerServices as services;
-ghost use Rattle.apex_types.specs.Callers.{IsReady, IsReadyCaller};
-ghost use Rattle.apex_types.specs.Dues.{HasTime};
-ghost use Rattle.apex_types.specs.Limits.{most_owned, most_processes};
-ghost use Rattle.apex_types.specs.Rows.{Leaves};
-ghost use Rattle.apex_types.specs.Stamps.{HasStamps, HasStampsFor};
+ghost use Rattle.apex_types.specs.services.CallerServices as services;
+ghost use Rattle.apex_types.specs.services.Callers.{IsReady, IsReadyCaller};
+ghost use Rattle.apex_types.specs.processes.Dues.{HasTime};
+ghost use Rattle.apex_types.specs.values.Limits.{most_owned, most_processes};
+ghost use Rattle.apex_types.specs.services.Rows.{Leaves};
+ghost use Rattle.apex_types.specs.processes.Stamps.{HasStamps, HasStampsFor};
 
 use crate::objects::Objects;
 use apex_store::{Store, due_after, halt};

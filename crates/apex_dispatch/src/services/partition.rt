@@ -1,13 +1,14 @@
 //! The services of partition management.
 
 ghost use Rattle.std.specs.Prelude.{◌≡◌, ◌<◌, ◌≤◌, true, false, [], ◌++◌, length, IfSome};
-ghost use Rattle.apex_types.specs.Limits.{most_notices, most_processes};
-ghost use Rattle.apex_types.specs.Dues.{HasTime};
-ghost use Rattle.apex_types.specs.InTurn.{Makes};
-ghost use Rattle.apex_types.specs.PartitionServices as services;
-ghost use Rattle.apex_types.specs.Roster.{is_normal, record_at};
-ghost use Rattle.apex_types.specs.Rows.{Leaves};
-ghost use Rattle.apex_types.specs.Stamps.{HasManyStamps, HasOrderlyStarts, HasStamps, may_wait};
+ghost use Rattle.apex_types.specs.values.Limits.{most_notices, most_processes};
+ghost use Rattle.apex_types.specs.processes.Dues.{HasTime};
+ghost use Rattle.apex_types.specs.services.InTurn.{Makes};
+ghost use Rattle.apex_types.specs.services.PartitionServices as services;
+ghost use Rattle.apex_types.specs.processes.Roster.{is_normal, record_at};
+ghost use Rattle.apex_types.specs.services.Rows.{Leaves};
+ghost use Rattle.apex_types.specs.services.Premises.{CanServe};
+ghost use Rattle.apex_types.specs.processes.Stamps.{HasManyStamps, HasOrderlyStarts, HasStamps, may_wait};
 
 use crate::objects::Objects;
 use apex_store::Store;
@@ -56,19 +57,16 @@ fn first_to_start<S: Store>(store: &S) -> Option<ProcessId>
 }
 
 /// The entry into NORMAL: begins the starts that wait for it, the longest wait first.
-#[tactic(auto, unfolding(apex_types::specs::PartitionServices::enter_normal))]
+#[tactic(auto, unfolding(apex_types::specs::services::PartitionServices::enter_normal))]
 fn enter_normal<S: Store>(store: &mut S, notices: &mut Notices)
-    requires few { length (S.roster store.old).records ≤ most_processes }
     requires early { is_normal (S.roster store.old).mode ≡ false }
     requires starts { HasOrderlyStarts (S.roster store.old) }
-    requires stamps { HasManyStamps (S.roster store.old) }
-    requires time { HasTime (S.roster store.old) }
-    requires room { length notices.old ≤ most_processes }
+    requires can { CanServe (S.roster store.old) notices.old }
     ensures { Makes (services.enter_normal (S.roster store.old))
         (S.roster store.new) notices.old notices.new }
 {
     store.set_mode(Mode::Normal);
-    for turn in 0..store.process_count() {
+    for round in 0..store.process_count() {
         match first_to_start(store) {
             Some(process) => begin_waiter(store, process, notices),
             None => return,
@@ -78,7 +76,6 @@ fn enter_normal<S: Store>(store: &mut S, notices: &mut Notices)
 
 /// IDLE: stops every process for good, without a notice.
 fn enter_idle<S: Store>(store: &mut S)
-    requires few { length (S.roster store.old).records ≤ most_processes }
     ensures { S.roster store.new ≡ services.enter_idle (S.roster store.old) }
 {
     store.set_mode(Mode::Idle);
@@ -94,11 +91,8 @@ fn set_partition_mode<S: Store>(
     requested: RequestedMode,
     notices: &mut Notices,
 ) -> Reply
-    requires few { length (S.roster store.old).records ≤ most_processes }
     requires starts { HasOrderlyStarts (S.roster store.old) }
-    requires stamps { HasManyStamps (S.roster store.old) }
-    requires time { HasTime (S.roster store.old) }
-    requires room { length notices.old ≤ most_processes }
+    requires can { CanServe (S.roster store.old) notices.old }
     ensures { Leaves (services.set_partition_mode (S.roster store.old) objects.now requested)
         (S.roster store.new) objects.now result notices.old notices.new }
 {
@@ -135,11 +129,8 @@ pub(crate) fn serve<S: Store>(
     call: &PartitionCall,
     notices: &mut Notices,
 ) -> Reply
-    requires few { length (S.roster store.old).records ≤ most_processes }
     requires starts { HasOrderlyStarts (S.roster store.old) }
-    requires stamps { HasManyStamps (S.roster store.old) }
-    requires time { HasTime (S.roster store.old) }
-    requires room { length notices.old ≤ most_processes }
+    requires can { CanServe (S.roster store.old) notices.old }
     ensures { Leaves (services.partition_service (S.roster store.old) objects.now call.now)
         (S.roster store.new) objects.now result notices.old notices.new }
 {

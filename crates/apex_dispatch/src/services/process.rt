@@ -1,14 +1,15 @@
 //! The services of process management for a process that is named.
 
 ghost use Rattle.std.specs.Prelude.{◌≡◌, ◌<◌, ◌≤◌, [], ◌++◌, length, false, is_some, not, IfSome};
-ghost use Rattle.apex_types.specs.Limits.{most_notices, most_owned, most_processes};
-ghost use Rattle.apex_types.specs.Callers.{IsReadyCaller, is_by_process};
-ghost use Rattle.apex_types.specs.Dues.{HasTime};
-ghost use Rattle.apex_types.specs.Periods.{is_period_long};
-ghost use Rattle.apex_types.specs.ProcessServices as services;
-ghost use Rattle.apex_types.specs.Roster.{Roster};
-ghost use Rattle.apex_types.specs.Rows.{Leaves};
-ghost use Rattle.apex_types.specs.Stamps.{HasManyStamps, HasStamps, HasStampsFor};
+ghost use Rattle.apex_types.specs.values.Limits.{most_notices, most_owned, most_processes};
+ghost use Rattle.apex_types.specs.services.Callers.{IsReadyCaller, is_by_process};
+ghost use Rattle.apex_types.specs.processes.Dues.{HasTime};
+ghost use Rattle.apex_types.specs.processes.Periods.{is_period_long};
+ghost use Rattle.apex_types.specs.services.ProcessServices as services;
+ghost use Rattle.apex_types.specs.processes.Roster.{Roster};
+ghost use Rattle.apex_types.specs.services.Rows.{Leaves};
+ghost use Rattle.apex_types.specs.services.Premises.{CanServe};
+ghost use Rattle.apex_types.specs.processes.Stamps.{HasManyStamps, HasStamps, HasStampsFor};
 
 use apex_store::{Object, Store, halt};
 use apex_types::{
@@ -24,7 +25,7 @@ pub(crate) struct ProcessObject {
 }
 
 impl Model for ProcessObject {
-    ghost use Rattle.apex_types.specs.ProcessServices.{ProcessObject};
+    ghost use Rattle.apex_types.specs.services.ProcessServices.{ProcessObject};
 
     ghost Value = { ProcessObject };
 
@@ -258,13 +259,13 @@ impl ProcessObject {
 }
 
 impl Object for ProcessObject {
-    type Kind = ProcessKind;
+    type IdKind = ProcessKind;
 
-    type Own = ProcessService;
+    type KindService = ProcessService;
 
     ghost use Rattle.std.specs.Prelude.{◌<◌, length};
-    ghost use Rattle.apex_types.specs.ProcessServices.{process_kind};
-    ghost use Rattle.apex_types.specs.Table.{ProcessConfig};
+    ghost use Rattle.apex_types.specs.services.ProcessServices.{process_kind};
+    ghost use Rattle.apex_types.specs.table.Table.{ProcessConfig};
 
     ghost Config = { ProcessConfig };
 
@@ -297,12 +298,10 @@ impl Object for ProcessObject {
         notices: &mut Notices,
     ) -> Reply
         requires stands { id < length (S.roster store.old).records }
-        requires few { length (S.roster store.old).records ≤ most_processes }
         requires caller { IsReadyCaller (S.roster store.old) caller.now }
-        requires stamps { HasManyStamps (S.roster store.old) }
-        requires time { HasTime (S.roster store.old) }
-        requires room { length notices.old ≤ most_processes }
-        ensures { Leaves (services.process_own (S.roster store.old) self.old id caller.now service.now)
+        requires can { CanServe (S.roster store.old) notices.old }
+        ensures { Leaves (services.process_service
+            (S.roster store.old) self.old id caller.now service.now)
             (S.roster store.new) self.new result notices.old notices.new }
     {
         match service {

@@ -1,13 +1,13 @@
 //! The services of time management.
 
 ghost use Rattle.std.specs.Prelude.{◌≡◌, ◌≤◌, []};
-ghost use Rattle.apex_types.specs.Callers.{IsReady, IsReadyCaller};
-ghost use Rattle.apex_types.specs.Dues.{HasTime};
-ghost use Rattle.apex_types.specs.Limits.{latest};
-ghost use Rattle.apex_types.specs.Periods.{HasNoFutureRelease, is_beyond};
-ghost use Rattle.apex_types.specs.Rows.{Leaves};
-ghost use Rattle.apex_types.specs.Stamps.{HasStamps};
-ghost use Rattle.apex_types.specs.TimeServices as services;
+ghost use Rattle.apex_types.specs.services.Callers.{IsReady, IsReadyCaller};
+ghost use Rattle.apex_types.specs.processes.Dues.{HasTime};
+ghost use Rattle.apex_types.specs.values.Limits.{latest};
+ghost use Rattle.apex_types.specs.processes.Periods.{HasNoFutureRelease, is_beyond};
+ghost use Rattle.apex_types.specs.services.Rows.{Leaves};
+ghost use Rattle.apex_types.specs.processes.Stamps.{HasStamps};
+ghost use Rattle.apex_types.specs.services.TimeServices as services;
 ghost use Rattle.apex_types.specs.declared.TimeCall.TheVariants.{PeriodicWait, Replenish};
 
 use crate::objects::Objects;
@@ -52,7 +52,8 @@ fn serve_timed_wait<S: Store>(
     requires caller { IsReadyCaller (S.roster store.old) caller.now }
     requires stamps { HasStamps (S.roster store.old) }
     requires time { HasTime (S.roster store.old) }
-    ensures { Leaves (services.timed_wait_service (S.roster store.old) objects.now caller.now timeout)
+    ensures { Leaves (services.timed_wait_service
+        (S.roster store.old) objects.now caller.now timeout)
         (S.roster store.new) objects.now result [] [] }
 {
     if is_owner(store, caller) {
@@ -123,7 +124,8 @@ fn serve_periodic_wait<S: Store>(store: &mut S, objects: &Objects, caller: &Call
     requires stamps { HasStamps (S.roster store.old) }
     requires time { HasTime (S.roster store.old) }
     requires releases { HasNoFutureRelease (S.roster store.old) }
-    ensures { Leaves (services.time_service (S.roster store.old) objects.now caller.now PeriodicWait)
+    ensures { Leaves (services.time_service
+        (S.roster store.old) objects.now caller.now PeriodicWait)
         (S.roster store.new) objects.now result [] [] }
 {
     match caller {
@@ -142,7 +144,8 @@ fn serve_replenish<S: Store>(
     requires caller { IsReadyCaller (S.roster store.old) caller.now }
     requires time { HasTime (S.roster store.old) }
     requires releases { HasNoFutureRelease (S.roster store.old) }
-    ensures { Leaves (services.time_service (S.roster store.old) objects.now caller.now (Replenish budget))
+    ensures { Leaves (services.time_service (S.roster store.old) objects.now caller.now
+        (Replenish budget))
         (S.roster store.new) objects.now result [] [] }
 {
     match caller {

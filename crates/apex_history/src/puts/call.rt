@@ -5,7 +5,7 @@ ghost use Rattle.std.specs.List.{All};
 ghost use Rattle.apex_history.specs.declared.puts.TheConstants.{ARGUMENT_ROOM, ARGUMENTS_ROOM, CALL_ROOM, LINES_ROOM};
 ghost use Rattle.apex_calls.specs.declared.catalogue.TheConstants.{MOST_SHAPES};
 ghost use Rattle.arrayvec.specs.ArrayVec.{array_vec_len};
-ghost use Rattle.apex_types.specs.Table.{IsKnown, IsKnownName, literal_text};
+ghost use Rattle.apex_types.specs.table.Table.{IsKnown, IsKnownName, literal_text};
 ghost use Rattle.apex_calls.specs.CallText.{IsKnownWord, call_text, count_of, mode_text, name_of, named_text, word_text};
 
 use super::message::put_message;
@@ -35,7 +35,7 @@ fn name<'t>(table: &'t Table, kind: &Kind, place: u8) -> &'t Name
         Kind::Semaphore => table.semaphore(Id::at(place)).name(),
         Kind::Buffer => table.buffer(Id::at(place)).name(),
         Kind::Blackboard => table.blackboard(Id::at(place)).name(),
-        Kind::Event => table.event(Id::at(place)).name(),
+        Kind::EventFlag => table.event_flag(Id::at(place)).name(),
         Kind::Mutex => table.mutex(Id::at(place)).name(),
     }
 }
@@ -44,7 +44,8 @@ fn name<'t>(table: &'t Table, kind: &Kind, place: u8) -> &'t Name
 fn put_named(line: &mut Lines, table: &Table, kind: &Kind, named: &Named<u8>)
     requires known { IsKnownName (count_of table.now kind.now) named.now }
     requires room { array_vec_len line.old + ARGUMENT_ROOM ≤ LINES_ROOM }
-    ensures text { line.new.items ≡ line.old.items ++ named_text (name_of table.now kind.now) (literal_text table.now) named.now }
+    ensures text { line.new.items ≡ line.old.items
+        ++ named_text (name_of table.now kind.now) (literal_text table.now) named.now }
     ensures short { array_vec_len line.new ≤ array_vec_len line.old + ARGUMENT_ROOM }
 {
     match named {
@@ -57,7 +58,8 @@ fn put_named(line: &mut Lines, table: &Table, kind: &Kind, named: &Named<u8>)
 fn put_word(line: &mut Lines, table: &Table, arguments: &Arguments, shape: &Shape)
     requires known { IsKnownWord table.now arguments.now shape.now }
     requires room { array_vec_len line.old + ARGUMENT_ROOM ≤ LINES_ROOM }
-    ensures text { line.new.items ≡ line.old.items ++ word_text (name_of table.now) (literal_text table.now) arguments.now shape.now }
+    ensures text { line.new.items ≡ line.old.items
+        ++ word_text (name_of table.now) (literal_text table.now) arguments.now shape.now }
     ensures short { array_vec_len line.new ≤ array_vec_len line.old + ARGUMENT_ROOM }
 {
     match shape {
@@ -75,7 +77,8 @@ fn put_word(line: &mut Lines, table: &Table, arguments: &Arguments, shape: &Shap
 fn put_argument(line: &mut Lines, table: &Table, arguments: &Arguments, shape: &Shape)
     requires known { IsKnownWord table.now arguments.now shape.now }
     requires room { array_vec_len line.old + ARGUMENT_ROOM + 1 ≤ LINES_ROOM }
-    ensures text { line.new.items ≡ line.old.items ++ (32 ∷ word_text (name_of table.now) (literal_text table.now) arguments.now shape.now) }
+    ensures text { line.new.items ≡ line.old.items
+        ++ (32 ∷ word_text (name_of table.now) (literal_text table.now) arguments.now shape.now) }
     ensures short { array_vec_len line.new ≤ array_vec_len line.old + ARGUMENT_ROOM + 1 }
 {
     put(line, " ");
@@ -85,9 +88,12 @@ fn put_argument(line: &mut Lines, table: &Table, arguments: &Arguments, shape: &
 // The words of some arguments.
 fn put_words(line: &mut Lines, table: &Table, arguments: &Arguments, shapes: &[Shape])
     requires known { All (IsKnownWord table.now arguments.now) shapes.now }
-    requires few { length shapes.now ≤ MOST_SHAPES }
+    requires few_shapes { length shapes.now ≤ MOST_SHAPES }
     requires room { array_vec_len line.old + ARGUMENTS_ROOM ≤ LINES_ROOM }
-    ensures text { line.new.items ≡ line.old.items ++ flat_map (λ s. 32 ∷ word_text (name_of table.now) (literal_text table.now) arguments.now s) shapes.now }
+    ensures text { line.new.items ≡ line.old.items
+        ++ flat_map
+        (λ s. 32 ∷ word_text (name_of table.now) (literal_text table.now) arguments.now s)
+        shapes.now }
     ensures short { array_vec_len line.new ≤ array_vec_len line.old + ARGUMENTS_ROOM }
 {
     for shape in shapes {

@@ -3,8 +3,8 @@ ghost use Rattle.std.specs.Prelude.{◌≡◌, ◌+◌, ◌*◌, ◌<◌, ◌≤
 ghost use Rattle.std.specs.Fmt.{digit_glyph};
 ghost use Rattle.apex_history.specs.declared.puts.TheConstants.{LINES_ROOM};
 ghost use Rattle.arrayvec.specs.ArrayVec.{array_vec_len};
-ghost use Rattle.apex_types.specs.Limits.{most_literal};
-ghost use Rattle.apex_types.specs.Texts.{byte_text, bytes_text, message_text};
+ghost use Rattle.apex_types.specs.values.Limits.{most_literal};
+ghost use Rattle.apex_types.specs.text.Texts.{byte_text, bytes_text, message_text};
 
 use super::{Lines, put, put_bytes};
 use apex_table::Table;
@@ -32,7 +32,7 @@ fn put_byte(line: &mut Lines, byte: u8)
 
 // Two digits for each byte.
 fn put_digits_of(line: &mut Lines, bytes: &[u8])
-    requires few { length bytes.now ≤ most_literal }
+    requires few_bytes { length bytes.now ≤ most_literal }
     requires room { array_vec_len line.old + 2 * most_literal ≤ LINES_ROOM }
     ensures text { line.new.items ≡ line.old.items ++ flat_map byte_text bytes.now }
     ensures short { array_vec_len line.new ≤ array_vec_len line.old + 2 * most_literal }
@@ -43,7 +43,7 @@ fn put_digits_of(line: &mut Lines, bytes: &[u8])
 }
 
 fn put_message_bytes(line: &mut Lines, bytes: &[u8])
-    requires few { length bytes.now ≤ most_literal }
+    requires few_bytes { length bytes.now ≤ most_literal }
     requires room { array_vec_len line.old + 2 * most_literal ≤ LINES_ROOM }
     ensures text { line.new.items ≡ line.old.items ++ bytes_text bytes.now }
     ensures short { array_vec_len line.new ≤ array_vec_len line.old + 2 * most_literal }

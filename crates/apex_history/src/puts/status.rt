@@ -2,9 +2,9 @@
 ghost use Rattle.std.specs.Prelude.{◌≡◌, ◌+◌, ◌*◌, ◌<◌, ◌≤◌, ◌++◌, length, flat_map, codes, decimal};
 ghost use Rattle.apex_history.specs.declared.puts.TheConstants.{ARGUMENT_ROOM, LINES_ROOM};
 ghost use Rattle.arrayvec.specs.ArrayVec.{array_vec_len};
-ghost use Rattle.apex_types.specs.Limits.{most_messages, most_owned, most_processes};
-ghost use Rattle.apex_types.specs.Texts.{id_text, message_text};
-ghost use Rattle.apex_types.specs.Status as status;
+ghost use Rattle.apex_types.specs.values.Limits.{most_messages, most_owned, most_processes};
+ghost use Rattle.apex_types.specs.text.Texts.{id_text, message_text};
+ghost use Rattle.apex_types.specs.text.Status as status;
 
 use super::message::put_message;
 use super::{Lines, put, put_id, put_long_number, put_name};
@@ -47,7 +47,7 @@ pub(super) fn suspended_word(suspended: &Option<Suspender>) -> &'static str
     }
 }
 
-/// Whether an event is up.
+/// Whether an event flag is up.
 pub(super) fn up_word(up: bool) -> &'static str
     ensures value { result.now ≡ status.up_text up }
     ensures short { length result.now ≤ 4 }
@@ -80,7 +80,8 @@ pub(super) fn put_instant(line: &mut Lines, instant: &Option<u64>)
 #[tactic(auto, using(std::proofs::Common::append_assoc))]
 fn put_mutex_behind(line: &mut Lines, holding: &Holding)
     requires { array_vec_len line.old + 11 ≤ LINES_ROOM }
-    ensures text { line.new.items ≡ line.old.items ++ status.behind_text status.held_text holding.now }
+    ensures text { line.new.items ≡ line.old.items
+        ++ status.behind_text status.held_text holding.now }
     ensures short { array_vec_len line.new ≤ array_vec_len line.old + 11 }
 {
     put(line, ",");
@@ -88,9 +89,10 @@ fn put_mutex_behind(line: &mut Lines, holding: &Holding)
 }
 
 fn put_mutexes_behind(line: &mut Lines, held: &[Holding])
-    requires few { length held.now ≤ most_owned }
+    requires few_owned { length held.now ≤ most_owned }
     requires room { array_vec_len line.old + 11 * most_owned ≤ LINES_ROOM }
-    ensures text { line.new.items ≡ line.old.items ++ flat_map (status.behind_text status.held_text) held.now }
+    ensures text { line.new.items ≡ line.old.items
+        ++ flat_map (status.behind_text status.held_text) held.now }
     ensures short { array_vec_len line.new ≤ array_vec_len line.old + 11 * most_owned }
 {
     for holding in held {
@@ -117,7 +119,8 @@ pub(super) fn put_owned(line: &mut Lines, owned: &Holdings)
 
 pub(super) fn put_optional_message(line: &mut Lines, table: &Table, message: &Option<Message>)
     requires { array_vec_len line.old + ARGUMENT_ROOM ≤ LINES_ROOM }
-    ensures text { line.new.items ≡ line.old.items ++ status.optional_message_text table.now message.now }
+    ensures text { line.new.items ≡ line.old.items
+        ++ status.optional_message_text table.now message.now }
     ensures short { array_vec_len line.new ≤ array_vec_len line.old + ARGUMENT_ROOM }
 {
     match message {
@@ -151,7 +154,7 @@ fn put_wait(line: &mut Lines, wait: &Wait)
         Wait::Receive(buffer) => put_kind_and_id(line, "buffer:", *buffer),
         Wait::Send(buffer, _) => put_kind_and_id(line, "buffer:", *buffer),
         Wait::Blackboard(blackboard) => put_kind_and_id(line, "blackboard:", *blackboard),
-        Wait::Event(event) => put_kind_and_id(line, "event:", *event),
+        Wait::EventFlag(event_flag) => put_kind_and_id(line, "event:", *event_flag),
         Wait::Mutex(mutex) => put_kind_and_id(line, "mutex:", *mutex),
     }
 }
@@ -178,9 +181,10 @@ fn put_id_behind(line: &mut Lines, id: ProcessId)
 }
 
 fn put_ids_behind(line: &mut Lines, ids: &[ProcessId])
-    requires few { length ids.now ≤ most_processes }
+    requires few_ids { length ids.now ≤ most_processes }
     requires room { array_vec_len line.old + 11 * most_processes ≤ LINES_ROOM }
-    ensures text { line.new.items ≡ line.old.items ++ flat_map (status.behind_text id_text) ids.now }
+    ensures text { line.new.items ≡ line.old.items
+        ++ flat_map (status.behind_text id_text) ids.now }
     ensures short { array_vec_len line.new ≤ array_vec_len line.old + 11 * most_processes }
 {
     for id in ids {
@@ -191,7 +195,7 @@ fn put_ids_behind(line: &mut Lines, ids: &[ProcessId])
 // The ids of waiters, with `,` between.
 #[tactic(auto, using(std::proofs::Common::append_assoc))]
 fn put_ids(line: &mut Lines, ids: &[ProcessId])
-    requires few { length ids.now ≤ most_processes }
+    requires few_ids { length ids.now ≤ most_processes }
     requires room { array_vec_len line.old + 10 + 11 * most_processes ≤ LINES_ROOM }
     ensures text { line.new.items ≡ line.old.items ++ status.ids_text ids.now }
     ensures short { array_vec_len line.new ≤ array_vec_len line.old + 10 + 11 * most_processes }
@@ -208,7 +212,8 @@ fn put_ids(line: &mut Lines, ids: &[ProcessId])
 #[tactic(auto, using(std::proofs::Common::append_assoc))]
 fn put_message_behind(line: &mut Lines, table: &Table, message: &Message)
     requires { array_vec_len line.old + ARGUMENT_ROOM + 1 ≤ LINES_ROOM }
-    ensures text { line.new.items ≡ line.old.items ++ status.behind_text (message_text table.now) message.now }
+    ensures text { line.new.items ≡ line.old.items
+        ++ status.behind_text (message_text table.now) message.now }
     ensures short { array_vec_len line.new ≤ array_vec_len line.old + ARGUMENT_ROOM + 1 }
 {
     put(line, ",");
@@ -216,10 +221,12 @@ fn put_message_behind(line: &mut Lines, table: &Table, message: &Message)
 }
 
 fn put_messages_behind(line: &mut Lines, table: &Table, messages: &[Message])
-    requires few { length messages.now ≤ most_messages }
+    requires few_messages { length messages.now ≤ most_messages }
     requires room { array_vec_len line.old + (ARGUMENT_ROOM + 1) * most_messages ≤ LINES_ROOM }
-    ensures text { line.new.items ≡ line.old.items ++ flat_map (status.behind_text (message_text table.now)) messages.now }
-    ensures short { array_vec_len line.new ≤ array_vec_len line.old + (ARGUMENT_ROOM + 1) * most_messages }
+    ensures text { line.new.items ≡ line.old.items
+        ++ flat_map (status.behind_text (message_text table.now)) messages.now }
+    ensures short { array_vec_len line.new
+        ≤ array_vec_len line.old + (ARGUMENT_ROOM + 1) * most_messages }
 {
     for message in messages {
         put_message_behind(line, table, message);
@@ -229,10 +236,12 @@ fn put_messages_behind(line: &mut Lines, table: &Table, messages: &[Message])
 // A buffer's messages, with `,` between.
 #[tactic(auto, using(std::proofs::Common::append_assoc))]
 pub(super) fn put_messages(line: &mut Lines, table: &Table, messages: &[Message])
-    requires few { length messages.now ≤ most_messages }
-    requires room { array_vec_len line.old + ARGUMENT_ROOM + (ARGUMENT_ROOM + 1) * most_messages ≤ LINES_ROOM }
+    requires few_messages { length messages.now ≤ most_messages }
+    requires room { array_vec_len line.old + ARGUMENT_ROOM + (ARGUMENT_ROOM + 1) * most_messages
+        ≤ LINES_ROOM }
     ensures text { line.new.items ≡ line.old.items ++ status.messages_text table.now messages.now }
-    ensures short { array_vec_len line.new ≤ array_vec_len line.old + ARGUMENT_ROOM + (ARGUMENT_ROOM + 1) * most_messages }
+    ensures short { array_vec_len line.new
+        ≤ array_vec_len line.old + ARGUMENT_ROOM + (ARGUMENT_ROOM + 1) * most_messages }
 {
     match messages.split_first() {
         Some((first, others)) => {
@@ -261,7 +270,7 @@ pub(super) fn put_head<K: Copy>(line: &mut Lines, kind: &str, id: Id<K>, name: &
 // The end of the line of an object.
 #[tactic(auto, using(std::proofs::Common::append_assoc))]
 pub(super) fn put_waiting(line: &mut Lines, waiting: &[ProcessId])
-    requires few { length waiting.now ≤ most_processes }
+    requires few_waiters { length waiting.now ≤ most_processes }
     requires room { array_vec_len line.old + 20 + 11 * most_processes ≤ LINES_ROOM }
     ensures text { line.new.items ≡ line.old.items ++ status.waiting_text waiting.now }
     ensures short { array_vec_len line.new ≤ array_vec_len line.old + 20 + 11 * most_processes }

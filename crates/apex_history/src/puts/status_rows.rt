@@ -2,8 +2,8 @@
 ghost use Rattle.std.specs.Prelude.{◌≡◌, ◌+◌, ◌<◌, ◌≤◌, ◌++◌, length, codes};
 ghost use Rattle.apex_history.specs.declared.puts.TheConstants.{LINES_ROOM};
 ghost use Rattle.arrayvec.specs.ArrayVec.{array_vec_len};
-ghost use Rattle.apex_types.specs.Limits.{most_line, most_messages, most_processes};
-ghost use Rattle.apex_types.specs.Status as status;
+ghost use Rattle.apex_types.specs.values.Limits.{most_line, most_messages, most_processes};
+ghost use Rattle.apex_types.specs.text.Status as status;
 ghost use Rattle.apex_history.specs.StatusRows.{row_text, IsPrintableRow};
 
 use super::status::{
@@ -111,7 +111,8 @@ fn put_held(line: &mut Lines, table: &Table, fields: &Record)
 fn put_process(line: &mut Lines, table: &Table, process: ProcessId, state: &State, fields: &Record)
     requires known { process < length table.now.processes }
     requires room { array_vec_len line.old + most_line ≤ LINES_ROOM }
-    ensures text { line.new.items ≡ line.old.items ++ status.process_line table.now process state.now fields.now }
+    ensures text { line.new.items ≡ line.old.items
+        ++ status.process_line table.now process state.now fields.now }
 {
     put_head(line, "process", process, table.process(process).name());
     put_state(line, state, fields);
@@ -129,9 +130,10 @@ fn put_semaphore(
     waiting: &[ProcessId],
 )
     requires known { semaphore < length table.now.semaphores }
-    requires few { length waiting.now ≤ most_processes }
+    requires few_waiters { length waiting.now ≤ most_processes }
     requires room { array_vec_len line.old + most_line ≤ LINES_ROOM }
-    ensures text { line.new.items ≡ line.old.items ++ status.semaphore_line table.now semaphore value waiting.now }
+    ensures text { line.new.items ≡ line.old.items
+        ++ status.semaphore_line table.now semaphore value waiting.now }
 {
     put_head(
         line,
@@ -154,9 +156,10 @@ fn put_buffer(
 )
     requires known { buffer < length table.now.buffers }
     requires held { length messages.now ≤ most_messages }
-    requires few { length waiting.now ≤ most_processes }
+    requires few_waiters { length waiting.now ≤ most_processes }
     requires room { array_vec_len line.old + most_line ≤ LINES_ROOM }
-    ensures text { line.new.items ≡ line.old.items ++ status.buffer_line table.now buffer messages.now waiting.now }
+    ensures text { line.new.items ≡ line.old.items
+        ++ status.buffer_line table.now buffer messages.now waiting.now }
 {
     put_head(line, "buffer", buffer, table.buffer(buffer).name());
     put(line, " messages ");
@@ -173,9 +176,10 @@ fn put_blackboard(
     waiting: &[ProcessId],
 )
     requires known { blackboard < length table.now.blackboards }
-    requires few { length waiting.now ≤ most_processes }
+    requires few_waiters { length waiting.now ≤ most_processes }
     requires room { array_vec_len line.old + most_line ≤ LINES_ROOM }
-    ensures text { line.new.items ≡ line.old.items ++ status.blackboard_line table.now blackboard message.now waiting.now }
+    ensures text { line.new.items ≡ line.old.items
+        ++ status.blackboard_line table.now blackboard message.now waiting.now }
 {
     put_head(
         line,
@@ -189,13 +193,25 @@ fn put_blackboard(
 }
 
 #[tactic(auto, using(std::proofs::Common::append_assoc))]
-fn put_event(line: &mut Lines, table: &Table, event: EventId, up: bool, waiting: &[ProcessId])
-    requires known { event < length table.now.events }
-    requires few { length waiting.now ≤ most_processes }
+fn put_event_flag(
+    line: &mut Lines,
+    table: &Table,
+    event_flag: EventId,
+    up: bool,
+    waiting: &[ProcessId],
+)
+    requires known { event_flag < length table.now.event_flags }
+    requires few_waiters { length waiting.now ≤ most_processes }
     requires room { array_vec_len line.old + most_line ≤ LINES_ROOM }
-    ensures text { line.new.items ≡ line.old.items ++ status.event_line table.now event up waiting.now }
+    ensures text { line.new.items ≡ line.old.items
+        ++ status.event_flag_line table.now event_flag up waiting.now }
 {
-    put_head(line, "event", event, table.event(event).name());
+    put_head(
+        line,
+        "event",
+        event_flag,
+        table.event_flag(event_flag).name(),
+    );
     put(line, " state ");
     put(line, up_word(up));
     put_waiting(line, waiting);
@@ -224,9 +240,10 @@ fn put_mutex(
     waiting: &[ProcessId],
 )
     requires known { mutex < length table.now.mutexes }
-    requires few { length waiting.now ≤ most_processes }
+    requires few_waiters { length waiting.now ≤ most_processes }
     requires room { array_vec_len line.old + most_line ≤ LINES_ROOM }
-    ensures text { line.new.items ≡ line.old.items ++ status.mutex_line table.now mutex owner.now depth waiting.now }
+    ensures text { line.new.items ≡ line.old.items
+        ++ status.mutex_line table.now mutex owner.now depth waiting.now }
 {
     put_head(line, "mutex", mutex, table.mutex(mutex).name());
     put_owner(line, owner, depth);
@@ -264,7 +281,11 @@ pub(crate) fn put_row(line: &mut Lines, table: &Table, row: &StatusRow<'_>)
             message,
             waiting,
         } => put_blackboard(line, table, *blackboard, message, waiting),
-        StatusRow::Event { event, up, waiting } => put_event(line, table, *event, *up, waiting),
+        StatusRow::EventFlag {
+            event_flag,
+            up,
+            waiting,
+        } => put_event_flag(line, table, *event_flag, *up, waiting),
         StatusRow::Mutex {
             mutex,
             owner,

@@ -1,6 +1,6 @@
 //! The words of a step, and the forms that they may have.
 ghost use Rattle.std.specs.Prelude.{ℕ, ◌≡◌, ◌<◌, ◌≤◌, ◌/◌, ◌%◌, ◌==◌, ◌&&◌, true, map, length, IfOk};
-ghost use Rattle.apex_types.specs.Limits.{most_message, most_processes};
+ghost use Rattle.apex_types.specs.values.Limits.{most_message, most_processes};
 ghost use Rattle.std.specs.Char.{digit_value};
 ghost use Rattle.std.specs.List.{list_all, position_from};
 ghost use Rattle.std.specs.Str.{bytes_eq};
@@ -108,7 +108,7 @@ fn value_of(digit: u8) -> u8
 /// The bytes that pairs of digits write. Takes no memory.
 fn decoded(digits: &[u8]) -> Literal
     requires digits { list_all is_digit digits.now ≡ true }
-    requires few { length digits.now / 2 ≤ most_message }
+    requires few_digits { length digits.now / 2 ≤ most_message }
     ensures { result ≡ pairs_value digits.now }
 {
     let mut bytes = ArrayVec::<u8, MOST_LITERAL>::new();

@@ -9,40 +9,40 @@ pub returns-in_default-latest-clause-answers : goal.returns-in_default-latest-cl
 returns-in_default-latest-clause-answers c =
     let old = c.args.kernel.now in
     let room : length old.machine.history < old.table.limit = search rules in
-    let none : last_or None c.make.new.kernel.machine.history ≡ None = search rules in
-    absurd (latest_some old.table old.machine c.args.event c.make.new.kernel.machine.history room
-    (ap (λ (k : KernelState). k.machine.history) c.make.ensures.done) none)
+    let none : last_or None c.accept.new.self.machine.history ≡ None = search rules in
+    absurd (latest_some old.table old.machine c.args.event c.accept.new.self.machine.history room
+    (ap (λ (k : KernelState). k.machine.history) c.accept.ensures.done) none)
 
 pub line-requires : goal.line-requires
 line-requires c =
     let old = c.args.kernel.now in
-    let new = c.make.new.kernel in
+    let new = c.accept.new.self in
     let room : length old.machine.history < old.table.limit = search rules in
     let is : last_or None new.machine.history ≡ Some c.in-Some.entry = search rules in
     rw c.table.ensures (latest_holds old.table old.machine c.args.event new.machine.history room
-    (ap (λ (k : KernelState). k.machine.history) c.make.ensures.done) (IsPrintable new.table) c.in-Some.entry is c.holds.ensures.printable)
+    (ap (λ (k : KernelState). k.machine.history) c.accept.ensures.done) (IsPrintable new.table) c.in-Some.entry is c.holds.ensures.printable)
 
 pub returns-then-eq-clause-answers : goal.returns-then-eq-clause-answers
 returns-then-eq-clause-answers c =
     let old = c.args.kernel.now in
-    let new = c.make.new.kernel in
+    let new = c.accept.new.self in
     let room : length old.machine.history < old.table.limit = search rules in
     let is : last_or None new.machine.history ≡ Some c.in-Some.entry = search rules in (
       c.in-Some.entry,
       latest_adds old.table old.machine c.args.event new.machine.history room
-          (ap (λ (k : KernelState). k.machine.history) c.make.ensures.done) c.in-Some.entry is,
+          (ap (λ (k : KernelState). k.machine.history) c.accept.ensures.done) c.in-Some.entry is,
       search rules,
     )
 
 pub returns-else-eq-clause-answers : goal.returns-else-eq-clause-answers
 returns-else-eq-clause-answers c =
     let old = c.args.kernel.now in
-    let new = c.make.new.kernel in
+    let new = c.accept.new.self in
     let room : length old.machine.history < old.table.limit = search rules in
     let is : last_or None new.machine.history ≡ Some c.in-Some.entry = search rules in
-    let ran = ap (λ (k : KernelState). k.machine.history) c.make.ensures.done in
+    let ran = ap (λ (k : KernelState). k.machine.history) c.accept.ensures.done in
     let adds = latest_adds old.table old.machine c.args.event new.machine.history room ran c.in-Some.entry is in
-    let table : new.table ≡ old.table = ap (λ (k : KernelState). k.table) c.make.ensures.done in
+    let table : new.table ≡ old.table = ap (λ (k : KernelState). k.table) c.accept.ensures.done in
     let printable = latest_holds old.table old.machine c.args.event new.machine.history room ran (IsPrintable old.table) c.in-Some.entry is
     (rw table at c.holds.ensures.printable) in
     rw c.kept.ensures (adds, search rules, printable)

@@ -1,5 +1,5 @@
 use Rattle.std.proofs.Common.{◌≡◌, ◌∙◌, ◌-◌, ◌≤◌, ap, sym, length, take, Ok, Err, rules}
-use Rattle.apex_types.specs.Machine.{replay}
+use Rattle.apex_types.specs.machine.Machine.{replay}
 use Rattle.apex_dispatch.specs.Kernel.{KernelState}
 use Rattle.apex_check.specs.Histories.{event_named}
 use Rattle.apex_check.proofs.MoreLines.{differs, faulty, full, lines_grow, next_is, unended_is}

@@ -1,6 +1,6 @@
 use Rattle.std.proofs.Common.{◌≡◌, ◌∙◌, ◌+◌, ◌<◌, ◌≤◌, ap, sym, refl, arith, length, length-append, drop}
 use Rattle.std.proofs.lemmas.List.{length-replicate}
-use Rattle.apex_types.specs.Machine.{Machine, run}
+use Rattle.apex_types.specs.machine.Machine.{Machine, run}
 use Rattle.apex_dispatch.specs.Kernel.{KernelState, kernel_in}
 use Rattle.apex_dispatch.proofs.Runs.{run-fills, run-full}
 use Rattle.apex_cli.specs.Schedule.{events_of_item, events_of_items}

@@ -1,6 +1,6 @@
 -- The events of the first n items were made, and there was room for each.
 use Rattle.std.proofs.Common.{◌≡◌, ◌+◌, ◌≤◌, length, drop}
-use Rattle.apex_types.specs.Machine.{run}
+use Rattle.apex_types.specs.machine.Machine.{run}
 use Rattle.apex_dispatch.specs.Kernel.{kernel_in}
 use Rattle.apex_cli.specs.Schedule.{events_of_items}
 use Rattle.apex_cli.proofs.events.run_items.Given as goal

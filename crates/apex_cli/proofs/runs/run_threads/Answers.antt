@@ -1,7 +1,6 @@
-use Rattle.std.proofs.Common.{rules, ◌∙◌, ap, sym, refl}
+use Rattle.std.proofs.Common.{rules, ◌∙◌, sym, refl}
 use Rattle.std.proofs.KnownBytes.{Keeps-refl}
 use Rattle.std.proofs.lemmas.Result.{err_from_is_err_and}
-use Rattle.apex_table.specs.Reading.{table_of}
 use Rattle.apex_cli.specs.Runs.{unwritten, written}
 use Rattle.apex_cli.proofs.RunEndings.{runs_refused, runs_unread}
 use Rattle.apex_cli.proofs.runs.run_threads.Goals as goal
@@ -20,20 +19,17 @@ returns-in_err-ran g c =
 
 pub returns-in-None : goal.returns-in-None
 returns-in-None g c =
-    let read = ap table_of (sym c.as_slice.ensures.value) ∙ c.in_ok-ran.ensures.table in
-    written c.in_ok-text.text.items _ _ _ c.in_ok-text.ensures.bytes read c.in_ok-ran.ensures.ran c.in_ok-ran.ensures.front
+    written c.in_ok-text.text.items _ _ _ c.in_ok-text.ensures.bytes (rw c.as_slice.ensures.value at c.in_ok-ran.ensures.ran)
     (sym c.in-None.is ∙ c.in-Ok.ensures.fault ∙ c.in_ok-ran.ensures.fault)
     c.in-Ok.ensures.ok (c.in_ok-text.ensures.counted, c.in-Ok.ensures.counted)
 
 pub returns-in-Ok : goal.returns-in-Ok
 returns-in-Ok g c =
-    let read = ap table_of (sym c.as_slice.ensures.value) ∙ c.in_ok-ran.ensures.table in
-    written c.in_ok-text.text.items _ _ _ c.in_ok-text.ensures.bytes read c.in_ok-ran.ensures.ran c.in_ok-ran.ensures.front
+    written c.in_ok-text.text.items _ _ _ c.in_ok-text.ensures.bytes (rw c.as_slice.ensures.value at c.in_ok-ran.ensures.ran)
     (sym c.in-Some.is ∙ c.in-Ok.ensures.fault ∙ c.in_ok-ran.ensures.fault)
     c.in-Ok.ensures.ok (c.in_ok-text.ensures.counted, c.in-Ok.ensures.counted)
 
 pub returns : goal.returns
 returns g c =
-    let read = ap table_of (sym c.as_slice.ensures.value) ∙ c.in_ok-ran.ensures.table in
-    unwritten c.in_ok-text.text.items _ _ _ c.in_ok-text.ensures.bytes read c.in_ok-ran.ensures.ran c.in_ok-ran.ensures.front
+    unwritten c.in_ok-text.text.items _ _ _ c.in_ok-text.ensures.bytes (rw c.as_slice.ensures.value at c.in_ok-ran.ensures.ran)
     c.in-Err.ensures.err (c.in_ok-text.ensures.counted, c.in-Err.ensures.counted)

@@ -9,7 +9,7 @@ pub returns-in_default : goal.returns-in_default
 returns-in_default g c =
     let made = c.loop-made.made in
     let seat = c.loop-made.seat in
-    rw c.in_default.ensures.full.0 (record {
+    rw c.in_default.ensures.learns (record {
       ran = cut c.args.seat seat made c.args.turns c.loop-made-test.true c.loop-made.invariant.underway;
       last = last_stays seat made c.loop-made.last c.loop-made.invariant.last;
     })

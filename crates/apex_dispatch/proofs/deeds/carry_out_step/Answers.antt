@@ -1,5 +1,5 @@
 use Rattle.std.proofs.Common.{◌≡◌, Some, sym}
-use Rattle.apex_types.specs.Table.{call_in, process_config}
+use Rattle.apex_types.specs.table.Table.{call_in, process_config}
 use Rattle.apex_dispatch.proofs.Known.{known_to, known_script_step}
 use Rattle.apex_dispatch.proofs.deeds.carry_out_step.Goals as goal
 

@@ -1,4 +1,4 @@
-use Rattle.apex_types.specs.Machine.{opening, run}
+use Rattle.apex_types.specs.machine.Machine.{opening, run}
 use Rattle.apex_dispatch.proofs.States.{one_state}
 use Rattle.apex_dispatch.proofs.laws.each_has_one_state.Goals as goal
 

@@ -1,5 +1,5 @@
 use Rattle.std.proofs.Common.{subst}
-use Rattle.apex_types.specs.Machine.{events_of}
+use Rattle.apex_types.specs.machine.Machine.{events_of}
 use Rattle.apex_dispatch.proofs.OwnedInOrder.{owned_in_order}
 use Rattle.apex_dispatch.proofs.Sound.{IsSound, sound_run}
 use Rattle.apex_dispatch.proofs.laws.mutexes_are_owned_in_order.Goals as goal

@@ -1,5 +1,5 @@
 use Rattle.std.proofs.Common.{subst}
-use Rattle.apex_types.specs.Machine.{events_of}
+use Rattle.apex_types.specs.machine.Machine.{events_of}
 use Rattle.apex_dispatch.proofs.InVain.{none_in_vain}
 use Rattle.apex_dispatch.proofs.Sound.{IsSound, sound_run}
 use Rattle.apex_dispatch.proofs.laws.nobody_waits_in_vain.Goals as goal

@@ -1,4 +1,4 @@
-use Rattle.apex_types.specs.Machine.{opening, run}
+use Rattle.apex_types.specs.machine.Machine.{opening, run}
 use Rattle.apex_dispatch.proofs.Runs.{run-append}
 use Rattle.apex_dispatch.proofs.Sound.{sound_run, forward_after}
 use Rattle.apex_dispatch.proofs.laws.time_goes_forward.Goals as goal

@@ -1,8 +1,8 @@
 use Rattle.std.proofs.Common.{◌≡◌, ◌+◌, ◌<◌, length, ap, arith}
-use Rattle.apex_types.specs.Machine.{events_of}
-use Rattle.apex_types.specs.Places.{map_places}
-use Rattle.apex_types.specs.SemaphoreServices.{semaphore_after}
-use Rattle.apex_types.specs.Table.{no_semaphore}
+use Rattle.apex_types.specs.machine.Machine.{events_of}
+use Rattle.apex_types.specs.values.Places.{map_places}
+use Rattle.apex_types.specs.services.SemaphoreServices.{semaphore_after}
+use Rattle.apex_types.specs.table.Table.{no_semaphore}
 use Rattle.apex_types.proofs.Places.{get_or-map_places, length-map_places}
 use Rattle.apex_dispatch.specs.Kernel.{KernelState}
 use Rattle.apex_dispatch.specs.Laws.{AreInRange}

@@ -1,11 +1,11 @@
 use Rattle.std.proofs.Common.{refl}
 use Rattle.std.specs.Fmt.{digits}
-use Rattle.apex_types.specs.Running.{runs_on}
-use Rattle.apex_types.specs.Waiters.{waits_in}
-use Rattle.apex_types.specs.PartitionServices.{enter_normal}
-use Rattle.apex_types.specs.Dues.{is_due_at, is_missed_at}
-use Rattle.apex_types.specs.Ticks.{pass_time}
-use Rattle.apex_types.specs.Machine.{turn, tick}
+use Rattle.apex_types.specs.processes.Running.{runs_on}
+use Rattle.apex_types.specs.processes.Waiters.{waits_in}
+use Rattle.apex_types.specs.services.PartitionServices.{enter_normal}
+use Rattle.apex_types.specs.processes.Dues.{is_due_at, is_missed_at}
+use Rattle.apex_types.specs.machine.Ticks.{pass_time}
+use Rattle.apex_types.specs.machine.Machine.{turn, tick}
 use Rattle.apex_dispatch.proofs.laws.worked_histories.Goals as goal
 
 pub returns-clause-signal_wakes_waiter : goal.returns-clause-signal_wakes_waiter

@@ -1,22 +1,22 @@
 use Rattle.std.proofs.Common.{◌≡◌, ◌≤◌, length, ◌+◌}
 use Rattle.apex_dispatch.specs.Premises.{due_count}
-use Rattle.apex_types.specs.Dues.{first_due}
-use Rattle.apex_types.specs.Limits.{most_notices}
-use Rattle.apex_types.specs.Periods.{AreInTime}
-use Rattle.apex_types.specs.InTurn.{behind}
-use Rattle.apex_types.specs.Stamps.{HasOrderlyStarts}
-use Rattle.apex_types.specs.Ticks.{serve_due, serve_dues}
+use Rattle.apex_types.specs.processes.Dues.{first_due}
+use Rattle.apex_types.specs.values.Limits.{most_notices}
+use Rattle.apex_types.specs.processes.Periods.{AreInTime}
+use Rattle.apex_types.specs.services.InTurn.{behind}
+use Rattle.apex_types.specs.processes.Stamps.{HasOrderlyStarts}
+use Rattle.apex_types.specs.machine.Ticks.{serve_due, serve_dues}
 use Rattle.apex_types.proofs.Reaches.{Reaches}
 use Rattle.apex_types.proofs.Loops.{LeadsTo}
 use Rattle.apex_dispatch.proofs.ticks.serve_dues.Given as goal
 
-abbrev pub invariant-loop-turn : goal.invariant-loop-turn
-invariant-loop-turn g l = record {
+abbrev pub invariant-loop-round : goal.invariant-loop-round
+invariant-loop-round g l = record {
   rest : LeadsTo first_due serve_due
-      (behind l.fn.notices (serve_dues (g.S.Store.roster l.fn.store))) l.turn l.turn-end (g.S.Store.roster l.store) l.notices;
-  reaches : Reaches l.turn (g.S.Store.roster l.fn.store) (g.S.Store.roster l.store);
+      (behind l.fn.notices (serve_dues (g.S.Store.roster l.fn.store))) l.round l.round-end (g.S.Store.roster l.store) l.notices;
+  reaches : Reaches l.round (g.S.Store.roster l.fn.store) (g.S.Store.roster l.store);
   starts : HasOrderlyStarts (g.S.Store.roster l.store);
-  end : l.turn-end ≡ length (g.S.Store.roster l.fn.store).records;
+  end : l.round-end ≡ length (g.S.Store.roster l.fn.store).records;
   times : AreInTime (g.S.Store.roster l.store);
   room : length l.notices + due_count (g.S.Store.roster l.store) ≤ most_notices;
 }

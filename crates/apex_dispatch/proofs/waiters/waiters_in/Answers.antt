@@ -1,42 +1,42 @@
 -- Each one that is found goes behind those before it.
 use Rattle.std.proofs.Common.{◌≡◌, ◌-◌, ◌∷◌, [], ◌++◌, length, suc, refl, sym, ap, ◌∙◌, arith, length-append, append_assoc, append-nil}
-use Rattle.apex_types.specs.Listing.{waiters, waiters_from}
-use Rattle.apex_types.specs.Waiters.{next_waiter}
+use Rattle.apex_types.specs.text.Listing.{waiters, waiters_from}
+use Rattle.apex_types.specs.processes.Waiters.{next_waiter}
 use Rattle.apex_dispatch.proofs.Queued.{first_stands, next_stands, none_behind}
 use Rattle.apex_dispatch.proofs.waiters.waiters_in.Goals as goal
 
-pub loop-turn-init : goal.loop-turn-init
+pub loop-round-init : goal.loop-round-init
 unfolding waiters
-loop-turn-init g c =
+loop-round-init g c =
     let roster = g.S.Store.roster c.args.store.now in
     record {
-      end = c.process_count-turn-end.ensures;
+      end = c.process_count-round-end.ensures.value;
       within = omega arith;
       many = ap length c.new-waiting.ensures;
       known = c.first-next.ensures.known;
       stands = first_stands roster c.args.queue.now _ c.first-next.ensures.value;
       rest = λ left e.
-          let all : left ≡ length roster.records = omega (arith, e, c.process_count-turn-end.ensures) in
+          let all : left ≡ length roster.records = omega (arith, e, c.process_count-round-end.ensures.value) in
           rw (c.new-waiting.ensures, all, c.first-next.ensures.value) refl;
     }
 
 pub returns-in-None : goal.returns-in-None
 returns-in-None g c =
     let roster = g.S.Store.roster c.args.store.now in
-    let waiting = c.loop-turn.waiting in
-    let left = c.process_count-turn-end.result - c.loop-turn.turn in
-    let all = c.loop-turn.invariant.rest left (omega (arith, c.loop-turn.invariant.within)) in
+    let waiting = c.loop-round.waiting in
+    let left = c.process_count-round-end.result - c.loop-round.round in
+    let all = c.loop-round.invariant.rest left (omega (arith, c.loop-round.invariant.within)) in
     sym (append-nil waiting) ∙ ap (λ l. waiting ++ l) (sym (none_behind roster c.args.queue.now left)) ∙ (rw c.in-None.is at all)
 
-pub loop-turn-preserved : goal.loop-turn-preserved
-loop-turn-preserved g c =
+pub loop-round-preserved : goal.loop-round-preserved
+loop-round-preserved g c =
     let roster = g.S.Store.roster c.args.store.now in
-    let waiting = c.loop-turn.waiting in
+    let waiting = c.loop-round.waiting in
     let process = c.in-Some.process in
-    let before = c.loop-turn.invariant in
+    let before = c.loop-round.invariant in
     record {
       end = before.end;
-      within = omega (arith, c.loop-turn-test.true);
+      within = omega (arith, c.loop-round-test.true);
       many = rw (c.push.ensures, length-append) (omega (arith, before.many));
       known = c.next_after-next.ensures.known;
       stands = next_stands roster c.args.queue.now process _ c.next_after-next.ensures.value;
@@ -49,6 +49,6 @@ loop-turn-preserved g c =
 
 pub returns : goal.returns
 returns g c =
-    let waiting = c.loop-turn.waiting in
-    let all = c.loop-turn.invariant.rest 0 (omega (arith, c.loop-turn.invariant.within, c.loop-turn-test.false)) in
+    let waiting = c.loop-round.waiting in
+    let all = c.loop-round.invariant.rest 0 (omega (arith, c.loop-round.invariant.within, c.loop-round-test.false)) in
     sym (append-nil waiting) ∙ all

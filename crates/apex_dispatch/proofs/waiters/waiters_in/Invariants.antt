@@ -1,19 +1,19 @@
 -- Behind those found so far come the next one and all behind it.
 use Rattle.std.proofs.Common.{◌≡◌, ℕ, ◌+◌, ◌<◌, ◌≤◌, ◌++◌, length}
 use Rattle.std.specs.Prelude.{IfSome}
-use Rattle.apex_types.specs.Listing.{waiters, waiters_from}
+use Rattle.apex_types.specs.text.Listing.{waiters, waiters_from}
 use Rattle.apex_dispatch.proofs.Queued.{StandsIn}
 use Rattle.apex_dispatch.proofs.waiters.waiters_in.Given as goal
 
-abbrev pub invariant-loop-turn : goal.invariant-loop-turn
-invariant-loop-turn g l =
+abbrev pub invariant-loop-round : goal.invariant-loop-round
+invariant-loop-round g l =
     let roster = g.S.Store.roster l.store in
     record {
-      end : l.turn-end ≡ length roster.records;
-      within : l.turn ≤ l.turn-end;
-      many : length l.waiting ≡ l.turn;
+      end : l.round-end ≡ length roster.records;
+      within : l.round ≤ l.round-end;
+      many : length l.waiting ≡ l.round;
       known : IfSome l.next (λ p. p < length roster.records);
       stands : StandsIn roster l.queue l.next;
-      rest : (left : ℕ) → left + l.turn ≡ l.turn-end
+      rest : (left : ℕ) → left + l.round ≡ l.round-end
           → l.waiting ++ waiters_from roster l.queue left l.next ≡ waiters roster l.queue;
     }

@@ -1,11 +1,11 @@
 use Rattle.std.proofs.Common.{◌≡◌, ℕ, ◌+◌, ◌∙◌, false, None, ap, arith, refl, sym, slice_index_or, subst}
-use Rattle.apex_types.specs.Machine.{events_of}
-use Rattle.apex_types.specs.Roster.{Roster, record_at}
-use Rattle.apex_types.specs.Running.{chosen, process_state}
-use Rattle.apex_types.specs.SemaphoreServices.{SemaphoreObject, semaphore_kind}
-use Rattle.apex_types.specs.Satisfied.{semaphore_value}
-use Rattle.apex_types.specs.Table.{no_semaphore, semaphore_config}
-use Rattle.apex_types.specs.Waiters.{queue_in}
+use Rattle.apex_types.specs.machine.Machine.{events_of}
+use Rattle.apex_types.specs.processes.Roster.{Roster, record_at}
+use Rattle.apex_types.specs.processes.Running.{chosen, process_state}
+use Rattle.apex_types.specs.services.SemaphoreServices.{SemaphoreObject, semaphore_kind}
+use Rattle.apex_types.specs.services.Satisfied.{semaphore_value}
+use Rattle.apex_types.specs.table.Table.{no_semaphore, semaphore_config}
+use Rattle.apex_types.specs.processes.Waiters.{queue_in}
 use Rattle.apex_types.proofs.Places.{get_or-map_places}
 use Rattle.apex_dispatch.specs.Kernel.{KernelState}
 use Rattle.apex_dispatch.proofs.Sound.{IsSound, sound_run}

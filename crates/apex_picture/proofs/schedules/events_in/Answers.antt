@@ -1,7 +1,7 @@
 -- The event of the next entry follows those before it.
 use Rattle.std.proofs.Common.{List, [], ◌∷◌, ◌++◌, ◌∙◌, ap, sym, append_assoc, map}
 use Rattle.std.proofs.lemmas.List.{map-append}
-use Rattle.apex_types.specs.Machine.{event_of}
+use Rattle.apex_types.specs.machine.Machine.{event_of}
 use Rattle.apex_types.specs.declared.Event.{Event}
 use Rattle.apex_picture.proofs.schedules.events_in.Goals as goal
 

@@ -1,6 +1,6 @@
 -- The events of the entries so far.
 use Rattle.std.proofs.Common.{◌≡◌, ◌++◌, map}
-use Rattle.apex_types.specs.Machine.{event_of}
+use Rattle.apex_types.specs.machine.Machine.{event_of}
 use Rattle.apex_picture.proofs.schedules.events_in.Given as goal
 
 abbrev pub invariant-loop-entry : goal.invariant-loop-entry

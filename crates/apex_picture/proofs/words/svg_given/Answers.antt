@@ -1,7 +1,7 @@
 use Rattle.std.proofs.Common.{◌∙◌, codes}
 use Rattle.clap.proofs.WalkLemmas.{first_value-rows}
 use Rattle.clap.specs.Words.{found_of}
-use Rattle.apex_picture.specs.declared.words.Kind.TheVariants.{Svg}
+use Rattle.apex_picture.specs.declared.words.Format.TheVariants.{Svg}
 use Rattle.apex_picture.proofs.CommandLemmas.{same_request}
 use Rattle.apex_picture.proofs.words.svg_given.Goals as goal
 

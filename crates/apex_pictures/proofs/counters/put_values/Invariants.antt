@@ -1,6 +1,6 @@
 -- The values so far follow the text.
 use Rattle.std.proofs.Common.{◌≡◌, ◌++◌, length}
-use Rattle.apex_types.specs.Listing.{texts_of}
+use Rattle.apex_types.specs.text.Listing.{texts_of}
 use Rattle.apex_pictures.specs.Counters.{value_at}
 use Rattle.apex_pictures.proofs.counters.put_values.Given as goal
 

@@ -1,20 +1,42 @@
 -- The writer has a prefix of the picture at any time.
 use Rattle.std.proofs.Common.{◌≡◌, ◌∙◌, ◌+◌, ap, arith, drop, refl, subst, sym}
 use Rattle.std.proofs.lemmas.Result.{on_err_weaker, on_ok_weaker}
-use Rattle.apex_types.specs.Machine.{Machine, accept, opening, run}
+use Rattle.apex_types.specs.machine.Machine.{Machine, accept, opening, run}
 use Rattle.apex_dispatch.specs.Kernel.{KernelState, kernel_in}
 use Rattle.apex_history.proofs.Outcomes.{OnErr-always}
 use Rattle.apex_history.proofs.Passing.{beginning_after, passes_all}
 use Rattle.apex_pictures.specs.Drawing.{Grows, IsPictured}
 use Rattle.apex_pictures.specs.Moments.{moment_in}
 use Rattle.apex_pictures.specs.Pictures.{foot_text, picture_text}
-use Rattle.apex_pictures.proofs.Drawn.{beginning_of_picture, drawn_more, passes_foot, passes_on, run_ended, run_next, unwritten}
-use Rattle.apex_pictures.proofs.Pictured.{pictured_accept}
+use Rattle.apex_pictures.specs.Tracks.{bare}
+use Rattle.apex_pictures.proofs.Drawn.{beginning_of_picture, begun, drawn_more, passes_foot, passes_on, run_ended, run_next, unwritten}
+use Rattle.apex_pictures.proofs.Pictured.{pictured_accept, pictured_opening}
+use Rattle.apex_pictures.proofs.TracksShown.{follows}
 use Rattle.apex_pictures.proofs.drawing.draw.Goals as goal
 
 pub put_head-requires : goal.put_head-requires
 put_head-requires g c =
-    rw c.table.ensures (c.moment_in-shown.ensures ∙ ap (moment_in c.args.kernel.now.table) c.requires.opened)
+    rw c.table.ensures (c.tracks_in-shown.ensures ∙ ap (λ (m : Machine). bare (moment_in c.args.kernel.now.table m)) c.requires.opened)
+
+pub loop-event-init : goal.loop-event-init
+loop-event-init g c =
+    let table = c.args.kernel.now.table in
+    record {
+      table = refl;
+      values = c.holds.ensures.values;
+      rest = ap (λ (m : Machine). run table m c.args.events.now) c.requires.opened;
+      pictured = rw c.requires.opened (pictured_opening table);
+      shown = follows c.args.style.now _ _ c.tracks_in-shown.ensures;
+      text = begun _ c.args.style.now table c.args.kernel.now.machine _ c.requires.opened
+          (rw (c.table.ensures, c.new-text.ensures.items) at c.in-Ok.ensures);
+      failures = refl;
+    }
+
+pub draw_event-requires-clause-shown : goal.draw_event-requires-clause-shown
+draw_event-requires-clause-shown g c = rw c.loop-event.invariant.table c.loop-event.invariant.shown
+
+pub put_foot-requires : goal.put_foot-requires
+put_foot-requires g c = rw c.loop-event.invariant.table c.loop-event.invariant.shown
 
 pub returns-in_default-draw_event-clause-err : goal.returns-in_default-draw_event-clause-err
 returns-in_default-draw_event-clause-err g c =

@@ -1,7 +1,7 @@
 -- The running values of a kernel are those that its history gives.
 use Rattle.std.proofs.Common.{◌≡◌, ◌∙◌, ap}
-use Rattle.apex_types.specs.Machine.{Objects}
-use Rattle.apex_types.specs.Roster.{Roster}
+use Rattle.apex_types.specs.machine.Machine.{Objects}
+use Rattle.apex_types.specs.processes.Roster.{Roster}
 use Rattle.apex_dispatch.specs.Kernel.{KernelState}
 use Rattle.apex_pictures.specs.Counts.{counts_after, counts_of}
 use Rattle.apex_pictures.specs.Moments.{moment_of}

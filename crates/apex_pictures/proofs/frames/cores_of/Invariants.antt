@@ -1,6 +1,6 @@
 -- A core for each process so far.
 use Rattle.std.proofs.Common.{◌≡◌, ◌≤◌}
-use Rattle.apex_types.specs.Limits.{most_processes}
+use Rattle.apex_types.specs.values.Limits.{most_processes}
 use Rattle.arrayvec.specs.ArrayVec.{array_vec_len}
 use Rattle.apex_pictures.proofs.frames.cores_of.Given as goal
 

@@ -1,7 +1,7 @@
 -- The process that its core runs is the chosen one.
 use Rattle.std.proofs.Common.{◌≡◌, ◌∙◌, ℕ, List, Option, None, ap, refl}
 use Rattle.std.specs.Prelude.{slice_index_or}
-use Rattle.apex_types.specs.Running.{chosen}
+use Rattle.apex_types.specs.processes.Running.{chosen}
 use Rattle.apex_pictures.proofs.Places.{place_of}
 use Rattle.apex_pictures.proofs.moments.cell_of.Goals as goal
 

@@ -5,7 +5,8 @@ use Rattle.apex_pictures.proofs.trace.put_cores.Goals as goal
 
 pub loop-place-preserved : goal.loop-place-preserved
 loop-place-preserved c = record {
+  stamp = c.loop-place.invariant.stamp;
   many = c.loop-place.invariant.many;
-  text = text_next (trace.core_at c.args.table.now c.args.time c.args.now c.args.before.now c.args.after.now) c.loop-place.place _ _ _ c.loop-place.invariant.text
-      (rw (c.running.ensures, c.running-in-loop-place.ensures, c.core_spot.ensures, c.new-core.ensures) at c.in_ok-put_core.ensures);
+  text = text_next (trace.core_at c.args.table.now c.args.time c.args.stamp.now.ticks c.args.before.now c.args.after.now) c.loop-place.place _ _ _ c.loop-place.invariant.text
+      (rw (c.running.ensures, c.running-in-loop-place.ensures, c.new-core.ensures) at c.in_ok-put_core.ensures);
 }

@@ -1,7 +1,14 @@
 -- The parts are those of the text.
-use Rattle.apex_pictures.specs.Trace.{end_text}
+use Rattle.std.proofs.Common.{◌∙◌}
+use Rattle.std.proofs.lemmas.Result.{on_ok_weaker}
+use Rattle.apex_pictures.proofs.SlicesWhole.{end_whole}
 use Rattle.apex_pictures.proofs.trace.put_end.Goals as goal
 
 pub returns : goal.returns
-unfolding end_text
-returns c = rw (c.from.ensures, c.from-2.ensures) at c.put_all.ensures
+returns c =
+    let back = c.end.ensures ∙ c.requires.1.0 in
+    on_ok_weaker c.put-2.result
+    (λ put. end_whole c.args.spot c.args.text.now.items c.put.new.text.items c.put_number.new.text.items
+    c.put-2.new.text.items (rw c.end_front.ensures at c.in_ok-put.ensures)
+    (rw c.from.ensures at c.in_ok-put_number.ensures) (rw back at put))
+    c.put-2.ensures

@@ -1,11 +1,13 @@
 -- The changes so far follow the text.
 use Rattle.std.proofs.Common.{◌≡◌, ◌++◌, length}
-use Rattle.apex_types.specs.Listing.{texts_of}
+use Rattle.apex_types.specs.text.Listing.{texts_of}
+use Rattle.apex_pictures.specs.Stamps.{IsStamp}
 use Rattle.apex_pictures.specs.Trace as trace
 use Rattle.apex_pictures.proofs.trace.put_processes.Given as goal
 
 abbrev pub invariant-loop-place : goal.invariant-loop-place
 invariant-loop-place l = record {
+  stamp : IsStamp l.stamp l.time;
   many : l.place-end ≡ length l.table.processes;
-  text : l.text.items ≡ l.fn.text.items ++ texts_of (trace.process_at l.time l.now l.before l.after) l.place;
+  text : l.text.items ≡ l.fn.text.items ++ texts_of (trace.process_at l.time l.stamp.ticks l.before l.after) l.place;
 }

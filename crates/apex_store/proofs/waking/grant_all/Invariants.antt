@@ -1,17 +1,18 @@
 use Rattle.std.proofs.Common.{◌≡◌, ◌≤◌, ◌≤ℤ◌, ◌+ℤ◌, pos, length, ◌+◌}
-use Rattle.apex_types.specs.InTurn.{behind}
-use Rattle.apex_types.specs.Limits.{most_processes}
-use Rattle.apex_types.specs.Waking.{first_in, granted, grant_all}
+use Rattle.apex_types.specs.services.InTurn.{behind}
+use Rattle.apex_types.specs.values.Limits.{most_processes}
+use Rattle.apex_types.specs.services.Waking.{first_in, granted, grant_all}
 use Rattle.apex_types.proofs.Loops.{LeadsTo}
 use Rattle.apex_store.proofs.waking.grant_all.Given as goal
 
-abbrev pub invariant-loop-turn : goal.invariant-loop-turn
-invariant-loop-turn g l = record {
+abbrev pub invariant-loop-round : goal.invariant-loop-round
+invariant-loop-round g l = record {
   rest : LeadsTo (first_in l.fn.queue) (granted l.fn.message)
-      (behind l.fn.notices (grant_all l.fn.queue l.fn.message (g.S.Store.roster l.fn.store))) l.turn l.turn-end (g.S.Store.roster l.store) l.notices;
+      (behind l.fn.notices (grant_all l.fn.queue l.fn.message (g.S.Store.roster l.fn.store))) l.round l.round-end (g.S.Store.roster l.store) l.notices;
   many : length (g.S.Store.roster l.store).records ≡ length (g.S.Store.roster l.fn.store).records;
-  young : (g.S.Store.roster l.store).young ≤ℤ ((g.S.Store.roster l.fn.store).young +ℤ pos l.turn);
+  young : (g.S.Store.roster l.store).young ≤ℤ ((g.S.Store.roster l.fn.store).young +ℤ pos l.round);
   old : (g.S.Store.roster l.store).old ≡ (g.S.Store.roster l.fn.store).old;
-  end : l.turn-end ≡ length (g.S.Store.roster l.fn.store).records;
-  room : length l.notices ≤ most_processes + l.turn;
+  end : l.round-end ≡ length (g.S.Store.roster l.fn.store).records;
+  few : l.round-end ≤ most_processes;
+  room : length l.notices ≤ most_processes + l.round;
 }

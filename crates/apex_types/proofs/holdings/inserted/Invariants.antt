@@ -1,5 +1,5 @@
 use Rattle.std.proofs.Common.{◌≡◌, ◌+◌, ◌++◌, true, false, drop, length}
-use Rattle.apex_types.specs.Held.{inserted}
+use Rattle.apex_types.specs.processes.Held.{inserted}
 use Rattle.apex_types.proofs.holdings.inserted.Given as goal
 
 -- the copied holdings, and those that are left, make the whole; one more was copied if the holding

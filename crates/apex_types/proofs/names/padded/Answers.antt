@@ -1,6 +1,6 @@
 use Rattle.std.proofs.Common.{ℕ, List, ◌++◌, length, ap}
 use Rattle.std.proofs.lemmas.List.{drop-replicate}
-use Rattle.apex_types.specs.Limits.{most_name}
+use Rattle.apex_types.specs.values.Limits.{most_name}
 use Rattle.apex_types.proofs.names.padded.Goals as goal
 
 -- behind the copied bytes the zeros are left

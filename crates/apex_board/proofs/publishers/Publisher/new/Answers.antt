@@ -10,5 +10,5 @@ pub split_pass-nobody-requires : goal.split_pass-nobody-requires
 split_pass-nobody-requires g c =
     let table = g.P.Naming.table in
     let rule = subst (λ (v : View). Forks IsKept c.args.mark.id v (Publishes table [] []) Spent) (sym c.requires.blank)
-    (opens table c.args.mark.id c.requires.few) in
+    (opens table c.args.mark.id c.requires.few_cores) in
     (search rules, (search rules, (search rules, rule)))

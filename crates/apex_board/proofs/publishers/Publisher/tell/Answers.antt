@@ -8,7 +8,17 @@ use Rattle.apex_board.specs.declared.law.View.{View}
 use Rattle.apex_board.specs.declared.law.View.TheVariants.{Publishes, Spent}
 use Rattle.apex_board.proofs.Keeps.{finds, hears, leaves, tells}
 use Rattle.apex_board.proofs.Words.{front_cores}
+use Rattle.apex_board.proofs.publishers.Publisher.tell.Given.{Over}
+use Rattle.apex_board.proofs.publishers.Publisher.tell.Goals.{After-load_as-words}
 use Rattle.apex_board.proofs.publishers.Publisher.tell.Goals as goal
+
+-- the publisher reads the words of the front after its own history, told what the reader had seen
+found : (g : Over) (c : After-load_as-words g)
+    → HasFound g.P.Naming.table (known_in (cell_view c.self.inside.mark)) c.args.reader c.load_as-words.result (cell_view c.load_as-words.new.pass)
+found g c =
+    let read = c.split_pass-seen.ensures.given.1 ∙ c.into_parts-cell.ensures.view in
+    let joined = c.join_pass.ensures.1 ∙ (λ i. told_of (c.self.invariant.2 i) (read i)) in
+    subst (λ (v : View). Finds v c.load_as-words.result (cell_view c.load_as-words.new.pass)) joined c.load_as-words.ensures.rule
 
 pub split_pass-seen-requires : goal.split_pass-seen-requires
 split_pass-seen-requires g c =
@@ -32,57 +42,31 @@ join_pass-requires g c =
 
 pub load_as-words-requires : goal.load_as-words-requires
 load_as-words-requires g c =
-    let mark = c.self.inside.mark in
-    let table = g.P.Naming.table in
-    let history = known_in (cell_view mark) in
+    let pass = c.join_pass.new.pass in
     let read = c.split_pass-seen.ensures.given.1 ∙ c.into_parts-cell.ensures.view in
-    let joined : cell_view c.join_pass.new.pass ≡ Publishes table history c.args.reader =
-    c.join_pass.ensures.1 ∙ (λ i. told_of (c.self.invariant.2 i) (read i)) in
-    let rule = subst (λ (v : View). Turns IsKept c.join_pass.new.pass.id v (λ words. words) (λ before words same after. Finds before words after)) (sym joined)
-    (finds table history c.args.reader c.join_pass.new.pass.id) in
+    let joined = c.join_pass.ensures.1 ∙ (λ i. told_of (c.self.invariant.2 i) (read i)) in
+    let rule = subst (λ (v : View). Turns IsKept pass.id v (λ words. words) (λ before words same after. Finds before words after)) (sym joined)
+    (finds g.P.Naming.table (known_in (cell_view c.self.inside.mark)) c.args.reader pass.id) in
     (search rules, (search rules, (search rules, rule)))
 
 pub split_pass-mark-requires : goal.split_pass-mark-requires
 split_pass-mark-requires g c =
-    let mark = c.self.inside.mark in
-    let table = g.P.Naming.table in
-    let history = known_in (cell_view mark) in
-    let read = c.split_pass-seen.ensures.given.1 ∙ c.into_parts-cell.ensures.view in
-    let joined : cell_view c.join_pass.new.pass ≡ Publishes table history c.args.reader =
-    c.join_pass.ensures.1 ∙ (λ i. told_of (c.self.invariant.2 i) (read i)) in
-    let found : HasFound table history c.args.reader c.load_as-words.result (cell_view c.load_as-words.new.pass) =
-    subst (λ (v : View). Finds v c.load_as-words.result (cell_view c.load_as-words.new.pass)) joined c.load_as-words.ensures.rule in
-    let rule = subst (λ (v : View). Forks IsKept c.load_as-words.new.pass.id v v (reader_of v)) (sym found.view)
-    (tells table history c.args.reader c.load_as-words.new.pass.id) in
+    let pass = c.load_as-words.new.pass in
+    let rule = subst (λ (v : View). Forks IsKept pass.id v v (reader_of v)) (sym (found g (goal.at.split_pass-mark-requires g c).After-load_as-words).view)
+    (tells g.P.Naming.table (known_in (cell_view c.self.inside.mark)) c.args.reader pass.id) in
     (search rules, (search rules, (search rules, rule)))
 
 pub from_words-requires : goal.from_words-requires
 from_words-requires g c =
-    let mark = c.self.inside.mark in
-    let table = g.P.Naming.table in
-    let history = known_in (cell_view mark) in
-    let read = c.split_pass-seen.ensures.given.1 ∙ c.into_parts-cell.ensures.view in
-    let joined : cell_view c.join_pass.new.pass ≡ Publishes table history c.args.reader =
-    c.join_pass.ensures.1 ∙ (λ i. told_of (c.self.invariant.2 i) (read i)) in
-    let found : HasFound table history c.args.reader c.load_as-words.result (cell_view c.load_as-words.new.pass) =
-    subst (λ (v : View). Finds v c.load_as-words.result (cell_view c.load_as-words.new.pass)) joined c.load_as-words.ensures.rule in
-    let shows = found.shows in
-    let many = front_cores table history shows.front shows.after ∙ sym c.cores-cores.ensures in
-    (shows.front, shows.written, shows.fits, many)
+    let shows = (found g (goal.at.from_words-requires g c).After-load_as-words).shows in
+    (shows.front, shows.written, shows.fits, front_cores _ _ shows.front shows.after ∙ sym c.cores-cores.ensures)
 
 pub returns-clause-front : goal.returns-clause-front
 returns-clause-front g c =
-    let mark = c.self.inside.mark in
     let table = g.P.Naming.table in
-    let history = known_in (cell_view mark) in
-    let read = c.split_pass-seen.ensures.given.1 ∙ c.into_parts-cell.ensures.view in
-    let joined : cell_view c.join_pass.new.pass ≡ Publishes table history c.args.reader =
-    c.join_pass.ensures.1 ∙ (λ i. told_of (c.self.invariant.2 i) (read i)) in
-    let found : HasFound table history c.args.reader c.load_as-words.result (cell_view c.load_as-words.new.pass) =
-    subst (λ (v : View). Finds v c.load_as-words.result (cell_view c.load_as-words.new.pass)) joined c.load_as-words.ensures.rule in
-    let shows = found.shows in
-    let many = front_cores table history shows.front shows.after ∙ sym c.cores-cores.ensures in
-    let is : c.from_words.result ≡ shows.front = c.from_words.ensures shows.front shows.written shows.fits many in
-    let same : history ≡ c.args.self.now = search rules in
+    let shows = (found g (goal.at.returns-clause-front g c).After-load_as-words).shows in
+    let is : c.from_words.result ≡ shows.front =
+    c.from_words.ensures shows.front shows.written shows.fits (front_cores _ _ shows.front shows.after ∙ sym c.cores-cores.ensures) in
+    let same : known_in (cell_view c.self.inside.mark) ≡ c.args.self.now = search rules in
     subst (λ (f : FrontValue). IsFrontAfter table c.args.self.now f) (sym is)
     (subst (λ (l : List Entry). IsFrontAfter table l shows.front) same shows.after)

@@ -7,7 +7,14 @@ use Rattle.apex_board.specs.Fronts.{Front as FrontValue, IsFrontAfter}
 use Rattle.apex_board.specs.declared.law.View.{View}
 use Rattle.apex_board.proofs.Keeps.{reads}
 use Rattle.apex_board.proofs.Words.{front_cores}
+use Rattle.apex_board.proofs.readers.Reader.read.Given.{Over}
+use Rattle.apex_board.proofs.readers.Reader.read.Goals.{After-load_as-words}
 use Rattle.apex_board.proofs.readers.Reader.read.Goals as goal
+
+-- the reader has seen the history after whose front the words are
+seen : (g : Over) (c : After-load_as-words g)
+    → HasSeen g.P.Naming.table (known_in (cell_view c.self.inside.mark)) c.load_as-words.result (cell_view c.load_as-words.new.pass)
+seen g c = subst (λ (v : View). Sees v c.load_as-words.result (cell_view c.load_as-words.new.pass)) c.self.invariant.2 c.load_as-words.ensures.rule
 
 pub load_as-words-requires : goal.load_as-words-requires
 load_as-words-requires g c =
@@ -18,19 +25,14 @@ load_as-words-requires g c =
 
 pub from_words-requires : goal.from_words-requires
 from_words-requires g c =
-    let mark = c.self.inside.mark in
-    let seen : HasSeen g.P.Naming.table (known_in (cell_view mark)) c.load_as-words.result (cell_view c.load_as-words.new.pass) =
-    subst (λ (v : View). Sees v c.load_as-words.result (cell_view c.load_as-words.new.pass)) c.self.invariant.2 c.load_as-words.ensures.rule in
-    let shows = seen.shows in
-    (shows.front, shows.written, shows.fits, front_cores g.P.Naming.table seen.history shows.front shows.after ∙ sym c.self.invariant.3)
+    let shows = (seen g (goal.at.from_words-requires g c).After-load_as-words).shows in
+    (shows.front, shows.written, shows.fits, front_cores _ _ shows.front shows.after ∙ sym c.self.invariant.3)
 
 pub returns-clause-front : goal.returns-clause-front
 returns-clause-front g c =
-    let mark = c.self.inside.mark in
-    let seen : HasSeen g.P.Naming.table (known_in (cell_view mark)) c.load_as-words.result (cell_view c.load_as-words.new.pass) =
-    subst (λ (v : View). Sees v c.load_as-words.result (cell_view c.load_as-words.new.pass)) c.self.invariant.2 c.load_as-words.ensures.rule in
-    let shows = seen.shows in
-    let is : c.from_words.result ≡ shows.front = c.from_words.ensures shows.front shows.written shows.fits
-    (front_cores g.P.Naming.table seen.history shows.front shows.after ∙ sym c.self.invariant.3) in
+    let saw = seen g (goal.at.returns-clause-front g c).After-load_as-words in
+    let shows = saw.shows in
+    let is : c.from_words.result ≡ shows.front =
+    c.from_words.ensures shows.front shows.written shows.fits (front_cores _ _ shows.front shows.after ∙ sym c.self.invariant.3) in
     subst (λ (f : FrontValue). IsFrontAfter g.P.Naming.table (known_in (cell_view c.load_as-words.new.pass)) f) (sym is)
-    (subst (λ (l : List Entry). IsFrontAfter g.P.Naming.table l shows.front) (sym (ap known_in seen.view)) shows.after)
+    (subst (λ (l : List Entry). IsFrontAfter g.P.Naming.table l shows.front) (sym (ap known_in saw.view)) shows.after)

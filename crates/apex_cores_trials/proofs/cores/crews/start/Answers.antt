@@ -44,8 +44,8 @@ module _ (P : RattleType) (g : Ghosts P.Denot) where
   report_send s y = recorded_send _ _ _ (Report.the_type P g).to_one
       (enum_send (enum.shape (Report.the_type P g)) ((core_send s y, tt), ((ticks_send s, tt), ((read_send s, tt), ((search sendable depth 20, tt), tt)))))
 
-pub spawn-requires-send-F : goal.spawn-requires-send-F
-spawn-requires-send-F g c κs within = search (sendable, crosses, task_send, common_sync) depth 20
+pub spawn-started-requires-send-F : goal.spawn-started-requires-send-F
+spawn-started-requires-send-F g c κs within = search (sendable, crosses, task_send, common_sync) depth 20
 
-pub spawn-requires-send-T : goal.spawn-requires-send-T
-spawn-requires-send-T g c κs within = search (sendable, report_send) depth 20
+pub spawn-started-requires-send-T : goal.spawn-started-requires-send-T
+spawn-started-requires-send-T g c κs within = search (sendable, report_send) depth 20

@@ -1,7 +1,7 @@
 use Rattle.std.proofs.Common.{◌≡◌, ◌<◌, ◌≤◌, length, drop, refl, sym, ap, ◌∙◌, arith}
-use Rattle.apex_types.specs.Machine.{Machine, happen, run, opening, events_of}
+use Rattle.apex_types.specs.machine.Machine.{Machine, happen, run, opening, events_of}
 use Rattle.apex_dispatch.specs.Kernel.{KernelState, kernel_in}
-use Rattle.apex_dispatch.proofs.Runs.{run-append, run-full, run-step, length-happen}
+use Rattle.apex_dispatch.proofs.Runs.{accept-room, run-append, run-full, run-step, length-happen}
 use Rattle.apex_dispatch.proofs.kernels.Kernel.run.Goals as goal
 
 pub loop-event-init : goal.loop-event-init
@@ -34,12 +34,13 @@ loop-event-preserved g c =
     let table = c.args.self.now.table in
     let machine = c.loop-event.self.machine in
     let invariant = c.loop-event.invariant in
-    let done : c.accept.new.self ≡ kernel_in table (happen table machine c.event-item.result) =
-    rw (← invariant.table) c.in_ok-accept.ensures.done in
-    let new : c.accept.new.self.machine ≡ happen table machine c.event-item.result =
-    ap (λ (k : KernelState). k.machine) done in
     let room : length machine.history < table.limit =
     rw (← invariant.table) (c.in_ok-accept.ensures.accepted.0 refl) in
+    let done : c.accept.new.self ≡ kernel_in table (happen table machine c.event-item.result) =
+    rw (← invariant.table) c.in_ok-accept.ensures.done
+    ∙ ap (λ (m : Machine). kernel_in table m) (accept-room table machine c.event-item.result room) in
+    let new : c.accept.new.self.machine ≡ happen table machine c.event-item.result =
+    ap (λ (k : KernelState). k.machine) done in
     let longer = length-happen table machine c.event-item.result in
     record {
       table = ap (λ (k : KernelState). k.table) done;

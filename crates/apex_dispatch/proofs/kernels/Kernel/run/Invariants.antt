@@ -1,5 +1,5 @@
 use Rattle.std.proofs.Common.{◌≡◌, ◌≤◌, ◌+◌, length, drop, ◌++◌}
-use Rattle.apex_types.specs.Machine.{run, opening, events_of}
+use Rattle.apex_types.specs.machine.Machine.{run, opening, events_of}
 use Rattle.apex_dispatch.specs.Kernel.{kernel_in}
 use Rattle.apex_dispatch.proofs.kernels.Kernel.run.Given as goal
 

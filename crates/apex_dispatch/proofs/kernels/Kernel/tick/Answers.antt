@@ -1,33 +1,26 @@
 use Rattle.std.proofs.Common.{◌<◌, length, refl, arith}
 use Rattle.apex_types.proofs.BothProfiles.{lawful_count}
 use Rattle.apex_types.specs.declared.Event.TheVariants.{Tick}
-use Rattle.apex_types.specs.Machine.{machine_with}
+use Rattle.apex_types.specs.machine.Machine.{machine_with}
 use Rattle.apex_dispatch.specs.Kernel.{kernel_with}
 use Rattle.apex_dispatch.proofs.Replays.{IsAfter, kept_sound, kept_stamps, kept_time, after_does}
 use Rattle.apex_dispatch.proofs.kernels.Kernel.tick.Given.{Over}
 use Rattle.apex_dispatch.proofs.kernels.Kernel.tick.Goals.{After-append}
 use Rattle.apex_dispatch.proofs.kernels.Kernel.tick.Goals as goal
 
-pub pass_time-went-requires-clause-few : goal.pass_time-went-requires-clause-few
-pass_time-went-requires-clause-few g c =
-    let few = lawful_count _ c.self.invariant.lawful in
-    omega (arith, (kept_sound c.self.invariant).orderly.many, few)
-
-pub pass_time-went-requires-clause-starts : goal.pass_time-went-requires-clause-starts
-pass_time-went-requires-clause-starts g c = (kept_sound c.self.invariant).orderly.starts
-
-pub pass_time-went-requires-clause-stamps : goal.pass_time-went-requires-clause-stamps
-pass_time-went-requires-clause-stamps g c = kept_stamps c.self.invariant
-
-pub pass_time-went-requires-clause-near : goal.pass_time-went-requires-clause-near
-pass_time-went-requires-clause-near g c =
+pub pass_time-went-requires : goal.pass_time-went-requires
+pass_time-went-requires g c =
     let kept = c.self.invariant in
-    let within = kept.lawful.limit in
+    let sound = kept_sound kept in
     let room = c.in_ok-refuse_full.ensures.accepted.0 refl in
-    omega (arith, kept_time kept, within, kept.limit, c.requires.range, room)
-
-pub pass_time-went-requires-clause-instants : goal.pass_time-went-requires-clause-instants
-pass_time-went-requires-clause-instants g c = (kept_sound c.self.invariant).times
+    record {
+      few_processes = omega (arith, sound.orderly.many, lawful_count _ kept.lawful);
+      starts = sound.orderly.starts;
+      instants = sound.times;
+      stamps = kept_stamps kept;
+      near = omega (arith, kept_time kept, kept.lawful.limit, kept.limit, c.requires.range, room);
+      room = c.clear.ensures;
+    }
 
 -- the kernel afterwards is the one after the tick
 ticked : (g : Over) (c : After-append g) →

@@ -1,7 +1,7 @@
 use Rattle.std.proofs.Common.{◌&&◌, ◌==◌, ◌∙◌, ◌+◌, ◌<◌, length, refl, sym, arith}
 use Rattle.apex_types.specs.declared.Event.TheVariants.{Turn}
-use Rattle.apex_types.specs.Machine.{machine_with}
-use Rattle.apex_types.specs.Roster.{is_cold_start}
+use Rattle.apex_types.specs.machine.Machine.{machine_with}
+use Rattle.apex_types.specs.processes.Roster.{is_cold_start}
 use Rattle.apex_dispatch.specs.Kernel.{kernel_with}
 use Rattle.apex_dispatch.proofs.Known.{known_due, objects_are}
 use Rattle.apex_dispatch.proofs.Replays.{IsAfter, kept_sound, kept_stamps, kept_time, after_does}
@@ -9,37 +9,25 @@ use Rattle.apex_dispatch.proofs.kernels.Kernel.turn.Given.{Over}
 use Rattle.apex_dispatch.proofs.kernels.Kernel.turn.Goals.{After-append}
 use Rattle.apex_dispatch.proofs.kernels.Kernel.turn.Goals as goal
 
-pub carry_out-deed-requires-clause-due : goal.carry_out-deed-requires-clause-due
-carry_out-deed-requires-clause-due g c call e =
-    let due = is_cold_start (g.S.Store.roster c.self.inside.store).mode && c.args.core == 0 in
-    known_due c.self.inside.table c.self.inside.init_made c.self.invariant.lawful due call
-    (sym c.due_call-due.ensures ∙ e)
-
-pub carry_out-deed-requires-clause-begun : goal.carry_out-deed-requires-clause-begun
-carry_out-deed-requires-clause-begun g c o e =
-    ((kept_sound c.self.invariant).workers c.args.core o (sym (c.self.invariant.begun c.args.core) ∙ sym c.at.ensures ∙ e)).known
-
-pub carry_out-deed-requires-clause-records : goal.carry_out-deed-requires-clause-records
-carry_out-deed-requires-clause-records g c = (kept_sound c.self.invariant).orderly.many
-
-pub carry_out-deed-requires-clause-objects : goal.carry_out-deed-requires-clause-objects
-carry_out-deed-requires-clause-objects g c = rw c.self.invariant.objects (objects_are c.self.inside.table c.self.inside.log.entries)
-
-pub carry_out-deed-requires-clause-starts : goal.carry_out-deed-requires-clause-starts
-carry_out-deed-requires-clause-starts g c = (kept_sound c.self.invariant).orderly.starts
-
-pub carry_out-deed-requires-clause-stamps : goal.carry_out-deed-requires-clause-stamps
-carry_out-deed-requires-clause-stamps g c = kept_stamps c.self.invariant
-
-pub carry_out-deed-requires-clause-time : goal.carry_out-deed-requires-clause-time
-carry_out-deed-requires-clause-time g c =
+pub carry_out-deed-requires : goal.carry_out-deed-requires
+carry_out-deed-requires g c =
     let kept = c.self.invariant in
-    let within = kept.lawful.limit in
+    let sound = kept_sound kept in
+    let cold = is_cold_start (g.S.Store.roster c.self.inside.store).mode && c.args.core == 0 in
     let room = c.in_ok-refuse_full.ensures.accepted.0 refl in
-    omega (arith, kept_time kept, within, kept.limit, room)
-
-pub carry_out-deed-requires-clause-releases : goal.carry_out-deed-requires-clause-releases
-carry_out-deed-requires-clause-releases g c p = ((kept_sound c.self.invariant).times p).release
+    record {
+      begun = λ o e. (sound.workers c.args.core o (sym (kept.begun c.args.core) ∙ sym c.at.ensures ∙ e)).known;
+      due = λ call e. known_due c.self.inside.table c.self.inside.init_made kept.lawful cold call (sym c.due_call-due.ensures ∙ e);
+      records = sound.orderly.many;
+      objects = rw kept.objects (objects_are c.self.inside.table c.self.inside.log.entries);
+      starts = sound.orderly.starts;
+      can = record {
+        stamps = kept_stamps kept;
+        time = omega (arith, kept_time kept, kept.lawful.limit, kept.limit, room);
+        room = rw c.clear.ensures (omega arith);
+      };
+      releases = λ p. (sound.times p).release;
+    }
 
 -- the kernel afterwards is the one after the turn
 turned : (g : Over) (c : After-append g) →

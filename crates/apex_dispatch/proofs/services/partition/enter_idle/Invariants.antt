@@ -1,8 +1,8 @@
 use Rattle.std.proofs.Common.{◌≡◌, ◌≤◌, ◌<◌, length, ℕ}
-use Rattle.apex_types.specs.Limits.{most_processes}
+use Rattle.apex_types.specs.values.Limits.{most_processes}
 use Rattle.apex_types.specs.declared.Mode.TheVariants.{Idle}
-use Rattle.apex_types.specs.Roster.{record_at}
-use Rattle.apex_types.specs.Stamps.{stopped}
+use Rattle.apex_types.specs.processes.Roster.{record_at}
+use Rattle.apex_types.specs.processes.Stamps.{stopped}
 use Rattle.apex_dispatch.proofs.services.partition.enter_idle.Given as goal
 
 abbrev pub invariant-loop-place : goal.invariant-loop-place

@@ -1,18 +1,19 @@
 use Rattle.std.proofs.Common.{◌≡◌, ◌≤◌, length, ◌+◌}
-use Rattle.apex_types.specs.Limits.{most_processes}
-use Rattle.apex_types.specs.InTurn.{behind}
-use Rattle.apex_types.specs.PartitionServices.{first_to_start, begin_waiter, enter_normal}
+use Rattle.apex_types.specs.values.Limits.{most_processes}
+use Rattle.apex_types.specs.services.InTurn.{behind}
+use Rattle.apex_types.specs.services.PartitionServices.{first_to_start, begin_waiter, enter_normal}
 use Rattle.apex_types.proofs.Reaches.{Reaches}
 use Rattle.apex_dispatch.proofs.Begun.{IsBegun}
 use Rattle.apex_types.proofs.Loops.{LeadsTo}
 use Rattle.apex_dispatch.proofs.services.partition.enter_normal.Given as goal
 
-abbrev pub invariant-loop-turn : goal.invariant-loop-turn
-invariant-loop-turn g l = record {
+abbrev pub invariant-loop-round : goal.invariant-loop-round
+invariant-loop-round g l = record {
   rest : LeadsTo first_to_start begin_waiter
-      (behind l.fn.notices (enter_normal (g.S.Store.roster l.fn.store))) l.turn l.turn-end (g.S.Store.roster l.store) l.notices;
-  reaches : Reaches l.turn (g.S.Store.roster l.fn.store) (g.S.Store.roster l.store);
+      (behind l.fn.notices (enter_normal (g.S.Store.roster l.fn.store))) l.round l.round-end (g.S.Store.roster l.store) l.notices;
+  reaches : Reaches l.round (g.S.Store.roster l.fn.store) (g.S.Store.roster l.store);
   begun : IsBegun (g.S.Store.roster l.store);
-  end : l.turn-end ≡ length (g.S.Store.roster l.fn.store).records;
-  room : length l.notices ≤ most_processes + l.turn;
+  end : l.round-end ≡ length (g.S.Store.roster l.fn.store).records;
+  few : l.round-end ≤ most_processes;
+  room : length l.notices ≤ most_processes + l.round;
 }

@@ -1,6 +1,6 @@
 -- The row is that of the entry, and its notices come last.
 use Rattle.std.proofs.Common.{rules, ◌≡◌, ◌+◌, ◌<◌, ◌≤◌, [], ◌∷◌, ◌++◌, length, refl}
-use Rattle.apex_types.specs.Limits.{most_notices}
+use Rattle.apex_types.specs.values.Limits.{most_notices}
 use Rattle.apex_history.proofs.EntriesOf.{row_of, entries_put, kept_put, length_entries}
 use Rattle.apex_history.proofs.histories.Log.push.Goals.{After-push_reserved}
 use Rattle.apex_history.proofs.histories.Log.push.Goals as goal

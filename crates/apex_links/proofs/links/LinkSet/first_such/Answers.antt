@@ -5,34 +5,34 @@ use Rattle.apex_links.proofs.links.LinkSet.first_such.Goals as goal
 
 pub returns-in_default-clause-value : goal.returns-in_default-clause-value
 returns-in_default-clause-value g c =
-    sym (such_end _ c.loop-turn._turn (list_at c.args.self.now c.args.list) (sym c.loop-turn.invariant.0 ∙ c.in_default.is)) ∙ c.loop-turn.invariant.1
+    sym (such_end _ c.loop-round._round (list_at c.args.self.now c.args.list) (sym c.loop-round.invariant.0 ∙ c.in_default.is)) ∙ c.loop-round.invariant.1
 
 pub passes-requires : goal.passes-requires
 passes-requires g c =
-    omega (arith, c.requires.known, here_known c.args.self.now c.holds.ensures c.args.list c.loop-turn._turn c.in-Some.process _ c.loop-turn.invariant.0 c.in-Some.is)
+    omega (arith, c.requires.known, here_known c.args.self.now c.holds.ensures c.args.list c.loop-round._round c.in-Some.process _ c.loop-round.invariant.0 c.in-Some.is)
 
 pub returns-then-passes-clause-value : goal.returns-then-passes-clause-value
 returns-then-passes-clause-value g c =
-    let there = here c.args.self.now c.holds.ensures c.args.list c.loop-turn._turn c.in-Some.process _ c.loop-turn.invariant.0 c.in-Some.is in
-    sym (such_here _ c.loop-turn._turn c.in-Some.process (list_at c.args.self.now c.args.list) there (sym c.passes.ensures ∙ c.if-passes.true)) ∙ c.loop-turn.invariant.1
+    let there = here c.args.self.now c.holds.ensures c.args.list c.loop-round._round c.in-Some.process _ c.loop-round.invariant.0 c.in-Some.is in
+    sym (such_here _ c.loop-round._round c.in-Some.process (list_at c.args.self.now c.args.list) there (sym c.passes.ensures ∙ c.if-passes.true)) ∙ c.loop-round.invariant.1
 
 pub returns-then-passes-clause-there : goal.returns-then-passes-clause-there
 returns-then-passes-clause-there g c =
-    here_stands c.args.self.now c.holds.ensures c.args.list c.loop-turn._turn c.in-Some.process _ c.loop-turn.invariant.0 c.in-Some.is
+    here_stands c.args.self.now c.holds.ensures c.args.list c.loop-round._round c.in-Some.process _ c.loop-round.invariant.0 c.in-Some.is
 
 pub next-at-requires : goal.next-at-requires
-next-at-requires g c = here_known c.args.self.now c.holds.ensures c.args.list c.loop-turn._turn c.in-Some.process _ c.loop-turn.invariant.0 c.in-Some.is
+next-at-requires g c = here_known c.args.self.now c.holds.ensures c.args.list c.loop-round._round c.in-Some.process _ c.loop-round.invariant.0 c.in-Some.is
 
 one : (k : ℕ) → k + 1 ≡ suc k
 one k = omega arith
 
-pub loop-turn-preserved : goal.loop-turn-preserved
-loop-turn-preserved g c =
-    let there = here c.args.self.now c.holds.ensures c.args.list c.loop-turn._turn c.in-Some.process _ c.loop-turn.invariant.0 c.in-Some.is in
-    let later = such_later _ c.loop-turn._turn c.in-Some.process (list_at c.args.self.now c.args.list) there (sym c.passes.ensures ∙ c.if-passes.false) in
-    (c.next-at.ensures.at c.args.list c.loop-turn._turn there, rw (one c.loop-turn._turn) (sym later ∙ c.loop-turn.invariant.1))
+pub loop-round-preserved : goal.loop-round-preserved
+loop-round-preserved g c =
+    let there = here c.args.self.now c.holds.ensures c.args.list c.loop-round._round c.in-Some.process _ c.loop-round.invariant.0 c.in-Some.is in
+    let later = such_later _ c.loop-round._round c.in-Some.process (list_at c.args.self.now c.args.list) there (sym c.passes.ensures ∙ c.if-passes.false) in
+    (c.next-at.ensures.at c.args.list c.loop-round._round there, rw (one c.loop-round._round) (sym later ∙ c.loop-round.invariant.1))
 
 pub returns-clause-value : goal.returns-clause-value
 returns-clause-value g c =
-    let all : length (list_at c.args.self.now c.args.list) ≤ c.loop-turn._turn = omega (arith, c.process_count-turn-end.ensures, c.holds.ensures.short c.args.list, c.loop-turn-test.false) in
-    sym (past_all _ c.loop-turn._turn (list_at c.args.self.now c.args.list) all) ∙ c.loop-turn.invariant.1
+    let all : length (list_at c.args.self.now c.args.list) ≤ c.loop-round._round = omega (arith, c.process_count-round-end.ensures, c.holds.ensures.short c.args.list, c.loop-round-test.false) in
+    sym (past_all _ c.loop-round._round (list_at c.args.self.now c.args.list) all) ∙ c.loop-round.invariant.1

@@ -4,7 +4,7 @@ use Rattle.apex_links.specs.Placing.{first_such}
 use Rattle.apex_links.proofs.Walking.{such_from}
 use Rattle.apex_links.proofs.links.LinkSet.first_such.Given as goal
 
-abbrev pub invariant-loop-turn : goal.invariant-loop-turn
-invariant-loop-turn g l =
-    (l.at ≡ slice_get (list_at l.self l.fn.list) l._turn)
-    × (such_from (g.T.Test.passes l.test) l._turn (list_at l.self l.fn.list) ≡ first_such (g.T.Test.passes l.test) (list_at l.self l.fn.list))
+abbrev pub invariant-loop-round : goal.invariant-loop-round
+invariant-loop-round g l =
+    (l.at ≡ slice_get (list_at l.self l.fn.list) l._round)
+    × (such_from (g.T.Test.passes l.test) l._round (list_at l.self l.fn.list) ≡ first_such (g.T.Test.passes l.test) (list_at l.self l.fn.list))

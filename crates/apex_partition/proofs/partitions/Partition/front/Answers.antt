@@ -1,7 +1,7 @@
 use Rattle.std.proofs.Common.{◌≡◌, ◌<◌, ◌≤◌, ℕ, All, List, [], ◌∷◌, ◌++◌, Option, IfSome, length, ap, sym, subst, ◌∙◌, arith, rules}
 use Rattle.std.proofs.lemmas.List.FromFn.{length-map-range_with_len, map-range_with_len_more}
-use Rattle.apex_types.specs.Limits.{most_entries, most_processes}
-use Rattle.apex_types.specs.Running.{chosen}
+use Rattle.apex_types.specs.values.Limits.{most_entries, most_processes}
+use Rattle.apex_types.specs.processes.Running.{chosen}
 use Rattle.apex_types.proofs.BothProfiles.{lawful_count}
 use Rattle.apex_dispatch.specs.Kernel.{KernelState}
 use Rattle.apex_board.specs.Fronts.{IsSmallId}

@@ -1,4 +1,4 @@
-use Rattle.std.proofs.Common.{◌≡◌, ◌+◌, [], ◌∷◌, ap, ◌∙◌, arith, length, length-append, rules}
+use Rattle.std.proofs.Common.{◌≡◌, ◌+◌, [], ◌∷◌, ap, ◌∙◌, arith, length, length-append}
 use Rattle.std.specs.Prelude.{List}
 use Rattle.apex_dispatch.specs.Kernel.{KernelState}
 use Rattle.apex_types.specs.declared.entries.Entry.{Entry}
@@ -6,7 +6,19 @@ use Rattle.apex_types.specs.declared.entries.Who.TheVariants.{Ticker}
 use Rattle.apex_receipts.specs.Receipts.{Spoken}
 use Rattle.apex_partition.specs.Seats.{IsLatest, asked_ticks, ticks_asked}
 use Rattle.apex_partition.proofs.Latest.{tick_adds, tick_asks, tick_entry, ticks_added}
+use Rattle.apex_partition.proofs.published.Published.tick.Given.{Over}
+use Rattle.apex_partition.proofs.published.Published.tick.Goals.{After-record_latest-receipt}
 use Rattle.apex_partition.proofs.published.Published.tick.Goals as goal
+
+-- the entry that was written down asks for these ticks
+asked : (g : Over) (c : After-record_latest-receipt g) → asked_ticks c.record_latest-receipt.result.entry ≡ c.args.n
+asked g c =
+    let old = c.self.inside.partition in
+    let e = c.record_latest-receipt.result.entry in
+    let history = ap (λ (k : KernelState). k.machine.history) c.in_default.ensures.done in
+    let latest : IsLatest old.machine.history Ticker e c.tick.new.self.machine.history =
+    rw (← c.self.invariant.1, ← c.ticker.invariant.0) c.record_latest-receipt.ensures.latest in
+    tick_asks old.table old.machine c.args.n e (rw (← history) latest)
 
 pub record_latest-receipt-requires-clause-latest : goal.record_latest-receipt-requires-clause-latest
 record_latest-receipt-requires-clause-latest g c =
@@ -18,13 +30,9 @@ record_latest-receipt-requires-clause-latest g c =
 
 pub invariant_of-ticker-2 : goal.invariant_of-ticker-2
 invariant_of-ticker-2 g c =
-    let old = c.self.inside.partition in
     let made = c.record_latest-receipt.ensures in
     let e = c.record_latest-receipt.result.entry in
-    let history = ap (λ (k : KernelState). k.machine.history) c.in_default.ensures.done in
-    let latest : IsLatest old.machine.history Ticker e c.tick.new.self.machine.history =
-    rw (← c.self.invariant.1, ← c.ticker.invariant.0) made.latest in
-    let asks : asked_ticks e ≡ c.args.n = tick_asks old.table old.machine c.args.n e (rw (← history) latest) in
+    let asks = asked g (goal.at.invariant_of-ticker-2 g c).After-record_latest-receipt in
     let own = ap (λ (s : Spoken). s.own) made.voice in
     let sum : ticks_asked c.record_latest-receipt.new.voice.own ≡ ticks_asked c.ticker.inside.voice.own + asked_ticks e =
     ap ticks_asked own ∙ ticks_added c.ticker.inside.voice.own e in
@@ -36,13 +44,5 @@ invariant_of-ticker-2 g c =
       omega (arith, many, c.ticker.invariant.2, from, c.requires.range.1),
     )
 
-pub returns-clause-ok : goal.returns-clause-ok
-returns-clause-ok g c =
-    let old = c.self.inside.partition in
-    let made = c.record_latest-receipt.ensures in
-    let e = c.record_latest-receipt.result.entry in
-    let history = ap (λ (k : KernelState). k.machine.history) c.in_default.ensures.done in
-    let latest : IsLatest old.machine.history Ticker e c.tick.new.self.machine.history =
-    rw (← c.self.invariant.1, ← c.ticker.invariant.0) made.latest in
-    let asks : asked_ticks e ≡ c.args.n = tick_asks old.table old.machine c.args.n e (rw (← history) latest) in
-    (search rules, search rules, search rules, asks)
+pub returns-clause-asks : goal.returns-clause-asks
+returns-clause-asks g c = asked g (goal.at.returns-clause-asks g c).After-record_latest-receipt

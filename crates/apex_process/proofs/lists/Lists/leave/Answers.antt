@@ -8,7 +8,7 @@ pub invariant_of-self : goal.invariant_of-self
 invariant_of-self c =
     let stands = rw (← c.self.view_is) at c.is_ready.ensures.ready in
     let links = c.self.inside.links in
-    let counted = removed_counted c.self.inside.orders c.self.inside.queues.counts links c.args.process c.self.invariant.counted (λ n low. stands c.if-is_ready.true (first_list + n) (omega arith)) in
+    let counted = removed_counted c.self.inside.queues.counts links c.args.process c.self.invariant.counted (λ n low. stands c.if-is_ready.true (first_list + n) (omega arith)) in
     record {
       marked = c.leave.ensures.marked;
       counted = rw c.leave.ensures.links counted;

@@ -1,5 +1,5 @@
 use Rattle.std.proofs.Common.{◌≡◌, ◌≢◌, ℕ, ◌<◌, true, drop}
-use Rattle.apex_types.specs.Held.{holds}
+use Rattle.apex_types.specs.processes.Held.{holds}
 use Rattle.apex_process.specs.Owners.{is_owner, most_mutexes, most_owners}
 use Rattle.apex_process.proofs.owners.Owners.leave.Given as goal
 

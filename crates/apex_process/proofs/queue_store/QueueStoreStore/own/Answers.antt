@@ -1,9 +1,10 @@
-use Rattle.std.proofs.Common.{sym, ◌∙◌}
-use Rattle.apex_types.specs.Roster.{record_at}
+use Rattle.std.proofs.Common.{sym, ◌∙◌, refl}
+use Rattle.apex_types.specs.processes.Roster.{record_at}
+use Rattle.apex_types.proofs.Replaces.{replaces_levelled}
 use Rattle.apex_process.proofs.Renewals.{ages_own, keeps_own}
 use Rattle.apex_process.proofs.Kept.{aged_row, kept_by}
-use Rattle.apex_process.proofs.Timers.{timers_own, timers_kept}
-use Rattle.apex_process.proofs.Owning.{disowns_levelled, owners_changed}
+use Rattle.apex_process.proofs.Timers.{timers_kept, timers_own}
+use Rattle.apex_process.proofs.Owning.{disowns_by, owners_changed}
 use Rattle.apex_process.proofs.queue_store.QueueStoreStore.own.Goals as goal
 
 pub invariant_of-self : goal.invariant_of-self
@@ -17,7 +18,7 @@ invariant_of-self c =
           c.put_oldest.ensures.links c.put_oldest.ensures.priorities c.put_oldest.ensures.core c.put_oldest.ensures.priority,
       timers_kept was _ _ c.self.inside.timers.dues c.self.inside.timers.deadlines c.self.invariant.1 c.own.ensures (timers_own was c.args.process known c.args.owned),
       owners_changed was _ _ _ _ c.args.process c.args.owned c.self.invariant.2 c.own.ensures
-          (disowns_levelled was c.args.process known (record (record_at was c.args.process) { owned = c.args.owned }))
+          (disowns_by (replaces_levelled was c.args.process known (record (record_at was c.args.process) { owned = c.args.owned }) refl))
           (rw c.as_slice-2.ensures.value at c.change.ensures.here) (λ m q _. c.change.ensures.others m q),
     )
 
@@ -29,6 +30,6 @@ invariant_of-self-else-not-is_level_with c =
       kept_by was _ _ c.self.inside.lists c.self.invariant.0 c.own.ensures (keeps_own was c.args.process c.args.owned known c.self.invariant.0.stamped level),
       timers_kept was _ _ c.self.inside.timers.dues c.self.inside.timers.deadlines c.self.invariant.1 c.own.ensures (timers_own was c.args.process known c.args.owned),
       owners_changed was _ _ _ _ c.args.process c.args.owned c.self.invariant.2 c.own.ensures
-          (disowns_levelled was c.args.process known (record (record_at was c.args.process) { owned = c.args.owned }))
+          (disowns_by (replaces_levelled was c.args.process known (record (record_at was c.args.process) { owned = c.args.owned }) refl))
           (rw c.as_slice-2.ensures.value at c.change.ensures.here) (λ m q _. c.change.ensures.others m q),
     )

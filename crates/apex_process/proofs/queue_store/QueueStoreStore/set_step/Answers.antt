@@ -1,8 +1,9 @@
+use Rattle.apex_types.proofs.Replaces.{replaces_record}
 use Rattle.apex_process.proofs.Kept.{kept_by}
 use Rattle.std.proofs.Common.{refl}
-use Rattle.apex_types.specs.Roster.{record_at}
-use Rattle.apex_process.proofs.Timers.{timers_record, timers_kept}
-use Rattle.apex_process.proofs.Owning.{own_record, owners_kept}
+use Rattle.apex_types.specs.processes.Roster.{record_at}
+use Rattle.apex_process.proofs.Timers.{timers_by, timers_kept}
+use Rattle.apex_process.proofs.Owning.{own_by, owners_kept}
 use Rattle.apex_process.proofs.Renewals.{keeps_step}
 use Rattle.apex_process.proofs.queue_store.QueueStoreStore.set_step.Goals as goal
 
@@ -11,6 +12,6 @@ invariant_of-self c =
     let was = c.self.inside.records in
     let known = rw (← c.self.view_is) at c.requires.known in (
       kept_by was _ _ c.self.inside.lists c.self.invariant.0 c.set_step.ensures (keeps_step was c.args.process known c.self.invariant.0.stamped c.args.step),
-      timers_kept was _ _ c.self.inside.timers.dues c.self.inside.timers.deadlines c.self.invariant.1 c.set_step.ensures (timers_record was c.args.process known (record (record_at was c.args.process) { step = c.args.step }) refl refl),
-      owners_kept was _ _ _ c.self.invariant.2 c.set_step.ensures (own_record was c.args.process known (record (record_at was c.args.process) { step = c.args.step }) refl),
+      timers_kept was _ _ c.self.inside.timers.dues c.self.inside.timers.deadlines c.self.invariant.1 c.set_step.ensures (timers_by (replaces_record was c.args.process known (record (record_at was c.args.process) { step = c.args.step }) refl 0) refl refl),
+      owners_kept was _ _ _ c.self.invariant.2 c.set_step.ensures (own_by (replaces_record was c.args.process known (record (record_at was c.args.process) { step = c.args.step }) refl 0) refl),
     )

@@ -1,12 +1,13 @@
 use Rattle.std.proofs.Common.{◌≡◌, ◌<◌, length, None, Some, refl, sym, ◌∙◌}
-use Rattle.apex_types.specs.Dues.{first_missed}
-use Rattle.apex_types.specs.Roster.{record_at}
+use Rattle.apex_types.specs.processes.Dues.{first_missed}
+use Rattle.apex_types.specs.processes.Roster.{record_at}
 use Rattle.apex_types.proofs.Dues.{first_missed_within}
+use Rattle.apex_types.proofs.Replaces.{replaces_record}
 use Rattle.apex_process.proofs.Renewals.{keeps_deadline}
 use Rattle.apex_process.proofs.Kept.{kept_by}
-use Rattle.apex_process.proofs.Timers.{missed_by}
+use Rattle.apex_process.proofs.Timers.{deadline_known, no_due, retimes_deadline}
 use Rattle.apex_process.proofs.Firsts.{missed_is, none_taken, taken_reset}
-use Rattle.apex_process.proofs.Owning.{own_record, owners_kept}
+use Rattle.apex_process.proofs.Owning.{own_by, owners_kept}
 use Rattle.apex_process.proofs.queue_store.QueueStoreStore.take_missed.Goals as goal
 
 pub returns-in_err-process-clause-value : goal.returns-in_err-process-clause-value
@@ -34,11 +35,13 @@ invariant_of-self-2 c =
     let popped = rw c.now.ensures at c.pop_deadline_at.ensures.value in
     let is : first_missed was ≡ Some p = sym found ∙ sym popped ∙ c.in_ok-process.was in
     let known : p < length was.records = first_missed_within was p is in
+    let has = replaces_record was p known (record (record_at was p) { deadline = None }) refl 0 in
     let reset = taken_reset c.self.inside.timers.deadlines _ p c.now.result c.holds.ensures.deadlines (rw c.in_ok-process.was at c.pop_deadline_at.ensures.known)
     (sym c.pop_deadline_at.ensures.value ∙ c.in_ok-process.was) c.pop_deadline_at.ensures.deadlines in (
       kept_by was _ _ c.self.inside.lists c.self.invariant.0 c.set_deadline.ensures (keeps_deadline was p known c.self.invariant.0.stamped None),
-      missed_by was _ c.self.inside.timers.dues c.self.inside.timers.deadlines _ _ p known c.self.invariant.1 c.set_deadline.ensures c.pop_deadline_at.ensures.dues reset,
-      owners_kept was _ _ _ c.self.invariant.2 c.set_deadline.ensures (own_record was p known (record (record_at was p) { deadline = None }) refl),
+      deadline_known was _ _ c.self.inside.timers.dues c.self.inside.timers.deadlines _ _ p c.self.invariant.1 c.set_deadline.ensures has
+          (retimes_deadline was p known None (no_due was.now)) refl c.pop_deadline_at.ensures.dues reset,
+      owners_kept was _ _ _ c.self.invariant.2 c.set_deadline.ensures (own_by has refl),
     )
 
 pub returns-clause-value : goal.returns-clause-value

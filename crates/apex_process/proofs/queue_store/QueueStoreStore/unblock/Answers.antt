@@ -1,10 +1,11 @@
 use Rattle.std.proofs.Common.{refl}
-use Rattle.apex_types.specs.Roster.{record_at}
-use Rattle.apex_types.specs.Stamps as stamps
+use Rattle.apex_types.specs.processes.Roster.{record_at}
+use Rattle.apex_types.specs.processes.Stamps as stamps
+use Rattle.apex_types.proofs.Replaces.{replaces_readied}
 use Rattle.apex_process.proofs.Renewals.{renews_unblock}
 use Rattle.apex_process.proofs.Kept.{renewed_row}
-use Rattle.apex_process.proofs.Timers.{deadline_readied, due_row, retimes_unblock}
-use Rattle.apex_process.proofs.Owning.{own_readied, owners_kept}
+use Rattle.apex_process.proofs.Timers.{deadline_kept, due_row, retimes_unblock}
+use Rattle.apex_process.proofs.Owning.{own_by, owners_kept}
 use Rattle.apex_process.proofs.queue_store.QueueStoreStore.unblock.Goals as goal
 
 pub invariant_of-self : goal.invariant_of-self
@@ -14,6 +15,6 @@ invariant_of-self c =
       renewed_row was _ _ c.self.inside.lists _ c.args.process c.read-woken.result.now known c.self.invariant.0 c.unblock.ensures
           (renews_unblock was c.args.process known c.self.invariant.0.stamped) c.read-woken.ensures c.put_newest.ensures.links c.put_newest.ensures.priorities c.put_newest.ensures.place,
       due_row was _ _ c.self.inside.timers.dues c.self.inside.timers.deadlines _ _ c.args.process c.read-woken.result.now c.self.invariant.1 c.unblock.ensures (retimes_unblock was c.args.process known) c.read-woken.ensures
-          (deadline_readied was c.args.process known (stamps.awake (record_at was c.args.process)) refl) c.set_due.ensures.dues c.set_due.ensures.deadlines,
-      owners_kept was _ _ _ c.self.invariant.2 c.unblock.ensures (own_readied was c.args.process known (stamps.awake (record_at was c.args.process)) refl),
+          (deadline_kept (replaces_readied was c.args.process known (stamps.awake (record_at was c.args.process)) refl) refl) c.set_due.ensures.dues c.set_due.ensures.deadlines,
+      owners_kept was _ _ _ c.self.invariant.2 c.unblock.ensures (own_by (replaces_readied was c.args.process known (stamps.awake (record_at was c.args.process)) refl) refl),
     )

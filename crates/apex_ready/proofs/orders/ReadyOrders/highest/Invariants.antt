@@ -2,5 +2,5 @@ use Rattle.std.proofs.Common.{◌≡◌, ℕ, ◌+◌, ◌*◌, ◌<◌, ◌≤�
 use Rattle.apex_ready.specs.ReadyOrders.{is_marked, ready_list}
 use Rattle.apex_ready.proofs.orders.ReadyOrders.highest.Given as goal
 
-abbrev pub invariant-loop-turn : goal.invariant-loop-turn
-invariant-loop-turn l = (p : ℕ) → p < 256 → 256 ≤ p + 64 * l.turn → is_marked l.self-inside.words (ready_list l.fn.core p) ≡ false
+abbrev pub invariant-loop-round : goal.invariant-loop-round
+invariant-loop-round l = (p : ℕ) → p < 256 → 256 ≤ p + 64 * l.round → is_marked l.self-inside.words (ready_list l.fn.core p) ≡ false

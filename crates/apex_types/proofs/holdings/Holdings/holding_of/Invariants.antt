@@ -1,5 +1,5 @@
 use Rattle.std.proofs.Common.{◌≡◌, drop}
-use Rattle.apex_types.specs.Held.{holding_of}
+use Rattle.apex_types.specs.processes.Held.{holding_of}
 use Rattle.apex_types.proofs.holdings.Holdings.holding_of.Given as goal
 
 -- the mutex is among those that are left

@@ -1,5 +1,5 @@
 use Rattle.std.proofs.Common.{◌≡◌, take}
-use Rattle.apex_types.specs.Held.{with_depth}
+use Rattle.apex_types.specs.processes.Held.{with_depth}
 use Rattle.apex_types.proofs.holdings.Holdings.with_depth.Given as goal
 
 -- those so far

@@ -1,5 +1,5 @@
 use Rattle.std.proofs.Common.{◌≡◌, ◌≤◌, length, take}
-use Rattle.apex_types.specs.Held.{without}
+use Rattle.apex_types.specs.processes.Held.{without}
 use Rattle.apex_types.proofs.holdings.Holdings.without.Given as goal
 
 -- those so far, but for the mutex

@@ -11,7 +11,7 @@ overflow_add-index_mut c =
     let from : first_list ≤ c.wait_list-list.result = rw list (omega arith) in
     let counted = rw (← c.self.view_is) at c.requires.counted in
     let is = count_is _ c.args.links.now c.wait_list-list.result c.index_mut-2.result.now counted c.self.invariant from c.wait_list-list.ensures.known (rw place at c.index_mut-2.ensures.value) in
-    omega (arith, is, c.holds.ensures.short c.wait_list-list.result, c.requires.few)
+    omega (arith, is, c.holds.ensures.short c.wait_list-list.result, c.requires.few_processes)
 
 pub returns-clause-counted : goal.returns-clause-counted
 returns-clause-counted c =

@@ -1,0 +1,77 @@
+//! The counters of a trace: the value of a semaphore, and the number of messages in a buffer.
+
+use crate::scans::booted;
+use apex_history::Counted;
+use apex_pictures::{Style, draw};
+use apex_table::read_table;
+use apex_types::{CoreId, Event};
+use std::alloc::Global;
+use std::mem::drop;
+use std::process::Abort;
+
+/// The six init steps create both objects and start the process, which then signals and sends.
+const TABLE: &str = r#"
+cores = 1
+
+[[process]]
+name = "P"
+priority = 10
+start = true
+script = ["SIGNAL_SEMAPHORE S", "SEND_BUFFER B 2a 0"]
+
+[[semaphore]]
+name = "S"
+maximum = 2
+initial = 1
+discipline = "FIFO"
+
+[[buffer]]
+name = "B"
+length = 8
+capacity = 4
+discipline = "FIFO"
+"#;
+
+/// By this a line of the trace is one of a counter.
+const COUNTER: &str = "\"ph\":\"C\"";
+
+/// What follows that in each of these lines. Before the first entry the semaphore has its initial
+/// value, and the buffer is empty. The signal is entry 7, and the send entry 8.
+const COUNTERS: [&str; 4] = [
+    r#","pid":3,"ts":0,"name":"semaphore S","args":{"value":1}},"#,
+    r#","pid":3,"ts":0,"name":"buffer B","args":{"messages":0}},"#,
+    r#","pid":3,"ts":7,"name":"semaphore S","args":{"value":2}},"#,
+    r#","pid":3,"ts":8,"name":"buffer B","args":{"messages":1}},"#,
+];
+
+/// The trace of eight turns.
+fn trace_of<R: Abort>(rt: &R, alloc: Global) -> Vec<u8> {
+    let table = read_table(alloc, TABLE.as_bytes()).expect(rt, "the table is lawful");
+    assert!(rt; table.cores() == 1);
+    let mut kernel = booted(rt, alloc, table);
+    let turns = [Event::Turn(CoreId::new(0)); 8];
+    let mut trace = Counted::new(Vec::new(alloc));
+    let drawn = draw(alloc, &Style::Trace, &mut kernel, &turns, &mut trace);
+    drop(kernel);
+    drawn.expect(rt, "memory");
+    trace.into_inner()
+}
+
+/// What follows the word in the text, if it is in it.
+fn behind<'t>(text: &'t str, word: &str) -> Option<&'t str> {
+    match text.split_once(word) {
+        Some((_, rest)) => Some(rest),
+        None => None,
+    }
+}
+
+#[test]
+fn counters_follow_the_objects(rt: HostRuntime) {
+    let trace = trace_of(&rt, rt.alloc());
+    let mut rest = str::from_utf8(trace.as_slice()).expect(&rt, "a trace is text");
+    for counter in COUNTERS {
+        rest = behind(rest, COUNTER).expect(&rt, "another counter");
+        assert!(rt; rest.starts_with(counter));
+    }
+    assert!(rt; behind(rest, COUNTER).is_none());
+}

@@ -1,0 +1,84 @@
+-- The texts of a slice's end and of its beginning, put together.
+use Rattle.std.proofs.Common.{◌≡◌, ◌∙◌, ℕ, List, ◌++◌, ap, sym, append_assoc, inl, inr, codes, decimal, arith}
+use Rattle.std.proofs.lemmas.Fmt.{decimal_digit}
+use Rattle.apex_pictures.specs.Stamps.{IsGroup, begin_back, begin_front, end_back, end_front}
+use Rattle.apex_pictures.specs.Trace.{begin_text, end_text}
+use Rattle.apex_pictures.specs.declared.trace.Spot.{Spot}
+
+one : decimal 1 ≡ codes "1"
+one = decimal_digit 1 (omega arith)
+
+two : decimal 2 ≡ codes "2"
+two = decimal_digit 2 (omega arith)
+
+-- the digit of a group in a text
+in_front : (front back digit : List ℕ) (group : ℕ) → decimal group ≡ digit
+    → front ++ digit ++ back ≡ front ++ decimal group ++ back
+in_front front back digit group is = ap (λ l. front ++ l ++ back) (sym is)
+
+pub end_front_first : (group : ℕ) → group ≡ 1 → codes ",\n{\"ph\":\"E\",\"pid\":1,\"tid\":" ≡ end_front group
+end_front_first group is =
+    in_front (codes ",\n{\"ph\":\"E\",\"pid\":") (codes ",\"tid\":") (codes "1") group (ap decimal is ∙ one)
+
+pub end_front_other : (group : ℕ) → IsGroup group → (group ≡ 1 → ⊥)
+    → codes ",\n{\"ph\":\"E\",\"pid\":2,\"tid\":" ≡ end_front group
+end_front_other group (inl first) other = absurd (other first)
+end_front_other group (inr is) other =
+    in_front (codes ",\n{\"ph\":\"E\",\"pid\":") (codes ",\"tid\":") (codes "2") group (ap decimal is ∙ two)
+
+pub begin_front_first : (group : ℕ) → group ≡ 1 → codes ",\n{\"ph\":\"B\",\"pid\":1,\"tid\":" ≡ begin_front group
+begin_front_first group is =
+    in_front (codes ",\n{\"ph\":\"B\",\"pid\":") (codes ",\"tid\":") (codes "1") group (ap decimal is ∙ one)
+
+pub begin_front_other : (group : ℕ) → IsGroup group → (group ≡ 1 → ⊥)
+    → codes ",\n{\"ph\":\"B\",\"pid\":2,\"tid\":" ≡ begin_front group
+begin_front_other group (inl first) other = absurd (other first)
+begin_front_other group (inr is) other =
+    in_front (codes ",\n{\"ph\":\"B\",\"pid\":") (codes ",\"tid\":") (codes "2") group (ap decimal is ∙ two)
+
+-- three texts behind another one
+behind : (text a b c after first second : List ℕ) → first ≡ text ++ a → second ≡ first ++ b → after ≡ second ++ c
+    → after ≡ text ++ (a ++ (b ++ c))
+behind text a b c after first second x y z =
+    z ∙ ap (λ l. l ++ c) (y ∙ ap (λ l. l ++ b) x) ∙ append_assoc (text ++ a) b c ∙ append_assoc text a (b ++ c)
+
+-- the end of a slice
+pub end_whole : (spot : Spot) (text first second after : List ℕ) → first ≡ text ++ end_front spot.group
+    → second ≡ first ++ decimal spot.track → after ≡ second ++ end_back spot.time → after ≡ text ++ end_text spot
+unfolding end_text
+end_whole spot text first second after x y z =
+    let e = codes ",\n{\"ph\":\"E\",\"pid\":" in
+    let tid = codes ",\"tid\":" in
+    let ts = codes ",\"ts\":" in
+    let group = decimal spot.group in
+    let track = decimal spot.track in
+    let time = decimal spot.time in
+    let rest : end_back spot.time ≡ ts ++ (time ++ codes "}") = append_assoc ts time (codes "}") in
+    behind text (end_front spot.group) track (end_back spot.time) after first second x y z
+    ∙ ap (λ l. text ++ (end_front spot.group ++ (track ++ l))) rest
+    ∙ ap (λ l. text ++ l) (append_assoc (e ++ group) tid (track ++ (ts ++ (time ++ codes "}")))
+    ∙ append_assoc e group (tid ++ (track ++ (ts ++ (time ++ codes "}")))))
+
+-- the beginning of a slice
+pub begin_whole : (spot : Spot) (now : ℕ) (text first second after : List ℕ) → first ≡ text ++ begin_front spot.group
+    → second ≡ first ++ decimal spot.track → after ≡ second ++ begin_back spot.time now
+    → after ≡ text ++ begin_text spot now
+unfolding begin_text
+begin_whole spot now text first second after x y z =
+    let b = codes ",\n{\"ph\":\"B\",\"pid\":" in
+    let tid = codes ",\"tid\":" in
+    let ts = codes ",\"ts\":" in
+    let args = codes ",\"args\":{\"now\":" in
+    let name = codes "},\"name\":\"" in
+    let group = decimal spot.group in
+    let track = decimal spot.track in
+    let time = decimal spot.time in
+    let ticks = decimal now in
+    let whole = ts ++ (time ++ (args ++ (ticks ++ name))) in
+    let rest : begin_back spot.time now ≡ whole =
+    append_assoc (ts ++ time ++ args) ticks name ∙ append_assoc (ts ++ time) args (ticks ++ name)
+    ∙ append_assoc ts time (args ++ (ticks ++ name)) in
+    behind text (begin_front spot.group) track (begin_back spot.time now) after first second x y z
+    ∙ ap (λ l. text ++ (begin_front spot.group ++ (track ++ l))) rest
+    ∙ ap (λ l. text ++ l) (append_assoc (b ++ group) tid (track ++ whole)
+    ∙ append_assoc b group (tid ++ (track ++ whole)))

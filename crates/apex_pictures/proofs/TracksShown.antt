@@ -1,0 +1,103 @@
+-- What a trace shows of a moment gives the text of the moment.
+use Rattle.std.proofs.Common.{◌≡◌, ◌∙◌, ℕ, zero, suc, List, [], ◌∷◌, ◌++◌, Option, refl, sym, ap}
+use Rattle.std.proofs.lemmas.List.{map-append}
+use Rattle.std.specs.Prelude.{map, flat_map, length, slice_index_or, codes}
+use Rattle.apex_types.specs.text.Listing.{texts_of}
+use Rattle.apex_types.specs.processes.Roster.{Roster}
+use Rattle.apex_types.specs.table.Table.{Table}
+use Rattle.apex_pictures.specs.Counters.{counters_text}
+use Rattle.apex_pictures.specs.Counts.{Counts}
+use Rattle.apex_pictures.specs.Moments.{Shown, cell_of, moment_of, no_cell, none_shown, running_in}
+use Rattle.apex_pictures.specs.Places.{of_places}
+use Rattle.apex_pictures.specs.Terms.{Cell, Entry, State}
+use Rattle.apex_pictures.specs.Trace as trace
+use Rattle.apex_pictures.specs.Tracks.{Follows, bare, bare_cell, cell_on, no_track, track_of}
+use Rattle.apex_pictures.specs.declared.styles.Style.{Style}
+use Rattle.apex_pictures.specs.declared.styles.Style.TheVariants.{Svg, Trace}
+use Rattle.apex_pictures.specs.declared.tracks.Track.{Track}
+
+-- the values of places, changed one by one
+map_places : {A B : Type 0} → (f : A → B) (g : ℕ → A) (n : ℕ) → map f (of_places g n) ≡ of_places (λ i. f (g i)) n
+map_places f g zero = refl
+map_places f g (suc n) =
+    map-append f (of_places g n) (g n ∷ []) ∙ ap (λ l. l ++ f (g n) ∷ []) (map_places f g n)
+
+-- the tracks of all processes show what a trace shows of their cells
+tracks_shown : (roster : Roster) (n : ℕ) (tracks : List Track) → tracks ≡ of_places (track_of roster) n
+    → map cell_on tracks ≡ map (λ (c : Cell). bare_cell c.state) (of_places (cell_of roster) n)
+tracks_shown roster n tracks is =
+    ap (map cell_on) is ∙ map_places cell_on (track_of roster) n
+    ∙ sym (map_places (λ (c : Cell). bare_cell c.state) (cell_of roster) n)
+
+-- a moment of these
+abbrev pub shown_of : List Cell → List (Option ℕ) → Counts → Shown
+shown_of cells running counts = record { cells = cells; running = running; counts = counts }
+
+-- the tracks of all processes, the process that each core runs, and the counts
+pub tracks_same : (roster : Roster) (tracks : List Track) (running : List (Option ℕ)) (counts : Counts)
+    → tracks ≡ of_places (track_of roster) (length roster.records) → running ≡ running_in roster
+    → shown_of (map cell_on tracks) running counts ≡ bare (moment_of roster counts)
+tracks_same roster tracks running counts is runs =
+    ap (λ cells. shown_of cells running counts) (tracks_shown roster (length roster.records) tracks is)
+    ∙ ap (λ all. shown_of (map (λ (c : Cell). bare_cell c.state) (of_places (cell_of roster) (length roster.records))) all counts) runs
+
+-- the state on a track
+state_on : (tracks : List Track) (p : ℕ)
+    → (slice_index_or (map cell_on tracks) p no_cell).state ≡ (slice_index_or tracks p no_track).state
+state_on [] p = refl
+state_on (track ∷ tracks) zero = refl
+state_on (track ∷ tracks) (suc p) = state_on tracks p
+
+-- the state on a track is that in the cell that the track shows
+pub state_seen : (tracks : List Track) (cells : List Cell) (p : ℕ) → map cell_on tracks ≡ cells
+    → (slice_index_or tracks p no_track).state ≡ (slice_index_or cells p no_cell).state
+state_seen tracks cells p is =
+    sym (state_on tracks p) ∙ ap (λ (all : List Cell). (slice_index_or all p no_cell).state) is
+
+-- the state of a process in a cell
+state_bare : (cells : List Cell) (p : ℕ)
+    → (slice_index_or (map (λ (c : Cell). bare_cell c.state) cells) p no_cell).state
+    ≡ (slice_index_or cells p no_cell).state
+state_bare [] p = refl
+state_bare (cell ∷ cells) zero = refl
+state_bare (cell ∷ cells) (suc p) = state_bare cells p
+
+-- texts that are the same one by one
+texts_same : (f g : ℕ → List ℕ) (n : ℕ) → ((i : ℕ) → f i ≡ g i) → texts_of f n ≡ texts_of g n
+texts_same f g zero same = refl
+texts_same f g (suc n) same =
+    ap (λ l. l ++ f n) (texts_same f g n same) ∙ ap (λ l. texts_of g n ++ l) (same n)
+
+process_same : (time now : ℕ) (before after : Shown) (p : ℕ)
+    → trace.process_at time now (bare before) (bare after) p ≡ trace.process_at time now before after p
+process_same time now before after p =
+    ap (λ (s : State). trace.process_text (trace.process_spot p time) now s (trace.state_at (bare after) p))
+    (state_bare before.cells p)
+    ∙ ap (λ (s : State). trace.process_text (trace.process_spot p time) now (trace.state_at before p) s)
+    (state_bare after.cells p)
+
+-- the changes on all tracks
+changes_same : (table : Table) (time now : ℕ) (before after : Shown)
+    → trace.changes_text table time now (bare before) (bare after) ≡ trace.changes_text table time now before after
+changes_same table time now before after =
+    ap (λ l. texts_of (trace.core_at table time now before after) table.cores ++ l)
+    (texts_same (trace.process_at time now (bare before) (bare after)) (trace.process_at time now before after)
+    (length table.processes) (process_same time now before after))
+
+-- the text of a column
+pub column_same : (table : Table) (before : Shown) (entry : Entry) (after : Shown)
+    → trace.column_text table (bare before) entry (bare after) ≡ trace.column_text table before entry after
+column_same table before entry after =
+    ap (λ l. l ++ counters_text table entry.number before.counts after.counts
+    ++ flat_map (trace.missed_text entry.number entry.now) entry.notices)
+    (changes_same table entry.number entry.now before after)
+
+-- what comes after the columns
+pub foot_same : (table : Table) (time now : ℕ) (last : Shown)
+    → trace.foot_text table time now (bare last) ≡ trace.foot_text table time now last
+foot_same table time now last = ap (λ l. l ++ codes "\n]}\n") (changes_same table time now last none_shown)
+
+-- the tracks of the moment follow it
+pub follows : (style : Style) (tracks shown : Shown) → tracks ≡ bare shown → Follows style tracks shown
+follows (Svg frame) tracks shown is = tt
+follows Trace tracks shown is = is

@@ -1,7 +1,0 @@
--- The parts are those of the text.
-use Rattle.apex_pictures.specs.Trace.{run_name_text}
-use Rattle.apex_pictures.proofs.trace.put_run_name.Goals as goal
-
-pub returns : goal.returns
-unfolding run_name_text
-returns c = rw (c.id_part.ensures, c.name_of.ensures) at c.put_all.ensures

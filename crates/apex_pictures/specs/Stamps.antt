@@ -1,0 +1,35 @@
+-- The texts of a slice's end and of its beginning, before the number of its track and behind it.
+use Rattle.std.specs.Prelude.{◌≡◌, ◌⊎◌, ℕ, List, ◌++◌, codes, decimal}
+use Rattle.apex_pictures.specs.declared.stamps.Stamp.{Stamp}
+use Rattle.apex_pictures.specs.declared.trace.Spot.{Spot}
+
+-- the end of a slice, up to the number of its track
+abbrev pub end_front : ℕ → List ℕ
+end_front group = codes ",\n{\"ph\":\"E\",\"pid\":" ++ decimal group ++ codes ",\"tid\":"
+
+-- the rest of it
+abbrev pub end_back : ℕ → List ℕ
+end_back time = codes ",\"ts\":" ++ decimal time ++ codes "}"
+
+-- the beginning of a slice, up to the number of its track
+abbrev pub begin_front : ℕ → List ℕ
+begin_front group = codes ",\n{\"ph\":\"B\",\"pid\":" ++ decimal group ++ codes ",\"tid\":"
+
+-- the rest of it, up to the slice's name
+abbrev pub begin_back : ℕ → ℕ → List ℕ
+begin_back time now =
+    codes ",\"ts\":" ++ decimal time ++ codes ",\"args\":{\"now\":" ++ decimal now
+    ++ codes "},\"name\":\""
+
+-- the texts of a stamp are those of this time
+abbrev pub IsStamp : Stamp → ℕ → Type 0
+IsStamp stamp time =
+    (stamp.end.bytes ≡ end_back time) × (stamp.begin.bytes ≡ begin_back time stamp.ticks)
+
+-- the group of the cores or of the processes
+abbrev pub IsGroup : ℕ → Type 0
+IsGroup group = (group ≡ 1) ⊎ (group ≡ 2)
+
+-- the texts of a stamp are those of this time, on a track of a core or of a process
+abbrev pub Stamps : Stamp → Spot → Type 0
+Stamps stamp spot = IsGroup spot.group × IsStamp stamp spot.time

@@ -1,0 +1,39 @@
+-- The processes and the counts after an entry, as a trace shows them: of each cell the state alone.
+use Rattle.std.specs.Prelude.{◌≡◌, ℕ, [], map, None}
+use Rattle.apex_pictures.specs.Moments.{Shown}
+use Rattle.apex_pictures.specs.Terms.{Cell, State}
+use Rattle.apex_pictures.specs.declared.styles.Style.{Style}
+use Rattle.apex_pictures.specs.declared.styles.Style.TheVariants.{Svg, Trace}
+use Rattle.apex_pictures.specs.declared.tracks.Track.{Track}
+use Rattle.apex_types.specs.processes.Roster.{Roster}
+use Rattle.apex_types.specs.processes.Running.{process_state}
+use Rattle.apex_types.specs.declared.State.TheVariants.{Dormant}
+
+-- the track of no process
+abbrev pub no_track : Track
+no_track = record { state = Dormant }
+
+-- the track of process p
+abbrev pub track_of : Roster → ℕ → Track
+track_of roster p = record { state = process_state roster p }
+
+-- a cell of which only the state is known
+abbrev pub bare_cell : State → Cell
+bare_cell state = record { state = state; wait = None; owned = [] }
+
+-- what a track shows
+abbrev pub cell_on : Track → Cell
+cell_on track = bare_cell track.state
+
+-- what a trace shows of a moment
+abbrev pub bare : Shown → Shown
+bare shown = record {
+  cells = map (λ (c : Cell). bare_cell c.state) shown.cells;
+  running = shown.running;
+  counts = shown.counts;
+}
+
+-- the tracks are those of the moment, if a trace is drawn
+abbrev pub Follows : Style → Shown → Shown → Type 0
+Follows (Svg frame) tracks shown = Unit {0}
+Follows Trace tracks shown = tracks ≡ bare shown

@@ -1,0 +1,104 @@
+//! The texts of a slice's end and of its beginning, before the number of its track and behind it.
+ghost use Rattle.std.specs.Prelude.{◌≡◌};
+ghost use Rattle.apex_pictures.specs.Stamps.{IsGroup, IsStamp, begin_back, begin_front, end_back, end_front};
+
+use arrayvec::ArrayString;
+use itoa::Buffer;
+
+/// The most digits of a time.
+const DIGITS: usize = 20;
+
+/// The most bytes behind the number of a track at the end of a slice.
+const END_ROOM: usize = DIGITS + 7;
+
+/// The same at the beginning of a slice.
+const BEGIN_ROOM: usize = 2 * DIGITS + 31;
+
+/// The time of an entry, and its texts, which are the same in all slices.
+#[derive(Drop)]
+pub(crate) struct Stamp {
+    /// The partition's time in ticks.
+    ticks: u64,
+    /// What is behind the number of a track at the end of a slice.
+    end: ArrayString<END_ROOM>,
+    /// The same at the beginning of a slice, up to its name.
+    begin: ArrayString<BEGIN_ROOM>,
+}
+
+/// What is behind the number of a track at the end of a slice.
+fn end_of(time: u64) -> ArrayString<END_ROOM>
+    ensures { result.bytes ≡ end_back time }
+{
+    let mut digits = Buffer::new();
+    let mut end = ArrayString::new();
+    end.push_str(",\"ts\":");
+    end.push_str(digits.format(time));
+    end.push_str("}");
+    end
+}
+
+/// What is behind the number of a track at the beginning of a slice, up to its name.
+fn begin_of(time: u64, ticks: u64) -> ArrayString<BEGIN_ROOM>
+    ensures { result.bytes ≡ begin_back time ticks }
+{
+    let mut digits = Buffer::new();
+    let mut begin = ArrayString::new();
+    begin.push_str(",\"ts\":");
+    begin.push_str(digits.format(time));
+    begin.push_str(",\"args\":{\"now\":");
+    begin.push_str(digits.format(ticks));
+    begin.push_str("},\"name\":\"");
+    begin
+}
+
+impl Stamp {
+    /// The stamp of an entry of this number, and of this time in ticks.
+    pub(crate) fn new(time: u64, ticks: u64) -> Stamp
+        ensures stamp { IsStamp result time }
+        ensures ticks { result.ticks ≡ ticks }
+    {
+        Stamp {
+            ticks,
+            end: end_of(time),
+            begin: begin_of(time, ticks),
+        }
+    }
+
+    /// What is behind the number of a track at the end of a slice.
+    pub(crate) fn end(&self) -> &str
+        ensures { result.now ≡ self.now.end.bytes }
+    {
+        self.end.as_str()
+    }
+
+    /// What is behind the number of a track at the beginning of a slice, up to its name.
+    pub(crate) fn begin(&self) -> &str
+        ensures { result.now ≡ self.now.begin.bytes }
+    {
+        self.begin.as_str()
+    }
+}
+
+/// What is before the number of a track of a group at the end of a slice.
+pub(crate) fn end_front(group: u8) -> &'static str
+    requires { IsGroup group }
+    ensures { result.now ≡ end_front group }
+{
+    if group == 1 {
+        ",\n{\"ph\":\"E\",\"pid\":1,\"tid\":"
+    } else {
+        ",\n{\"ph\":\"E\",\"pid\":2,\"tid\":"
+    }
+}
+
+/// What is before the number of a track of a group at the beginning of a slice.
+pub(crate) fn begin_front(group: u8) -> &'static str
+    requires { IsGroup group }
+    ensures { result.now ≡ begin_front group }
+{
+    if group == 1 {
+        ",\n{\"ph\":\"B\",\"pid\":1,\"tid\":"
+    } else {
+        ",\n{\"ph\":\"B\",\"pid\":2,\"tid\":"
+    }
+}

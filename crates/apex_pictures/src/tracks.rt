@@ -1,0 +1,127 @@
+//! The processes and the counts after an entry, as a trace shows them.
+ghost use Rattle.std.specs.Prelude.{◌≡◌, ◌<◌, ◌≤◌, length, map, slice_index_or, None};
+ghost use Rattle.apex_types.specs.values.Limits.{most_processes};
+ghost use Rattle.apex_pictures.specs.Moments.{moment_of, none_shown, running_in};
+ghost use Rattle.apex_pictures.specs.Tracks.{bare, cell_on, no_track, track_of};
+
+use crate::counts::Counts;
+use crate::moments::{CORES, running_at, running_of, state_of};
+use apex_store::Store;
+use apex_types::{CoreId, MOST_PROCESSES, ProcessId, State};
+use arrayvec::ArrayVec;
+use std::marker::Model;
+
+/// What the track of a process shows after an entry.
+#[derive(Clone, Copy)]
+pub(crate) struct Track {
+    state: State,
+}
+
+impl Default for Track {
+    fn default() -> Track
+        ensures { result ≡ no_track }
+    {
+        Track {
+            state: State::Dormant,
+        }
+    }
+}
+
+/// All processes after an entry, as a trace shows them: the state of each of them, and the process
+/// that each core runs. It has the counts of the objects too.
+///
+/// A contract sees a moment whose cells have no wait and no mutex.
+#[derive(Drop)]
+pub(crate) struct Tracks {
+    tracks: ArrayVec<Track, MOST_PROCESSES>,
+    running: ArrayVec<Option<ProcessId>, CORES>,
+    counts: Counts,
+}
+
+impl Model for Tracks {
+    ghost use Rattle.std.specs.Prelude.{map};
+    ghost use Rattle.apex_pictures.specs.Moments.{Shown};
+    ghost use Rattle.apex_pictures.specs.Tracks.{cell_on};
+
+    ghost Value = { Shown };
+
+    ghost view = { λ t. record {
+      cells = map cell_on t.tracks.items;
+      running = t.running.items;
+      counts = t.counts;
+    } };
+}
+
+/// The track of a process, given the process that each core runs.
+fn track_of<S: Store>(store: &S, process: ProcessId, running: &[Option<ProcessId>]) -> Track
+    requires known { process < length (S.roster store.now).records }
+    requires running { running.now ≡ running_in (S.roster store.now) }
+    ensures { result ≡ track_of (S.roster store.now) process }
+{
+    let row = store.record(process);
+    let chosen = running_at(running, row.core);
+    Track {
+        state: state_of(process, &row, store.mode(), chosen),
+    }
+}
+
+/// The tracks of the processes of a store, and these counts.
+pub(crate) fn tracks_of<S: Store>(store: &S, counts: Counts) -> Tracks
+    requires { length (S.roster store.now).records ≤ most_processes }
+    ensures { result ≡ bare (moment_of (S.roster store.now) counts) }
+{
+    let running = running_of(store);
+    let mut tracks = ArrayVec::new();
+    for place in 0..store.process_count() {
+        tracks.push(track_of(store, ProcessId::at(place as u8), running.as_slice()));
+    }
+    Tracks {
+        tracks,
+        running,
+        counts,
+    }
+}
+
+/// The state on the track at a place; DORMANT if there is no such track.
+pub(crate) fn state_on(tracks: &[Track], place: usize) -> State
+    ensures { result ≡ (slice_index_or tracks.now place no_track).state }
+{
+    match tracks.get(place) {
+        Some(track) => track.state,
+        None => State::Dormant,
+    }
+}
+
+impl Tracks {
+    /// The tracks of no process.
+    pub(crate) fn none() -> Tracks
+        ensures { result ≡ none_shown }
+    {
+        Tracks {
+            tracks: ArrayVec::new(),
+            running: ArrayVec::new(),
+            counts: Counts::none(),
+        }
+    }
+
+    /// The tracks of the processes.
+    pub(crate) fn tracks(&self) -> &[Track]
+        ensures { map cell_on result.now ≡ self.now.cells }
+    {
+        self.tracks.as_slice()
+    }
+
+    /// The process that a core runs.
+    pub(crate) fn running(&self, core: CoreId) -> Option<ProcessId>
+        ensures { result ≡ slice_index_or self.now.running core None }
+    {
+        running_at(self.running.as_slice(), core)
+    }
+
+    /// The counts of the objects.
+    pub(crate) fn counts(&self) -> &Counts
+        ensures { result.now ≡ self.now.counts }
+    {
+        &self.counts
+    }
+}

@@ -1,0 +1,20 @@
+-- The services, row by row.
+pub mod InTurn
+pub mod Handovers
+pub mod Waking
+pub mod Callers
+pub mod Calls
+pub mod Satisfied
+pub mod Rows
+pub mod Objects
+pub mod Waiting
+pub mod Premises
+pub mod SemaphoreServices
+pub mod BufferServices
+pub mod BlackboardServices
+pub mod EventFlagServices
+pub mod MutexServices
+pub mod ProcessServices
+pub mod CallerServices
+pub mod TimeServices
+pub mod PartitionServices

@@ -1,0 +1,4 @@
+-- The texts of names and statuses, and the listing.
+pub mod Texts
+pub mod Status
+pub mod Listing
