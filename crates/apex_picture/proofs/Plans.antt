@@ -10,8 +10,13 @@ use Rattle.apex_cli.specs.Reports.{fault_of_events}
 use Rattle.apex_cli.specs.Schedule.{are_cores_below, events_of_items}
 use Rattle.apex_cli.specs.declared.CliFault.{CliFault}
 use Rattle.apex_cli.specs.declared.Item.{Item}
-use Rattle.apex_picture.specs.Answers.{IsPlanOf, IsRunOf, answer_of, draws}
+use Rattle.apex_pictures.specs.declared.Style.{Style}
+use Rattle.apex_pictures.specs.declared.Style.TheVariants as style
+use Rattle.apex_picture.specs.Answers.{IsAskedStyle, IsPlanOf, IsRunOf, answer_of, draws}
 use Rattle.apex_picture.specs.Histories.{IsHistoryOf}
+use Rattle.apex_picture.specs.Tasks.{task_said}
+use Rattle.apex_picture.specs.declared.tasks.Task.{Task}
+use Rattle.apex_picture.specs.declared.words.Format.TheVariants.{Trace}
 
 -- the events of the history of a run of the items run like those of the items
 pub run_is : (items : List Item) (table : Table) (machine : Machine) (events : List Event) (fault : Option CliFault)
@@ -35,19 +40,28 @@ made_is items table machine told events_in fault_in (Ok r) are same ran replays 
     run_is items table machine (events_in r) (fault_in r) ran replays are (same ∙ is) within
 made_is items table machine told events_in fault_in (Err e) are same ran replays is within = tt
 
--- the events of such a run are the ones to draw, if the table is read again
-pub plan_is : (items : List Item) (bytes : List ℕ) (table again : Table) (events : List Event) (fault : Option CliFault)
-    → table_of bytes ≡ Ok table → table_of bytes ≡ Ok again → are_cores_below table.cores items ≡ true
-    → IsRunOf items table events fault → IsPlanOf items bytes again events fault
-plan_is items bytes table again events fault read anew below made =
-    let same : table ≡ again = cc in
+-- the events of such a run are the ones to draw
+pub plan_is : (items : List Item) (bytes : List ℕ) (table : Table) (events : List Event) (fault : Option CliFault)
+    → table_of bytes ≡ Ok table → are_cores_below table.cores items ≡ true
+    → IsRunOf items table events fault → IsPlanOf items bytes table events fault
+plan_is items bytes table events fault read below made =
     let drawn : answer_of items bytes ≡ draws table (run table (opening table) (events_of_items items)) (fault_of_events table (events_of_items items)) =
     rw (read, below) refl in
-    subst (λ (t : Table). IsPlanOf items bytes t events fault) same (record {
+    record {
       answer = drawn ∙ ap (λ (m : Machine). draws table m (fault_of_events table (events_of_items items))) made.same
           ∙ ap (draws table (run table (opening table) events)) (sym made.told);
       within = made.within;
-    })
+    }
+
+-- the table that was read again is this one
+pub same_table : (bytes : List ℕ) (table again : Table) → table_of bytes ≡ Ok table → table_of bytes ≡ Ok again → again ≡ table
+same_table bytes table again read anew = cc
+
+-- a trace is drawn for which a task asks
+pub trace_is : {R E : Type 0} → (task : Task) (style_in : R → Style) (made : Result R E) → task.format ≡ Trace
+    → IfOk made (λ r. style_in r ≡ style.Trace) → IfOk made (λ r. IsAskedStyle (task_said task) (style_in r))
+trace_is task style_in (Ok r) asked drawn = rw (asked, drawn) tt
+trace_is task style_in (Err e) asked drawn = tt
 
 -- the table of a history may be read again
 pub history_again : (text front : List ℕ) (table again : Table) (events : List Event) → IsHistoryOf text table events

@@ -1,5 +1,5 @@
 -- What is drawn for the items of a schedule and the bytes of a table.
-use Rattle.std.specs.Prelude.{◌≡◌, ◌⊎◌, ℕ, ◌+◌, min, List, Option, Result, Ok, Err, All, if◌then◌else◌}
+use Rattle.std.specs.Prelude.{◌≡◌, ◌⊎◌, ℕ, ◌+◌, ◌<◌, ◌≤◌, ◌++◌, [], Bool, true, false, length, min, List, Option, Result, Ok, Err, All, if◌then◌else◌}
 use Rattle.std.specs.Io.KnownBytes.{Appends}
 use Rattle.apex_types.specs.machine.Machine.{Machine, opening, run}
 use Rattle.apex_dispatch.specs.Events.{IsWithin}
@@ -51,6 +51,13 @@ pub record IsRunOf (items : List Item) (table : tables.Table) (events : List Eve
   pub same : run table (opening table) (events_of_items items) ≡ run table (opening table) events
   pub told : fault ≡ fault_of_events table (events_of_items items)
   pub within : All (IsWithin table.cores) events
+
+-- the events are the first ones of these, as many as the limit allows, and all of them unless they are cut
+pub record IsListOf (limit : ℕ) (all events : List Event) (is_cut : Bool) : Type 0 where
+  pub rest : List Event
+  pub split : all ≡ events ++ rest
+  pub whole : is_cut ≡ false → (rest ≡ []) × (length events ≤ limit)
+  pub cut : is_cut ≡ true → (length events ≡ limit) × (0 < length rest)
 
 -- the events are those of the history that the answer to the items draws
 pub record IsPlanOf (items : List Item) (bytes : List ℕ) (table : tables.Table)

@@ -1,5 +1,5 @@
 //! The events of a history, and their picture.
-ghost use Rattle.std.specs.Prelude.{◌≡◌, true, All, IfOk, IfErr, OnErr, OnOk, Ok};
+ghost use Rattle.std.specs.Prelude.{◌≡◌, ℕ, true, replicate, All, IfOk, IfErr, OnErr, OnOk, Ok};
 ghost use Rattle.std.specs.Io.KnownBytes.{Appends};
 ghost use Rattle.apex_types.specs.machine.Machine.{asked_ticks, event_of, events_of, opening, run};
 ghost use Rattle.apex_dispatch.specs.Events.{IsWithin};
@@ -9,11 +9,12 @@ ghost use Rattle.apex_table.specs.Reading.{table_of};
 ghost use Rattle.apex_pictures.specs.Drawing.{CountsDrawing};
 ghost use Rattle.apex_pictures.specs.Pictures.{picture_text};
 ghost use Rattle.apex_cli.specs.Reports.{fault_of_events};
-ghost use Rattle.apex_cli.specs.Schedule.{are_cores_below, events_of_items};
+ghost use Rattle.apex_cli.specs.Schedule.{are_cores_below, events_of_item, events_of_items, is_core_below};
 ghost use Rattle.apex_cli.specs.declared.CliFault.TheVariants.{Memory};
 ghost use Rattle.apex_picture.specs.Histories.{IsHistoryOf};
 ghost use Rattle.apex_picture.specs.Tasks.{IsOfEntries, task_said};
-ghost use Rattle.apex_picture.specs.Answers.{answer_of, IsAskedStyle, IsPlanOf, IsRunOf, RefusesItems};
+ghost use Rattle.apex_picture.specs.Answers.{answer_of, IsAskedStyle, IsListOf, IsPlanOf, IsRunOf, RefusesItems};
+ghost use Rattle.apex_pictures.specs.declared.Style.TheVariants as Style;
 
 use crate::histories::{History, history_in};
 use crate::tasks::Task;
@@ -156,6 +157,94 @@ fn run_of(alloc: Global, task: &Task, items: &[Item], table: Table) -> Result<Ru
     run_in(alloc, task, &kernel, fault)
 }
 
+/// The event of an item, and the number of times that it comes.
+#[tactic(auto, unfolding(apex_cli::specs::Schedule::is_core_below))]
+fn repeated(item: &Item) -> (Event, u32)
+    ensures events { events_of_item item.now ≡ replicate result.1 result.0 }
+    ensures within { (cores : ℕ) → is_core_below cores item.now ≡ true → IsWithin cores result.0 }
+{
+    match *item {
+        Item::Turns { core, times } => (Event::Turn(core), times),
+        Item::Tick(ticks) => (Event::Tick(ticks.count()), 1),
+    }
+}
+
+/// The events for which items ask.
+#[derive(Drop)]
+struct EventList {
+    events: Vec<Event>,
+    /// Whether the items ask for more.
+    is_cut: bool,
+}
+
+/// Lists the events for which the items ask, as many as the history of the table takes.
+fn listed(alloc: Global, items: &[Item], table: &Table) -> Result<EventList, AllocError>
+    requires { are_cores_below table.now.cores items.now ≡ true }
+    ensures within { IfOk result (λ found. All (IsWithin table.now.cores) found.events.items) }
+    ensures list { IfOk result (λ found. IsListOf table.now.limit (events_of_items items.now)
+        found.events.items found.is_cut) }
+{
+    let limit = table.limit() as usize;
+    let mut events = Vec::new(alloc);
+    for item in items {
+        let (event, times) = repeated(item);
+        let many = events.len() + times as usize;
+        events.resize(many.min(limit), event)?;
+        if limit < many {
+            return Ok(EventList {
+                events,
+                is_cut: true,
+            });
+        }
+    }
+    Ok(EventList {
+        events,
+        is_cut: false,
+    })
+}
+
+/// The run of the items on the table, as a trace is drawn of it: nothing is run.
+fn listed_run(alloc: Global, items: &[Item], table: &Table) -> Result<Run, AllocError>
+    requires { are_cores_below table.now.cores items.now ≡ true }
+    ensures made { IfOk result (λ run. IsRunOf items.now table.now run.events.items run.fault) }
+    ensures style { IfOk result (λ run. run.style ≡ Style.Trace) }
+{
+    let found = listed(alloc, items, table)?;
+    let fault = if found.is_cut {
+        Some(CliFault::HistoryFull(table.limit()))
+    } else {
+        None
+    };
+    Ok(Run {
+        style: Style::Trace,
+        events: found.events,
+        fault,
+    })
+}
+
+/// The run of the items on the table of this text.
+fn run_for(
+    alloc: Global,
+    task: &Task,
+    items: &[Item],
+    table: &Table,
+    text: &[u8],
+) -> Result<Run, AllocError>
+    requires entries { IsOfEntries task.now }
+    requires table { table_of text.now ≡ Ok table.now }
+    requires below { are_cores_below table.now.cores items.now ≡ true }
+    ensures made { IfOk result (λ run. IsRunOf items.now table.now run.events.items run.fault) }
+    ensures style { IfOk result (λ run. IsAskedStyle (task_said task.now) run.style) }
+{
+    match task.format {
+        Format::Svg => {
+            let again = read_again(alloc, text)?;
+            run_of(alloc, task, items, again)
+        }
+        Format::Trace => listed_run(alloc, items, table),
+    }
+}
+
 /// The plan for the items on the table of this text.
 ///
 /// The errors in the order of the checks: the table's fault, `Usage` if an item is of a core that
@@ -171,8 +260,7 @@ pub fn plan_of(alloc: Global, task: &Task, items: &[Item], text: &[u8]) -> Resul
     if !are_cores_below(table.cores(), items) {
         return Err(CliFault::Usage);
     }
-    let again = read_again(alloc, text)?;
-    let made = run_of(alloc, task, items, table)?;
+    let made = run_for(alloc, task, items, &table, text)?;
     let Run {
         style,
         events,
@@ -180,7 +268,7 @@ pub fn plan_of(alloc: Global, task: &Task, items: &[Item], text: &[u8]) -> Resul
     } = made;
     Ok(Plan {
         style,
-        table: again,
+        table,
         events,
         fault,
     })

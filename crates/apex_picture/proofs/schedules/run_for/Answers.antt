@@ -1,0 +1,16 @@
+-- The table that was read again is the one of the text.
+use Rattle.apex_picture.proofs.Plans.{same_table, trace_is}
+use Rattle.apex_picture.proofs.schedules.run_for.Goals as goal
+
+pub run_of-requires-clause-below : goal.run_of-requires-clause-below
+run_of-requires-clause-below c =
+    rw (same_table c.args.text.now c.args.table.now c.in_ok-again-in-Svg.again c.requires.table c.in_ok-again-in-Svg.ensures)
+    c.requires.below
+
+pub returns-in_ok-again-in-Svg-clause-made : goal.returns-in_ok-again-in-Svg-clause-made
+returns-in_ok-again-in-Svg-clause-made c =
+    rw (same_table c.args.text.now c.args.table.now c.in_ok-again-in-Svg.again c.requires.table c.in_ok-again-in-Svg.ensures)
+    at c.run_of.ensures.made
+
+pub returns-in-Trace-clause-style : goal.returns-in-Trace-clause-style
+returns-in-Trace-clause-style c = trace_is c.args.task.now (λ run. run.style) c.listed_run.result c.in-Trace.is c.listed_run.ensures.style
