@@ -1,52 +1,146 @@
-//! The differences between an output and the expected one.
-ghost use Rattle.std.specs.Prelude.{◌≡◌, IfOk, IsNone, string_bytes};
+//! The differences between an outcome and the expected one.
+ghost use Rattle.std.specs.Prelude.{◌≡◌, ◌-◌, length, drop, IsTrue};
 
+use crate::devices::Devices;
 use crate::faults::CaseFault;
-use crate::programs::{Player, Program, Telling};
-use crate::tellings::{Asked, Part, number_of};
+use crate::programs::{Player, Program, Request, Telling, bytes_of, words_of};
+use crate::reports::Report;
+use crate::tellings::{Asked, number_of};
+use crate::texts::Text;
 use std::alloc::{AllocError, Global};
+use std::mem;
 use std::sync::Wait;
 use std::thread::Threads;
 
-/// The difference with this text.
-pub fn found(text: Result<String, AllocError>) -> Result<Option<String>, CaseFault> {
-    Ok(Some(text?))
-}
-
-/// The first line in which a text differs from what was expected.
-fn first_difference(alloc: Global, expected: &str, got: &str) -> Result<String, AllocError> {
-    let mut same: usize = 0;
-    for (wanted, line) in expected.lines().zip(got.lines()) {
-        if wanted != line {
-            break;
-        }
-        same = same.saturating_add(1);
-    }
-    let number = same.saturating_add(1);
-    let wanted = expected.lines().nth(same).unwrap_or("no line");
-    let line = got.lines().nth(same).unwrap_or("no line");
-    format!(in alloc; "line {number}: expected {wanted}, but got {line}")
-}
-
-/// The difference of a text from what was expected; none if there is no difference.
-fn difference_of(alloc: Global, expected: &str, got: &str) -> Result<Option<String>, CaseFault>
-    ensures { IfOk result (λ difference. IsNone difference → expected.now ≡ got.now) }
+/// Whether a history ends in these lines, the first of which begins a line of it.
+fn ends_in(history: &[u8], lines: &[u8]) -> bool
+    ensures { IsTrue result → drop (length history.now - length lines.now) history.now ≡ lines.now }
 {
-    if expected == got {
-        return Ok(None);
-    }
-    Ok(Some(first_difference(alloc, expected, got)?))
+    let Some(at) = history.len().checked_sub(lines.len()) else {
+        return false;
+    };
+    let (before, last) = history.split_at(at);
+    last == lines && (before.is_empty() || before.ends_with(b"\n"))
 }
 
 /// The number of lines whose third word is this one.
-fn lines_of(history: &str, word: &str) -> usize {
-    let mut count: usize = 0;
+fn lines_of(history: &str, word: &str) -> u64 {
+    let mut count: u64 = 0;
     for line in history.lines() {
         if line.split(' ').nth(2) == Some(word) {
             count = count.saturating_add(1);
         }
     }
     count
+}
+
+/// Compares lines with what a line of the case expects of them in part: the number of each core's
+/// and of the ticker's, as `lines core0 3`, and the texts in them, as `stands TEXT`.
+fn compare_part(report: &mut Report, expected: &str, lines: &str) {
+    match expected.split_once(' ') {
+        Some(("lines", count)) => compare_count(report, count, lines),
+        Some(("stands", text)) => report.require(lines.contains(text), expected),
+        _ => {}
+    }
+}
+
+/// Compares the number of lines of a word with the one behind the word.
+fn compare_count(report: &mut Report, count: &str, lines: &str) {
+    let (word, number) = count.split_once(' ').unwrap_or((count, ""));
+    match number_of(number) {
+        Ok(wanted) => report.compare_numbers(word, wanted, lines_of(lines, word)),
+        Err(fault) => report.blame(fault),
+    }
+}
+
+/// Compares lines with what the case expects of them in part.
+fn compare_parts(report: &mut Report, case: &str, lines: &str) {
+    for expected in case.lines() {
+        compare_part(report, expected, lines);
+    }
+}
+
+/// The request of `check` for the table and these lines.
+fn check_of(alloc: Global, asked: &Asked<'_>, lines: &str) -> Result<Request, AllocError> {
+    let bytes = bytes_of(alloc, asked.table.as_str(), "%%\n", lines)?;
+    Ok(Request {
+        words: Some(words_of(alloc, &["check"])?),
+        bytes,
+        devices: Devices::sound(),
+    })
+}
+
+/// The outcome of `check` for the table and these lines.
+fn told_of_check<R: Threads + Wait + Sync, P: Program>(
+    player: &Player<'_, R, P>,
+    asked: &Asked<'_>,
+    lines: &str,
+) -> Result<Telling, CaseFault> {
+    let request = check_of(asked.alloc, asked, lines)?;
+    player.told(asked.alloc, request)
+}
+
+/// Compares the outcome of `check`, for the table and these lines, with this verdict.
+fn compare_check<R: Threads + Wait + Sync, P: Program>(
+    player: &Player<'_, R, P>,
+    report: &mut Report,
+    asked: &Asked<'_>,
+    lines: &str,
+    verdict: &str,
+) {
+    match told_of_check(player, asked, lines) {
+        Ok(told) => {
+            report.compare(verdict, told.output.as_str().trim_end());
+            report.compare_numbers("status of check", 0, told.status as u64);
+            mem::drop(told);
+        }
+        Err(fault) => report.blame(fault),
+    }
+}
+
+/// Compares lines with the last ones that the case expects.
+fn compare_end(report: &mut Report, expected: &str, lines: &str) {
+    if report.fault().is_none() && !ends_in(lines.as_bytes(), expected.as_bytes()) {
+        report.differ_from_end(lines, expected);
+    }
+}
+
+/// Compares lines with those that the case expects. Those of a run by threads are compared in part,
+/// and the verdict of `check` on them with this one.
+fn compare_output<R: Threads + Wait + Sync, P: Program>(
+    player: &Player<'_, R, P>,
+    report: &mut Report,
+    asked: &Asked<'_>,
+    lines: &str,
+) {
+    let whole = asked.expected.output.as_str();
+    if let Some(verdict) = asked.expected.verdict {
+        compare_parts(report, asked.lines, lines);
+        compare_check(player, report, asked, lines, verdict);
+    } else if asked.expected.is_end {
+        compare_end(report, whole, lines);
+    } else {
+        report.compare(whole.get(..asked.devices.room).unwrap_or(whole), lines);
+    }
+}
+
+/// Compares the program's outcome with the one that the case expects.
+pub fn compare_told<R: Threads + Wait + Sync, P: Program>(
+    player: &Player<'_, R, P>,
+    report: &mut Report,
+    asked: &Asked<'_>,
+    told: &Telling,
+) {
+    report.compare(asked.expected.error.as_str(), told.error.as_str());
+    report.compare_numbers("status", asked.expected.status as u64, told.status as u64);
+    compare_output(player, report, asked, told.output.as_str());
+}
+
+/// Compares the program's outcome with this fault and this status, and nothing on standard output.
+pub fn compare_refusal(report: &mut Report, told: &Telling, status: u64, fault: &str) {
+    report.compare_numbers("status", status, told.status as u64);
+    report.compare(fault, told.error.as_str());
+    report.compare("", told.output.as_str());
 }
 
 /// The whole lines at the head of a text.
@@ -57,153 +151,49 @@ fn whole_lines(text: &str) -> &str {
     }
 }
 
-/// The difference of the number of lines of a word from the one that the case expects, which stands
-/// behind the word.
-fn difference_of_count(
-    alloc: Global,
-    count: &str,
-    lines: &str,
-) -> Result<Option<String>, CaseFault> {
-    let Some((word, number)) = count.split_once(' ') else {
-        return Err(CaseFault::Number);
-    };
-    let (wanted, got) = (number_of(number)?, lines_of(lines, word));
-    if wanted == got as u64 {
-        return Ok(None);
-    }
-    found(format!(in alloc; "{got} lines of {word}"))
-}
-
-/// The difference of lines from what the case expects of them in this part.
-fn difference_of_part(
-    alloc: Global,
-    part: &Part<'_>,
-    lines: &str,
-) -> Result<Option<String>, CaseFault> {
-    match part {
-        Part::Count(count) => difference_of_count(alloc, count, lines),
-        Part::Text(text) if lines.contains(*text) => Ok(None),
-        Part::Text(text) => found(format!(in alloc; "{text} stands nowhere")),
-    }
-}
-
-/// The difference of lines from what the case expects of them: the number of each core's and of the
-/// ticker's, and the texts in them.
-fn difference_of_parts(
-    alloc: Global,
-    parts: &[Part<'_>],
-    lines: &str,
-) -> Result<Option<String>, CaseFault> {
-    for part in parts {
-        let difference = difference_of_part(alloc, part, lines)?;
-        if difference.is_some() {
-            return Ok(difference);
-        }
-    }
-    Ok(None)
-}
-
-/// The difference of the outcome of `check` from this verdict.
-fn difference_of_verdict(
-    alloc: Global,
-    told: &Telling,
-    verdict: &str,
-) -> Result<Option<String>, CaseFault> {
-    let (status, got) = (told.status, told.output.as_str().trim_end());
-    if status == 0 && got == verdict {
-        return Ok(None);
-    }
-    found(format!(in alloc; "check says {got}, with status {status}"))
-}
-
-/// The difference of the outcome of `check`, for the table and these lines, from this verdict.
-fn difference_of_check<R: Threads + Wait + Sync, P: Program>(
+/// Compares the verdict of `check` on these lines of a run with that on legal ones.
+fn compare_legal<R: Threads + Wait + Sync, P: Program>(
     player: &Player<'_, R, P>,
+    report: &mut Report,
     asked: &Asked<'_>,
     lines: &str,
-    verdict: &str,
-) -> Result<Option<String>, CaseFault> {
-    let told = player.told_of(&["check"], &[asked.table.as_str(), "%%\n", lines])?;
-    difference_of_verdict(player.alloc, &told, verdict)
+) {
+    let mut verdict = Text::new(asked.alloc);
+    verdict.put("legal ");
+    verdict.put_number(lines.lines().count() as u64);
+    match verdict.whole() {
+        Ok(verdict) => compare_check(player, report, asked, lines, verdict),
+        Err(fault) => report.blame(fault),
+    }
+    mem::drop(verdict);
 }
 
-/// The difference of the lines of a run by threads from those that the case expects, and of the
-/// verdict of `check` on them from this one.
-fn difference_of_run<R: Threads + Wait + Sync, P: Program>(
+/// Compares the lines of a run by threads that was cut off with the whole ones, which differ from
+/// run to run: the whole lines of them are legal, and not all.
+fn compare_begun<R: Threads + Wait + Sync, P: Program>(
     player: &Player<'_, R, P>,
-    asked: &Asked<'_>,
-    lines: &str,
-    verdict: &str,
-) -> Result<Option<String>, CaseFault> {
-    match difference_of_parts(player.alloc, asked.expected.parts.as_slice(), lines) {
-        Ok(None) => difference_of_check(player, asked, lines, verdict),
-        difference => difference,
-    }
-}
-
-/// The difference of these lines from those that the case expects.
-fn difference_of_output<R: Threads + Wait + Sync, P: Program>(
-    player: &Player<'_, R, P>,
-    asked: &Asked<'_>,
-    lines: &str,
-) -> Result<Option<String>, CaseFault> {
-    if let Some(verdict) = asked.expected.verdict {
-        return difference_of_run(player, asked, lines, verdict);
-    }
-    let whole = asked.expected.output.as_str();
-    let expected = whole.get(..asked.devices.room).unwrap_or(whole);
-    difference_of(player.alloc, expected, lines)
-}
-
-/// The difference of the program's outcome from the one that the case expects; none if there is no
-/// difference.
-pub fn difference_in<R: Threads + Wait + Sync, P: Program>(
-    player: &Player<'_, R, P>,
-    asked: &Asked<'_>,
-    told: &Telling,
-) -> Result<Option<String>, CaseFault> {
-    let (wanted, got) = (asked.expected.status, told.status);
-    if wanted != got {
-        return found(format!(in player.alloc; "expected status {wanted}, but got {got}"));
-    }
-    match difference_of(
-        player.alloc,
-        asked.expected.error.as_str(),
-        told.error.as_str(),
-    ) {
-        Ok(None) => difference_of_output(player, asked, told.output.as_str()),
-        difference => difference,
-    }
-}
-
-/// Whether `check` finds legal these lines of a run.
-fn is_legal<R: Threads + Wait + Sync, P: Program>(
-    player: &Player<'_, R, P>,
-    asked: &Asked<'_>,
-    lines: &str,
-) -> Result<bool, CaseFault> {
-    let count = lines.lines().count();
-    let legal = format!(in player.alloc; "legal {count}")?;
-    match difference_of_check(player, asked, lines, legal.as_str()) {
-        Ok(difference) => Ok(difference.is_none()),
-        Err(fault) => Err(fault),
-    }
-}
-
-/// Whether these lines are a prefix of the whole text, and not all of it. Lines of a run by threads
-/// differ from those of another one, so that the whole ones of them have to be legal.
-pub fn is_beginning<R: Threads + Wait + Sync, P: Program>(
-    player: &Player<'_, R, P>,
+    report: &mut Report,
     asked: &Asked<'_>,
     lines: &str,
     whole: &str,
-) -> Result<bool, CaseFault> {
-    if asked.expected.verdict.is_none() || !asked.is_for("run") {
-        return Ok(whole.starts_with(lines) && lines.len() < whole.len());
+) {
+    let is_shorter = lines.lines().count() < whole.lines().count();
+    report.require(is_shorter, "the output is shorter than the whole one");
+    compare_legal(player, report, asked, lines);
+}
+
+/// Compares the output of a call that was cut off with the whole one, of which it is a prefix, and
+/// not all.
+pub fn compare_beginning<R: Threads + Wait + Sync, P: Program>(
+    player: &Player<'_, R, P>,
+    report: &mut Report,
+    asked: &Asked<'_>,
+    lines: &str,
+    whole: &str,
+) {
+    if asked.expected.verdict.is_some() && asked.is_for("run") {
+        return compare_begun(player, report, asked, whole_lines(lines), whole);
     }
-    let begun = whole_lines(lines);
-    if begun.lines().count() >= whole.lines().count() {
-        return Ok(false);
-    }
-    is_legal(player, asked, begun)
+    let is_beginning = whole.starts_with(lines) && lines.len() < whole.len();
+    report.require(is_beginning, "the output is a prefix of the whole one");
 }

@@ -1,16 +1,20 @@
 //! Why a case was not played to its end.
 use std::alloc::{AllocError, AllocFailed};
-use std::error::Error;
 use std::str::Utf8Error;
 use std::{fmt, io};
 
-/// The reason why a case was not played to its end, or no report was written.
-#[derive(Clone, Copy, Debug)]
+/// The reason why a case is not as it should be, was not played to its end, or no report was
+/// written.
+#[derive(Clone, Copy)]
 pub enum CaseFault {
+    /// The outcome is not the expected one. The report has the difference.
+    Differs,
+    /// The outcome is the expected one, and must be another one.
+    Alike,
     Memory,
     Stream,
     Text,
-    /// A line of the outline has too few words, or too many.
+    /// A line of the outline has too few words.
     Outline,
     NoLines,
     NoFolder,
@@ -29,6 +33,8 @@ impl CaseFault {
     /// The fault in words.
     pub fn text(self) -> &'static str {
         match self {
+            CaseFault::Differs => "another outcome",
+            CaseFault::Alike => "it must differ",
             CaseFault::Memory => "out of memory",
             CaseFault::Stream => "a stream or a file failed",
             CaseFault::Text => "the text is no UTF-8",
@@ -50,8 +56,6 @@ impl fmt::Display for CaseFault {
         f.write_str(self.text())
     }
 }
-
-impl Error for CaseFault {}
 
 impl From<AllocError> for CaseFault {
     fn from(_error: AllocError) -> CaseFault {

@@ -3,23 +3,28 @@
 #![tactic(auto)]
 
 mod attempts;
+mod changes;
 mod checks;
 mod devices;
 mod differences;
 mod examples;
 mod faults;
+mod folders;
 mod folds;
 mod outlines;
+mod plays;
 mod programs;
 mod readings;
 mod reports;
 mod rows;
 mod tellings;
+mod texts;
 
 pub use checks::check_rows;
 pub use devices::Devices;
 pub use examples::check_examples;
 pub use faults::CaseFault;
-pub use programs::{Program, Request, Telling};
+pub use folders::{ExampleFile, read_folder};
+pub use programs::{Player, Program, Request, Telling};
 pub use readings::check_readings;
 pub use reports::Report;

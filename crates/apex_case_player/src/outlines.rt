@@ -1,94 +1,28 @@
-//! The outline of a case: a partition table in short, a schedule, and the last lines of the
-//! history.
+//! The partition table of a row's case, which has it in short.
 use crate::faults::CaseFault;
-use crate::rows::is_silent;
-use std::alloc::{AllocError, Global};
+use crate::texts::Text;
+use std::alloc::Global;
 
-/// The lines of a case, taken apart.
-#[derive(Drop)]
-pub struct Outline<'a> {
-    profile: &'a str,
-    cores: &'a str,
-    history: &'a str,
-    has_init: bool,
-    init: String,
-    sections: String,
-    /// The schedule's text.
-    pub schedule: &'a str,
-    /// Whether the history must not end in these lines.
-    pub differs: bool,
-    /// The last lines of the history, each with its line feed.
-    pub lines: String,
-}
-
-impl<'a> Outline<'a> {
-    /// The outline of these lines; `Outline` if a section has too few words or too many.
-    pub fn read(alloc: Global, text: &'a str) -> Result<Outline<'a>, CaseFault> {
-        let mut outline = Outline {
-            profile: "1",
-            cores: "1",
-            history: "4096",
-            has_init: false,
-            init: String::new(alloc),
-            sections: String::new(alloc),
-            schedule: "",
-            differs: false,
-            lines: String::new(alloc),
-        };
-        outline.put_all(text)?;
-        Ok(outline)
-    }
-
-    fn put_all(&mut self, text: &'a str) -> Result<(), CaseFault> {
-        for line in text.lines() {
-            if !is_silent(line) {
-                self.put(line)?;
-            }
-        }
-        Ok(())
-    }
-
-    fn put(&mut self, line: &'a str) -> Result<(), CaseFault> {
-        match line.split_once(' ').unwrap_or((line, "")) {
-            ("profile", profile) => self.profile = profile,
-            ("cores", cores) => self.cores = cores,
-            ("history", entries) => self.history = entries,
-            ("init", steps) => {
-                self.has_init = true;
-                put_steps(&mut self.init, steps)?;
-            }
-            ("schedule", schedule) => self.schedule = schedule,
-            ("differs", "") => self.differs = true,
-            ("process", process) => put_process(&mut self.sections, process)?,
-            (kind, words) => match keys_of(kind) {
-                [] => writeln!(self.lines, "{line}")?,
-                keys => put_object(&mut self.sections, kind, keys, words)?,
-            },
-        }
-        Ok(())
-    }
-
-    /// The text of the table.
-    pub fn table(&self, alloc: Global) -> Result<String, AllocError> {
-        let profile = self.profile;
-        let cores = self.cores;
-        let history = self.history;
-        let (open, shut) = if self.has_init {
-            ("init = [", "]\n")
-        } else {
-            ("", "")
-        };
-        let (init, rest) = (self.init.as_str(), self.sections.as_str());
-        format!(in alloc;
-            "profile = {profile}\ncores = {cores}\nhistory = {history}\n{open}{init}{shut}{rest}"
-        )
+/// The table that the lines of a case have in short; `Outline` if a section has too few words.
+pub fn table_of(alloc: Global, lines: &str) -> Result<String, CaseFault> {
+    let mut table = Text::new(alloc);
+    put_head(&mut table, lines);
+    match put_sections(&mut table, lines) {
+        Ok(()) => table.into_string(),
+        Err(fault) => Err(fault),
     }
 }
 
-/// The keys of an object of this kind, in the order of an outline's words; none if there is no such
+/// Whether a line with this word is one of the table.
+pub fn is_of_table(field: &str) -> bool {
+    matches!(field, "profile" | "cores" | "history" | "init") || !keys_of(field).is_empty()
+}
+
+/// The keys of a section of this kind, in the order of a line's words; none if there is no such
 /// kind.
 fn keys_of(kind: &str) -> &'static [&'static str] {
     match kind {
+        "process" => &["name", "priority", "core"],
         "semaphore" => &["name", "maximum", "initial", "discipline"],
         "buffer" => &["name", "length", "capacity", "discipline"],
         "blackboard" => &["name", "length"],
@@ -98,64 +32,109 @@ fn keys_of(kind: &str) -> &'static [&'static str] {
     }
 }
 
-/// Writes steps as the items of an array of texts.
-fn put_steps(text: &mut String, steps: &str) -> Result<(), AllocError> {
-    for step in steps.split("; ") {
-        if !step.is_empty() {
-            write!(text, "\"{step}\", ")?;
+/// Writes what is before the sections.
+fn put_head(table: &mut Text, lines: &str) {
+    put_key(table, "profile", value_of(lines, "profile ", "1"));
+    put_key(table, "cores", value_of(lines, "cores ", "1"));
+    put_key(table, "history", value_of(lines, "history ", "4096"));
+    if is_with_init(lines) {
+        table.put("init = [");
+        put_init(table, lines);
+        table.put("]\n");
+    }
+}
+
+/// The value on the first line with this word, or the usual one.
+fn value_of<'a>(lines: &'a str, word: &str, usual: &'a str) -> &'a str {
+    for line in lines.lines() {
+        if let Some(value) = line.strip_prefix(word) {
+            return value;
         }
     }
-    Ok(())
+    usual
+}
+
+fn is_with_init(lines: &str) -> bool {
+    lines.starts_with("init") || lines.contains("\ninit")
+}
+
+/// Writes the steps of the lines `init`.
+fn put_init(table: &mut Text, lines: &str) {
+    for line in lines.lines() {
+        if let Some(steps) = line.strip_prefix("init ") {
+            put_steps(table, steps);
+        }
+    }
+}
+
+/// Writes steps as the items of an array of texts.
+fn put_steps(table: &mut Text, steps: &str) {
+    for step in steps.split("; ") {
+        if !step.is_empty() {
+            table.put("\"");
+            table.put(step);
+            table.put("\", ");
+        }
+    }
 }
 
 /// Writes a key with its value, which is a number, `true` or a text.
-fn put_key(text: &mut String, key: &str, value: &str) -> Result<(), AllocError> {
+fn put_key(table: &mut Text, key: &str, value: &str) {
     let is_bare = value == "true" || value.parse::<u32>().is_ok();
     let quote = if is_bare { "" } else { "\"" };
-    writeln!(text, "{key} = {quote}{value}{quote}")
+    table.put(key);
+    table.put(" = ");
+    table.put(quote);
+    table.put(value);
+    table.put(quote);
+    table.put("\n");
 }
 
-/// Writes the section of a process, given as `NAME PRIORITY CORE KEY KEY=VALUE: STEP; STEP`.
-fn put_process(text: &mut String, process: &str) -> Result<(), CaseFault> {
-    let Some((head, steps)) = process.split_once(':') else {
-        return Err(CaseFault::Outline);
-    };
-    put_attributes(text, head)?;
-    text.push_str("script = [")?;
-    put_steps(text, steps.trim_start())?;
-    text.push_str("]\n")?;
+/// Writes the section of each process and of each object.
+fn put_sections(table: &mut Text, lines: &str) -> Result<(), CaseFault> {
+    for line in lines.lines() {
+        let (kind, words) = line.split_once(' ').unwrap_or((line, ""));
+        put_section(table, kind, words)?;
+    }
     Ok(())
 }
 
-/// Writes the head of a process's section, given as `NAME PRIORITY CORE KEY KEY=VALUE`.
-fn put_attributes(text: &mut String, head: &str) -> Result<(), CaseFault> {
-    let mut words = head.split(' ');
-    text.push_str("[[process]]\n")?;
-    for key in ["name", "priority", "core"] {
+/// Writes the section that a line gives, if it gives one. A process is given as
+/// `NAME PRIORITY CORE KEY KEY=VALUE: STEP; STEP`.
+fn put_section(table: &mut Text, kind: &str, words: &str) -> Result<(), CaseFault> {
+    let keys = keys_of(kind);
+    if keys.is_empty() {
+        return Ok(());
+    }
+    if kind != "process" {
+        return put_keys(table, kind, keys, words);
+    }
+    let Some((head, steps)) = words.split_once(':') else {
+        return Err(CaseFault::Outline);
+    };
+    put_keys(table, kind, keys, head)?;
+    table.put("script = [");
+    put_steps(table, steps.trim_start());
+    table.put("]\n");
+    Ok(())
+}
+
+/// Writes the head of a section: the values of these keys, and behind them `KEY=VALUE`, or a key
+/// that is true.
+fn put_keys(table: &mut Text, kind: &str, keys: &[&str], values: &str) -> Result<(), CaseFault> {
+    let mut words = values.split(' ');
+    table.put("[[");
+    table.put(kind);
+    table.put("]]\n");
+    for key in keys {
         let Some(value) = words.next() else {
             return Err(CaseFault::Outline);
         };
-        put_key(text, key, value)?;
+        put_key(table, key, value);
     }
     for word in words {
         let (key, value) = word.split_once('=').unwrap_or((word, "true"));
-        put_key(text, key, value)?;
+        put_key(table, key, value);
     }
     Ok(())
-}
-
-/// Writes the section of an object, given by the values of these keys.
-fn put_object(text: &mut String, kind: &str, keys: &[&str], values: &str) -> Result<(), CaseFault> {
-    let mut values = values.split(' ');
-    writeln!(text, "[[{kind}]]")?;
-    for key in keys {
-        let Some(value) = values.next() else {
-            return Err(CaseFault::Outline);
-        };
-        put_key(text, key, value)?;
-    }
-    match values.next() {
-        None => Ok(()),
-        Some(_) => Err(CaseFault::Outline),
-    }
 }

@@ -52,10 +52,17 @@ pub trait Program {
     fn fault_of(&self, alloc: Global, text: &str) -> Result<String, AllocError>;
 }
 
-impl Telling {
-    /// Whether it ends with this fault and this status, and writes nothing on standard output.
-    pub fn is_refusal(&self, status: u8, fault: &str) -> bool {
-        self.status == status && self.error.as_str() == fault && self.output.as_str().is_empty()
+/// The program that the cases are about, and the runtime of its calls.
+#[derive(Clone, Copy)]
+pub struct Player<'a, R, P> {
+    pub rt: &'a R,
+    pub program: &'a P,
+}
+
+impl<'a, R: Threads + Wait + Sync, P: Program> Player<'a, R, P> {
+    /// The outcome of a call of the program.
+    pub fn told(&self, alloc: Global, request: Request) -> Result<Telling, CaseFault> {
+        self.program.told(self.rt, alloc, request)
     }
 }
 
@@ -69,37 +76,16 @@ pub fn words_of(alloc: Global, given: &[&str]) -> Result<Vec<String>, AllocError
     Ok(words)
 }
 
-/// The bytes of texts, one behind the other.
-pub fn bytes_of(alloc: Global, texts: &[&str]) -> Result<Vec<u8>, AllocError> {
+/// The bytes of a table, a separator and the lines behind it.
+pub fn bytes_of(
+    alloc: Global,
+    table: &str,
+    separator: &str,
+    lines: &str,
+) -> Result<Vec<u8>, AllocError> {
     let mut bytes = Vec::new(alloc);
-    for text in texts {
-        bytes.extend_from_slice(text.as_bytes())?;
-    }
+    bytes.extend_from_slice(table.as_bytes())?;
+    bytes.extend_from_slice(separator.as_bytes())?;
+    bytes.extend_from_slice(lines.as_bytes())?;
     Ok(bytes)
-}
-
-/// The program that cases are played against, with the runtime and the allocator of its calls.
-#[derive(Drop)]
-pub struct Player<'a, R, P> {
-    pub rt: &'a R,
-    pub program: &'a P,
-    pub alloc: Global,
-}
-
-impl<'a, R: Threads + Wait + Sync, P: Program> Player<'a, R, P> {
-    /// The outcome of a call of the program.
-    pub fn told(&self, request: Request) -> Result<Telling, CaseFault> {
-        self.program.told(self.rt, self.alloc, request)
-    }
-
-    /// The outcome of the program with these words and this text, if no call fails.
-    pub fn told_of(&self, words: &[&str], texts: &[&str]) -> Result<Telling, CaseFault> {
-        let words = Some(words_of(self.alloc, words)?);
-        let bytes = bytes_of(self.alloc, texts)?;
-        self.told(Request {
-            words,
-            bytes,
-            devices: Devices::sound(),
-        })
-    }
 }

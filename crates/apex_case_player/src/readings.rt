@@ -1,42 +1,36 @@
 //! The readings of a table: changes of its text, each with its fault.
-use crate::differences::found;
-use crate::examples::{names_in, text_of};
 use crate::faults::CaseFault;
-use crate::folds::unfolded;
+use crate::folders::{ExampleFile, text_in};
+use crate::folds::{lines_of, replaced};
 use crate::programs::Program;
 use crate::reports::Report;
 use crate::rows::{cut_line, is_silent};
-use std::alloc::{AllocError, AllocGlobal, Global};
-use std::fs::Files;
+use std::alloc::{AllocError, Global};
+use std::mem::drop;
 
-/// The text that a reading writes in one line, in which `; ` is a line feed.
-fn lines_of(alloc: Global, line: &str) -> Result<String, CaseFault> {
-    Ok(unfolded(alloc, line)?.replace(alloc, "; ", "\n")?)
+/// A place of an example's table, at which readings change it.
+#[derive(Clone, Copy)]
+struct Place<'a> {
+    example: &'a str,
+    table: &'a str,
+    /// The text there; `whole` for the whole table.
+    at: &'a str,
 }
 
-/// The table with the reading's new text at the first place of the old one.
-fn replaced(alloc: Global, table: &str, old: &str, new: &str) -> Result<String, CaseFault> {
-    let new = lines_of(alloc, new)?;
-    Ok(table.replacen(alloc, old, new.as_str(), 1)?)
-}
-
-/// The table with the new text in place of the reading's old one; `Edit` if the old one is nowhere
-/// in it.
-fn changed(alloc: Global, table: &str, at: &str, new: &str) -> Result<String, CaseFault> {
-    if at == "whole" {
+/// The table with the new text at this place; `Edit` if the text of the place is nowhere in it.
+fn changed(alloc: Global, place: &Place<'_>, new: &str) -> Result<String, CaseFault> {
+    if place.at == "whole" {
         return lines_of(alloc, new);
     }
-    let old = lines_of(alloc, at)?;
-    if at.is_empty() || !table.contains(old.as_str()) {
-        return Err(CaseFault::Edit);
-    }
-    replaced(alloc, table, old.as_str(), new)
+    replaced(alloc, place.table, place.at, new, 1)
 }
 
 /// Whether the program accepts this text of a table.
 fn is_accepted<P: Program>(program: &P, alloc: Global, text: &str) -> Result<bool, AllocError> {
     let fault = program.fault_of(alloc, text)?;
-    Ok(fault.as_str() == "none")
+    let is_none = fault.as_str() == "none";
+    drop(fault);
+    Ok(is_none)
 }
 
 /// The number of bytes of the shortest prefix of the table that is accepted, or of the whole table.
@@ -54,148 +48,106 @@ fn shortest_accepted<P: Program>(
     Ok(table.len())
 }
 
-/// The difference of the prefixes of the table that are accepted from the whole table alone.
-fn difference_of_cuts<P: Program>(
-    program: &P,
-    alloc: Global,
-    table: &str,
-) -> Result<Option<String>, CaseFault> {
-    let whole = table.trim_end().len();
-    let got = shortest_accepted(program, alloc, table)?;
-    if got == whole {
-        return Ok(None);
+/// Compares the prefixes of the table that are accepted with the one without its last line feed.
+fn compare_cuts<P: Program>(program: &P, report: &mut Report, table: &str) {
+    match shortest_accepted(program, report.alloc(), table) {
+        Ok(got) => {
+            let whole = table.trim_end().len();
+            report.compare_numbers("bytes that are accepted", whole as u64, got as u64);
+        }
+        Err(_) => report.blame(CaseFault::Memory),
     }
-    found(format!(in alloc; "{got} bytes of {whole} are accepted"))
 }
 
-/// The difference of the fault of a table's text from the expected one.
-fn difference_of_fault<P: Program>(
+/// Compares the fault of a table's text with the expected one.
+fn compare_fault<P: Program>(program: &P, report: &mut Report, text: &str, expected: &str) {
+    match program.fault_of(report.alloc(), text) {
+        Ok(got) => {
+            report.compare(expected, got.as_str());
+            drop(got);
+        }
+        Err(_) => report.blame(CaseFault::Memory),
+    }
+}
+
+/// Compares the fault of the table changed at this place with the expected one.
+fn compare_changed<P: Program>(
     program: &P,
-    alloc: Global,
-    text: &str,
+    report: &mut Report,
+    place: &Place<'_>,
     expected: &str,
-) -> Result<Option<String>, CaseFault> {
-    let got = program.fault_of(alloc, text)?;
-    if got.as_str() == expected {
-        return Ok(None);
+    new: &str,
+) {
+    match changed(report.alloc(), place, new.strip_prefix(' ').unwrap_or(new)) {
+        Ok(text) => {
+            compare_fault(program, report, text.as_str(), expected);
+            drop(text);
+        }
+        Err(fault) => report.blame(fault),
     }
-    found(format!(in alloc; "expected {expected}, but got {got}"))
 }
 
-/// The difference of a reading from the expected one; none if there is no difference.
-fn difference_in<P: Program>(
+/// Compares what a reading gives with what it has to give: `FAULT: NEW` or `cuts`.
+fn compare_reading<P: Program>(program: &P, report: &mut Report, place: &Place<'_>, reading: &str) {
+    match reading.split_once(':') {
+        Some((expected, new)) => compare_changed(program, report, place, expected, new),
+        None if reading == "cuts" => compare_cuts(program, report, place.table),
+        None => report.blame(CaseFault::Reading),
+    }
+}
+
+/// Counts the reading of a line if it is as expected, and else complains of it.
+fn check_reading<P: Program>(program: &P, report: &mut Report, place: &Place<'_>, line: &str) {
+    let reading = line.strip_prefix("differs ").unwrap_or(line);
+    report.begin_case();
+    compare_reading(program, report, place, reading);
+    match report.verdict(reading.len() < line.len()) {
+        Ok(_) => report.readings = report.readings.saturating_add(1),
+        Err(fault) => report.complain_of(place.example, line, fault),
+    }
+}
+
+/// Checks the readings at a place of the table.
+fn check_place<P: Program>(program: &P, report: &mut Report, place: &Place<'_>, readings: &str) {
+    for line in readings.lines() {
+        if !is_silent(line) {
+            check_reading(program, report, place, line);
+        }
+    }
+}
+
+/// Checks the readings of an example's table, place by place, and reports the number of those that
+/// are as expected.
+fn check_table<'a, P: Program>(
     program: &P,
-    alloc: Global,
-    table: &str,
-    at: &str,
-    reading: &str,
-) -> Result<Option<String>, CaseFault> {
-    if reading == "cuts" {
-        return difference_of_cuts(program, alloc, table);
-    }
-    let Some((expected, new)) = reading.split_once(':') else {
-        return Err(CaseFault::Reading);
-    };
-    let text = changed(alloc, table, at, new.strip_prefix(' ').unwrap_or(new))?;
-    difference_of_fault(program, alloc, text.as_str(), expected)
-}
-
-/// The readings of an example's table.
-#[derive(Drop)]
-struct Readings<'a, P> {
-    program: &'a P,
-    alloc: Global,
+    report: &mut Report,
     example: &'a str,
     table: &'a str,
+    readings: &'a str,
+) {
+    let mut place = Place {
+        example,
+        table,
+        at: "",
+    };
+    let mut parts = readings.split("\nat ");
+    check_place(program, report, &place, parts.next().unwrap_or(""));
+    for part in parts {
+        let (at, lines) = cut_line(part);
+        place.at = at;
+        check_place(program, report, &place, lines);
+    }
+    report.total_of_readings(example);
 }
 
-impl<'a, P: Program> Readings<'a, P> {
-    /// Complains of a line if its reading is not as expected, and answers whether it is.
-    fn check(&self, report: &mut Report, at: &str, line: &str) -> Result<bool, AllocError> {
-        let reading = line.strip_prefix("differs ").unwrap_or(line);
-        let is_to_differ = reading.len() < line.len();
-        match difference_in(self.program, self.alloc, self.table, at, reading) {
-            Ok(None) if is_to_differ => self.complain(report, line, "it is as told"),
-            Ok(Some(difference)) if !is_to_differ => self.complain(
-                report,
-                line,
-                difference.as_str(),
-            ),
-            Ok(_) => Ok(true),
-            Err(fault) => self.complain(report, line, fault.text()),
-        }
-    }
-
-    /// Complains of a line, which is not as expected.
-    fn complain(&self, report: &mut Report, line: &str, what: &str) -> Result<bool, AllocError> {
-        report.complain(self.example, line, what)?;
-        Ok(false)
-    }
-
-    /// Complains of the readings at a place of the table that are not as expected, and counts the
-    /// others.
-    fn check_place(
-        &self,
-        report: &mut Report,
-        at: &str,
-        readings: &str,
-    ) -> Result<usize, AllocError> {
-        let mut count: usize = 0;
-        for line in readings.lines() {
-            if !is_silent(line) && self.check(report, at, line)? {
-                count = count.saturating_add(1);
+/// Checks the readings of each file `NAME.readings` of a folder, over the table `NAME.toml`.
+pub fn check_readings<P: Program>(program: &P, report: &mut Report, files: &[ExampleFile]) {
+    for file in files {
+        if let (example, "readings") = file.split_name() {
+            match text_in(files, example, "toml") {
+                Some(table) => check_table(program, report, example, table, file.text()),
+                None => report.complain(example, "table", "there is no such file"),
             }
         }
-        Ok(count)
     }
-
-    /// Checks the readings, place by place, and reports the number of those that are as expected.
-    fn check_all(&self, report: &mut Report, readings: &str) -> Result<(), AllocError> {
-        let mut places = readings.split("\nat ");
-        let head = places.next().unwrap_or("");
-        let mut count = self.check_place(report, "", head)?;
-        for place in places {
-            let (at, lines) = cut_line(place);
-            count = count.saturating_add(self.check_place(report, at, lines)?);
-        }
-        report.count_readings(self.example, count)
-    }
-}
-
-/// Checks the readings of this table of the folder.
-fn check_table<R: Files + AllocGlobal, P: Program>(
-    rt: &R,
-    program: &P,
-    report: &mut Report,
-    folder: &str,
-    example: &str,
-) -> Result<(), CaseFault> {
-    let texts = text_of(rt, folder, example, "readings")?;
-    let Ok(table) = text_of(rt, folder, example, "toml") else {
-        report.complain(example, "table", "it cannot be read")?;
-        return Ok(());
-    };
-    let readings = Readings {
-        program,
-        alloc: rt.alloc(),
-        example,
-        table: table.as_str(),
-    };
-    readings.check_all(report, texts.as_str())?;
-    Ok(())
-}
-
-/// Checks the readings of each file `NAME.readings` of the folder, over the table `NAME.toml`.
-pub fn check_readings<R: Files + AllocGlobal + Clone + Drop, P: Program>(
-    rt: &R,
-    program: &P,
-    report: &mut Report,
-    folder: &str,
-) -> Result<(), CaseFault> {
-    for name in names_in(rt, folder)?.iter() {
-        if let Some((example, "readings")) = name.as_str().rsplit_once('.') {
-            check_table(rt, program, report, folder, example)?;
-        }
-    }
-    Ok(())
 }

@@ -1,17 +1,23 @@
 //! The report on the rows and on the examples, line by line.
-ghost use Rattle.std.specs.Prelude.{◌≡◌, false};
+ghost use Rattle.std.specs.Prelude.{◌≡◌, IsNone, false};
 
+use crate::faults::CaseFault;
 use crate::rows::is_silent;
-use std::alloc::{AllocError, Global};
-
-fn put_verdict(text: &mut String, row: &str, told: &str, what: &str) -> Result<(), AllocError> {
-    writeln!(text, "{row}: {told}: {what}")
-}
+use crate::texts::Text;
+use std::alloc::Global;
 
 /// The report so far.
 #[derive(Drop)]
 pub struct Report {
-    text: String,
+    alloc: Global,
+    text: Text,
+    /// The last difference.
+    difference: Text,
+    /// The attempt that is made, which a difference names, as `read 3`; at "" the case as it is.
+    attempt: &'static str,
+    number: u64,
+    /// The first fault of the case or the reading at hand.
+    fault: Option<CaseFault>,
     is_clean: bool,
     pub rows: u64,
     pub guards: u64,
@@ -19,12 +25,19 @@ pub struct Report {
     pub cases: u64,
     pub examples: u64,
     pub histories: u64,
+    /// The readings of one table that are as expected.
+    pub readings: u64,
 }
 
 impl Report {
     pub fn new(alloc: Global) -> Report {
         Report {
-            text: String::new(alloc),
+            alloc,
+            text: Text::new(alloc),
+            difference: Text::new(alloc),
+            attempt: "",
+            number: 0,
+            fault: None,
             is_clean: true,
             rows: 0,
             guards: 0,
@@ -32,11 +45,17 @@ impl Report {
             cases: 0,
             examples: 0,
             histories: 0,
+            readings: 0,
         }
     }
 
-    pub fn text(&self) -> &str {
-        self.text.as_str()
+    pub fn alloc(&self) -> Global {
+        self.alloc
+    }
+
+    /// The text of the report; `Memory` if a piece of it is missing.
+    pub fn text(&self) -> Result<&str, CaseFault> {
+        self.text.whole()
     }
 
     /// Whether nothing was reported that is not as it should be.
@@ -46,69 +65,229 @@ impl Report {
         self.is_clean
     }
 
+    fn put_name(&mut self, name: &str)
+        ensures { self.new.is_clean ≡ self.old.is_clean }
+    {
+        self.text.put(name);
+        self.text.put(": ");
+    }
+
+    fn put_count(&mut self, count: u64, noun: &str)
+        ensures { self.new.is_clean ≡ self.old.is_clean }
+    {
+        self.text.put_number(count);
+        self.text.put(noun);
+    }
+
     /// Reports the number of cases of a row.
-    pub fn count(&mut self, row: &str, cases: usize) -> Result<(), AllocError>
+    pub fn count(&mut self, row: &str, cases: u64)
         ensures { self.new.is_clean ≡ self.old.is_clean }
     {
         self.rows = self.rows.saturating_add(1);
-        self.cases = self.cases.saturating_add(cases as u64);
-        let noun = if cases == 1 { "case" } else { "cases" };
-        writeln!(self.text, "{row}: {cases} {noun}")
+        self.cases = self.cases.saturating_add(cases);
+        self.put_name(row);
+        self.put_count(cases, if cases == 1 { " case\n" } else { " cases\n" });
     }
 
     /// Reports how a case of an example is as it should be.
-    pub fn confirm(&mut self, example: &str, case: &str, how: &str) -> Result<(), AllocError>
+    pub fn confirm(&mut self, example: &str, case: &str, how: &str)
         ensures { self.new.is_clean ≡ self.old.is_clean }
     {
-        put_verdict(&mut self.text, example, case, how)
+        self.put_name(example);
+        self.put_name(case);
+        self.text.put(how);
+        self.text.put("\n");
     }
 
-    /// Reports the number of readings of an example's table that are as expected.
-    pub fn count_readings(&mut self, example: &str, readings: usize) -> Result<(), AllocError>
+    /// Reports the number of readings of an example's table that are as expected, and begins anew.
+    pub fn total_of_readings(&mut self, example: &str)
         ensures { self.new.is_clean ≡ self.old.is_clean }
     {
-        writeln!(self.text, "{example}: {readings} readings as told")
+        self.put_name(example);
+        self.put_count(self.readings, " readings as told\n");
+        self.readings = 0;
     }
 
     /// Reports the complaint about a guard, an effect, a case or a reading.
-    pub fn complain(&mut self, row: &str, told: &str, what: &str) -> Result<(), AllocError>
+    pub fn complain(&mut self, row: &str, told: &str, what: &str)
         ensures { self.new.is_clean ≡ false }
     {
         self.is_clean = false;
-        put_verdict(&mut self.text, row, told, what)
+        self.confirm(row, told, what);
+    }
+
+    /// Complains of a case or a reading by its fault, or by the last difference.
+    pub fn complain_of(&mut self, row: &str, told: &str, fault: CaseFault)
+        ensures { self.new.is_clean ≡ false }
+    {
+        if !matches!(fault, CaseFault::Differs) {
+            return self.complain(row, told, fault.text());
+        }
+        self.is_clean = false;
+        self.put_name(row);
+        self.put_name(told);
+        self.text.put_text(&self.difference);
+        self.text.put("\n");
     }
 
     /// Complains of each line of a text that says something.
-    pub fn complain_of_lines(
-        &mut self,
-        row: &str,
-        text: &str,
-        what: &str,
-    ) -> Result<(), AllocError> {
+    pub fn complain_of_lines(&mut self, row: &str, text: &str, what: &str) {
         for line in text.lines() {
             if !is_silent(line) {
-                self.complain(row, line, what)?;
+                self.complain(row, line, what);
             }
         }
-        Ok(())
     }
 
     /// Reports the numbers of rows, guards, effects and cases.
-    pub fn total(&mut self) -> Result<(), AllocError>
+    pub fn total(&mut self)
         ensures { self.new.is_clean ≡ self.old.is_clean }
     {
-        let (rows, guards, effects, cases) = (self.rows, self.guards, self.effects, self.cases);
-        writeln!(
-            self.text,
-            "{rows} rows, {guards} guards, {effects} effects, {cases} cases"
-        )
+        self.put_count(self.rows, " rows, ");
+        self.put_count(self.guards, " guards, ");
+        self.put_count(self.effects, " effects, ");
+        self.put_count(self.cases, " cases\n");
     }
 
     /// Reports the number of examples, and that of their cases.
-    pub fn total_of_examples(&mut self) -> Result<(), AllocError>
+    pub fn total_of_examples(&mut self)
         ensures { self.new.is_clean ≡ self.old.is_clean }
     {
-        let (examples, histories) = (self.examples, self.histories);
-        writeln!(self.text, "{examples} examples, {histories} histories")
+        self.put_count(self.examples, " examples, ");
+        self.put_count(self.histories, " histories\n");
     }
+
+    /// Begins a case or a reading.
+    pub fn begin_case(&mut self) {
+        self.fault = None;
+        self.attempt = "";
+    }
+
+    /// Begins an attempt of this name and number.
+    pub fn begin(&mut self, attempt: &'static str, number: u64) {
+        self.attempt = attempt;
+        self.number = number;
+    }
+
+    /// The first fault of the case or the reading at hand.
+    pub fn fault(&self) -> Option<CaseFault> {
+        self.fault
+    }
+
+    /// Notes a fault of the case at hand. Only the first one counts.
+    pub fn blame(&mut self, fault: CaseFault) {
+        if self.fault.is_none() {
+            self.fault = Some(fault);
+        }
+    }
+
+    /// Takes back that the outcome differs.
+    pub fn forgive(&mut self) {
+        self.fault = None;
+    }
+
+    /// How the case or the reading at hand is as it should be; its fault if it is not.
+    pub fn verdict(&self, differs: bool) -> Result<&'static str, CaseFault> {
+        match self.fault {
+            None if differs => Err(CaseFault::Alike),
+            None => Ok("as told"),
+            Some(CaseFault::Differs) if differs => Ok("differs, as it must"),
+            Some(fault) => Err(fault),
+        }
+    }
+
+    /// Begins a difference: the attempt, and what differs.
+    fn differ(&mut self, what: &str) {
+        self.difference.clear();
+        if !self.attempt.is_empty() {
+            self.difference.put(self.attempt);
+            self.difference.put(" ");
+            self.difference.put_number(self.number);
+            self.difference.put(": ");
+        }
+        self.difference.put(what);
+    }
+
+    /// Notes that the outcome differs if this does not hold.
+    pub fn require(&mut self, holds: bool, what: &str) {
+        if self.fault.is_some() || holds {
+            return;
+        }
+        self.differ("it is not so: ");
+        self.difference.put(what);
+        self.fault = Some(CaseFault::Differs);
+    }
+
+    /// Notes that the outcome differs if a number is not the expected one.
+    pub fn compare_numbers(&mut self, what: &str, wanted: u64, got: u64)
+        ensures { IsNone self.new.fault → wanted ≡ got }
+    {
+        if self.fault.is_some() || wanted == got {
+            return;
+        }
+        self.differ(what);
+        self.difference.put(": expected ");
+        self.difference.put_number(wanted);
+        self.difference.put(", but got ");
+        self.difference.put_number(got);
+        self.fault = Some(CaseFault::Differs);
+    }
+
+    /// Notes that the outcome differs if a text is not the expected one, with the first line that
+    /// differs.
+    pub fn compare(&mut self, expected: &str, got: &str)
+        ensures { IsNone self.new.fault → expected.now ≡ got.now }
+    {
+        if self.fault.is_some() || expected == got {
+            return;
+        }
+        self.put_first_difference(expected, got);
+        self.fault = Some(CaseFault::Differs);
+    }
+
+    /// The first line in which a text differs from what was expected.
+    fn put_first_difference(&mut self, expected: &str, got: &str) {
+        let mut lines = got.lines();
+        let mut number: u64 = 1;
+        for wanted in expected.lines() {
+            let line = lines.next().unwrap_or("no line");
+            if wanted != line {
+                return self.put_line(number, wanted, line);
+            }
+            number = number.saturating_add(1);
+        }
+        self.put_line(number, "no line", lines.next().unwrap_or("no line"));
+    }
+
+    /// The difference in the line of this number.
+    fn put_line(&mut self, number: u64, wanted: &str, got: &str) {
+        self.differ("line ");
+        self.difference.put_number(number);
+        self.difference.put(": expected ");
+        self.difference.put(wanted);
+        self.difference.put(", but got ");
+        self.difference.put(got);
+    }
+
+    /// Notes that a history does not end in the expected lines, with these and the actual ones: those
+    /// from that one on that begins as the expected ones do.
+    pub fn differ_from_end(&mut self, history: &str, lines: &str) {
+        self.differ("expected\n");
+        self.difference.put(lines);
+        self.difference.put("but got\n");
+        let first = first_word(lines);
+        let mut is_reached = false;
+        for line in history.lines() {
+            is_reached = is_reached || first_word(line) == first;
+            if is_reached {
+                self.difference.put(line);
+                self.difference.put("\n");
+            }
+        }
+        self.fault = Some(CaseFault::Differs);
+    }
+}
+
+fn first_word(line: &str) -> Option<&str> {
+    line.split(' ').next()
 }

@@ -10,7 +10,7 @@ use apex_store::PlainStore;
 use apex_table::read_table;
 use apex_types::{Event, MOST_TICKS};
 use std::alloc::Global;
-use std::str;
+use std::mem::drop;
 
 /// Whether a kernel with `cores` cores may be asked for the event.
 fn is_within(cores: u8, event: &Event) -> bool
@@ -69,12 +69,28 @@ fn lines_of(alloc: Global, kernel: &Kernel<PlainStore>) -> Result<Vec<u8>, CaseF
     Ok(written)
 }
 
+/// The lines of the history that the kernel makes of the events that these lines name.
+fn played(
+    alloc: Global,
+    kernel: &mut Kernel<PlainStore>,
+    lines: &str,
+) -> Result<Vec<u8>, CaseFault> {
+    make_all(kernel, lines)?;
+    lines_of(alloc, kernel)
+}
+
+/// The same lines, of a kernel of this table over a store without lists.
+fn plain_lines(alloc: Global, table: &str, lines: &str) -> Result<Vec<u8>, CaseFault> {
+    let mut kernel = booted(alloc, table)?;
+    let plain = played(alloc, &mut kernel, lines);
+    drop(kernel);
+    plain
+}
+
 /// `Plain` if a kernel over a store without lists makes another history of the events that these
 /// lines name.
 pub fn check_plain(alloc: Global, table: &str, lines: &str) -> Result<(), CaseFault> {
-    let mut kernel = booted(alloc, table)?;
-    make_all(&mut kernel, lines)?;
-    let plain = lines_of(alloc, &kernel)?;
+    let plain = plain_lines(alloc, table, lines)?;
     if plain.as_slice() == lines.as_bytes() {
         Ok(())
     } else {

@@ -1,11 +1,12 @@
 //! The program `apex` over devices in memory.
 use crate::plain::check_plain;
-use apex_case_player::{CaseFault, Program, Request, Telling};
+use apex_case_player::{CaseFault, Devices, Program, Request, Telling};
 use apex_cli::{CliFault, serve};
 use apex_history::{Counted, FailAt, Source};
 use apex_table::read_table;
 use std::alloc::{AllocError, Global};
 use std::io::{self, Read};
+use std::mem::drop;
 use std::str;
 use std::sync::Wait;
 use std::thread::Threads;
@@ -27,12 +28,53 @@ impl Read for Narrow {
     }
 }
 
-fn text_on(alloc: Global, paper: &FailAt) -> Result<String, CaseFault> {
-    Ok(String::from_str(alloc, str::from_utf8(paper.held())?)?)
+/// The text on a device.
+fn text_on(alloc: Global, device: FailAt) -> Result<String, CaseFault> {
+    let text = match str::from_utf8(device.held()) {
+        Ok(text) => String::from_str(alloc, text),
+        Err(_) => return Err(CaseFault::Text),
+    };
+    drop(device);
+    Ok(text?)
 }
 
-fn paper(alloc: Global, room: usize, failing: u64) -> Result<FailAt, CaseFault> {
-    Ok(FailAt::new(Vec::with_capacity(alloc, room)?, failing))
+/// A device with this room, of which the write of this number fails.
+fn paper(alloc: Global, room: usize, failing: u64) -> Result<Counted<FailAt>, CaseFault> {
+    let bytes = Vec::with_capacity(alloc, room)?;
+    Ok(Counted::new(FailAt::new(bytes, failing)))
+}
+
+/// The devices in memory of a call of the program.
+#[derive(Drop)]
+struct Desk {
+    reader: Counted<Narrow>,
+    writer: Counted<FailAt>,
+    error_writer: Counted<FailAt>,
+}
+
+impl Desk {
+    fn new(alloc: Global, bytes: Vec<u8>, devices: Devices) -> Result<Desk, CaseFault> {
+        Ok(Desk {
+            writer: paper(alloc, devices.room, devices.failing_write)?,
+            error_writer: paper(alloc, FAULT_ROOM, devices.failing_error)?,
+            reader: Counted::new(Narrow {
+                device: FailAt::new(bytes, devices.failing_read),
+                gives: devices.gives,
+            }),
+        })
+    }
+
+    /// The outcome of the call, which ended with this status.
+    fn telling(self, alloc: Global, status: u8) -> Result<Telling, CaseFault> {
+        let (failed_reads, failed_writes) = (self.reader.failures(), self.writer.failures());
+        Ok(Telling {
+            output: text_on(alloc, self.writer.into_inner())?,
+            error: text_on(alloc, self.error_writer.into_inner())?,
+            status,
+            failed_reads,
+            failed_writes,
+        })
+    }
 }
 
 /// The program `apex`.
@@ -46,31 +88,16 @@ impl Program for Apex {
         alloc: Global,
         request: Request,
     ) -> Result<Telling, CaseFault> {
-        let devices = request.devices;
-        let mut output = paper(alloc, devices.room, devices.failing_write)?;
-        let mut error = paper(alloc, FAULT_ROOM, devices.failing_error)?;
-        let mut reader = Counted::new(Narrow {
-            device: FailAt::new(request.bytes, devices.failing_read),
-            gives: devices.gives,
-        });
-        let mut writer = Counted::new(&mut output);
-        let mut error_writer = Counted::new(&mut error);
+        let mut desk = Desk::new(alloc, request.bytes, request.devices)?;
         let status = serve(
             rt,
             alloc,
             request.words.ok_or(CliFault::Memory),
-            &mut reader,
-            &mut writer,
-            &mut error_writer,
+            &mut desk.reader,
+            &mut desk.writer,
+            &mut desk.error_writer,
         );
-        let (failed_reads, failed_writes) = (reader.failures(), writer.failures());
-        Ok(Telling {
-            output: text_on(alloc, &output)?,
-            error: text_on(alloc, &error)?,
-            status,
-            failed_reads,
-            failed_writes,
-        })
+        desk.telling(alloc, status)
     }
 
     fn check_plain(&self, alloc: Global, table: &str, lines: &str) -> Result<(), CaseFault> {

@@ -26,7 +26,7 @@ pub struct Open<P: Naming> {
 #[derive(Clone, Copy)]
 pub enum Play<'a> {
     Scene(&'a Scene<'a>),
-    Storm(Storm<'a>),
+    Storm(Storm),
     /// A reader reads while another thread holds the lock.
     HeldLock,
 }

@@ -213,6 +213,6 @@ mutex_laws = record {
     is = rw (created-push created_mutex m history e, made, or_true (is_created created_mutex m history)) refl;
     kept = tt;
   };
-  kind_service = λ history roster caller m entry service keeps asked scene stands.
+  service = λ history roster caller m entry service keeps asked scene stands.
       served_kind_service history roster caller m entry scene service;
 }

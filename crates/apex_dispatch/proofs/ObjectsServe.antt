@@ -117,10 +117,10 @@ pub record LawsOf {C X W : Type 0} (kind : ObjectKind C X W) : Type 1 where
   pub makes : (roster : Roster) (history : List Entry) (e : Entry) (i : ℕ) (c : C) → Keeps roster history i c
       → satisfied_by history e ≡ to (Create (Known i)) ∷ [] → creates creation i e ≡ true
       → IsRead kind.after Keeps roster history e i c (kind.made (kind.after history i c))
-  pub kind_service : (history : List Entry) (roster : Roster) (caller : Caller) (i : ℕ) (c : C) (service : W)
+  pub service : (history : List Entry) (roster : Roster) (caller : Caller) (i : ℕ) (c : C) (service : W)
       → Keeps roster history i c → AreAsked roster history → Scene roster caller → Stands roster i
       → ServesOne kind.after Keeps history roster caller (to (KindService i service)) (at i) i c
-      (kind.kind_service roster (kind.after history i c) i caller service)
+      (kind.service roster (kind.after history i c) i caller service)
 
 -- a reply that isn't satisfied isn't accepted
 unaccepted : (reply : Reply) → is_satisfied reply ≡ false → is_accepted reply ≡ false
@@ -220,7 +220,7 @@ module _ {C X W : Type 0} (kind : ObjectKind C X W) (laws : LawsOf kind) (histor
         by_guard roster x (Served (GetStatus j) i c) (served_refused (GetStatus j)) (not (kind.created x)) _ _ refl
         (λ _. served_told (GetStatus j) (kind.status roster x i) (laws.status roster x i))
     served_object (KindService j service) is scene stands =
-        rw (same_Some j i is) (laws.kind_service history roster caller i c service keeps asked scene stands)
+        rw (same_Some j i is) (laws.service history roster caller i c service keeps asked scene stands)
 
 -- the queue of the processes that a call on this object may wake
 abbrev pub queue_at : {C X W : Type 0} {kind : ObjectKind C X W} → LawsOf kind → Option ℕ → Option Queue

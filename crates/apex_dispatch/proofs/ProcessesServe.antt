@@ -248,6 +248,6 @@ process_laws = record {
     is = rw (created-push created_process p history e, made, or_true (is_created created_process p history)) refl;
     kept = tt;
   };
-  kind_service = λ history roster caller p entry service keeps asked scene stands.
+  service = λ history roster caller p entry service keeps asked scene stands.
       served_kind_service history roster caller p entry scene stands service;
 }

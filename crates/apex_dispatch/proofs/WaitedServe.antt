@@ -234,7 +234,7 @@ module _ {C X W : Type 0} {kind : ObjectKind C X W} (waited : Waited kind) where
 -- the services that the kind alone has keep its facts
 abbrev pub OwnServed : {C X W : Type 0} {kind : ObjectKind C X W} → Waited kind → Type 0
 OwnServed {C} {X} {W} {kind} waited = (here : Before waited) (service : W)
-    → Served waited here service (kind.kind_service here.roster (kind.after here.history here.i here.c) here.i here.caller service)
+    → Served waited here service (kind.service here.roster (kind.after here.history here.i here.c) here.i here.caller service)
 
 -- its objects are objects of a kind
 abbrev pub waited_laws : {C X W : Type 0} {kind : ObjectKind C X W} (waited : Waited kind) → OwnServed waited → LawsOf kind
@@ -259,7 +259,7 @@ waited_laws {C} {X} {W} {kind} waited own = record {
       (after_calls waited history entry i c roster (waited.to (Create (Known i)) ∷ []) (value_of waited c i history) true
       (rw (alone, named_itself waited (Create (Known i)) i refl) refl) (rw made (or_true _))
       (waited.new i c (calls_of waited i history) _ keeps.holds) keeps.held);
-  kind_service = λ history roster caller i c service keeps asked scene stands. own (record {
+  service = λ history roster caller i c service keeps asked scene stands. own (record {
     history = history;
     roster = roster;
     caller = caller;

@@ -134,7 +134,7 @@ impl<'a, S: Store> Listing<'a, S> {
         Some(StatusRow::Process {
             process,
             state: self.store.state(process),
-            record: self.store.record(process),
+            record: *self.store.record(process),
         })
     }
 

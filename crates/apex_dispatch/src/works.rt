@@ -14,18 +14,22 @@ const CORES: usize = MOST_CORES as usize;
 #[derive(Drop)]
 pub(crate) struct Works {
     of_core: [Option<OpenWork>; CORES],
+    /// Whether any core has begun work so far. Without it no event looks at the cores' work.
+    has_begun: bool,
 }
 
 impl Model for Works {
-    ghost use Rattle.std.specs.Prelude.{◌≡◌, List, Option, length};
+    ghost use Rattle.std.specs.Prelude.{◌≡◌, ℕ, List, Option, None, false, length};
     ghost use Rattle.apex_types.specs.declared.OpenWork.{OpenWork};
     ghost use Rattle.apex_types.specs.values.Limits.{most_cores};
+    ghost use Rattle.apex_dispatch.specs.Works.{work_at};
 
     ghost Value = { List (Option OpenWork) };
 
     ghost view = { λ w. w.of_core };
 
-    ghost invariant = { λ w. length w.of_core ≡ most_cores };
+    ghost invariant = { λ w. (length w.of_core ≡ most_cores)
+        × (w.has_begun ≡ false → (core : ℕ) → work_at w.of_core core ≡ None) };
 }
 
 impl Works {
@@ -35,6 +39,7 @@ impl Works {
     {
         Works {
             of_core: [None; CORES],
+            has_begun: false,
         }
     }
 
@@ -50,6 +55,7 @@ impl Works {
         ensures { (c : ℕ) → work_at self.new c
             ≡ (if c == core then option_map fresh work else work_at self.old c) }
     {
+        self.has_begun = self.has_begun || work.is_some();
         self.of_core[usize::from(core.number())] = work.map(|work| OpenWork {
             work,
             unbroken: true,
@@ -68,6 +74,9 @@ impl Works {
         ensures { (c : ℕ) → work_at self.new c
             ≡ option_map (watched (S.roster store.now) c) (work_at self.old c) }
     {
+        if !self.has_begun {
+            return;
+        }
         self.places();
         for core in 0..8 {
             self.watch_core(store, CoreId::new(core));

@@ -1,10 +1,12 @@
 //! The log of a partition's entries.
 ghost use Rattle.std.specs.Prelude.{◌≡◌, ◌+◌, ◌<◌, ◌≤◌, ◌↔◌, [], ◌∷◌, ◌++◌, length, vec_capacity, slice_get, Some, false, IsTrue, IfOk};
 ghost use Rattle.apex_types.specs.values.Limits.{most_entries};
+ghost use Rattle.apex_history.specs.RowEntries.{caller_in, call_in, GrowsTo, IsAmong};
 
+use crate::calls::Calls;
 use crate::lent::Entries;
 use crate::rows::{Asked, Row};
-use apex_types::{LentEntry, MOST_NOTICES, Notice};
+use apex_types::{Call, Caller, LentEntry, MOST_NOTICES, Notice};
 use std::alloc::{AllocError, Global};
 use std::marker::Model;
 
@@ -12,6 +14,7 @@ use std::marker::Model;
 #[derive(Drop)]
 pub struct Log {
     rows: Vec<Row>,
+    calls: Calls,
     /// The notices of all entries, one behind the other.
     notices: Vec<Notice>,
     limit: u32,
@@ -25,12 +28,12 @@ impl Model for Log {
     ghost Value = { History };
 
     ghost view = { λ a. record {
-      entries = entries_from a.notices.items 0 a.rows.items;
+      entries = entries_from a.calls.calls a.notices.items 0 a.rows.items;
       limit = a.limit;
     } };
 
-    ghost invariant = { λ a. IsKept a.limit (vec_capacity a.rows) (vec_capacity a.notices)
-        a.rows.items a.notices.items };
+    ghost invariant = { λ a. IsKept a.limit (vec_capacity a.rows) a.calls.room
+        (vec_capacity a.notices) a.rows.items a.calls.calls a.notices.items };
 }
 
 /// Puts the notices behind all others. There is room for them.
@@ -45,19 +48,39 @@ fn put_notices(all: &mut Vec<Notice>, notices: &[Notice])
     }
 }
 
+/// The caller and the place of the call, which is put into the calls if it is new to its caller.
+/// There is room for it.
+#[inline(always)]
+fn put_call(calls: &mut Calls, process: &Caller, call: &Option<Call>) -> Asked
+    requires room { length calls.old.calls < calls.old.room }
+    requires few { length calls.old.calls < most_entries }
+    ensures caller { caller_in result ≡ process.now }
+    ensures call { call_in calls.new.calls result ≡ call.now }
+    ensures among { IsAmong (length calls.new.calls) result }
+    ensures calls { GrowsTo calls.old.calls calls.new.calls }
+    ensures room { calls.new.room ≡ calls.old.room }
+{
+    match call {
+        Some(call) => Asked::For(*process, calls.put(process, call)),
+        None => Asked::Nothing(*process),
+    }
+}
+
 #[tactic(auto, using(crate::proofs::EntriesOf::length_entries))]
 impl Log {
-    /// A log with no entry, which takes the memory for `limit` entries, with all their notices, at
-    /// once. It fails only for want of memory.
+    /// A log with no entry, which takes the memory for `limit` entries, with all their calls and
+    /// notices, at once. It fails only for want of memory.
     pub fn new(alloc: Global, limit: u32) -> Result<Log, AllocError>
         requires { (1 ≤ limit) × (limit ≤ most_entries) }
         ensures entries { IfOk result (λ log. log.entries ≡ []) }
         ensures limit { IfOk result (λ log. log.limit ≡ limit) }
     {
         let rows = Vec::with_capacity(alloc, limit as usize)?;
+        let calls = Calls::new(alloc, limit)?;
         let notices = Vec::with_capacity(alloc, MOST_NOTICES * limit as usize)?;
         Ok(Log {
             rows,
+            calls,
             notices,
             limit,
         })
@@ -74,12 +97,13 @@ impl Log {
               ∷ [];
         } }
     {
+        let asked = put_call(&mut self.calls, &entry.process, &entry.call);
         let start = self.notices.len() as u32;
         put_notices(&mut self.notices, entry.notices);
         self.rows.push_reserved(Row {
             now: entry.now,
             reply: entry.reply,
-            asked: Asked::new(entry.process, entry.call),
+            asked,
             start,
             who: entry.who,
             count: entry.notices.len() as u8,
@@ -91,7 +115,7 @@ impl Log {
         requires { place < length self.now.entries }
         ensures { slice_get self.now.entries place ≡ Some result }
     {
-        self.rows[place].lent(place as u32, self.notices.as_slice())
+        self.rows[place].lent(place as u32, self.calls.as_slice(), self.notices.as_slice())
     }
 
     /// The entries so far, the oldest first.
@@ -99,7 +123,11 @@ impl Log {
         ensures value { result ≡ self.now.entries }
         ensures range { length result ≤ self.now.limit }
     {
-        Entries::new(self.rows.as_slice(), self.notices.as_slice())
+        Entries::new(
+            self.rows.as_slice(),
+            self.calls.as_slice(),
+            self.notices.as_slice(),
+        )
     }
 
     /// The number of entries.

@@ -5,6 +5,7 @@ ghost use Rattle.std.specs.Iterator.{YieldsFirst, item_count};
 ghost use Rattle.std.specs.List.{AllByRecursion, last_or};
 ghost use Rattle.apex_history.specs.RowEntries.{entries_from, IsWithin};
 
+use crate::calls::Link;
 use crate::rows::Row;
 use apex_types::{LentEntry, Notice};
 use std::marker::Model;
@@ -13,6 +14,7 @@ use std::marker::Model;
 #[derive(Drop)]
 pub struct Entries<'a> {
     rows: &'a [Row],
+    calls: &'a [Link],
     notices: &'a [Notice],
     /// The place of the first of them, counted from 0.
     place: u32,
@@ -27,21 +29,22 @@ impl<'a> Model for Entries<'a> {
 
     ghost Value = { List Entry };
 
-    ghost view = { λ e. entries_from e.notices.now e.place e.rows.now };
+    ghost view = { λ e. entries_from e.calls.now e.notices.now e.place e.rows.now };
 
-    ghost invariant = { λ e. AllByRecursion (IsWithin (length e.notices.now)) e.rows.now
-        × (e.place + length e.rows.now ≤ most_entries) };
+    ghost invariant = { λ e. AllByRecursion (IsWithin (length e.calls.now)
+        (length e.notices.now)) e.rows.now × (e.place + length e.rows.now ≤ most_entries) };
 }
 
 impl<'a> Entries<'a> {
     /// The entries of these rows.
-    pub(crate) fn new(rows: &'a [Row], notices: &'a [Notice]) -> Entries<'a>
-        requires within { AllByRecursion (IsWithin (length notices.now)) rows.now }
+    pub(crate) fn new(rows: &'a [Row], calls: &'a [Link], notices: &'a [Notice]) -> Entries<'a>
+        requires within { AllByRecursion (IsWithin (length calls.now) (length notices.now)) rows.now }
         requires many { length rows.now ≤ most_entries }
-        ensures { result ≡ entries_from notices.now 0 rows.now }
+        ensures { result ≡ entries_from calls.now notices.now 0 rows.now }
     {
         Entries {
             rows,
+            calls,
             notices,
             place: 0,
         }
@@ -53,7 +56,7 @@ impl<'a> Entries<'a> {
         ensures { result ≡ last_or None self.now }
     {
         let (row, before) = self.rows.split_last()?;
-        Some(row.lent(self.place + before.len() as u32, self.notices))
+        Some(row.lent(self.place + before.len() as u32, self.calls, self.notices))
     }
 }
 
@@ -67,7 +70,7 @@ impl<'a> Iterator for Entries<'a> {
 
     fn next(&mut self) -> Option<LentEntry<'a>> {
         let (row, others) = self.rows.split_first()?;
-        let entry = row.lent(self.place, self.notices);
+        let entry = row.lent(self.place, self.calls, self.notices);
         self.rows = others;
         self.place += 1;
         Some(entry)

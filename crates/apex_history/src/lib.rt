@@ -2,6 +2,7 @@
 //! readers and writers that count what failed.
 #![tactic(auto)]
 
+mod calls;
 mod counting;
 mod devices;
 mod events;

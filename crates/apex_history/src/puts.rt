@@ -6,7 +6,7 @@ ghost use Rattle.arrayvec.specs.ArrayVec.{array_vec_len};
 ghost use Rattle.apex_types.specs.table.Table.{IsKnown};
 ghost use Rattle.apex_types.specs.text.Texts.{id_text};
 ghost use Rattle.apex_calls.specs.CallText.{timeout_text};
-ghost use Rattle.apex_calls.specs.Lines.{code_text, deadline_text, no_call_text, asked_text, who_text, caller_text, reply_text, notice_text, noticed_text, line_of, IsPrintable};
+ghost use Rattle.apex_calls.specs.Lines.{code_text, deadline_text, no_call_text, asked_text, who_text, caller_text, reply_text, noticed_text, line_of, IsPrintable};
 
 mod call;
 mod message;
@@ -43,6 +43,10 @@ const NOTICE_ROOM: usize = 27;
 
 /// The most bytes of the notices of an entry.
 const NOTICES_ROOM: usize = NOTICE_ROOM * MOST_NOTICES;
+
+/// The two digits of each number below 100.
+static PAIRS: [u8; 200] =
+    *b"00010203040506070809101112131415161718192021222324252627282930313233343536373839404142434445464748495051525354555657585960616263646566676869707172737475767778798081828384858687888990919293949596979899";
 
 /// Lines of a history, one behind the other: a buffer of at most [`LINES_ROOM`] bytes, of which a line
 /// takes at most [`MOST_LINE`].
@@ -82,13 +86,15 @@ fn put_digit(line: &mut Lines, digit: u8)
 
 // The two digits of a number below 100, of which the first one may be a zero.
 #[inline(always)]
+#[tactic(auto, using(crate::proofs::Digits::pair_at))]
 fn put_pair(line: &mut Lines, number: u8)
     requires digits { number < 100 }
     requires room { array_vec_len line.old + 2 ≤ LINES_ROOM }
     ensures text { line.new.items ≡ line.old.items ++ (48 + number / 10) ∷ (48 + number % 10) ∷ [] }
     ensures short { array_vec_len line.new ≤ array_vec_len line.old + 2 }
 {
-    put_bytes(line, &[b'0' + number / 10, b'0' + number % 10]);
+    let from = usize::from(number) * 2;
+    put_bytes(line, &[PAIRS[from], PAIRS[from + 1]]);
 }
 
 // A number of at most two digits.
@@ -193,18 +199,19 @@ fn put_id<K: Copy>(line: &mut Lines, id: Id<K>)
     put_number(line, id.number());
 }
 
-fn code_name(code: &ReturnCode) -> &'static str
-    ensures value { result.now ≡ code_text code.now }
-    ensures short { length result.now ≤ 14 }
+fn put_code(line: &mut Lines, code: &ReturnCode)
+    requires { array_vec_len line.old + 14 ≤ LINES_ROOM }
+    ensures text { line.new.items ≡ line.old.items ++ code_text code.now }
+    ensures short { array_vec_len line.new ≤ array_vec_len line.old + 14 }
 {
     match code {
-        ReturnCode::NoError => "NO_ERROR",
-        ReturnCode::NoAction => "NO_ACTION",
-        ReturnCode::NotAvailable => "NOT_AVAILABLE",
-        ReturnCode::InvalidParam => "INVALID_PARAM",
-        ReturnCode::InvalidConfig => "INVALID_CONFIG",
-        ReturnCode::InvalidMode => "INVALID_MODE",
-        ReturnCode::TimedOut => "TIMED_OUT",
+        ReturnCode::NoError => put(line, "NO_ERROR"),
+        ReturnCode::NoAction => put(line, "NO_ACTION"),
+        ReturnCode::NotAvailable => put(line, "NOT_AVAILABLE"),
+        ReturnCode::InvalidParam => put(line, "INVALID_PARAM"),
+        ReturnCode::InvalidConfig => put(line, "INVALID_CONFIG"),
+        ReturnCode::InvalidMode => put(line, "INVALID_MODE"),
+        ReturnCode::TimedOut => put(line, "TIMED_OUT"),
     }
 }
 
@@ -290,7 +297,7 @@ fn put_reply(line: &mut Lines, table: &Table, reply: &Reply)
     ensures short { array_vec_len line.new ≤ array_vec_len line.old + 144 }
 {
     match reply {
-        Reply::Code(code) => put(line, code_name(code)),
+        Reply::Code(code) => put_code(line, code),
         Reply::Value(value) => {
             put(line, "VALUE ");
             put_long_number(line, *value);
@@ -329,39 +336,29 @@ fn deadline_name(deadline: &DeadlineType) -> &'static str
 }
 
 #[tactic(auto, using(std::proofs::Common::append_assoc))]
-fn put_notice(line: &mut Lines, notice: &Notice)
-    requires { array_vec_len line.old + 34 ≤ LINES_ROOM }
-    ensures text { line.new.items ≡ line.old.items ++ notice_text notice.now }
-    ensures short { array_vec_len line.new ≤ array_vec_len line.old + 24 }
-{
-    match notice {
-        Notice::Woken(process, code) => {
-            put(line, "woken ");
-            put_id(line, *process);
-            put(line, " ");
-            put(line, code_name(code));
-        }
-        Notice::Released(process) => {
-            put(line, "released ");
-            put_id(line, *process);
-        }
-        Notice::Missed(process, deadline) => {
-            put(line, "missed ");
-            put_id(line, *process);
-            put(line, " ");
-            put(line, deadline_name(deadline));
-        }
-    }
-}
-
-#[tactic(auto, using(std::proofs::Common::append_assoc))]
 fn put_noticed(line: &mut Lines, notice: &Notice)
     requires { array_vec_len line.old + 40 ≤ LINES_ROOM }
     ensures text { line.new.items ≡ line.old.items ++ noticed_text notice.now }
     ensures short { array_vec_len line.new ≤ array_vec_len line.old + NOTICE_ROOM }
 {
-    put(line, " | ");
-    put_notice(line, notice);
+    match notice {
+        Notice::Woken(process, code) => {
+            put(line, " | woken ");
+            put_id(line, *process);
+            put(line, " ");
+            put_code(line, code);
+        }
+        Notice::Released(process) => {
+            put(line, " | released ");
+            put_id(line, *process);
+        }
+        Notice::Missed(process, deadline) => {
+            put(line, " | missed ");
+            put_id(line, *process);
+            put(line, " ");
+            put(line, deadline_name(deadline));
+        }
+    }
 }
 
 fn put_notices(line: &mut Lines, notices: &[Notice])

@@ -6,8 +6,9 @@ ghost use Rattle.apex_calls.specs.CallText.{call_text};
 use apex_table::Table;
 use apex_types::{Call, MOST_PROCESSES, MOST_STEPS, ProcessId};
 
+/// Whether the calls are equal.
 #[inline(always)]
-fn is_same(one: &Call, other: &Call) -> bool
+pub(crate) fn is_same(one: &Call, other: &Call) -> bool
     ensures { result ≡ true → one.now ≡ other.now }
 {
     *one == *other

@@ -8,43 +8,48 @@ use apex_process::QueueStore;
 use apex_store::Store;
 use apex_table::{Table, read_table};
 use apex_types::{CoreId, Queue, SemaphoreId};
-use std::alloc::{AllocError, Global};
+use std::alloc::Global;
 use std::mem::drop;
 use std::process::Abort;
 
-/// Adds two cores: on the one n processes that wait for ever for a semaphore, on the other one that
-/// makes this step.
-fn push_cores(text: &mut String, waiters: u32, step: &str) -> Result<(), AllocError> {
-    text.push_str("cores = 2\n")?;
-    for number in 1..=waiters {
-        push_process(text, "W", number, 0, "WAIT_SEMAPHORE S infinite")?;
-    }
-    push_process(text, "K", 0, 1, step)?;
-    text.push_str(SEMAPHORE)
+/// The table of two cores: on the one processes named after these numbers, which wait for ever for
+/// a semaphore, on the other one that makes this step.
+macro_rules! table {
+    ($step:literal: $($waiter:literal)*) => {
+        concat!(
+            "cores = 2\n",
+            $(
+                "[[process]]\nname = \"W",
+                $waiter,
+                "\"\npriority = 10\ncore = 0\nstart = true\n",
+                "script = [\"WAIT_SEMAPHORE S infinite\"]\n",
+            )*
+            "[[process]]\nname = \"K\"\npriority = 10\ncore = 1\nstart = true\n",
+            "script = [\"",
+            $step,
+            "\"]\n",
+            "[[semaphore]]\nname = \"S\"\nmaximum = 1\ninitial = 0\ndiscipline = \"FIFO\"\n",
+        )
+    };
 }
 
-/// A process of this step on this core, which is named after a letter and a number.
-fn push_process(
-    text: &mut String,
-    letter: &str,
-    number: u32,
-    core: u8,
-    step: &str,
-) -> Result<(), AllocError> {
-    write!(
-        text,
-        "[[process]]\nname = \"{letter}{number}\"\ncore = {core}\nscript = [\"{step}\"]\n"
-    )?;
-    text.push_str("priority = 10\nstart = true\n")
+/// A step, its table with 3 waiters, and that with 29.
+macro_rules! few_and_many {
+    ($step:literal) => {
+        (
+            $step,
+            table!($step: 1 2 3),
+            table!($step: 1 2 3 4 5 6 7 8 9 10 11 12 13 14 15 16 17 18 19 20 21 22 23 24 25 26 27
+                28 29),
+        )
+    };
 }
 
-const SEMAPHORE: &str = r#"
-[[semaphore]]
-name = "S"
-maximum = 1
-initial = 0
-discipline = "FIFO"
-"#;
+/// By the one a waiter leaves the queue since it is woken, by the other since it is stopped.
+const STEPS: [(&str, &str, &str); 2] = [
+    few_and_many!("SIGNAL_SEMAPHORE S"),
+    few_and_many!("STOP W2"),
+];
 
 fn turn_of(rt: &impl Abort, kernel: &mut Kernel<QueueStore>, core: CoreId) {
     assert!(rt; core.number() < kernel.table().cores());
@@ -55,13 +60,6 @@ fn turn_of(rt: &impl Abort, kernel: &mut Kernel<QueueStore>, core: CoreId) {
 fn waiting(kernel: &Kernel<QueueStore>) -> u32 {
     let queue = Queue::Semaphore(SemaphoreId::at(0));
     kernel.store().waiting(queue)
-}
-
-/// The table of n waiters and of one process that makes this step.
-fn table_of<R: Abort>(rt: &R, alloc: Global, waiters: u32, step: &str) -> Table {
-    let mut text = String::new(alloc);
-    push_cores(&mut text, waiters, step).expect(rt, "memory");
-    read_table(alloc, text.as_bytes()).expect(rt, "the table is lawful")
 }
 
 /// A kernel of this table before any event.
@@ -86,9 +84,10 @@ fn visits_of(rt: &impl Abort, kernel: &mut Kernel<QueueStore>, waiters: u32) -> 
     after.saturating_sub(before)
 }
 
-/// The same number for a kernel of n waiters, which is let go.
-fn visits_beside<R: Abort>(rt: &R, alloc: Global, waiters: u32, step: &str) -> u64 {
-    let mut kernel = booted(rt, alloc, table_of(rt, alloc, waiters, step));
+/// The same number for a kernel of this table with n waiters, which is let go.
+fn visits_beside<R: Abort>(rt: &R, alloc: Global, waiters: u32, text: &str) -> u64 {
+    let table = read_table(alloc, text.as_bytes()).expect(rt, "the table is lawful");
+    let mut kernel = booted(rt, alloc, table);
     let visits = visits_of(rt, &mut kernel, waiters);
     drop(kernel);
     visits
@@ -96,9 +95,9 @@ fn visits_beside<R: Abort>(rt: &R, alloc: Global, waiters: u32, step: &str) -> u
 
 #[test]
 fn a_queue_is_not_scanned(rt: HostRuntime) {
-    for step in ["SIGNAL_SEMAPHORE S", "STOP W2"] {
-        let few = visits_beside(&rt, rt.alloc(), 3, step);
-        let many = visits_beside(&rt, rt.alloc(), 29, step);
+    for (step, three, twenty_nine) in STEPS {
+        let few = visits_beside(&rt, rt.alloc(), 3, three);
+        let many = visits_beside(&rt, rt.alloc(), 29, twenty_nine);
         assert!(rt;
             few >= 1 && few == many,
             "{few} and {many} visits of {step}"

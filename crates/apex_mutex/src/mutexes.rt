@@ -124,7 +124,7 @@ impl Mutex {
         let Caller::Process(process) = caller else {
             return Reply::Code(ReturnCode::InvalidMode);
         };
-        let record = store.record(*process);
+        let record = *store.record(*process);
         if may_not_wait(&record, id, timeout)
             || owns_most(store, &record, id)
             || record.base > store.ceiling(id)
@@ -164,7 +164,7 @@ impl Mutex {
         let Caller::Process(process) = caller else {
             return Reply::Code(ReturnCode::InvalidMode);
         };
-        let record = store.record(*process);
+        let record = *store.record(*process);
         if !record.owns(id) {
             return Reply::Code(ReturnCode::InvalidMode);
         }

@@ -1,8 +1,9 @@
 -- The values of places.
-use Rattle.std.proofs.Common.{◌≡◌, ℕ, zero, suc, ◌<◌, List, [], ◌∷◌, ◌++◌, length, get_or, arith, refl, sym, ◌∙◌, ap, length-append, append-nil, append_assoc, add-one, ◌+◌, inl, inr, subst}
-use Rattle.std.proofs.Math.Seq.{get_or-append_seam}
+use Rattle.std.proofs.Common.{◌≡◌, ℕ, zero, suc, ◌<◌, List, [], ◌∷◌, ◌++◌, length, drop, get_or, set, arith, refl, sym, ◌∙◌, ap, length-append, append-nil, append_assoc, add-one, ◌+◌, inl, inr, subst}
+use Rattle.std.proofs.Math.ListN.{drop_of_length-le}
+use Rattle.std.proofs.Math.Seq.{get_or-append_seam, set-append_seam}
 use Rattle.std.proofs.lemmas.Bool.{cases_lt}
-use Rattle.std.proofs.lemmas.List.{get_or_append_left}
+use Rattle.std.proofs.lemmas.List.{drop_more, get_or_append_left}
 use Rattle.std.proofs.lemmas.Option.{slice_get-get_or}
 use Rattle.std.specs.Prelude.{Some, option_map, slice_get, unwrap_or}
 use Rattle.apex_types.specs.text.Listing.{texts_of}
@@ -52,3 +53,37 @@ pub counted_at : {X : Type 0} → (f : X → ℕ) (objects : List X) (i : ℕ) (
 counted_at f [] i absent none = sym none
 counted_at f (x ∷ objects) zero absent none = refl
 counted_at f (x ∷ objects) (suc i) absent none = counted_at f objects i absent none
+
+-- the first n places have their values, and what follows begins at place n
+kept_from : {A : Type 0} → (f : ℕ → A) (n : ℕ) (old before : List A) (d : A) → n < length old → before ≡ of_places f n ++ drop n old
+    → before ≡ of_places f n ++ get_or old n d ∷ drop (n + 1) old
+kept_from f n old before d within is = is ∙ ap (λ l. of_places f n ++ l) (drop_more old n d within)
+
+-- the next place has its old value
+pub kept_at : {A : Type 0} → (f : ℕ → A) (n : ℕ) (old before : List A) (d : A) → n < length old → before ≡ of_places f n ++ drop n old
+    → get_or before n d ≡ get_or old n d
+kept_at {A} f n old before d within is =
+    let done = of_places f n in
+    let rest = drop (n + 1) old in
+    ap (λ (l : List A). get_or l n d) (kept_from f n old before d within is)
+    ∙ subst (λ (k : ℕ). get_or (done ++ get_or old n d ∷ rest) k d ≡ get_or old n d) (length_of f n)
+    (get_or-append_seam done (get_or old n d) rest d)
+
+-- the next place has its value too
+pub changed_at : {A : Type 0} → (f : ℕ → A) (n : ℕ) (old before after : List A) (next : A) → n < length old
+    → before ≡ of_places f n ++ drop n old → after ≡ set before n next → next ≡ f n
+    → after ≡ of_places f (n + 1) ++ drop (n + 1) old
+changed_at {A} f n old before after next within is put value =
+    let done = of_places f n in
+    let rest = drop (n + 1) old in
+    let kept = get_or old n next in
+    put ∙ ap (λ (l : List A). set l n next) (kept_from f n old before next within is)
+    ∙ subst (λ (k : ℕ). set (done ++ kept ∷ rest) k next ≡ done ++ next ∷ rest) (length_of f n) (set-append_seam done kept rest next)
+    ∙ ap (λ (x : A). done ++ x ∷ rest) value ∙ sym (append_assoc done (f n ∷ []) rest)
+    ∙ ap (λ (l : List A). l ++ rest) (rw (add-one n) refl)
+
+-- all places have their values
+pub all_changed : {A : Type 0} → (f : ℕ → A) (n : ℕ) (old after : List A) → length old ≡ n
+    → after ≡ of_places f n ++ drop n old → after ≡ of_places f n
+all_changed f n old after many is =
+    is ∙ ap (λ l. of_places f n ++ l) (drop_of_length-le old (omega (arith, many))) ∙ append-nil (of_places f n)

@@ -1,9 +1,10 @@
 -- What a trace shows of a moment gives the text of the moment.
-use Rattle.std.proofs.Common.{◌≡◌, ◌∙◌, ℕ, zero, suc, List, [], ◌∷◌, ◌++◌, Option, refl, sym, ap}
-use Rattle.std.proofs.lemmas.List.{map-append}
+use Rattle.std.proofs.Common.{◌≡◌, ◌∙◌, ℕ, zero, suc, ◌<◌, List, [], ◌∷◌, ◌++◌, Option, refl, sym, ap, append_assoc}
+use Rattle.std.proofs.lemmas.List.{length-map, map-append}
 use Rattle.std.specs.Prelude.{map, flat_map, length, slice_index_or, codes}
 use Rattle.apex_types.specs.text.Listing.{texts_of}
 use Rattle.apex_types.specs.processes.Roster.{Roster}
+use Rattle.apex_types.specs.processes.Running.{process_state}
 use Rattle.apex_types.specs.table.Table.{Table}
 use Rattle.apex_pictures.specs.Counters.{counters_text}
 use Rattle.apex_pictures.specs.Counts.{Counts}
@@ -11,10 +12,11 @@ use Rattle.apex_pictures.specs.Moments.{Shown, cell_of, moment_of, no_cell, none
 use Rattle.apex_pictures.specs.Places.{of_places}
 use Rattle.apex_pictures.specs.Terms.{Cell, Entry, State}
 use Rattle.apex_pictures.specs.Trace as trace
-use Rattle.apex_pictures.specs.Tracks.{Follows, bare, bare_cell, cell_on, no_track, track_of}
+use Rattle.apex_pictures.specs.Tracks.{Follows, HasTracks, bare, bare_cell, bare_cells, cell_on, no_track, track_of}
 use Rattle.apex_pictures.specs.declared.styles.Style.{Style}
 use Rattle.apex_pictures.specs.declared.styles.Style.TheVariants.{Svg, Trace}
 use Rattle.apex_pictures.specs.declared.tracks.Track.{Track}
+use Rattle.apex_pictures.proofs.Places.{place_of}
 
 -- the values of places, changed one by one
 map_places : {A B : Type 0} → (f : A → B) (g : ℕ → A) (n : ℕ) → map f (of_places g n) ≡ of_places (λ i. f (g i)) n
@@ -62,6 +64,13 @@ state_bare [] p = refl
 state_bare (cell ∷ cells) zero = refl
 state_bare (cell ∷ cells) (suc p) = state_bare cells p
 
+-- the state of a process on the track after an entry
+pub state_now : (roster : Roster) (p : ℕ) → p < length roster.records
+    → process_state roster p ≡ (slice_index_or (bare_cells roster) p no_cell).state
+state_now roster p within =
+    sym (state_bare (of_places (cell_of roster) (length roster.records)) p
+    ∙ ap (λ (c : Cell). c.state) (place_of (cell_of roster) (length roster.records) p no_cell within))
+
 -- texts that are the same one by one
 texts_same : (f g : ℕ → List ℕ) (n : ℕ) → ((i : ℕ) → f i ≡ g i) → texts_of f n ≡ texts_of g n
 texts_same f g zero same = refl
@@ -101,3 +110,23 @@ foot_same table time now last = ap (λ l. l ++ codes "\n]}\n") (changes_same tab
 pub follows : (style : Style) (tracks shown : Shown) → tracks ≡ bare shown → Follows style tracks shown
 follows (Svg frame) tracks shown is = tt
 follows Trace tracks shown is = is
+
+-- there are as many tracks that follow a moment as it has cells
+pub follow_many : (style : Style) (tracks shown : Shown) (n : ℕ) → Follows style tracks shown → length shown.cells ≡ n
+    → HasTracks style tracks n
+follow_many (Svg frame) tracks shown n follows many = tt
+follow_many Trace tracks shown n follows many =
+    ap (λ (s : Shown). length s.cells) follows ∙ length-map shown.cells (λ (c : Cell). bare_cell c.state) ∙ many
+
+-- the changes, the counters and the marks of a column, one behind the other
+pub column_whole : (table : Table) (before : Shown) (entry : Entry) (after : Shown) (text one two whole : List ℕ)
+    → one ≡ text ++ trace.changes_text table entry.number entry.now before after
+    → two ≡ one ++ counters_text table entry.number before.counts after.counts
+    → whole ≡ two ++ flat_map (trace.missed_text entry.number entry.now) entry.notices
+    → whole ≡ text ++ trace.column_text table before entry after
+column_whole table before entry after text one two whole changes counters marks =
+    let changed = trace.changes_text table entry.number entry.now before after in
+    let counted = counters_text table entry.number before.counts after.counts in
+    let missed = flat_map (trace.missed_text entry.number entry.now) entry.notices in
+    marks ∙ ap (λ l. l ++ missed) (counters ∙ ap (λ l. l ++ counted) changes)
+    ∙ ap (λ l. l ++ missed) (append_assoc text changed counted) ∙ append_assoc text (changed ++ counted) missed

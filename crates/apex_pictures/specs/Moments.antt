@@ -36,6 +36,14 @@ pub record Shown : Type 0 where
 abbrev pub none_shown : Shown
 none_shown = record { cells = []; running = []; counts = no_counts }
 
+-- these cells are shown, and nothing else
+abbrev pub with_cells : List Cell → Shown
+with_cells cells = record none_shown { cells = cells }
+
+-- each core runs its process of these, and nothing else is shown
+abbrev pub with_running : List (Option ℕ) → Shown
+with_running running = record none_shown { running = running }
+
 -- the moment of these processes and counts
 abbrev pub moment_of : Roster → Counts → Shown
 moment_of roster counts = record {

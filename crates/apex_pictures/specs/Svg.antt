@@ -126,16 +126,21 @@ abbrev pub waits_part : Option Wait → List ℕ
 waits_part None = []
 waits_part (Some wait) = codes " wait " ++ wait_text wait
 
--- the bar below the cell of an owner of a mutex
-unfoldable pub bar_text : Frame → ℕ → ℕ → List ℕ
-bar_text frame p mutex = texts (
-    codes "<rect class='owns' y='" ∷ decimal (row_of frame p + 15)
-    ∷ codes "' width='24' height='3'><title>owns mutex:" ∷ id_text mutex
-    ∷ codes "</title></rect>\n" ∷ [])
+-- a mutex that a process owns
+abbrev pub mutex_text : Holding → List ℕ
+mutex_text holding = codes " mutex:" ++ id_text holding.mutex
 
--- a bar for each mutex that a process owns
+-- the bar below the cell of an owner of mutexes, up to the mutexes
+unfoldable pub bar_text : Frame → ℕ → List ℕ
+bar_text frame p = texts (
+    codes "<rect class='owns' y='" ∷ decimal (row_of frame p + 15)
+    ∷ codes "' width='24' height='3'><title>owns" ∷ [])
+
+-- the bar of a process that owns mutexes: its tooltip has all of them; no bar, if it owns none
 abbrev pub owns_part : Frame → ℕ → List Holding → List ℕ
-owns_part frame p held = flat_map (λ (h : Holding). bar_text frame p h.mutex) held
+owns_part frame p [] = []
+owns_part frame p (first ∷ others) =
+    bar_text frame p ++ flat_map mutex_text (first ∷ others) ++ cell_end
 
 -- a cell, up to the wait of its process: its class is the state, and its tooltip has id, name and
 -- state

@@ -1,6 +1,7 @@
 -- The processes and the counts after an entry, as a trace shows them: of each cell the state alone.
-use Rattle.std.specs.Prelude.{◌≡◌, ℕ, [], map, None}
-use Rattle.apex_pictures.specs.Moments.{Shown}
+use Rattle.std.specs.Prelude.{◌≡◌, ℕ, List, [], length, map, None}
+use Rattle.apex_pictures.specs.Moments.{Shown, cell_of}
+use Rattle.apex_pictures.specs.Places.{of_places}
 use Rattle.apex_pictures.specs.Terms.{Cell, State}
 use Rattle.apex_pictures.specs.declared.styles.Style.{Style}
 use Rattle.apex_pictures.specs.declared.styles.Style.TheVariants.{Svg, Trace}
@@ -25,6 +26,11 @@ bare_cell state = record { state = state; wait = None; owned = [] }
 abbrev pub cell_on : Track → Cell
 cell_on track = bare_cell track.state
 
+-- the cells of all processes, with their states alone
+abbrev pub bare_cells : Roster → List Cell
+bare_cells roster =
+    map (λ (c : Cell). bare_cell c.state) (of_places (cell_of roster) (length roster.records))
+
 -- what a trace shows of a moment
 abbrev pub bare : Shown → Shown
 bare shown = record {
@@ -37,3 +43,8 @@ bare shown = record {
 abbrev pub Follows : Style → Shown → Shown → Type 0
 Follows (Svg frame) tracks shown = Unit {0}
 Follows Trace tracks shown = tracks ≡ bare shown
+
+-- there are n tracks, if a trace is drawn
+abbrev pub HasTracks : Style → Shown → ℕ → Type 0
+HasTracks (Svg frame) tracks n = Unit {0}
+HasTracks Trace tracks n = length tracks.cells ≡ n

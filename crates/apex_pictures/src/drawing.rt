@@ -12,7 +12,7 @@ ghost use Rattle.apex_pictures.specs.declared.drawing.DrawFault.TheVariants.{Mem
 ghost use Rattle.apex_pictures.specs.Drawing.{CountsDrawing, Grows};
 ghost use Rattle.apex_pictures.specs.Pictures.{column_text, foot_text, head_text, picture_text};
 ghost use Rattle.apex_pictures.specs.Svg as svg_text;
-ghost use Rattle.apex_pictures.specs.Tracks.{Follows, bare};
+ghost use Rattle.apex_pictures.specs.Tracks.{Follows, HasTracks, bare};
 
 use crate::counts::counts_of;
 use crate::frames::Frame;
@@ -128,7 +128,8 @@ fn put_column<S: Store>(
     entry: &LentEntry<'_>,
     shown: &mut Tracks,
 ) -> Result<(), AllocError>
-    requires { IsPrintable kernel.now.table entry.now }
+    requires printable { IsPrintable kernel.now.table entry.now }
+    requires many { HasTracks style.now shown.old (length kernel.now.machine.roster.records) }
     ensures drawn { (before : Shown) → Follows style.now shown.old before
         → OnOk result (text.new.items ≡ text.old.items ++ column_text style.now kernel.now.table
         (record {
@@ -141,12 +142,7 @@ fn put_column<S: Store>(
 {
     match style {
         Style::Svg(frame) => put_svg_column(text, frame, kernel, entry),
-        Style::Trace => {
-            let after = tracks_in(kernel);
-            trace::put_column(text, kernel.table(), shown, entry, &after)?;
-            *shown = after;
-            Ok(())
-        }
+        Style::Trace => trace::put_column(text, kernel, entry, shown),
     }
 }
 

@@ -121,7 +121,7 @@ fn cell_of<S: Store>(store: &S, process: ProcessId, running: &[Option<ProcessId>
     let row = store.record(process);
     let chosen = running_at(running, row.core);
     Cell {
-        state: state_of(process, &row, store.mode(), chosen),
+        state: state_of(process, row, store.mode(), chosen),
         wait: row.wait,
         owned: row.owned,
     }

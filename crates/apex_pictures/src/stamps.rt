@@ -25,43 +25,25 @@ pub(crate) struct Stamp {
     begin: ArrayString<BEGIN_ROOM>,
 }
 
-/// What is behind the number of a track at the end of a slice.
-fn end_of(time: u64) -> ArrayString<END_ROOM>
-    ensures { result.bytes ≡ end_back time }
-{
-    let mut digits = Buffer::new();
-    let mut end = ArrayString::new();
-    end.push_str(",\"ts\":");
-    end.push_str(digits.format(time));
-    end.push_str("}");
-    end
-}
-
-/// What is behind the number of a track at the beginning of a slice, up to its name.
-fn begin_of(time: u64, ticks: u64) -> ArrayString<BEGIN_ROOM>
-    ensures { result.bytes ≡ begin_back time ticks }
-{
-    let mut digits = Buffer::new();
-    let mut begin = ArrayString::new();
-    begin.push_str(",\"ts\":");
-    begin.push_str(digits.format(time));
-    begin.push_str(",\"args\":{\"now\":");
-    begin.push_str(digits.format(ticks));
-    begin.push_str("},\"name\":\"");
-    begin
-}
-
 impl Stamp {
     /// The stamp of an entry of this number, and of this time in ticks.
     pub(crate) fn new(time: u64, ticks: u64) -> Stamp
         ensures stamp { IsStamp result time }
         ensures ticks { result.ticks ≡ ticks }
     {
-        Stamp {
-            ticks,
-            end: end_of(time),
-            begin: begin_of(time, ticks),
-        }
+        let (mut time_digits, mut tick_digits) = (Buffer::new(), Buffer::new());
+        let time = time_digits.format(time);
+        let mut end = ArrayString::new();
+        end.push_str(",\"ts\":");
+        end.push_str(time);
+        end.push_str("}");
+        let mut begin = ArrayString::new();
+        begin.push_str(",\"ts\":");
+        begin.push_str(time);
+        begin.push_str(",\"args\":{\"now\":");
+        begin.push_str(tick_digits.format(ticks));
+        begin.push_str("},\"name\":\"");
+        Stamp { ticks, end, begin }
     }
 
     /// What is behind the number of a track at the end of a slice.

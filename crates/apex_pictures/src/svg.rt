@@ -2,15 +2,15 @@
 ghost use Rattle.std.specs.Prelude.{◌≡◌, ◌≤◌, ◌++◌, drop, flat_map, length, OnOk};
 ghost use Rattle.apex_calls.specs.Lines.{IsPrintable, line_of};
 ghost use Rattle.apex_types.specs.text.Listing.{texts_of};
-ghost use Rattle.apex_pictures.specs.Svg.{bare, bar_text, call_end, call_text, cell_at, cell_end, cell_part, cell_text, circle_text, column_end, column_text, dash_text, dash_to, heading_text, head_text, instant_text, is_timed, key_text, label_text, marks_text, notice_process, opening_text, owns_part, ring_text, said_text, start_text, time_text, title_text, waits_part, wedge_text};
+ghost use Rattle.apex_pictures.specs.Svg.{bare, bar_text, call_end, call_text, cell_at, cell_end, cell_part, cell_text, circle_text, column_end, column_text, dash_text, dash_to, heading_text, head_text, instant_text, is_timed, key_text, label_text, marks_text, mutex_text, notice_process, opening_text, owns_part, ring_text, said_text, start_text, time_text, title_text, waits_part, wedge_text};
 
 use crate::frames::Frame;
 use crate::moments::{Cell, Moment};
 use crate::texts::{Part, put, put_all, put_xml};
-use crate::words::{id_part, name_of, notice_word, put_wait, state_word};
+use crate::words::{id_part, name_of, notice_word, put_object, put_wait, state_word};
 use apex_history::{Lines, NextSteps, put_line};
 use apex_table::Table;
-use apex_types::{Caller, CoreId, LentEntry, MutexId, Notice, ProcessId, Reply, Who};
+use apex_types::{Caller, CoreId, Holding, LentEntry, Notice, ProcessId, Reply, Who};
 use std::alloc::AllocError;
 
 /// Puts the heading of a core.
@@ -254,41 +254,47 @@ fn put_waits(text: &mut Vec<u8>, cell: &Cell) -> Result<(), AllocError>
     }
 }
 
-/// Puts the bar of an owner of a mutex.
-fn put_bar(
-    text: &mut Vec<u8>,
-    frame: &Frame,
-    process: ProcessId,
-    mutex: MutexId,
-) -> Result<(), AllocError>
-    ensures { OnOk result (text.new.items ≡ text.old.items ++ bar_text frame.now process mutex) }
+/// Puts the bar of an owner of mutexes, up to the mutexes.
+fn put_bar(text: &mut Vec<u8>, frame: &Frame, process: ProcessId) -> Result<(), AllocError>
+    ensures { OnOk result (text.new.items ≡ text.old.items ++ bar_text frame.now process) }
 {
     put_all(
         text,
         &[
             Part::Plain("<rect class='owns' y='"),
             Part::Number(frame.row(process) + 15),
-            Part::Plain("' width='24' height='3'><title>owns mutex:"),
-            id_part(mutex),
-            Part::Plain("</title></rect>\n"),
+            Part::Plain("' width='24' height='3'><title>owns"),
         ],
     )
 }
 
-/// Puts a bar for each mutex that a process owns.
+/// Puts the mutexes that a process owns.
+fn put_mutexes(text: &mut Vec<u8>, held: &[Holding]) -> Result<(), AllocError>
+    ensures { OnOk result (text.new.items ≡ text.old.items ++ flat_map mutex_text held.now) }
+{
+    for holding in held {
+        put_object(text, " mutex:", holding.mutex)?;
+    }
+    Ok(())
+}
+
+/// Puts the bar of a process, if it owns mutexes.
+#[tactic(auto, using(std::proofs::Common::append_assoc))]
 fn put_owns(
     text: &mut Vec<u8>,
     frame: &Frame,
     process: ProcessId,
-    cell: &Cell,
+    held: &[Holding],
 ) -> Result<(), AllocError>
     ensures { OnOk result (text.new.items ≡ text.old.items
-        ++ owns_part frame.now process cell.now.owned) }
+        ++ owns_part frame.now process held.now) }
 {
-    for holding in cell.owned.as_slice() {
-        put_bar(text, frame, process, holding.mutex)?;
+    if held.is_empty() {
+        return Ok(());
     }
-    Ok(())
+    put_bar(text, frame, process)?;
+    put_mutexes(text, held)?;
+    put_cell_end(text)
 }
 
 /// Puts the cell of a process, up to its wait.
@@ -336,7 +342,7 @@ fn put_cell(
     put_state(text, table, frame, process, cell)?;
     put_waits(text, cell)?;
     put_cell_end(text)?;
-    put_owns(text, frame, process, cell)
+    put_owns(text, frame, process, cell.owned.as_slice())
 }
 
 /// Puts the cells of all processes.

@@ -1,17 +1,23 @@
 //! A picture as a trace in the Trace Event Format, which is JSON: tracks of the cores and of the
 //! processes, and counters of the objects. An entry's number is its time in microseconds; the
 //! partition's time is an argument.
-ghost use Rattle.std.specs.Prelude.{◌≡◌, ◌++◌, flat_map, length, OnOk};
+ghost use Rattle.std.specs.Prelude.{◌≡◌, ◌++◌, flat_map, length, map, OnOk};
 ghost use Rattle.apex_types.specs.text.Listing.{texts_of};
+ghost use Rattle.apex_pictures.specs.Moments.{moment_in, none_shown, running_in, with_cells, with_running};
+ghost use Rattle.apex_pictures.specs.Places.{of_places};
 ghost use Rattle.apex_pictures.specs.Stamps.{IsStamp, Stamps};
 ghost use Rattle.apex_pictures.specs.Trace as trace;
+ghost use Rattle.apex_pictures.specs.Tracks.{bare, bare_cells, cell_on, track_of};
 
 use crate::counters::put_counters;
-use crate::counts::Counts;
+use crate::counts::{Counts, counts_of};
+use crate::moments::running_at;
 use crate::stamps::{Stamp, begin_front, end_front};
 use crate::texts::{Part, put, put_all, put_json, put_number};
-use crate::tracks::{Tracks, state_on};
+use crate::tracks::{Track, Tracks, state_on, track_of};
 use crate::words::{deadline_word, id_part, name_of, put_id};
+use apex_dispatch::Kernel;
+use apex_store::Store;
 use apex_table::Table;
 use apex_types::{CoreId, DeadlineType, LentEntry, Notice, ProcessId, State};
 use std::alloc::AllocError;
@@ -300,54 +306,74 @@ fn process_spot(process: ProcessId, time: u64) -> Spot
     }
 }
 
-/// Puts the changes on the tracks of the cores.
-fn put_cores(
+/// Puts the changes on the tracks of the cores, by the process that each core ran before and the one
+/// that it runs now.
+pub(crate) fn put_cores(
     text: &mut Vec<u8>,
     table: &Table,
     time: u64,
     stamp: &Stamp,
-    before: &Tracks,
-    after: &Tracks,
+    before: &[Option<ProcessId>],
+    after: &[Option<ProcessId>],
 ) -> Result<(), AllocError>
     requires { IsStamp stamp.now time }
     ensures { OnOk result (text.new.items ≡ text.old.items
-        ++ texts_of
-        (trace.core_at table.now time stamp.now.ticks before.now after.now) table.now.cores) }
+        ++ texts_of (trace.core_at table.now time stamp.now.ticks (with_running before.now)
+        (with_running after.now)) table.now.cores) }
 {
     for place in 0..table.cores() {
         let core = CoreId::new(place);
-        put_core(
-            text,
-            table,
-            core,
-            time,
-            stamp,
-            &before.running(core),
-            &after.running(core),
-        )?;
+        let (old, new) = (running_at(before, core), running_at(after, core));
+        put_core(text, table, core, time, stamp, &old, &new)?;
     }
     Ok(())
 }
 
-/// Puts the changes on the tracks of the processes.
-fn put_processes(
+/// Brings the tracks up to the processes of a store, and puts the changes on them.
+pub(crate) fn put_processes<S: Store>(
+    text: &mut Vec<u8>,
+    store: &S,
+    running: &[Option<ProcessId>],
+    time: u64,
+    stamp: &Stamp,
+    tracks: &mut [Track],
+) -> Result<(), AllocError>
+    requires stamp { IsStamp stamp.now time }
+    requires running { running.now ≡ running_in (S.roster store.now) }
+    requires many { length tracks.old ≡ length (S.roster store.now).records }
+    ensures text { OnOk result (text.new.items ≡ text.old.items
+        ++ texts_of (trace.process_at time stamp.now.ticks (with_cells (map cell_on tracks.old))
+        (with_cells (bare_cells (S.roster store.now)))) (length (S.roster store.now).records)) }
+    ensures tracks { OnOk result (tracks.new
+        ≡ of_places (track_of (S.roster store.now)) (length (S.roster store.now).records)) }
+{
+    for place in 0..store.process_count() {
+        let process = ProcessId::at(place as u8);
+        let track = track_of(store, process, running);
+        let before = state_on(tracks, place);
+        put_process(text, process, time, stamp, before, track.state)?;
+        tracks[place] = track;
+    }
+    Ok(())
+}
+
+/// Puts the ends of the slices of all processes.
+fn put_ends(
     text: &mut Vec<u8>,
     table: &Table,
     time: u64,
     stamp: &Stamp,
-    before: &Tracks,
-    after: &Tracks,
+    last: &[Track],
 ) -> Result<(), AllocError>
     requires { IsStamp stamp.now time }
     ensures { OnOk result (text.new.items ≡ text.old.items
-        ++ texts_of (trace.process_at time stamp.now.ticks before.now after.now)
-        (length table.now.processes)) }
+        ++ texts_of (trace.process_at time stamp.now.ticks (with_cells (map cell_on last.now))
+        none_shown) (length table.now.processes)) }
 {
-    let (was, is) = (before.tracks(), after.tracks());
     for place in 0..table.process_count() {
         let process = ProcessId::at(place as u8);
-        let (old, new) = (state_on(was, place), state_on(is, place));
-        put_process(text, process, time, stamp, old, new)?;
+        let before = state_on(last, place);
+        put_process(text, process, time, stamp, before, State::Dormant)?;
     }
     Ok(())
 }
@@ -400,24 +426,29 @@ fn put_misses(text: &mut Vec<u8>, time: u64, now: u64, notices: &[Notice]) -> Re
     Ok(())
 }
 
-/// Puts the changes by an entry on the tracks and of the counters, and the marks of the deadlines
-/// that were missed.
+/// Puts the changes by the latest entry on the tracks and of the counters, and the marks of the
+/// deadlines that were missed. `shown` are the tracks before it, and then those after it.
 #[tactic(auto, using(std::proofs::Common::append_assoc))]
-pub(crate) fn put_column(
+pub(crate) fn put_column<S: Store>(
     text: &mut Vec<u8>,
-    table: &Table,
-    before: &Tracks,
+    kernel: &Kernel<S>,
     entry: &LentEntry<'_>,
-    after: &Tracks,
+    shown: &mut Tracks,
 ) -> Result<(), AllocError>
-    ensures { OnOk result (text.new.items ≡ text.old.items
-        ++ trace.column_text table.now before.now entry.entry.now after.now) }
+    requires { length shown.old.cells ≡ length kernel.now.machine.roster.records }
+    ensures text { OnOk result (text.new.items ≡ text.old.items
+        ++ trace.column_text kernel.now.table shown.old entry.entry.now
+        (bare (moment_in kernel.now.table kernel.now.machine))) }
+    ensures shown { OnOk result (shown.new
+        ≡ bare (moment_in kernel.now.table kernel.now.machine)) }
 {
-    let time = u64::from(entry.number);
+    kernel.holds();
+    let (table, time) = (kernel.table(), u64::from(entry.number));
     let stamp = Stamp::new(time, entry.now);
-    put_cores(text, table, time, &stamp, before, after)?;
-    put_processes(text, table, time, &stamp, before, after)?;
-    put_counters(text, table, time, before.counts(), after.counts())?;
+    let counts = counts_of(kernel);
+    shown.put_changes(text, table, kernel.store(), time, &stamp)?;
+    put_counters(text, table, time, shown.counts(), &counts)?;
+    shown.set_counts(counts);
     put_misses(text, time, entry.now, entry.notices)
 }
 
@@ -433,9 +464,8 @@ pub(crate) fn put_foot(
     ensures { OnOk result (text.new.items ≡ text.old.items
         ++ trace.foot_text table.now time now last.now) }
 {
-    let none = Tracks::none();
     let stamp = Stamp::new(time, now);
-    put_cores(text, table, time, &stamp, last, &none)?;
-    put_processes(text, table, time, &stamp, last, &none)?;
+    put_cores(text, table, time, &stamp, last.running(), &[])?;
+    put_ends(text, table, time, &stamp, last.tracks())?;
     put(text, "\n]}\n")
 }

@@ -1,20 +1,26 @@
 //! The processes and the counts after an entry, as a trace shows them.
-ghost use Rattle.std.specs.Prelude.{◌≡◌, ◌<◌, ◌≤◌, length, map, slice_index_or, None};
+ghost use Rattle.std.specs.Prelude.{◌≡◌, ◌<◌, ◌≤◌, ◌++◌, length, map, slice_index_or, OnOk};
 ghost use Rattle.apex_types.specs.values.Limits.{most_processes};
-ghost use Rattle.apex_pictures.specs.Moments.{moment_of, none_shown, running_in};
+ghost use Rattle.apex_pictures.specs.Moments.{moment_of, running_in};
+ghost use Rattle.apex_pictures.specs.Stamps.{IsStamp};
+ghost use Rattle.apex_pictures.specs.Trace.{changes_text};
 ghost use Rattle.apex_pictures.specs.Tracks.{bare, cell_on, no_track, track_of};
 
 use crate::counts::Counts;
 use crate::moments::{CORES, running_at, running_of, state_of};
+use crate::stamps::Stamp;
+use crate::trace::{put_cores, put_processes};
 use apex_store::Store;
-use apex_types::{CoreId, MOST_PROCESSES, ProcessId, State};
+use apex_table::Table;
+use apex_types::{MOST_PROCESSES, ProcessId, State};
 use arrayvec::ArrayVec;
+use std::alloc::AllocError;
 use std::marker::Model;
 
 /// What the track of a process shows after an entry.
 #[derive(Clone, Copy)]
 pub(crate) struct Track {
-    state: State,
+    pub(crate) state: State,
 }
 
 impl Default for Track {
@@ -53,7 +59,11 @@ impl Model for Tracks {
 }
 
 /// The track of a process, given the process that each core runs.
-fn track_of<S: Store>(store: &S, process: ProcessId, running: &[Option<ProcessId>]) -> Track
+pub(crate) fn track_of<S: Store>(
+    store: &S,
+    process: ProcessId,
+    running: &[Option<ProcessId>],
+) -> Track
     requires known { process < length (S.roster store.now).records }
     requires running { running.now ≡ running_in (S.roster store.now) }
     ensures { result ≡ track_of (S.roster store.now) process }
@@ -61,7 +71,7 @@ fn track_of<S: Store>(store: &S, process: ProcessId, running: &[Option<ProcessId
     let row = store.record(process);
     let chosen = running_at(running, row.core);
     Track {
-        state: state_of(process, &row, store.mode(), chosen),
+        state: state_of(process, row, store.mode(), chosen),
     }
 }
 
@@ -93,15 +103,39 @@ pub(crate) fn state_on(tracks: &[Track], place: usize) -> State
 }
 
 impl Tracks {
-    /// The tracks of no process.
-    pub(crate) fn none() -> Tracks
-        ensures { result ≡ none_shown }
+    /// Brings the tracks up to the processes of a store, and puts the changes on them.
+    #[tactic(auto, using(std::proofs::Common::append_assoc))]
+    pub(crate) fn put_changes<S: Store>(
+        &mut self,
+        text: &mut Vec<u8>,
+        table: &Table,
+        store: &S,
+        time: u64,
+        stamp: &Stamp,
+    ) -> Result<(), AllocError>
+        requires stamp { IsStamp stamp.now time }
+        requires tracks { length self.old.cells ≡ length (S.roster store.now).records }
+        requires table { length table.now.processes ≡ length (S.roster store.now).records }
+        ensures text { OnOk result (text.new.items ≡ text.old.items
+            ++ changes_text table.now time stamp.now.ticks self.old
+            (bare (moment_of (S.roster store.now) self.old.counts))) }
+        ensures tracks { OnOk result (self.new
+            ≡ bare (moment_of (S.roster store.now) self.old.counts)) }
     {
-        Tracks {
-            tracks: ArrayVec::new(),
-            running: ArrayVec::new(),
-            counts: Counts::none(),
-        }
+        let running = running_of(store);
+        let (before, after) = (self.running.as_slice(), running.as_slice());
+        put_cores(text, table, time, stamp, before, after)?;
+        let tracks = self.tracks.as_mut_slice();
+        put_processes(text, store, after, time, stamp, tracks)?;
+        self.running = running;
+        Ok(())
+    }
+
+    /// Other counts are those of the objects.
+    pub(crate) fn set_counts(&mut self, counts: Counts)
+        ensures { self.new ≡ record self.old { counts = counts } }
+    {
+        self.counts = counts;
     }
 
     /// The tracks of the processes.
@@ -111,11 +145,11 @@ impl Tracks {
         self.tracks.as_slice()
     }
 
-    /// The process that a core runs.
-    pub(crate) fn running(&self, core: CoreId) -> Option<ProcessId>
-        ensures { result ≡ slice_index_or self.now.running core None }
+    /// The process that each core runs.
+    pub(crate) fn running(&self) -> &[Option<ProcessId>]
+        ensures { result.now ≡ self.now.running }
     {
-        running_at(self.running.as_slice(), core)
+        self.running.as_slice()
     }
 
     /// The counts of the objects.

@@ -69,7 +69,11 @@ pub(crate) fn put_id<K: Copy>(text: &mut Vec<u8>, id: Id<K>) -> Result<(), Alloc
 
 /// Puts a kind of objects and the number of one of them.
 #[tactic(auto, using(std::proofs::Common::append_assoc))]
-fn put_object<K: Copy>(text: &mut Vec<u8>, kind: &str, id: Id<K>) -> Result<(), AllocError>
+pub(crate) fn put_object<K: Copy>(
+    text: &mut Vec<u8>,
+    kind: &str,
+    id: Id<K>,
+) -> Result<(), AllocError>
     ensures { OnOk result (text.new.items ≡ text.old.items ++ (kind.now ++ id_text id)) }
 {
     put(text, kind)?;

@@ -61,7 +61,7 @@ fn read<'a>(records: &'a PlainStore, reads: &Visits, process: ProcessId) -> &'a 
     ensures { result.now ≡ record_at records.now process }
 {
     reads.note();
-    records.row(process)
+    records.record(process)
 }
 
 /// The process of this record owns a mutex, and its current priority stays with this base priority.
@@ -166,8 +166,8 @@ impl Store for QueueStore {
         self.records.process_count()
     }
 
-    fn record(&self, process: ProcessId) -> Record {
-        *read(&self.records, &self.reads, process)
+    fn record(&self, process: ProcessId) -> &Record {
+        read(&self.records, &self.reads, process)
     }
 
     fn chosen(&self, core: CoreId) -> Option<ProcessId> {

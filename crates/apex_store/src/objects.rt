@@ -56,7 +56,7 @@ pub trait Object: Drop {
         requires stands { Stands (S.roster store.old) id }
         requires caller { IsReadyCaller (S.roster store.old) caller.now }
         requires can { CanServe (S.roster store.old) notices.old }
-        ensures { Leaves (kind.kind_service (S.roster store.old) self.old id caller.now service.now)
+        ensures { Leaves (kind.service (S.roster store.old) self.old id caller.now service.now)
             (S.roster store.new) self.new result notices.old notices.new };
 }
 

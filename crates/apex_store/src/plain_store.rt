@@ -196,14 +196,6 @@ impl PlainStore {
         }
     }
 
-    /// The record of the process, in its place.
-    pub fn row(&self, process: ProcessId) -> &Record
-        requires { process < length self.now.records }
-        ensures { result.now ≡ record_at self.now process }
-    {
-        &self.records[process.place()]
-    }
-
     /// The process has no due from now on.
     pub fn clear_due(&mut self, process: ProcessId)
         requires { process < length self.old.records }
@@ -323,8 +315,8 @@ impl Store for PlainStore {
         self.records.len()
     }
 
-    fn record(&self, process: ProcessId) -> Record {
-        self.records[process.place()]
+    fn record(&self, process: ProcessId) -> &Record {
+        &self.records[process.place()]
     }
 
     fn chosen(&self, core: CoreId) -> Option<ProcessId> {
@@ -347,7 +339,7 @@ impl Store for PlainStore {
         let order = Behind {
             discipline: self.discipline(&queue),
             queue,
-            ahead: self.record(process),
+            ahead: *self.record(process),
         };
         first_of(&order, &self.records)
     }
@@ -376,7 +368,7 @@ impl Store for PlainStore {
     }
 
     fn start(&mut self, process: ProcessId, delay: u32) {
-        let row = self.record(process);
+        let row = *self.record(process);
         self.put(process, reset(row));
         if self.mode.is_normal() {
             self.begin(process, delay);
@@ -386,7 +378,7 @@ impl Store for PlainStore {
     }
 
     fn stop(&mut self, process: ProcessId) {
-        let row = self.record(process);
+        let row = *self.record(process);
         let stopped = Record {
             started: false,
             suspended: None,
@@ -418,12 +410,12 @@ impl Store for PlainStore {
     }
 
     fn release(&mut self, process: ProcessId) {
-        let row = self.record(process);
+        let row = *self.record(process);
         self.put_readied(process, released_at(self.time, row));
     }
 
     fn suspend(&mut self, process: ProcessId) {
-        let row = self.record(process);
+        let row = *self.record(process);
         let suspended = Record {
             suspended: Some(Suspender::Other),
             ..row
@@ -432,7 +424,7 @@ impl Store for PlainStore {
     }
 
     fn suspend_self(&mut self, process: ProcessId, due: Option<u64>) {
-        let row = self.record(process);
+        let row = *self.record(process);
         let suspended = Record {
             suspended: Some(Suspender::Itself),
             wait: None,
@@ -443,7 +435,7 @@ impl Store for PlainStore {
     }
 
     fn resume(&mut self, process: ProcessId) {
-        let row = self.record(process);
+        let row = *self.record(process);
         if row.is_suspended_by_itself() {
             self.put_readied(process, awake(row));
         } else {
@@ -456,7 +448,7 @@ impl Store for PlainStore {
     }
 
     fn set_priority(&mut self, process: ProcessId, base: u8) {
-        let row = self.record(process);
+        let row = *self.record(process);
         let changed = Record { base, ..row };
         let stays = row.owns_some() && is_level(&changed, &row);
         if (row.is_eligible(self.mode) && !stays) || self.goes_by_priority(row.queue()) {
@@ -467,7 +459,7 @@ impl Store for PlainStore {
     }
 
     fn own(&mut self, process: ProcessId, owned: Holdings) {
-        let row = self.record(process);
+        let row = *self.record(process);
         let changed = Record { owned, ..row };
         if is_level(&changed, &row) {
             self.put(process, changed);
@@ -477,7 +469,7 @@ impl Store for PlainStore {
     }
 
     fn inherit(&mut self, process: ProcessId, holding: Holding) {
-        let row = self.record(process);
+        let row = *self.record(process);
         let owner = Record {
             owned: Holdings::one(holding),
             ..row
@@ -486,7 +478,7 @@ impl Store for PlainStore {
     }
 
     fn place_newest(&mut self, process: ProcessId) {
-        let placed = self.record(process);
+        let placed = *self.record(process);
         self.put_newest(process, placed);
     }
 

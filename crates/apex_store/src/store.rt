@@ -39,9 +39,9 @@ pub trait Store: Drop {
         ensures value { result ≡ length (roster self.now).records }
         ensures range { result ≤ most_processes };
 
-    fn record(&self, process: ProcessId) -> Record
+    fn record(&self, process: ProcessId) -> &Record
         requires known { process < length (roster self.now).records }
-        ensures { result ≡ record_at (roster self.now) process };
+        ensures { result.now ≡ record_at (roster self.now) process };
 
     /// The process that the core runs.
     fn chosen(&self, core: CoreId) -> Option<ProcessId>

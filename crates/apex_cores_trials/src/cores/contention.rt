@@ -9,21 +9,50 @@ use apex_cores::CoreReport;
 use apex_history::Entries;
 use apex_partition::{Closed, Naming, Reader, Receipt, Seat, Shared, Ticker};
 use apex_types::{MOST_CORES, Who};
-use std::alloc::{AllocError, Global};
+use std::alloc::Global;
 use std::process::Abort;
 use std::str;
 use std::sync::Wait;
 use std::thread::Threads;
 
-/// A storm on this table, in which the gate backs off `pauses` times in each work.
+/// A storm, in which the gate backs off this number of times in each work.
 #[derive(Clone, Copy)]
-pub struct Storm<'a> {
-    table: &'a str,
+pub struct Storm {
     pauses: u32,
 }
 
-/// The objects of a storm.
-const OBJECTS: &str = r#"
+/// The table of a storm. On each of these cores a process takes a semaphore, a mutex and a place of a buffer, and
+/// one stops, starts and moves the processes of the next core and of the one after it.
+macro_rules! storm_table {
+    ($(($core:literal, $next:literal, $after:literal))*) => {
+        concat!(
+            "cores = 8\nhistory = 8192\n",
+            $(
+                "\n[[process]]\nname = \"W",
+                $core,
+                "\"\npriority = 10\ncore = ",
+                $core,
+                r#"
+loop = true
+start = true
+script = ["WAIT_SEMAPHORE S 2", "ACQUIRE_MUTEX M 0", "RELEASE_MUTEX M", "SEND_BUFFER B 01 0",
+    "RECEIVE_BUFFER B 0", "SIGNAL_SEMAPHORE S", "work 1"]
+"#,
+                "\n[[process]]\nname = \"K",
+                $core,
+                "\"\npriority = 20\ncore = ",
+                $core,
+                "\nloop = true\nstart = true\nscript = [\"STOP W",
+                $next,
+                "\", \"START W",
+                $next,
+                "\", \"SET_PRIORITY W",
+                $after,
+                " 30\", \"SET_PRIORITY W",
+                $after,
+                " 10\", \"TIMED_WAIT 1\"]\n",
+            )*
+            r#"
 [[semaphore]]
 name = "S"
 initial = 2
@@ -40,71 +69,21 @@ name = "B"
 length = 4
 capacity = 2
 discipline = "PRIORITY"
-"#;
-
-/// Each core, the next one and the one after it.
-const NEIGHBOURS: [[&str; 3]; 8] = [
-    ["0", "1", "2"],
-    ["1", "2", "3"],
-    ["2", "3", "4"],
-    ["3", "4", "5"],
-    ["4", "5", "6"],
-    ["5", "6", "7"],
-    ["6", "7", "0"],
-    ["7", "0", "1"],
-];
-
-/// The keys of a process that works, behind its core.
-const WORK: &str = r#"
-loop = true
-start = true
-script = ["WAIT_SEMAPHORE S 2", "ACQUIRE_MUTEX M 0", "RELEASE_MUTEX M", "SEND_BUFFER B 01 0",
-    "RECEIVE_BUFFER B 0", "SIGNAL_SEMAPHORE S", "work 1"]
-"#;
-
-/// Adds to a table, on this core, a process that takes a semaphore, a mutex and a place of a buffer, and one that
-/// stops, starts and moves the processes of the two cores behind it.
-fn push_processes(text: &mut String, cores: [&str; 3]) -> Result<(), AllocError> {
-    let [core, next, after] = cores;
-    for piece in [
-        "\n[[process]]\nname = \"W",
-        core,
-        "\"\npriority = 10\ncore = ",
-        core,
-        WORK,
-        "\n[[process]]\nname = \"K",
-        core,
-        "\"\npriority = 20\ncore = ",
-        core,
-        "\nloop = true\nstart = true\nscript = [\"STOP W",
-        next,
-        "\", \"START W",
-        next,
-        "\", \"SET_PRIORITY W",
-        after,
-        " 30\", \"SET_PRIORITY W",
-        after,
-        " 10\", \"TIMED_WAIT 1\"]\n",
-    ] {
-        text.push_str(piece)?;
-    }
-    Ok(())
+"#,
+        )
+    };
 }
 
-fn push_table(text: &mut String) -> Result<(), AllocError> {
-    text.push_str("cores = 8\nhistory = 8192\n")?;
-    for cores in NEIGHBOURS {
-        push_processes(text, cores)?;
-    }
-    text.push_str(OBJECTS)
-}
-
-/// The table of a storm.
-fn storm_table<R: Abort>(rt: &R, alloc: Global) -> String {
-    let mut text = String::new(alloc);
-    push_table(&mut text).expect(rt, "memory");
-    text
-}
+const TABLE: &str = storm_table! {
+    (0, 1, 2)
+    (1, 2, 3)
+    (2, 3, 4)
+    (3, 4, 5)
+    (4, 5, 6)
+    (5, 6, 7)
+    (6, 7, 0)
+    (7, 0, 1)
+};
 
 /// The number of the last entry of a core or of the ticker.
 fn last_number(entries: Entries<'_>, who: Who) -> u32 {
@@ -206,20 +185,20 @@ fn tell<P: Naming, R: Abort + Wait>(rt: &R, closed: &mut Closed<P>, reader: Opti
     }
 }
 
-/// All ways to read the value of S from these lines of a storm on this table agree with its value by the entries.
-fn agrees<R: Abort>(rt: &R, alloc: Global, text: &str, lines: &[u8], value: u64) {
+/// All ways to read the value of S from these lines of a storm agree with its value by the entries.
+fn agrees<R: Abort>(rt: &R, alloc: Global, lines: &[u8], value: u64) {
     let history = str::from_utf8(lines).expect(rt, "the lines are text");
     assert!(rt; history.lines().count() == ALL as usize);
     assert!(rt; value_by_lines(history) == Some(value));
-    assert!(rt; is_value_by_run(rt, alloc, text, history, value));
+    assert!(rt; is_value_by_run(rt, alloc, TABLE, history, value));
 }
 
 /// The history has all entries that were planned, and the value of S is the same by its lines, by its
 /// entries, and in the listing of a kernel that makes its events anew.
-fn look_at<P: Naming, R: Abort>(rt: &R, alloc: Global, closed: Closed<P>, text: &str) {
+fn look_at<P: Naming, R: Abort>(rt: &R, alloc: Global, closed: Closed<P>) {
     let value = value_by_entries(closed.entries()).expect(rt, "no more waits than units");
     let lines = lines_of(rt, alloc, closed);
-    agrees(rt, alloc, text, lines.as_slice(), value);
+    agrees(rt, alloc, lines.as_slice(), value);
 }
 
 /// Closes the partition of these threads, confirms the receipts, tells the reader, and looks at the history.
@@ -229,7 +208,6 @@ fn settle<P: Naming, R: Abort + Wait>(
     shared: Shared<P>,
     found: Found<P>,
     cores: usize,
-    text: &str,
 )
     requires { cores ≡ P.table.cores }
 {
@@ -243,7 +221,7 @@ fn settle<P: Naming, R: Abort + Wait>(
     let mut closed = close(rt, alloc, shared, seats, ticker, cores);
     confirm_last(rt, &closed, receipts.as_slice());
     tell(rt, &mut closed, reader);
-    look_at(rt, alloc, closed, text);
+    look_at(rt, alloc, closed);
 }
 
 /// Runs a storm on this partition, whose table has `cores` cores, by threads, and closes it.
@@ -252,7 +230,7 @@ pub fn weather<P: Naming + Send + Sync, R: Abort + Threads + Wait + Sync>(
     alloc: Global,
     open: Open<P>,
     cores: usize,
-    storm: Storm<'_>,
+    storm: Storm,
 )
     requires { cores ≡ P.table.cores }
 {
@@ -265,7 +243,7 @@ pub fn weather<P: Naming + Send + Sync, R: Abort + Threads + Wait + Sync>(
     let tasks = tasks_of(rt, alloc, seats, ticker, reader);
     let (reports, shared) = run_all(rt, alloc, shared, storm.pauses, tasks);
     let found = found_in(rt, alloc, reports);
-    settle(rt, alloc, shared, found, cores, storm.table);
+    settle(rt, alloc, shared, found, cores);
 }
 
 /// Weathers this number of storms, one after the other.
@@ -276,16 +254,9 @@ fn weather_all<R: Abort + Threads + Wait + Sync>(
     pauses: u32,
     has_reader: bool,
 ) {
-    let text = storm_table(rt, alloc);
-    let table = text.as_str();
     for _time in 0..storms {
-        open_and_play(
-            rt,
-            alloc,
-            table,
-            has_reader,
-            Play::Storm(Storm { table, pauses }),
-        );
+        let storm = Play::Storm(Storm { pauses });
+        open_and_play(rt, alloc, TABLE, has_reader, storm);
     }
 }
 

@@ -160,7 +160,7 @@ impl ProcessObject {
         if row.started {
             return Reply::Code(ReturnCode::NoAction);
         }
-        let Some(ticks) = fit_delay(&row, delay) else {
+        let Some(ticks) = fit_delay(row, delay) else {
             return Reply::Code(ReturnCode::InvalidParam);
         };
         if store.mode().is_normal() && ticks == 0 {
@@ -211,7 +211,7 @@ impl ProcessObject {
             return Reply::Code(ReturnCode::InvalidParam);
         }
         let row = store.record(id);
-        if is_unsuspendable(&row) {
+        if is_unsuspendable(row) {
             return Reply::Code(ReturnCode::InvalidMode);
         }
         if row.suspended.is_some() {
@@ -244,7 +244,7 @@ impl ProcessObject {
             return Reply::Code(ReturnCode::InvalidParam);
         }
         let row = store.record(id);
-        if is_unsuspendable(&row) {
+        if is_unsuspendable(row) {
             return Reply::Code(ReturnCode::InvalidMode);
         }
         if row.suspended.is_none() {

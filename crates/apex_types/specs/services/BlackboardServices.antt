@@ -89,6 +89,6 @@ blackboard_kind = record {
   created = λ blackboard. blackboard.created;
   made = λ blackboard. record blackboard { created = true };
   status = blackboard_status;
-  kind_service = blackboard_service;
+  service = blackboard_service;
   after = blackboard_after;
 }

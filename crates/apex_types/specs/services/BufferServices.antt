@@ -129,6 +129,6 @@ buffer_kind = record {
   created = λ buffer. buffer.created;
   made = λ buffer. record buffer { created = true };
   status = buffer_status;
-  kind_service = buffer_service;
+  service = buffer_service;
   after = buffer_after;
 }

@@ -71,6 +71,6 @@ event_flag_kind = record {
   created = λ event_flag. event_flag.created;
   made = λ event_flag. record event_flag { created = true };
   status = event_flag_status;
-  kind_service = event_flag_service;
+  service = event_flag_service;
   after = event_flag_after;
 }

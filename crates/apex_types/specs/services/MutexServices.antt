@@ -93,6 +93,6 @@ mutex_kind = record {
   created = λ mutex. mutex.created;
   made = λ mutex. record { created = true };
   status = mutex_status;
-  kind_service = mutex_service;
+  service = mutex_service;
   after = mutex_after;
 }

@@ -20,7 +20,7 @@ pub record ObjectKind (C X W : Type 0) : Type 0 where
   -- the status of the object at a place
   pub status : Roster → X → ℕ → Reply
   -- the services of this kind alone, on the object at a place
-  pub kind_service : Roster → X → ℕ → Caller → W → Outcome X
+  pub service : Roster → X → ℕ → Caller → W → Outcome X
   -- the object at a place as a history leaves it
   pub after : List Entry → ℕ → C → X
 
@@ -54,7 +54,7 @@ object_service kind roster object place caller (Create named) = create kind rost
 object_service kind roster object place caller (GetId named) = get_id kind roster object place
 object_service kind roster object place caller (GetStatus i) = get_status kind roster object place
 object_service kind roster object place caller (KindService i service) =
-    kind.kind_service roster object place caller service
+    kind.service roster object place caller service
 
 -- a call of a name that is no entry's: CREATE tests the mode first
 abbrev pub no_entry : {X W : Type 0} → Roster → X → ObjectCall ℕ W → Outcome X

@@ -151,6 +151,6 @@ process_kind = record {
   created = λ process. process.created;
   made = λ process. record { created = true };
   status = process_status;
-  kind_service = process_service;
+  service = process_service;
   after = process_after;
 }

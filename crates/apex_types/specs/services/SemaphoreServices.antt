@@ -78,6 +78,6 @@ semaphore_kind = record {
   created = λ semaphore. semaphore.created;
   made = λ semaphore. record semaphore { created = true };
   status = semaphore_status;
-  kind_service = semaphore_service;
+  service = semaphore_service;
   after = semaphore_after;
 }

@@ -24,7 +24,7 @@ loop-round-preserved g c =
     let known : process < length old.records = first_due_within old process found in
     let freed : g.S.Store.roster c.take_due.new.self ≡ without_due old process =
     c.in-Some.ensures.taken ∙ ap (without_due_of old) found in
-    let wait = ap (λ (r : _). r.wait) c.record-wait.ensures in
+    let wait = ap (λ (r : _). r.wait) c.«record».ensures in
     let is = served_is old (g.S.Store.roster c.take_due.new.self) process _ known freed wait in
     let makes : Makes (serve_due old process) (g.S.Store.roster c.wait_over.new.store)
     c.loop-round.notices c.wait_over.new.notices = rw (← is) c.wait_over.ensures in

@@ -1,12 +1,16 @@
 -- The event adds the column of its entry.
-use Rattle.std.proofs.Common.{◌≡◌, ◌∙◌, ap, refl, sym, None, Some}
+use Rattle.std.proofs.Common.{◌≡◌, ◌∙◌, ap, length, refl, sym, None, Some}
 use Rattle.std.proofs.lemmas.Result.{on_ok_weaker}
 use Rattle.std.specs.List.{last_or}
 use Rattle.apex_calls.specs.Lines.{IsPrintable}
 use Rattle.apex_types.specs.machine.Machine.{accept}
+use Rattle.apex_types.specs.table.Table.{Table}
 use Rattle.apex_dispatch.specs.Kernel.{KernelState}
+use Rattle.apex_pictures.specs.Moments.{cell_of, moment_in}
 use Rattle.apex_pictures.proofs.Drawn.{one_column}
 use Rattle.apex_pictures.proofs.Pictured.{column_more, latest_holds, latest_some, pictured_machine}
+use Rattle.apex_pictures.proofs.Places.{length_of}
+use Rattle.apex_pictures.proofs.TracksShown.{follow_many}
 use Rattle.apex_pictures.proofs.drawing.draw_event.Goals as goal
 
 pub returns-in_default-latest-clause-shown : goal.returns-in_default-latest-clause-shown
@@ -29,8 +33,18 @@ returns-in_default-latest-clause-drawn g c =
     absurd (latest_some table machine (pictured_machine table machine c.holds.ensures.replays) c.args.event _
     (c.in-Ok.ensures.accepted.0 refl) new none)
 
-pub put_column-requires : goal.put_column-requires
-put_column-requires g c =
+pub put_column-requires-clause-many : goal.put_column-requires-clause-many
+put_column-requires-clause-many g c =
+    let table = c.args.kernel.now.table in
+    let machine = c.args.kernel.now.machine in
+    let kept : c.accept.new.self.table ≡ table = ap (λ (k : KernelState). k.table) c.in-Ok.ensures.done in
+    let many : length machine.roster.records ≡ length c.accept.new.self.machine.roster.records =
+    c.holds.ensures.records ∙ ap (λ (t : Table). length t.processes) (sym kept) ∙ sym c.holds-2.ensures.records in
+    follow_many c.args.style.now c.args.shown.now (moment_in table machine) _ c.requires.shown
+    (length_of (cell_of machine.roster) (length machine.roster.records) ∙ many)
+
+pub put_column-requires-clause-printable : goal.put_column-requires-clause-printable
+put_column-requires-clause-printable g c =
     let table = c.args.kernel.now.table in
     let machine = c.args.kernel.now.machine in
     let new : c.accept.new.self.machine ≡ accept table machine c.args.event = ap (λ (k : KernelState). k.machine) c.in-Ok.ensures.done in

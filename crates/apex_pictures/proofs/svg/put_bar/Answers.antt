@@ -4,4 +4,4 @@ use Rattle.apex_pictures.proofs.svg.put_bar.Goals as goal
 
 pub returns : goal.returns
 unfolding bar_text
-returns c = rw (c.row.ensures.value, c.id_part.ensures) at c.put_all.ensures
+returns c = rw c.row.ensures.value at c.put_all.ensures

@@ -1,4 +1,5 @@
 -- The next text follows those before it.
+use Rattle.apex_pictures.specs.Moments.{with_running}
 use Rattle.apex_pictures.specs.Trace as trace
 use Rattle.apex_pictures.proofs.Places.{text_next}
 use Rattle.apex_pictures.proofs.trace.put_cores.Goals as goal
@@ -7,6 +8,6 @@ pub loop-place-preserved : goal.loop-place-preserved
 loop-place-preserved c = record {
   stamp = c.loop-place.invariant.stamp;
   many = c.loop-place.invariant.many;
-  text = text_next (trace.core_at c.args.table.now c.args.time c.args.stamp.now.ticks c.args.before.now c.args.after.now) c.loop-place.place _ _ _ c.loop-place.invariant.text
-      (rw (c.running.ensures, c.running-in-loop-place.ensures, c.new-core.ensures) at c.in_ok-put_core.ensures);
+  text = text_next (trace.core_at c.args.table.now c.args.time c.args.stamp.now.ticks (with_running c.args.before.now) (with_running c.args.after.now)) c.loop-place.place _ _ _ c.loop-place.invariant.text
+      (rw (c.running_at-old.ensures.value, c.running_at-new.ensures.value, c.new-core.ensures) at c.in_ok-put_core.ensures);
 }

@@ -1,6 +1,7 @@
 -- The changes so far follow the text.
 use Rattle.std.proofs.Common.{◌≡◌, ◌++◌}
 use Rattle.apex_types.specs.text.Listing.{texts_of}
+use Rattle.apex_pictures.specs.Moments.{with_running}
 use Rattle.apex_pictures.specs.Stamps.{IsStamp}
 use Rattle.apex_pictures.specs.Trace as trace
 use Rattle.apex_pictures.proofs.trace.put_cores.Given as goal
@@ -9,5 +10,5 @@ abbrev pub invariant-loop-place : goal.invariant-loop-place
 invariant-loop-place l = record {
   stamp : IsStamp l.stamp l.time;
   many : l.place-end ≡ l.table.cores;
-  text : l.text.items ≡ l.fn.text.items ++ texts_of (trace.core_at l.table l.time l.stamp.ticks l.before l.after) l.place;
+  text : l.text.items ≡ l.fn.text.items ++ texts_of (trace.core_at l.table l.time l.stamp.ticks (with_running l.before) (with_running l.after)) l.place;
 }

@@ -1,18 +1,32 @@
--- The next text follows those before it.
+-- The next track has its state, and the next text follows those before it.
+use Rattle.std.proofs.Common.{◌≡◌, ◌∙◌, ◌<◌, ap, arith, length, refl}
+use Rattle.std.specs.Prelude.{map}
+use Rattle.apex_pictures.specs.Moments.{with_cells}
 use Rattle.apex_pictures.specs.Trace as trace
-use Rattle.std.proofs.Common.{◌∙◌}
-use Rattle.apex_pictures.proofs.Places.{text_next}
-use Rattle.apex_pictures.proofs.TracksShown.{state_seen}
+use Rattle.apex_pictures.specs.Tracks.{bare_cells, cell_on, no_track, track_of}
+use Rattle.apex_pictures.specs.declared.tracks.Track.{Track}
+use Rattle.apex_pictures.proofs.Places.{changed_at, kept_at, text_next}
+use Rattle.apex_pictures.proofs.TracksShown.{state_now, state_seen}
 use Rattle.apex_pictures.proofs.trace.put_processes.Goals as goal
 
 pub loop-place-preserved : goal.loop-place-preserved
-loop-place-preserved c =
+loop-place-preserved g c =
+    let roster = g.S.Store.roster c.args.store.now in
+    let at = c.loop-place.invariant in
     let place = c.loop-place.place in
-    let was = c.state_on-old.ensures ∙ state_seen _ _ place c.tracks-was.ensures in
-    let is = c.state_on-new.ensures ∙ state_seen _ _ place c.tracks-is.ensures in
+    let old = c.args.tracks.now in
+    let within : place < length roster.records = omega (arith, at.end, c.loop-place-test.true) in
+    let kept : place < length old = omega (arith, within, c.requires.many) in
+    let was =
+    c.state_on-before.ensures ∙ ap (λ (t : Track). t.state) (kept_at (track_of roster) place old _ no_track kept at.tracks)
+    ∙ state_seen old _ place refl in
+    let track : c.track_of-track.result ≡ track_of roster place = rw c.at-process.ensures at c.track_of-track.ensures in
+    let is = ap (λ (t : Track). t.state) track ∙ state_now roster place within in
     record {
-      stamp = c.loop-place.invariant.stamp;
-      many = c.loop-place.invariant.many;
-      text = text_next (trace.process_at c.args.time c.args.stamp.now.ticks c.args.before.now c.args.after.now) place _ _ _ c.loop-place.invariant.text
+      stamp = at.stamp;
+      end = at.end;
+      running = at.running;
+      tracks = changed_at (track_of roster) place old _ _ _ kept at.tracks refl track;
+      text = text_next (trace.process_at c.args.time c.args.stamp.now.ticks (with_cells (map cell_on old)) (with_cells (bare_cells roster))) place _ _ _ at.text
           (rw (c.at-process.ensures, was, is) at c.in_ok-put_process.ensures);
     }

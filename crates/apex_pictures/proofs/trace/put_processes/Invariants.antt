@@ -1,13 +1,21 @@
--- The changes so far follow the text.
-use Rattle.std.proofs.Common.{◌≡◌, ◌++◌, length}
+-- The tracks and the changes so far.
+use Rattle.std.proofs.Common.{◌≡◌, ◌++◌, drop, length}
+use Rattle.std.specs.Prelude.{map}
 use Rattle.apex_types.specs.text.Listing.{texts_of}
+use Rattle.apex_pictures.specs.Moments.{running_in, with_cells}
+use Rattle.apex_pictures.specs.Places.{of_places}
 use Rattle.apex_pictures.specs.Stamps.{IsStamp}
 use Rattle.apex_pictures.specs.Trace as trace
+use Rattle.apex_pictures.specs.Tracks.{bare_cells, cell_on, track_of}
 use Rattle.apex_pictures.proofs.trace.put_processes.Given as goal
 
 abbrev pub invariant-loop-place : goal.invariant-loop-place
-invariant-loop-place l = record {
-  stamp : IsStamp l.stamp l.time;
-  many : l.place-end ≡ length l.table.processes;
-  text : l.text.items ≡ l.fn.text.items ++ texts_of (trace.process_at l.time l.stamp.ticks l.before l.after) l.place;
-}
+invariant-loop-place g l =
+    let roster = g.S.Store.roster l.store in
+    record {
+      stamp : IsStamp l.stamp l.time;
+      end : l.place-end ≡ length roster.records;
+      running : l.running ≡ running_in roster;
+      tracks : l.tracks ≡ of_places (track_of roster) l.place ++ drop l.place l.fn.tracks;
+      text : l.text.items ≡ l.fn.text.items ++ texts_of (trace.process_at l.time l.stamp.ticks (with_cells (map cell_on l.fn.tracks)) (with_cells (bare_cells roster))) l.place;
+    }

@@ -8,7 +8,7 @@ use Rattle.apex_pictures.proofs.tracks.track_of.Goals as goal
 pub returns : goal.returns
 returns g c =
     let roster = g.S.Store.roster c.args.store.now in
-    let core = c.record-row.result.core in
+    let core = c.record-row.result.now.core in
     let here : c.running_at-chosen.result ≡ chosen roster core =
     c.running_at-chosen.ensures.value
     ∙ ap (λ (l : List (Option ℕ)). slice_index_or l core None) c.requires.running

@@ -6,13 +6,14 @@ use Rattle.apex_history.proofs.histories.Log.entry.Goals as goal
 pub lent-requires-clause-within : goal.lent-requires-clause-within
 lent-requires-clause-within c =
     let within : c.args.place < length c.self.inside.rows.items = rw (← c.self.view_is, length_entries) at c.requires in
-    rw c.as_slice.ensures.value
-    (subst (IsWithin _) (sym c.index.ensures) (within_at _ _ c.args.place c.index.result.now within c.self.invariant.within))
+    rw (c.as_slice.ensures, c.as_slice-2.ensures.value)
+    (subst (IsWithin _ _) (sym c.index.ensures) (within_at _ _ _ c.args.place c.index.result.now within c.self.invariant.within))
 
 pub returns : goal.returns
 returns c =
+    let calls = c.self.inside.calls.calls in
     let notices = c.self.inside.notices.items in
     let within : c.args.place < length c.self.inside.rows.items = rw (← c.self.view_is, length_entries) at c.requires in
-    rw (← c.self.view_is, c.lent.ensures, c.as_slice.ensures.value)
-    (entry_at notices c.self.inside.rows.items c.args.place c.index.result.now within
-    ∙ ap (λ row. Some (entry_of notices c.args.place row)) (sym c.index.ensures))
+    rw (← c.self.view_is, c.lent.ensures, c.as_slice.ensures, c.as_slice-2.ensures.value)
+    (entry_at calls notices c.self.inside.rows.items c.args.place c.index.result.now within
+    ∙ ap (λ row. Some (entry_of calls notices c.args.place row)) (sym c.index.ensures))

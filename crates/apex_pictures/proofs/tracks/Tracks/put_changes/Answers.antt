@@ -1,0 +1,27 @@
+-- The tracks are those of the processes.
+use Rattle.std.proofs.Common.{◌≡◌, ◌∙◌, List, ap, length, sym}
+use Rattle.std.proofs.lemmas.List.{length-map}
+use Rattle.std.specs.Prelude.{map}
+use Rattle.arrayvec.proofs.ArrayVecLemmas.{items-with_items}
+use Rattle.apex_pictures.specs.Moments.{Shown, moment_of}
+use Rattle.apex_pictures.specs.Tracks.{bare, cell_on, track_of}
+use Rattle.apex_pictures.specs.declared.tracks.Track.{Track}
+use Rattle.apex_pictures.proofs.Places.{length_of}
+use Rattle.apex_pictures.proofs.TracksShown.{shown_of, tracks_same}
+use Rattle.apex_pictures.proofs.tracks.Tracks.put_changes.Goals as goal
+
+pub returns-clause-tracks : goal.returns-clause-tracks
+returns-clause-tracks g c =
+    let roster = g.S.Store.roster c.args.store.now in
+    let old = c.self.inside.tracks in
+    let tracks = c.put_processes.new.tracks in
+    let running = c.running_of-running.result.items in
+    let counts = c.self.inside.counts in
+    let is = c.in_ok-put_processes.ensures.tracks in
+    let many : length old.items ≡ length roster.records =
+    sym (length-map old.items cell_on) ∙ ap (λ (s : Shown). length s.cells) c.self.view_is ∙ c.requires.tracks in
+    let same : length tracks ≡ length old.items =
+    ap (λ (all : List Track). length all) is ∙ length_of (track_of roster) (length roster.records) ∙ sym many in
+    ap (λ (all : List Track). shown_of (map cell_on all) running counts) (items-with_items old tracks same)
+    ∙ tracks_same roster tracks running counts is c.running_of-running.ensures
+    ∙ ap (λ (s : Shown). bare (moment_of roster s.counts)) c.self.view_is
