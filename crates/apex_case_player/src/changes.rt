@@ -24,7 +24,7 @@ enum Change {
     OfRest,
 }
 
-/// The change of this byte behind so many spaces of its line.
+/// The change of this byte, which is behind `spaces` spaces of its line.
 fn change_at(spaces: u64, byte: u8) -> Change {
     if spaces == 2 && byte.is_ascii_digit() {
         Change::OfCore

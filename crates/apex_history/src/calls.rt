@@ -9,14 +9,17 @@ use std::alloc::{AllocError, Global};
 use std::marker::Model;
 use std::mem;
 
-/// A call, and the place of the one behind it in the ring of its process.
+/// A call in the ring of its process.
 #[derive(Drop)]
 pub(crate) struct Link {
     pub(crate) call: Call,
+    /// The place of the call behind it in the ring.
     next: u32,
+    /// The number of calls that came into the ring before it.
+    before: u32,
 }
 
-const _: () = prove!(size_of::<Link>() == 28);
+const _: () = prove!(size_of::<Link>() == 32);
 
 impl Model for Link {
     ghost use Rattle.apex_history.specs.Terms.{Call};
@@ -26,14 +29,22 @@ impl Model for Link {
     ghost view = { λ l. l.call };
 }
 
-/// The calls of a log's entries. Those of a process lie in a ring, each of them once. Scripts go on
-/// in order, so that a process's next call is mostly the one behind its latest. No place in a ring has
-/// an effect on an entry.
+/// The ring of a process.
+#[derive(Clone, Copy)]
+struct Ring {
+    /// The place of the call that the process is expected to make next.
+    next: u32,
+    /// The place of the call that came last into the ring.
+    last: u32,
+}
+
+/// The calls of a log's entries. Those of a process lie in a ring, in the order of its first round.
+/// Scripts loop, so that a process's next call is mostly the one behind its latest. If it is another,
+/// it is looked for in the ring. No place in a ring has an effect on an entry.
 #[derive(Drop)]
 pub(crate) struct Calls {
     links: Vec<Link>,
-    /// The place of the call that each process is expected to make next.
-    next: [Option<u32>; MOST_PROCESSES],
+    rings: [Option<Ring>; MOST_PROCESSES],
 }
 
 impl Model for Calls {
@@ -58,7 +69,7 @@ impl Calls {
         let links = Vec::with_capacity(alloc, limit as usize)?;
         Ok(Calls {
             links,
-            next: [None; MOST_PROCESSES],
+            rings: [None; MOST_PROCESSES],
         })
     }
 
@@ -71,17 +82,17 @@ impl Calls {
 
     /// The place of the call if it is the one that the process is expected to make.
     #[inline(always)]
-    fn expected(&mut self, process: ProcessId, call: &Call) -> Option<u32>
+    fn expected(&mut self, process: ProcessId, call: Call) -> Option<u32>
         ensures calls { self.new ≡ self.old }
-        ensures place { IfSome result (λ place. slice_get self.new.calls place ≡ Some call.now) }
+        ensures place { IfSome result (λ place. slice_get self.new.calls place ≡ Some call) }
     {
-        let next = self.next.get_mut(process.place())?;
-        let place = (*next)?;
+        let ring = self.rings.get_mut(process.place())?.as_mut()?;
+        let place = ring.next;
         let link = self.links.get(place as usize)?;
-        if !is_same(&link.call, call) {
+        if !is_same(&link.call, &call) {
             return None;
         }
-        *next = Some(link.next);
+        ring.next = link.next;
         Some(place)
     }
 
@@ -104,8 +115,36 @@ impl Calls {
         Err(place)
     }
 
-    /// Puts the call behind the last one of a ring, or into a ring of its own.
-    fn add(&mut self, last: Option<u32>, call: &Call) -> u32
+    /// Whether the process is in its first round: its latest call came last into the ring, which has
+    /// fewer calls than a script may have.
+    fn grows(&self, ring: &Ring) -> bool {
+        match self.links.get(ring.last as usize) {
+            Some(last) => last.next == ring.next && self.count(ring) < MOST_STEPS as u32,
+            None => false,
+        }
+    }
+
+    /// The number of the ring's calls.
+    fn count(&self, ring: &Ring) -> u32 {
+        match self.links.get(ring.last as usize) {
+            Some(last) => last.before.saturating_add(1),
+            None => 0,
+        }
+    }
+
+    /// The place of the call in the ring, or else the place of the one that it is to be put behind. In
+    /// the first round each call is put into the ring, also one that is there.
+    fn place_in(&self, ring: &Ring, call: &Call) -> Result<u32, u32>
+        ensures { IfOk result (λ place. slice_get self.now.calls place ≡ Some call.now) }
+    {
+        if self.grows(ring) {
+            return Err(ring.last);
+        }
+        self.find(ring.next, call)
+    }
+
+    /// Puts the call behind this one into a ring of `before` calls, or into a ring of its own.
+    fn add(&mut self, behind: Option<u32>, before: u32, call: &Call) -> u32
         requires room { length self.old.calls < self.old.room }
         requires few { length self.old.calls < most_entries }
         ensures place { slice_get self.new.calls result ≡ Some call.now }
@@ -114,16 +153,21 @@ impl Calls {
     {
         let place = self.links.len() as u32;
         let mut next = place;
-        if let Some(last) = last {
-            if let Some(link) = self.links.get_mut(last as usize) {
+        if let Some(behind) = behind {
+            if let Some(link) = self.links.get_mut(behind as usize) {
                 next = mem::replace(&mut link.next, place);
             }
         }
-        self.links.push_reserved(Link { call: *call, next });
+        self.links.push_reserved(Link {
+            call: *call,
+            next,
+            before,
+        });
         place
     }
 
-    /// The place of the call in the ring of the process, into which it is put if it is not there.
+    /// The place of the call in the ring of the process, into which it is put in the first round, and
+    /// later if it is not there.
     #[inline(never)]
     fn put_in_ring(&mut self, process: ProcessId, call: &Call) -> u32
         requires room { length self.old.calls < self.old.room }
@@ -132,35 +176,43 @@ impl Calls {
         ensures calls { GrowsTo self.old.calls self.new.calls }
         ensures room { self.new.room ≡ self.old.room }
     {
-        let place = match self.next.get(process.place()).copied().flatten() {
-            Some(first) => match self.find(first, call) {
-                Ok(place) => place,
-                Err(last) => self.add(Some(last), call),
+        let (place, last) = match self.rings.get(process.place()).copied().flatten() {
+            Some(ring) => match self.place_in(&ring, call) {
+                Ok(place) => (place, ring.last),
+                Err(behind) => {
+                    let place = self.add(Some(behind), self.count(&ring), call);
+                    (place, place)
+                }
             },
-            None => self.add(None, call),
+            None => {
+                let place = self.add(None, 0, call);
+                (place, place)
+            }
         };
-        if let Some(next) = self.next.get_mut(process.place()) {
-            *next = self.links.get(place as usize).map(|link| link.next);
+        let next = self.links.get(place as usize).map(|link| link.next);
+        if let Some(ring) = self.rings.get_mut(process.place()) {
+            *ring = next.map(|next| Ring { next, last });
         }
         place
     }
 
-    /// The place of the caller's call, which is put behind the others if it is not in the caller's
-    /// ring. Takes no memory.
+    /// The place of the caller's call, which is put behind all others in the first round, and later if
+    /// it is not in the caller's ring. Takes no memory.
+    // The call comes as a value, so that the rest of its entry need not lie in memory.
     #[inline(always)]
-    pub(crate) fn put(&mut self, caller: &Caller, call: &Call) -> u32
+    pub(crate) fn put(&mut self, caller: &Caller, call: Call) -> u32
         requires room { length self.old.calls < self.old.room }
         requires few { length self.old.calls < most_entries }
-        ensures place { slice_get self.new.calls result ≡ Some call.now }
+        ensures place { slice_get self.new.calls result ≡ Some call }
         ensures calls { GrowsTo self.old.calls self.new.calls }
         ensures room { self.new.room ≡ self.old.room }
     {
         match caller {
             Caller::Process(process) => match self.expected(*process, call) {
                 Some(place) => place,
-                None => self.put_in_ring(*process, call),
+                None => self.put_in_ring(*process, &call),
             },
-            Caller::Init | Caller::Nobody => self.add(None, call),
+            Caller::Init | Caller::Nobody => self.add(None, 0, &call),
         }
     }
 }

@@ -51,11 +51,11 @@ fn put_notices(all: &mut Vec<Notice>, notices: &[Notice])
 /// The caller and the place of the call, which is put into the calls if it is new to its caller.
 /// There is room for it.
 #[inline(always)]
-fn put_call(calls: &mut Calls, process: &Caller, call: &Option<Call>) -> Asked
+fn put_call(calls: &mut Calls, process: &Caller, call: Option<Call>) -> Asked
     requires room { length calls.old.calls < calls.old.room }
     requires few { length calls.old.calls < most_entries }
     ensures caller { caller_in result ≡ process.now }
-    ensures call { call_in calls.new.calls result ≡ call.now }
+    ensures call { call_in calls.new.calls result ≡ call }
     ensures among { IsAmong (length calls.new.calls) result }
     ensures calls { GrowsTo calls.old.calls calls.new.calls }
     ensures room { calls.new.room ≡ calls.old.room }
@@ -97,7 +97,7 @@ impl Log {
               ∷ [];
         } }
     {
-        let asked = put_call(&mut self.calls, &entry.process, &entry.call);
+        let asked = put_call(&mut self.calls, &entry.process, entry.call);
         let start = self.notices.len() as u32;
         put_notices(&mut self.notices, entry.notices);
         self.rows.push_reserved(Row {

@@ -69,6 +69,13 @@ kept_at {A} f n old before d within is =
     ∙ subst (λ (k : ℕ). get_or (done ++ get_or old n d ∷ rest) k d ≡ get_or old n d) (length_of f n)
     (get_or-append_seam done (get_or old n d) rest d)
 
+-- what is found at the next place is the old value
+pub found_kept : (f : ℕ → ℕ) (n : ℕ) (old before : List ℕ) → n < length old → before ≡ of_places f n ++ drop n old
+    → slice_get before n ≡ slice_get old n
+found_kept f n old before within is =
+    let longer : n < length before = rw (kept_from f n old before 0 within is, length-append, length_of f n) (omega arith) in
+    slice_get-get_or before n 0 longer ∙ ap Some (kept_at f n old before 0 within is) ∙ sym (slice_get-get_or old n 0 within)
+
 -- the next place has its value too
 pub changed_at : {A : Type 0} → (f : ℕ → A) (n : ℕ) (old before after : List A) (next : A) → n < length old
     → before ≡ of_places f n ++ drop n old → after ≡ set before n next → next ≡ f n

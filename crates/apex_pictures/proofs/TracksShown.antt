@@ -1,18 +1,19 @@
 -- What a trace shows of a moment gives the text of the moment.
-use Rattle.std.proofs.Common.{◌≡◌, ◌∙◌, ℕ, zero, suc, ◌<◌, List, [], ◌∷◌, ◌++◌, Option, refl, sym, ap, append_assoc}
+use Rattle.std.proofs.Common.{◌≡◌, ◌∙◌, ℕ, zero, suc, ◌<◌, List, [], ◌∷◌, ◌++◌, Option, refl, sym, ap, append_assoc, subst}
 use Rattle.std.proofs.lemmas.List.{length-map, map-append}
 use Rattle.std.specs.Prelude.{map, flat_map, length, slice_index_or, codes}
 use Rattle.apex_types.specs.text.Listing.{texts_of}
 use Rattle.apex_types.specs.processes.Roster.{Roster}
 use Rattle.apex_types.specs.processes.Running.{process_state}
 use Rattle.apex_types.specs.table.Table.{Table}
+use Rattle.apex_types.specs.values.Limits.{most_cores}
 use Rattle.apex_pictures.specs.Counters.{counters_text}
-use Rattle.apex_pictures.specs.Counts.{Counts}
+use Rattle.apex_pictures.specs.Counts.{Counts, HasCounts}
 use Rattle.apex_pictures.specs.Moments.{Shown, cell_of, moment_of, no_cell, none_shown, running_in}
 use Rattle.apex_pictures.specs.Places.{of_places}
 use Rattle.apex_pictures.specs.Terms.{Cell, Entry, State}
 use Rattle.apex_pictures.specs.Trace as trace
-use Rattle.apex_pictures.specs.Tracks.{Follows, HasTracks, bare, bare_cell, bare_cells, cell_on, no_track, track_of}
+use Rattle.apex_pictures.specs.Tracks.{Fits, Follows, HasTracks, bare, bare_cell, bare_cells, cell_on, no_track, track_of}
 use Rattle.apex_pictures.specs.declared.styles.Style.{Style}
 use Rattle.apex_pictures.specs.declared.styles.Style.TheVariants.{Svg, Trace}
 use Rattle.apex_pictures.specs.declared.tracks.Track.{Track}
@@ -117,6 +118,13 @@ pub follow_many : (style : Style) (tracks shown : Shown) (n : ℕ) → Follows s
 follow_many (Svg frame) tracks shown n follows many = tt
 follow_many Trace tracks shown n follows many =
     ap (λ (s : Shown). length s.cells) follows ∙ length-map shown.cells (λ (c : Cell). bare_cell c.state) ∙ many
+
+-- tracks that follow a moment have the moment's counts and cores
+pub follow_fits : (style : Style) (tracks shown : Shown) (table : Table) → Follows style tracks shown → HasCounts shown.counts table
+    → length shown.running ≡ most_cores → Fits style tracks table
+follow_fits (Svg frame) tracks shown table follows counts cores = tt
+follow_fits Trace tracks shown table follows counts cores =
+    (subst (λ (s : Shown). HasCounts s.counts table) (sym follows) counts, ap (λ (s : Shown). length s.running) follows ∙ cores)
 
 -- the changes, the counters and the marks of a column, one behind the other
 pub column_whole : (table : Table) (before : Shown) (entry : Entry) (after : Shown) (text one two whole : List ℕ)

@@ -28,11 +28,15 @@ abbrev pub same_count : Option ℕ → ℕ → Bool
 same_count None count = false
 same_count (Some before) count = before == count
 
--- the count of an object, if there is one and it is not the one before
+-- the count of an object, if it is not the one before
+abbrev pub change_text : List ℕ → List ℕ → List ℕ → ℕ → Option ℕ → ℕ → List ℕ
+change_text kind name unit time before count =
+    if same_count before count then [] else count_text kind name unit time count
+
+-- the same, if the object has a count
 abbrev pub changed_text : List ℕ → List ℕ → List ℕ → ℕ → Option ℕ → Option ℕ → List ℕ
 changed_text kind name unit time before None = []
-changed_text kind name unit time before (Some count) =
-    if same_count before count then [] else count_text kind name unit time count
+changed_text kind name unit time before (Some count) = change_text kind name unit time before count
 
 -- the change of the value of semaphore s
 abbrev pub value_at : Table → ℕ → Counts → Counts → ℕ → List ℕ

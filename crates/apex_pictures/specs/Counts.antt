@@ -1,5 +1,5 @@
 -- What the objects of a partition hold: the value of each semaphore, and the number of messages in each buffer.
-use Rattle.std.specs.Prelude.{ℕ, List, [], length}
+use Rattle.std.specs.Prelude.{◌≡◌, ℕ, List, [], length}
 use Rattle.apex_types.specs.services.BufferServices.{buffer_kind}
 use Rattle.apex_types.specs.text.Listing.{object_in}
 use Rattle.apex_types.specs.machine.Machine.{Objects, objects_after}
@@ -25,6 +25,14 @@ pub record Counts : Type 0 where
 abbrev pub no_counts : Counts
 no_counts = record { values = []; contents = [] }
 
+-- these values, and no contents
+abbrev pub with_values : List ℕ → Counts
+with_values values = record no_counts { values = values }
+
+-- these contents, and no values
+abbrev pub with_contents : List ℕ → Counts
+with_contents contents = record no_counts { contents = contents }
+
 -- the counts of the objects of a table
 unfoldable pub counts_of : Table → Objects → Counts
 counts_of table objects = record {
@@ -35,3 +43,8 @@ counts_of table objects = record {
 -- the counts after these entries
 abbrev pub counts_after : Table → List Entry → Counts
 counts_after table done = counts_of table (objects_after table done)
+
+-- there is a value for each semaphore of a table, and a number of messages for each buffer
+abbrev pub HasCounts : Counts → Table → Type 0
+HasCounts counts table =
+    (length counts.values ≡ length table.semaphores) × (length counts.contents ≡ length table.buffers)

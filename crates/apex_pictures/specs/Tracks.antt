@@ -1,11 +1,14 @@
 -- The processes and the counts after an entry, as a trace shows them: of each cell the state alone.
 use Rattle.std.specs.Prelude.{◌≡◌, ℕ, List, [], length, map, None}
+use Rattle.apex_pictures.specs.Counts.{HasCounts}
 use Rattle.apex_pictures.specs.Moments.{Shown, cell_of}
 use Rattle.apex_pictures.specs.Places.{of_places}
 use Rattle.apex_pictures.specs.Terms.{Cell, State}
 use Rattle.apex_pictures.specs.declared.styles.Style.{Style}
 use Rattle.apex_pictures.specs.declared.styles.Style.TheVariants.{Svg, Trace}
 use Rattle.apex_pictures.specs.declared.tracks.Track.{Track}
+use Rattle.apex_types.specs.table.Table.{Table}
+use Rattle.apex_types.specs.values.Limits.{most_cores}
 use Rattle.apex_types.specs.processes.Roster.{Roster}
 use Rattle.apex_types.specs.processes.Running.{process_state}
 use Rattle.apex_types.specs.declared.State.TheVariants.{Dormant}
@@ -48,3 +51,8 @@ Follows Trace tracks shown = tracks ≡ bare shown
 abbrev pub HasTracks : Style → Shown → ℕ → Type 0
 HasTracks (Svg frame) tracks n = Unit {0}
 HasTracks Trace tracks n = length tracks.cells ≡ n
+
+-- there are counts of all objects of a table, and a place for each core that may be, if a trace is drawn
+abbrev pub Fits : Style → Shown → Table → Type 0
+Fits (Svg frame) tracks table = Unit {0}
+Fits Trace tracks table = HasCounts tracks.counts table × (length tracks.running ≡ most_cores)

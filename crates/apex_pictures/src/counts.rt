@@ -1,13 +1,16 @@
 //! What the objects of a partition hold: the value of each semaphore, and the number of messages in
 //! each buffer.
-ghost use Rattle.std.specs.Prelude.{◌≡◌, slice_get, length};
-ghost use Rattle.apex_pictures.specs.Counts.{content_of, counts_of, no_counts, value_of};
+ghost use Rattle.std.specs.Prelude.{◌≡◌, ◌++◌, OnOk, slice_get, length};
+ghost use Rattle.apex_pictures.specs.Counters.{counters_text};
+ghost use Rattle.apex_pictures.specs.Counts.{HasCounts, content_of, counts_of, value_of};
 ghost use Rattle.apex_pictures.specs.Places.{of_places};
 
+use crate::counters::{put_contents, put_values};
 use apex_dispatch::Kernel;
 use apex_store::Store;
 use apex_types::{BufferId, MOST_OBJECTS, SemaphoreId};
 use arrayvec::ArrayVec;
+use std::alloc::AllocError;
 use std::marker::Model;
 
 /// What the objects of a partition hold: a value for each semaphore, and a number of messages for
@@ -27,14 +30,14 @@ impl Model for Counts {
 }
 
 /// The value of a semaphore; 0 if there is no such semaphore.
-fn value_of<S: Store>(kernel: &Kernel<S>, semaphore: SemaphoreId) -> u64
+pub(crate) fn value_of<S: Store>(kernel: &Kernel<S>, semaphore: SemaphoreId) -> u64
     ensures { result ≡ value_of kernel.now.objects semaphore }
 {
     u64::from(kernel.semaphore_value(semaphore).unwrap_or(0))
 }
 
 /// The number of messages in a buffer; 0 if there is no such buffer.
-fn content_of<S: Store>(kernel: &Kernel<S>, buffer: BufferId) -> u64
+pub(crate) fn content_of<S: Store>(kernel: &Kernel<S>, buffer: BufferId) -> u64
     ensures { result ≡ content_of kernel.now.objects buffer }
 {
     kernel.message_count(buffer).unwrap_or(0) as u64
@@ -76,21 +79,28 @@ pub(crate) fn counts_of<S: Store>(kernel: &Kernel<S>) -> Counts
 }
 
 /// The count at a place.
-fn count_at(counts: &[u64], place: usize) -> Option<u64>
+pub(crate) fn count_at(counts: &[u64], place: usize) -> Option<u64>
     ensures { result ≡ slice_get counts.now place }
 {
     counts.get(place).copied()
 }
 
 impl Counts {
-    /// The counts of no object.
-    pub(crate) fn none() -> Counts
-        ensures { result ≡ no_counts }
+    /// Brings the counts up to the objects of a kernel, and puts those that change.
+    pub(crate) fn put_changes<S: Store>(
+        &mut self,
+        text: &mut Vec<u8>,
+        kernel: &Kernel<S>,
+        time: u64,
+    ) -> Result<(), AllocError>
+        requires { HasCounts self.old kernel.now.table }
+        ensures text { OnOk result (text.new.items ≡ text.old.items
+            ++ counters_text kernel.now.table time self.old
+            (counts_of kernel.now.table kernel.now.objects)) }
+        ensures counts { OnOk result (self.new ≡ counts_of kernel.now.table kernel.now.objects) }
     {
-        Counts {
-            values: ArrayVec::new(),
-            contents: ArrayVec::new(),
-        }
+        put_values(text, kernel, time, self.values.as_mut_slice())?;
+        put_contents(text, kernel, time, self.contents.as_mut_slice())
     }
 
     /// The value of a semaphore. None if there is no such semaphore.

@@ -12,7 +12,7 @@ ghost use Rattle.apex_pictures.specs.declared.drawing.DrawFault.TheVariants.{Mem
 ghost use Rattle.apex_pictures.specs.Drawing.{CountsDrawing, Grows};
 ghost use Rattle.apex_pictures.specs.Pictures.{column_text, foot_text, head_text, picture_text};
 ghost use Rattle.apex_pictures.specs.Svg as svg_text;
-ghost use Rattle.apex_pictures.specs.Tracks.{Follows, HasTracks, bare};
+ghost use Rattle.apex_pictures.specs.Tracks.{Fits, Follows, HasTracks, bare};
 
 use crate::counts::counts_of;
 use crate::frames::Frame;
@@ -130,6 +130,7 @@ fn put_column<S: Store>(
 ) -> Result<(), AllocError>
     requires printable { IsPrintable kernel.now.table entry.now }
     requires many { HasTracks style.now shown.old (length kernel.now.machine.roster.records) }
+    requires fits { Fits style.now shown.old kernel.now.table }
     ensures drawn { (before : Shown) → Follows style.now shown.old before
         → OnOk result (text.new.items ≡ text.old.items ++ column_text style.now kernel.now.table
         (record {

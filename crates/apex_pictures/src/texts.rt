@@ -1,5 +1,5 @@
 //! The parts of a picture's text, and the bytes that are escaped in it.
-ghost use Rattle.std.specs.Prelude.{◌≡◌, ◌<◌, [], ◌∷◌, ◌++◌, flat_map, decimal, OnOk};
+ghost use Rattle.std.specs.Prelude.{◌≡◌, ◌<◌, ◌≤◌, [], ◌∷◌, ◌++◌, flat_map, decimal, OnOk};
 ghost use Rattle.apex_pictures.specs.Texts.{json_byte, json_text, part_text, xml_byte, xml_text};
 
 use itoa::Buffer;
@@ -41,12 +41,24 @@ fn put_digit(text: &mut Vec<u8>, digit: u8) -> Result<(), AllocError>
     put_byte(text, b'0' + digit)
 }
 
+// A number of two digits, as the other tracks have.
+#[tactic(auto, using(itoa::proofs::Decimal::decimal_two))]
+fn put_two_digits(text: &mut Vec<u8>, number: u8) -> Result<(), AllocError>
+    requires { (10 ≤ number) × (number < 100) }
+    ensures { OnOk result (text.new.items ≡ text.old.items ++ decimal number) }
+{
+    text.extend_from_slice(&[b'0' + number / 10, b'0' + number % 10])
+}
+
 /// Puts the number in decimal digits.
 pub(crate) fn put_number(text: &mut Vec<u8>, number: u64) -> Result<(), AllocError>
     ensures { OnOk result (text.new.items ≡ text.old.items ++ decimal number) }
 {
     if number < 10 {
         return put_digit(text, number as u8);
+    }
+    if number < 100 {
+        return put_two_digits(text, number as u8);
     }
     let mut buffer = Buffer::new();
     put(text, buffer.format(number))

@@ -3,15 +3,16 @@
 //! partition's time is an argument.
 ghost use Rattle.std.specs.Prelude.{◌≡◌, ◌++◌, flat_map, length, map, OnOk};
 ghost use Rattle.apex_types.specs.text.Listing.{texts_of};
+ghost use Rattle.apex_types.specs.values.Limits.{most_cores};
+ghost use Rattle.apex_pictures.specs.Counts.{HasCounts};
 ghost use Rattle.apex_pictures.specs.Moments.{moment_in, none_shown, running_in, with_cells, with_running};
 ghost use Rattle.apex_pictures.specs.Places.{of_places};
 ghost use Rattle.apex_pictures.specs.Stamps.{IsStamp, Stamps};
 ghost use Rattle.apex_pictures.specs.Trace as trace;
 ghost use Rattle.apex_pictures.specs.Tracks.{bare, bare_cells, cell_on, track_of};
 
-use crate::counters::put_counters;
-use crate::counts::{Counts, counts_of};
-use crate::moments::running_at;
+use crate::counters::put_first_counts;
+use crate::moments::{CORES, running_at};
 use crate::stamps::{Stamp, begin_front, end_front};
 use crate::texts::{Part, put, put_all, put_json, put_number};
 use crate::tracks::{Track, Tracks, state_on, track_of};
@@ -104,7 +105,7 @@ pub(crate) fn put_head(text: &mut Vec<u8>, table: &Table, first: &Tracks) -> Res
     put_opening(text)?;
     put_core_names(text, table)?;
     put_process_names(text, table)?;
-    put_counters(text, table, 0, &Counts::none(), first.counts())
+    put_first_counts(text, table, first.counts())
 }
 
 /// Puts the end of a slice.
@@ -329,6 +330,36 @@ pub(crate) fn put_cores(
     Ok(())
 }
 
+/// Takes the process that each core runs from a store, and puts the changes on the tracks of the
+/// cores.
+pub(crate) fn put_runs<S: Store>(
+    text: &mut Vec<u8>,
+    table: &Table,
+    store: &S,
+    time: u64,
+    stamp: &Stamp,
+    running: &mut [Option<ProcessId>],
+) -> Result<(), AllocError>
+    requires stamp { IsStamp stamp.now time }
+    requires many { length running.old ≡ most_cores }
+    ensures text { OnOk result (text.new.items ≡ text.old.items
+        ++ texts_of (trace.core_at table.now time stamp.now.ticks (with_running running.old)
+        (with_running (running_in (S.roster store.now)))) table.now.cores) }
+    ensures running { OnOk result (running.new ≡ running_in (S.roster store.now)) }
+{
+    for place in 0..table.cores() {
+        let core = CoreId::new(place);
+        let (before, after) = (running_at(running, core), store.chosen(core));
+        put_core(text, table, core, time, stamp, &before, &after)?;
+        running[usize::from(place)] = after;
+    }
+    // The table has no core from here on.
+    for place in table.cores()..CORES as u8 {
+        running[usize::from(place)] = store.chosen(CoreId::new(place));
+    }
+    Ok(())
+}
+
 /// Brings the tracks up to the processes of a store, and puts the changes on them.
 pub(crate) fn put_processes<S: Store>(
     text: &mut Vec<u8>,
@@ -435,7 +466,9 @@ pub(crate) fn put_column<S: Store>(
     entry: &LentEntry<'_>,
     shown: &mut Tracks,
 ) -> Result<(), AllocError>
-    requires { length shown.old.cells ≡ length kernel.now.machine.roster.records }
+    requires many { length shown.old.cells ≡ length kernel.now.machine.roster.records }
+    requires counts { HasCounts shown.old.counts kernel.now.table }
+    requires cores { length shown.old.running ≡ most_cores }
     ensures text { OnOk result (text.new.items ≡ text.old.items
         ++ trace.column_text kernel.now.table shown.old entry.entry.now
         (bare (moment_in kernel.now.table kernel.now.machine))) }
@@ -445,10 +478,8 @@ pub(crate) fn put_column<S: Store>(
     kernel.holds();
     let (table, time) = (kernel.table(), u64::from(entry.number));
     let stamp = Stamp::new(time, entry.now);
-    let counts = counts_of(kernel);
     shown.put_changes(text, table, kernel.store(), time, &stamp)?;
-    put_counters(text, table, time, shown.counts(), &counts)?;
-    shown.set_counts(counts);
+    shown.put_counts(text, kernel, time)?;
     put_misses(text, time, entry.now, entry.notices)
 }
 

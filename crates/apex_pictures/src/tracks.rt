@@ -1,6 +1,8 @@
 //! The processes and the counts after an entry, as a trace shows them.
 ghost use Rattle.std.specs.Prelude.{◌≡◌, ◌<◌, ◌≤◌, ◌++◌, length, map, slice_index_or, OnOk};
-ghost use Rattle.apex_types.specs.values.Limits.{most_processes};
+ghost use Rattle.apex_types.specs.values.Limits.{most_cores, most_processes};
+ghost use Rattle.apex_pictures.specs.Counters.{counters_text};
+ghost use Rattle.apex_pictures.specs.Counts.{HasCounts, counts_of};
 ghost use Rattle.apex_pictures.specs.Moments.{moment_of, running_in};
 ghost use Rattle.apex_pictures.specs.Stamps.{IsStamp};
 ghost use Rattle.apex_pictures.specs.Trace.{changes_text};
@@ -9,7 +11,8 @@ ghost use Rattle.apex_pictures.specs.Tracks.{bare, cell_on, no_track, track_of};
 use crate::counts::Counts;
 use crate::moments::{CORES, running_at, running_of, state_of};
 use crate::stamps::Stamp;
-use crate::trace::{put_cores, put_processes};
+use crate::trace::{put_processes, put_runs};
+use apex_dispatch::Kernel;
 use apex_store::Store;
 use apex_table::Table;
 use apex_types::{MOST_PROCESSES, ProcessId, State};
@@ -114,6 +117,7 @@ impl Tracks {
         stamp: &Stamp,
     ) -> Result<(), AllocError>
         requires stamp { IsStamp stamp.now time }
+        requires cores { length self.old.running ≡ most_cores }
         requires tracks { length self.old.cells ≡ length (S.roster store.now).records }
         requires table { length table.now.processes ≡ length (S.roster store.now).records }
         ensures text { OnOk result (text.new.items ≡ text.old.items
@@ -122,20 +126,28 @@ impl Tracks {
         ensures tracks { OnOk result (self.new
             ≡ bare (moment_of (S.roster store.now) self.old.counts)) }
     {
-        let running = running_of(store);
-        let (before, after) = (self.running.as_slice(), running.as_slice());
-        put_cores(text, table, time, stamp, before, after)?;
-        let tracks = self.tracks.as_mut_slice();
-        put_processes(text, store, after, time, stamp, tracks)?;
-        self.running = running;
-        Ok(())
+        let running = self.running.as_mut_slice();
+        put_runs(text, table, store, time, stamp, running)?;
+        let (running, tracks) = (self.running.as_slice(), self.tracks.as_mut_slice());
+        put_processes(text, store, running, time, stamp, tracks)
     }
 
-    /// Other counts are those of the objects.
-    pub(crate) fn set_counts(&mut self, counts: Counts)
-        ensures { self.new ≡ record self.old { counts = counts } }
+    /// Brings the counts up to the objects of a kernel, and puts those that change.
+    pub(crate) fn put_counts<S: Store>(
+        &mut self,
+        text: &mut Vec<u8>,
+        kernel: &Kernel<S>,
+        time: u64,
+    ) -> Result<(), AllocError>
+        requires { HasCounts self.old.counts kernel.now.table }
+        ensures text { OnOk result (text.new.items ≡ text.old.items
+            ++ counters_text kernel.now.table time self.old.counts
+            (counts_of kernel.now.table kernel.now.objects)) }
+        ensures counts { OnOk result (self.new ≡ record self.old {
+          counts = counts_of kernel.now.table kernel.now.objects;
+        }) }
     {
-        self.counts = counts;
+        self.counts.put_changes(text, kernel, time)
     }
 
     /// The tracks of the processes.

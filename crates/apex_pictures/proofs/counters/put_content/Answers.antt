@@ -7,8 +7,7 @@ use Rattle.apex_pictures.proofs.counters.put_content.Goals as goal
 pub returns : goal.returns
 returns c =
     on_ok_weaker c.put_count.result
-    (λ put. content_changed c.args.table.now c.args.time c.args.before.now c.args.after.now c.args.buffer c.in-Some.count
-    c.args.text.now.items c.as_bytes.result.now c.put_count.new.text.items
-    (sym c.content.ensures ∙ c.in-Some.is)
-    (rw c.content-2.ensures at (sym c.is_same_count.ensures ∙ c.if-is_same_count.false)) (search rules) put)
+    (λ put. content_changed c.args.time c.args.before.now c.args.count
+    c.args.text.now.items c.as_bytes.result.now _ c.put_count.new.text.items
+    (sym c.is_same_count.ensures ∙ c.if-is_same_count.false) (search rules) put)
     c.put_count.ensures

@@ -3,14 +3,17 @@ use Rattle.std.proofs.Common.{◌≡◌, ◌∙◌, ap, length, refl, sym, None,
 use Rattle.std.proofs.lemmas.Result.{on_ok_weaker}
 use Rattle.std.specs.List.{last_or}
 use Rattle.apex_calls.specs.Lines.{IsPrintable}
-use Rattle.apex_types.specs.machine.Machine.{accept}
+use Rattle.apex_types.specs.machine.Machine.{accept, objects_after}
+use Rattle.apex_types.specs.processes.Running.{chosen}
 use Rattle.apex_types.specs.table.Table.{Table}
+use Rattle.apex_types.specs.values.Limits.{most_cores}
 use Rattle.apex_dispatch.specs.Kernel.{KernelState}
 use Rattle.apex_pictures.specs.Moments.{cell_of, moment_in}
+use Rattle.apex_pictures.proofs.Counted.{counted_all}
 use Rattle.apex_pictures.proofs.Drawn.{one_column}
 use Rattle.apex_pictures.proofs.Pictured.{column_more, latest_holds, latest_some, pictured_machine}
 use Rattle.apex_pictures.proofs.Places.{length_of}
-use Rattle.apex_pictures.proofs.TracksShown.{follow_many}
+use Rattle.apex_pictures.proofs.TracksShown.{follow_fits, follow_many}
 use Rattle.apex_pictures.proofs.drawing.draw_event.Goals as goal
 
 pub returns-in_default-latest-clause-shown : goal.returns-in_default-latest-clause-shown
@@ -42,6 +45,14 @@ put_column-requires-clause-many g c =
     c.holds.ensures.records ∙ ap (λ (t : Table). length t.processes) (sym kept) ∙ sym c.holds-2.ensures.records in
     follow_many c.args.style.now c.args.shown.now (moment_in table machine) _ c.requires.shown
     (length_of (cell_of machine.roster) (length machine.roster.records) ∙ many)
+
+pub put_column-requires-clause-fits : goal.put_column-requires-clause-fits
+put_column-requires-clause-fits g c =
+    let table = c.args.kernel.now.table in
+    let machine = c.args.kernel.now.machine in
+    let kept : c.accept.new.self.table ≡ table = ap (λ (k : KernelState). k.table) c.in-Ok.ensures.done in
+    rw kept (follow_fits c.args.style.now c.args.shown.now (moment_in table machine) table c.requires.shown
+    (counted_all table (objects_after table machine.history)) (length_of (chosen machine.roster) most_cores))
 
 pub put_column-requires-clause-printable : goal.put_column-requires-clause-printable
 put_column-requires-clause-printable g c =
