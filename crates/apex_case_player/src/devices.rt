@@ -1,7 +1,11 @@
 //! The devices that the program runs over in a case.
 
-/// Room on standard output for the longest history of the cases, in bytes.
-const AMPLE: usize = 16_777_216;
+/// Room on standard output for the longest history of the cases, in bytes; also the most bytes that
+/// a read gives.
+pub(crate) const AMPLE: usize = 16_777_216;
+
+/// Room on standard output for a verdict, or for the line of one turn.
+pub(crate) const BRIEF: usize = 16_384;
 
 /// The limits of a case's devices, and the numbers of the calls that fail, counted from 1; at 0
 /// none fails.
@@ -20,28 +24,14 @@ pub struct Devices {
 }
 
 impl Devices {
-    /// Devices of which no call fails, and that give and take what they are asked for.
-    pub fn sound() -> Devices {
+    /// Devices of which no call fails, with this room on standard output.
+    pub(crate) fn sound(room: usize) -> Devices {
         Devices {
             failing_read: 0,
             gives: AMPLE,
             failing_write: 0,
-            room: AMPLE,
+            room,
             failing_error: 0,
         }
-    }
-
-    /// These devices, but for the read of this number, which fails.
-    pub fn with_failing_read(self, call: u64) -> Devices {
-        let mut devices = self;
-        devices.failing_read = call;
-        devices
-    }
-
-    /// These devices, but for the write of this number, which fails.
-    pub fn with_failing_write(self, call: u64) -> Devices {
-        let mut devices = self;
-        devices.failing_write = call;
-        devices
     }
 }

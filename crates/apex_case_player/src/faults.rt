@@ -1,7 +1,6 @@
 //! Why a case was not played to its end.
-use std::alloc::{AllocError, AllocFailed};
-use std::str::Utf8Error;
-use std::{fmt, io};
+use std::alloc::AllocError;
+use std::io;
 
 /// The reason why a case is not as it should be, was not played to its end, or no report was
 /// written.
@@ -24,8 +23,8 @@ pub enum CaseFault {
     Number,
     Words,
     Fold,
-    /// A kernel over a store without lists makes another history than the program, whose lists are
-    /// linked.
+    /// A kernel over a store without lists, which `check` has, makes another history than the
+    /// program, whose lists are linked.
     Plain,
 }
 
@@ -51,20 +50,8 @@ impl CaseFault {
     }
 }
 
-impl fmt::Display for CaseFault {
-    fn fmt<W: fmt::Write>(&self, f: &mut fmt::Formatter<W>) -> fmt::Result {
-        f.write_str(self.text())
-    }
-}
-
 impl From<AllocError> for CaseFault {
     fn from(_error: AllocError) -> CaseFault {
-        CaseFault::Memory
-    }
-}
-
-impl<T: Drop> From<AllocFailed<T>> for CaseFault {
-    fn from(_error: AllocFailed<T>) -> CaseFault {
         CaseFault::Memory
     }
 }
@@ -72,11 +59,5 @@ impl<T: Drop> From<AllocFailed<T>> for CaseFault {
 impl From<io::Error> for CaseFault {
     fn from(_error: io::Error) -> CaseFault {
         CaseFault::Stream
-    }
-}
-
-impl From<Utf8Error> for CaseFault {
-    fn from(_error: Utf8Error) -> CaseFault {
-        CaseFault::Text
     }
 }

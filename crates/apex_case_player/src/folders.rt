@@ -1,8 +1,8 @@
 //! The texts of a folder: tables, and what is beside each of them.
 use crate::faults::CaseFault;
-use std::alloc::{AllocGlobal, Global};
+use std::alloc::{AllocError, AllocGlobal, Global};
+use std::fs;
 use std::fs::{DirEntry, Files};
-use std::{fs, io};
 
 /// A file of the folder that is a table, or is beside one.
 #[derive(Drop)]
@@ -13,17 +13,21 @@ pub struct ExampleFile {
 
 impl ExampleFile {
     /// The name of its example, and what is behind the dot.
-    pub fn split_name(&self) -> (&str, &str) {
+    pub(crate) fn split_name(&self) -> (&str, &str) {
         self.name.as_str().rsplit_once('.').unwrap_or(("", ""))
     }
 
-    pub fn text(&self) -> &str {
+    pub(crate) fn text(&self) -> &str {
         self.text.as_str()
     }
 }
 
 /// The text of the file with this name, if there is one.
-pub fn text_in<'a>(files: &'a [ExampleFile], example: &str, ending: &str) -> Option<&'a str> {
+pub(crate) fn text_in<'a>(
+    files: &'a [ExampleFile],
+    example: &str,
+    ending: &str,
+) -> Option<&'a str> {
     for file in files {
         if file.split_name() == (example, ending) {
             return Some(file.text());
@@ -54,7 +58,7 @@ fn insert(
     alloc: Global,
     name: &str,
     text: String,
-) -> Result<(), CaseFault> {
+) -> Result<(), AllocError> {
     let place = place_of(files.as_slice(), name).min(files.len());
     let name = String::from_str(alloc, name)?;
     files.insert(place, ExampleFile { name, text })?;
@@ -65,37 +69,26 @@ fn insert(
 fn insert_entry<R: Files + AllocGlobal + Clone + Drop>(
     files: &mut Vec<ExampleFile>,
     rt: &R,
-    entry: io::Result<DirEntry<R, Global>>,
+    entry: &DirEntry<R, Global>,
 ) -> Result<(), CaseFault> {
-    let entry = entry?;
-    if !is_of_example(entry.file_name()) {
-        return Ok(());
+    let name = entry.file_name();
+    if is_of_example(name) {
+        let text = fs::read_to_string(rt, entry.path())?;
+        insert(files, rt.alloc(), name, text)?;
     }
-    let text = fs::read_to_string(rt, entry.path())?;
-    insert(files, rt.alloc(), entry.file_name(), text)
+    Ok(())
 }
 
-/// Inserts the files of the folder that are tables, or are beside one.
-fn insert_all<R: Files + AllocGlobal + Clone + Drop>(
+/// Inserts the tables of a folder, and the files beside them: `NAME.toml`, `NAME.cases` and
+/// `NAME.readings`, in the order of their names. Other files do not count.
+pub fn read_folder<R: Files + AllocGlobal + Clone + Drop>(
     files: &mut Vec<ExampleFile>,
     rt: &R,
     folder: &str,
 ) -> Result<(), CaseFault> {
     for entry in fs::read_dir(rt, folder)? {
-        insert_entry(files, rt, entry)?;
+        let entry = entry?;
+        insert_entry(files, rt, &entry)?;
     }
     Ok(())
-}
-
-/// The tables of a folder, and the files beside them: `NAME.toml`, `NAME.cases` and
-/// `NAME.readings`, in the order of their names. Other files do not count.
-pub fn read_folder<R: Files + AllocGlobal + Clone + Drop>(
-    rt: &R,
-    folder: &str,
-) -> Result<Vec<ExampleFile>, CaseFault> {
-    let mut files = Vec::new(rt.alloc());
-    match insert_all(&mut files, rt, folder) {
-        Ok(()) => Ok(files),
-        Err(fault) => Err(fault),
-    }
 }

@@ -1,86 +1,72 @@
 //! Short forms of texts: `<<3 * 5,>>` means `5,5,5,`, and in a line `; ` is a line feed.
 use crate::faults::CaseFault;
+use crate::texts::Text;
 use std::alloc::Global;
 use std::mem::drop;
 
-/// Appends a part of a text that begins in a fold; `Fold` as for the whole text.
-fn push_unfolded(whole: &mut String, piece: &str) -> Result<(), CaseFault> {
-    let Some((fold, after)) = piece.split_once(">>") else {
-        return Err(CaseFault::Fold);
-    };
-    let Some((times, part)) = fold.split_once(" * ") else {
-        return Err(CaseFault::Fold);
-    };
-    push_times(whole, times, part)?;
-    whole.push_str(after)?;
-    Ok(())
+/// How often, and which part, the fold repeats that a piece begins in, and what is behind it.
+fn fold_of(piece: &str) -> Option<(u16, &str, &str)> {
+    let (fold, after) = piece.split_once(">>")?;
+    let (times, part) = fold.split_once(" * ")?;
+    match times.parse::<u16>() {
+        Ok(times) => Some((times, part, after)),
+        Err(_) => None,
+    }
 }
 
-/// Appends a part as many times as a fold says.
-fn push_times(whole: &mut String, times: &str, part: &str) -> Result<(), CaseFault> {
-    let Ok(times) = times.parse::<u16>() else {
-        return Err(CaseFault::Fold);
+/// Appends a piece of a text that begins in a fold.
+fn put_unfolded(whole: &mut Text, piece: &str) {
+    let Some((times, part, after)) = fold_of(piece) else {
+        return whole.blame(CaseFault::Fold);
     };
     for _time in 0..times {
-        whole.push_str(part)?;
+        whole.put(part);
     }
-    Ok(())
+    whole.put(after);
 }
 
-/// Appends the parts of a text, each of which begins in a fold but the first one.
-fn push_all(whole: &mut String, text: &str) -> Result<(), CaseFault> {
+/// The text without folds; `Fold` if one does not end, or does not give its number of times.
+pub fn unfolded(alloc: Global, text: &str) -> Text {
+    let mut whole = Text::new(alloc);
     let mut pieces = text.split("<<");
-    whole.push_str(pieces.next().unwrap_or(""))?;
+    whole.put(pieces.next().unwrap_or(""));
     for piece in pieces {
-        push_unfolded(whole, piece)?;
+        put_unfolded(&mut whole, piece);
     }
-    Ok(())
-}
-
-/// The whole text; `Fold` if a fold does not end, or does not give its number of times.
-pub fn unfolded(alloc: Global, text: &str) -> Result<String, CaseFault> {
-    let mut whole = String::new(alloc);
-    match push_all(&mut whole, text) {
-        Ok(()) => Ok(whole),
-        Err(fault) => Err(fault),
-    }
+    whole
 }
 
 /// The text that a line gives, in which `; ` is a line feed.
-pub fn lines_of(alloc: Global, line: &str) -> Result<String, CaseFault> {
-    let text = unfolded(alloc, line)?;
-    let lines = text.replace(alloc, "; ", "\n");
-    drop(text);
-    Ok(lines?)
+pub(crate) fn lines_of(alloc: Global, line: &str) -> Text {
+    let line = unfolded(alloc, line);
+    let mut lines = Text::new(alloc);
+    lines.put_replaced(line.as_str(), "; ", "\n", usize::MAX);
+    lines.blame_with(&line);
+    drop(line);
+    lines
 }
 
-/// The table with the new text in place of the old one, at the first `most` places; `Edit` if the
-/// old one is nowhere in it.
-pub fn replaced(
-    alloc: Global,
-    table: &str,
-    old: &str,
-    new: &str,
-    most: usize,
-) -> Result<String, CaseFault> {
-    let old = lines_of(alloc, old)?;
-    let text = replaced_lines(alloc, table, old.as_str(), new, most);
-    drop(old);
+/// The table with the new lines in place of the old ones, at the first `most` places; `Edit` if the
+/// old ones are nowhere in it.
+fn edited(alloc: Global, table: &str, old: &Text, new: &Text, most: usize) -> Text {
+    let mut text = Text::new(alloc);
+    text.blame_with(old);
+    text.blame_with(new);
+    if old.as_str().is_empty() || !table.contains(old.as_str()) {
+        text.blame(CaseFault::Edit);
+    } else {
+        text.put_replaced(table, old.as_str(), new.as_str(), most);
+    }
     text
 }
 
-fn replaced_lines(
-    alloc: Global,
-    table: &str,
-    old: &str,
-    new: &str,
-    most: usize,
-) -> Result<String, CaseFault> {
-    if old.is_empty() || !table.contains(old) {
-        return Err(CaseFault::Edit);
-    }
-    let new = lines_of(alloc, new)?;
-    let text = table.replacen(alloc, old, new.as_str(), most);
+/// The table with the lines that `new` gives in place of those that `old` gives, at the first
+/// `most` places; `Edit` if the old ones are nowhere in it.
+pub(crate) fn replaced(alloc: Global, table: &str, old: &str, new: &str, most: usize) -> Text {
+    let old = lines_of(alloc, old);
+    let new = lines_of(alloc, new);
+    let text = edited(alloc, table, &old, &new, most);
+    drop(old);
     drop(new);
-    Ok(text?)
+    text
 }

@@ -1,30 +1,30 @@
-//! Plays cases against a program, and reports each difference: the cases of the services by their
-//! rows, and the examples of a folder, each a table with its cases and its readings.
+//! Reads cases, gives the requests by which a program plays them, and reports each difference in
+//! its outcomes: the cases of the services by their rows, and the examples of a folder, each a
+//! table with its cases and its readings.
 #![tactic(auto)]
 
 mod attempts;
-mod changes;
-mod checks;
+mod cases;
 mod devices;
 mod differences;
-mod examples;
 mod faults;
 mod folders;
 mod folds;
+mod judgements;
 mod outlines;
-mod plays;
-mod programs;
-mod readings;
+mod plans;
 mod reports;
+mod requests;
 mod rows;
-mod tellings;
 mod texts;
 
-pub use checks::check_rows;
+pub use attempts::{Attempt, Calls, Change, Part};
+pub use cases::Case;
 pub use devices::Devices;
-pub use examples::check_examples;
 pub use faults::CaseFault;
 pub use folders::{ExampleFile, read_folder};
-pub use programs::{Player, Program, Request, Telling};
-pub use readings::check_readings;
+pub use folds::unfolded;
+pub use plans::{Entry, Kind, Plan, Written};
 pub use reports::Report;
+pub use requests::{Outcome, Request};
+pub use texts::Text;

@@ -4,17 +4,20 @@ use crate::texts::Text;
 use std::alloc::Global;
 
 /// The table that the lines of a case have in short; `Outline` if a section has too few words.
-pub fn table_of(alloc: Global, lines: &str) -> Result<String, CaseFault> {
+pub(crate) fn table_of(alloc: Global, lines: &str) -> Text {
     let mut table = Text::new(alloc);
-    put_head(&mut table, lines);
-    match put_sections(&mut table, lines) {
-        Ok(()) => table.into_string(),
-        Err(fault) => Err(fault),
+    put_key(&mut table, "profile", value_of(lines, "profile ", "1"));
+    put_key(&mut table, "cores", value_of(lines, "cores ", "1"));
+    put_key(&mut table, "history", value_of(lines, "history ", "4096"));
+    put_init(&mut table, lines);
+    for line in lines.lines() {
+        put_section(&mut table, line);
     }
+    table
 }
 
 /// Whether a line with this word is one of the table.
-pub fn is_of_table(field: &str) -> bool {
+pub(crate) fn is_of_table(field: &str) -> bool {
     matches!(field, "profile" | "cores" | "history" | "init") || !keys_of(field).is_empty()
 }
 
@@ -32,18 +35,6 @@ fn keys_of(kind: &str) -> &'static [&'static str] {
     }
 }
 
-/// Writes what is before the sections.
-fn put_head(table: &mut Text, lines: &str) {
-    put_key(table, "profile", value_of(lines, "profile ", "1"));
-    put_key(table, "cores", value_of(lines, "cores ", "1"));
-    put_key(table, "history", value_of(lines, "history ", "4096"));
-    if is_with_init(lines) {
-        table.put("init = [");
-        put_init(table, lines);
-        table.put("]\n");
-    }
-}
-
 /// The value on the first line with this word, or the usual one.
 fn value_of<'a>(lines: &'a str, word: &str, usual: &'a str) -> &'a str {
     for line in lines.lines() {
@@ -54,17 +45,18 @@ fn value_of<'a>(lines: &'a str, word: &str, usual: &'a str) -> &'a str {
     usual
 }
 
-fn is_with_init(lines: &str) -> bool {
-    lines.starts_with("init") || lines.contains("\ninit")
-}
-
-/// Writes the steps of the lines `init`.
+/// Writes the init list, if there are lines `init`, with the steps of these.
 fn put_init(table: &mut Text, lines: &str) {
+    if !lines.starts_with("init") && !lines.contains("\ninit") {
+        return;
+    }
+    table.put("init = [");
     for line in lines.lines() {
         if let Some(steps) = line.strip_prefix("init ") {
             put_steps(table, steps);
         }
     }
+    table.put("]\n");
 }
 
 /// Writes steps as the items of an array of texts.
@@ -90,51 +82,44 @@ fn put_key(table: &mut Text, key: &str, value: &str) {
     table.put("\n");
 }
 
-/// Writes the section of each process and of each object.
-fn put_sections(table: &mut Text, lines: &str) -> Result<(), CaseFault> {
-    for line in lines.lines() {
-        let (kind, words) = line.split_once(' ').unwrap_or((line, ""));
-        put_section(table, kind, words)?;
+/// Writes the section that a line gives, if it gives one.
+fn put_section(table: &mut Text, line: &str) {
+    let (kind, words) = line.split_once(' ').unwrap_or((line, ""));
+    let keys = keys_of(kind);
+    if kind == "process" {
+        put_process(table, keys, words);
+    } else if !keys.is_empty() {
+        put_keys(table, kind, keys, words);
     }
-    Ok(())
 }
 
-/// Writes the section that a line gives, if it gives one. A process is given as
+/// Writes the section of a process, which is given as
 /// `NAME PRIORITY CORE KEY KEY=VALUE: STEP; STEP`.
-fn put_section(table: &mut Text, kind: &str, words: &str) -> Result<(), CaseFault> {
-    let keys = keys_of(kind);
-    if keys.is_empty() {
-        return Ok(());
-    }
-    if kind != "process" {
-        return put_keys(table, kind, keys, words);
-    }
+fn put_process(table: &mut Text, keys: &[&str], words: &str) {
     let Some((head, steps)) = words.split_once(':') else {
-        return Err(CaseFault::Outline);
+        return table.blame(CaseFault::Outline);
     };
-    put_keys(table, kind, keys, head)?;
+    put_keys(table, "process", keys, head);
     table.put("script = [");
     put_steps(table, steps.trim_start());
     table.put("]\n");
-    Ok(())
 }
 
 /// Writes the head of a section: the values of these keys, and behind them `KEY=VALUE`, or a key
 /// that is true.
-fn put_keys(table: &mut Text, kind: &str, keys: &[&str], values: &str) -> Result<(), CaseFault> {
+fn put_keys(table: &mut Text, kind: &str, keys: &[&str], values: &str) {
     let mut words = values.split(' ');
     table.put("[[");
     table.put(kind);
     table.put("]]\n");
     for key in keys {
-        let Some(value) = words.next() else {
-            return Err(CaseFault::Outline);
-        };
-        put_key(table, key, value);
+        match words.next() {
+            Some(value) => put_key(table, key, value),
+            None => table.blame(CaseFault::Outline),
+        }
     }
     for word in words {
         let (key, value) = word.split_once('=').unwrap_or((word, "true"));
         put_key(table, key, value);
     }
-    Ok(())
 }

@@ -1,7 +1,8 @@
 //! The report on the rows and on the examples, line by line.
-ghost use Rattle.std.specs.Prelude.{◌≡◌, IsNone, false};
+ghost use Rattle.std.specs.Prelude.{◌≡◌, ◌-◌, length, drop, IsNone, IsTrue, false};
 
 use crate::faults::CaseFault;
+use crate::plans::{Kind, Written};
 use crate::rows::is_silent;
 use crate::texts::Text;
 use std::alloc::Global;
@@ -9,7 +10,6 @@ use std::alloc::Global;
 /// The report so far.
 #[derive(Drop)]
 pub struct Report {
-    alloc: Global,
     text: Text,
     /// The last difference.
     difference: Text,
@@ -19,20 +19,19 @@ pub struct Report {
     /// The first fault of the case or the reading at hand.
     fault: Option<CaseFault>,
     is_clean: bool,
-    pub rows: u64,
-    pub guards: u64,
-    pub effects: u64,
-    pub cases: u64,
-    pub examples: u64,
-    pub histories: u64,
+    rows: u64,
+    pub(crate) guards: u64,
+    pub(crate) effects: u64,
+    cases: u64,
+    pub(crate) examples: u64,
+    pub(crate) histories: u64,
     /// The readings of one table that are as expected.
-    pub readings: u64,
+    pub(crate) readings: u64,
 }
 
 impl Report {
     pub fn new(alloc: Global) -> Report {
         Report {
-            alloc,
             text: Text::new(alloc),
             difference: Text::new(alloc),
             attempt: "",
@@ -47,10 +46,6 @@ impl Report {
             histories: 0,
             readings: 0,
         }
-    }
-
-    pub fn alloc(&self) -> Global {
-        self.alloc
     }
 
     /// The text of the report; `Memory` if a piece of it is missing.
@@ -80,7 +75,7 @@ impl Report {
     }
 
     /// Reports the number of cases of a row.
-    pub fn count(&mut self, row: &str, cases: u64)
+    pub(crate) fn count(&mut self, row: &str, cases: u64)
         ensures { self.new.is_clean ≡ self.old.is_clean }
     {
         self.rows = self.rows.saturating_add(1);
@@ -90,7 +85,7 @@ impl Report {
     }
 
     /// Reports how a case of an example is as it should be.
-    pub fn confirm(&mut self, example: &str, case: &str, how: &str)
+    pub(crate) fn confirm(&mut self, example: &str, case: &str, how: &str)
         ensures { self.new.is_clean ≡ self.old.is_clean }
     {
         self.put_name(example);
@@ -109,7 +104,7 @@ impl Report {
     }
 
     /// Reports the complaint about a guard, an effect, a case or a reading.
-    pub fn complain(&mut self, row: &str, told: &str, what: &str)
+    pub(crate) fn complain(&mut self, row: &str, told: &str, what: &str)
         ensures { self.new.is_clean ≡ false }
     {
         self.is_clean = false;
@@ -117,21 +112,22 @@ impl Report {
     }
 
     /// Complains of a case or a reading by its fault, or by the last difference.
-    pub fn complain_of(&mut self, row: &str, told: &str, fault: CaseFault)
+    fn complain_of(&mut self, written: &Written<'_>, fault: CaseFault)
         ensures { self.new.is_clean ≡ false }
     {
         if !matches!(fault, CaseFault::Differs) {
-            return self.complain(row, told, fault.text());
+            return self.complain(written.group, written.name, fault.text());
         }
         self.is_clean = false;
-        self.put_name(row);
-        self.put_name(told);
-        self.text.put_text(&self.difference);
+        self.put_name(written.group);
+        self.put_name(written.name);
+        self.text.put(self.difference.as_str());
+        self.text.blame_with(&self.difference);
         self.text.put("\n");
     }
 
     /// Complains of each line of a text that says something.
-    pub fn complain_of_lines(&mut self, row: &str, text: &str, what: &str) {
+    pub(crate) fn complain_of_lines(&mut self, row: &str, text: &str, what: &str) {
         for line in text.lines() {
             if !is_silent(line) {
                 self.complain(row, line, what);
@@ -140,7 +136,7 @@ impl Report {
     }
 
     /// Reports the numbers of rows, guards, effects and cases.
-    pub fn total(&mut self)
+    pub(crate) fn total(&mut self)
         ensures { self.new.is_clean ≡ self.old.is_clean }
     {
         self.put_count(self.rows, " rows, ");
@@ -157,14 +153,13 @@ impl Report {
         self.put_count(self.histories, " histories\n");
     }
 
-    /// Begins a case or a reading.
-    pub fn begin_case(&mut self) {
+    /// Notes that there is no fault so far.
+    pub(crate) fn clear_fault(&mut self) {
         self.fault = None;
-        self.attempt = "";
     }
 
     /// Begins an attempt of this name and number.
-    pub fn begin(&mut self, attempt: &'static str, number: u64) {
+    pub(crate) fn begin(&mut self, attempt: &'static str, number: u64) {
         self.attempt = attempt;
         self.number = number;
     }
@@ -174,25 +169,26 @@ impl Report {
         self.fault
     }
 
-    /// Notes a fault of the case at hand. Only the first one counts.
+    /// Notes a fault of the case at hand. The first one counts, and more than a difference does.
     pub fn blame(&mut self, fault: CaseFault) {
-        if self.fault.is_none() {
+        if matches!(self.fault, None | Some(CaseFault::Differs)) {
             self.fault = Some(fault);
         }
     }
 
-    /// Takes back that the outcome differs.
-    pub fn forgive(&mut self) {
-        self.fault = None;
-    }
-
-    /// How the case or the reading at hand is as it should be; its fault if it is not.
-    pub fn verdict(&self, differs: bool) -> Result<&'static str, CaseFault> {
-        match self.fault {
-            None if differs => Err(CaseFault::Alike),
-            None => Ok("as told"),
-            Some(CaseFault::Differs) if differs => Ok("differs, as it must"),
-            Some(fault) => Err(fault),
+    /// Ends the case or the reading at hand, whose outcome must be another one if it differs:
+    /// reports how it is as it should be, or complains of it.
+    pub(crate) fn end_case(&mut self, written: &Written<'_>, differs: bool) {
+        let how = match self.fault {
+            None if differs => return self.complain_of(written, CaseFault::Alike),
+            None => "as told",
+            Some(CaseFault::Differs) if differs => "differs, as it must",
+            Some(fault) => return self.complain_of(written, fault),
+        };
+        match written.kind {
+            Kind::Row => {}
+            Kind::Example(_) => self.confirm(written.group, written.name, how),
+            Kind::Reading { .. } => self.readings = self.readings.saturating_add(1),
         }
     }
 
@@ -209,7 +205,7 @@ impl Report {
     }
 
     /// Notes that the outcome differs if this does not hold.
-    pub fn require(&mut self, holds: bool, what: &str) {
+    pub(crate) fn require(&mut self, holds: bool, what: &str) {
         if self.fault.is_some() || holds {
             return;
         }
@@ -219,7 +215,7 @@ impl Report {
     }
 
     /// Notes that the outcome differs if a number is not the expected one.
-    pub fn compare_numbers(&mut self, what: &str, wanted: u64, got: u64)
+    pub(crate) fn compare_numbers(&mut self, what: &str, wanted: u64, got: u64)
         ensures { IsNone self.new.fault → wanted ≡ got }
     {
         if self.fault.is_some() || wanted == got {
@@ -235,7 +231,7 @@ impl Report {
 
     /// Notes that the outcome differs if a text is not the expected one, with the first line that
     /// differs.
-    pub fn compare(&mut self, expected: &str, got: &str)
+    pub(crate) fn compare(&mut self, expected: &str, got: &str)
         ensures { IsNone self.new.fault → expected.now ≡ got.now }
     {
         if self.fault.is_some() || expected == got {
@@ -269,25 +265,34 @@ impl Report {
         self.difference.put(got);
     }
 
-    /// Notes that a history does not end in the expected lines, with these and the actual ones: those
-    /// from that one on that begins as the expected ones do.
-    pub fn differ_from_end(&mut self, history: &str, lines: &str) {
+    /// Notes that the outcome differs if a history does not end in the expected lines, with these
+    /// and the actual ones: those from that one on that begins as the expected ones do.
+    pub(crate) fn compare_end(&mut self, expected: &str, history: &str) {
+        if self.fault.is_some() || ends_in(history.as_bytes(), expected.as_bytes()) {
+            return;
+        }
         self.differ("expected\n");
-        self.difference.put(lines);
+        self.difference.put(expected);
         self.difference.put("but got\n");
-        let first = first_word(lines);
+        let first = expected.split(' ').next();
         let mut is_reached = false;
         for line in history.lines() {
-            is_reached = is_reached || first_word(line) == first;
+            is_reached = is_reached || line.split(' ').next() == first;
             if is_reached {
-                self.difference.put(line);
-                self.difference.put("\n");
+                self.difference.put_line(line);
             }
         }
         self.fault = Some(CaseFault::Differs);
     }
 }
 
-fn first_word(line: &str) -> Option<&str> {
-    line.split(' ').next()
+/// Whether a history ends in these lines, the first of which begins a line of it.
+fn ends_in(history: &[u8], lines: &[u8]) -> bool
+    ensures { IsTrue result → drop (length history.now - length lines.now) history.now ≡ lines.now }
+{
+    let Some(at) = history.len().checked_sub(lines.len()) else {
+        return false;
+    };
+    let (before, last) = history.split_at(at);
+    last == lines && (before.is_empty() || before.ends_with(b"\n"))
 }

@@ -1,17 +1,17 @@
 //! The rows of the data, each with its guards, its effects and its cases.
 
 /// The first line of a text, and the rest.
-pub fn cut_line(text: &str) -> (&str, &str) {
+pub(crate) fn cut_line(text: &str) -> (&str, &str) {
     text.split_once('\n').unwrap_or((text, ""))
 }
 
 /// Whether a line says nothing: it is empty, or begins with `#`.
-pub fn is_silent(line: &str) -> bool {
+pub(crate) fn is_silent(line: &str) -> bool {
     line.is_empty() || line.starts_with('#')
 }
 
 /// The number of cases of a row's text that have this name.
-pub fn cases_of(row: &str, name: &str) -> u64 {
+pub(crate) fn cases_of(row: &str, name: &str) -> u64 {
     let mut count: u64 = 0;
     let mut parts = row.split("\ncase ");
     let _head = parts.next();
@@ -24,7 +24,7 @@ pub fn cases_of(row: &str, name: &str) -> u64 {
 }
 
 /// Whether a guard or an effect of these lines has this text.
-pub fn tells(lines: &str, name: &str) -> bool {
+pub(crate) fn tells(lines: &str, name: &str) -> bool {
     for line in lines.lines() {
         match line.split_once(' ') {
             Some(("guard" | "effect", text)) if text == name => return true,

@@ -2,60 +2,87 @@
 use crate::faults::CaseFault;
 use std::alloc::Global;
 
-/// A text, and whether memory was short for a piece of it.
+/// A text, and the first fault of those who wrote it.
 #[derive(Drop)]
 pub struct Text {
     text: String,
-    is_short: bool,
+    fault: Option<CaseFault>,
 }
 
 impl Text {
-    pub fn new(alloc: Global) -> Text {
+    pub(crate) fn new(alloc: Global) -> Text {
         Text {
             text: String::new(alloc),
-            is_short: false,
+            fault: None,
         }
     }
 
-    /// Appends a piece.
-    pub fn put(&mut self, piece: &str) {
+    /// A text that begins with this piece.
+    pub(crate) fn of(alloc: Global, piece: &str) -> Text {
+        let mut text = Text::new(alloc);
+        text.put(piece);
+        text
+    }
+
+    /// Appends a piece; `Memory` if there is no room for it.
+    pub(crate) fn put(&mut self, piece: &str) {
         if self.text.push_str(piece).is_err() {
-            self.is_short = true;
+            self.blame(CaseFault::Memory);
         }
+    }
+
+    /// Appends a line, with its line feed.
+    pub(crate) fn put_line(&mut self, line: &str) {
+        self.put(line);
+        self.put("\n");
     }
 
     /// Appends a number in decimal digits.
-    pub fn put_number(&mut self, number: u64) {
+    pub(crate) fn put_number(&mut self, number: u64) {
         if write!(self.text, "{number}").is_err() {
-            self.is_short = true;
+            self.blame(CaseFault::Memory);
         }
     }
 
-    /// Appends another text.
-    pub fn put_text(&mut self, other: &Text) {
-        self.put(other.text.as_str());
-        self.is_short = self.is_short || other.is_short;
+    /// Appends a text with the new piece in place of the old one, at the first `most` places.
+    pub(crate) fn put_replaced(&mut self, text: &str, old: &str, new: &str, most: usize) {
+        for (place, piece) in text.split(old).enumerate() {
+            if place > 0 {
+                self.put(if place <= most { new } else { old });
+            }
+            self.put(piece);
+        }
     }
 
-    /// Begins anew.
-    pub fn clear(&mut self) {
+    /// Notes a fault, if there was none before.
+    pub(crate) fn blame(&mut self, fault: CaseFault) {
+        if self.fault.is_none() {
+            self.fault = Some(fault);
+        }
+    }
+
+    /// Notes the fault of another text, if it has one.
+    pub(crate) fn blame_with(&mut self, other: &Text) {
+        if let Some(fault) = other.fault {
+            self.blame(fault);
+        }
+    }
+
+    /// Begins anew; its fault stays.
+    pub(crate) fn clear(&mut self) {
         self.text.clear();
     }
 
-    /// The text so far; `Memory` if a piece is missing.
-    pub fn whole(&self) -> Result<&str, CaseFault> {
-        if self.is_short {
-            return Err(CaseFault::Memory);
-        }
-        Ok(self.text.as_str())
+    /// What was written, whatever its fault.
+    pub(crate) fn as_str(&self) -> &str {
+        self.text.as_str()
     }
 
-    /// The text itself; `Memory` if a piece is missing.
-    pub fn into_string(self) -> Result<String, CaseFault> {
-        let Text { text, is_short } = self;
-        if is_short {
-            return Err(CaseFault::Memory);
+    /// What was written; its fault if it has one.
+    pub(crate) fn whole(&self) -> Result<&str, CaseFault> {
+        match self.fault {
+            Some(fault) => Err(fault),
+            None => Ok(self.text.as_str()),
         }
-        Ok(text)
     }
 }

@@ -1,13 +1,12 @@
 //! The program `apex` over devices in memory.
-use crate::plain::check_plain;
-use apex_case_player::{CaseFault, Devices, Program, Request, Telling};
+use apex_case_player::{
+    Attempt, Case, CaseFault, Entry, Outcome, Plan, Report, Request, Written, unfolded,
+};
 use apex_cli::{CliFault, serve};
 use apex_history::{Counted, FailAt, Source};
-use apex_table::read_table;
 use std::alloc::{AllocError, Global};
 use std::io::{self, Read};
 use std::mem::drop;
-use std::str;
 use std::sync::Wait;
 use std::thread::Threads;
 
@@ -28,18 +27,40 @@ impl Read for Narrow {
     }
 }
 
-/// The text on a device.
-fn text_on(alloc: Global, device: FailAt) -> Result<String, CaseFault> {
-    let text = match str::from_utf8(device.held()) {
-        Ok(text) => String::from_str(alloc, text),
-        Err(_) => return Err(CaseFault::Text),
-    };
-    drop(device);
-    Ok(text?)
+/// The bytes that the program reads.
+fn bytes_of(alloc: Global, request: &Request<'_>) -> Result<Vec<u8>, AllocError> {
+    let mut bytes = Vec::new(alloc);
+    for text in &request.texts {
+        bytes.extend_from_slice(text.as_bytes())?;
+    }
+    if let Some(at) = request.changed {
+        if let Some(byte) = bytes.get_mut(at) {
+            *byte ^= 1;
+        }
+    }
+    Ok(bytes)
+}
+
+/// The program's words, its name first.
+fn words_behind_name(alloc: Global, given: &[&str]) -> Result<Vec<String>, AllocError> {
+    let mut words = Vec::new(alloc);
+    words.push(String::from_str(alloc, "apex")?)?;
+    for word in given {
+        words.push(String::from_str(alloc, word)?)?;
+    }
+    Ok(words)
+}
+
+/// The program's words, its name first; `Memory` if it had no memory to fetch them.
+fn words_of(alloc: Global, request: &Request<'_>) -> Result<Vec<String>, CliFault> {
+    match request.words {
+        Some(given) => Ok(words_behind_name(alloc, given)?),
+        None => Err(CliFault::Memory),
+    }
 }
 
 /// A device with this room, of which the write of this number fails.
-fn paper(alloc: Global, room: usize, failing: u64) -> Result<Counted<FailAt>, CaseFault> {
+fn paper(alloc: Global, room: usize, failing: u64) -> Result<Counted<FailAt>, AllocError> {
     let bytes = Vec::with_capacity(alloc, room)?;
     Ok(Counted::new(FailAt::new(bytes, failing)))
 }
@@ -53,61 +74,118 @@ struct Desk {
 }
 
 impl Desk {
-    fn new(alloc: Global, bytes: Vec<u8>, devices: Devices) -> Result<Desk, CaseFault> {
+    fn new(alloc: Global, request: &Request<'_>) -> Result<Desk, AllocError> {
+        let devices = request.devices;
         Ok(Desk {
             writer: paper(alloc, devices.room, devices.failing_write)?,
             error_writer: paper(alloc, FAULT_ROOM, devices.failing_error)?,
             reader: Counted::new(Narrow {
-                device: FailAt::new(bytes, devices.failing_read),
+                device: FailAt::new(bytes_of(alloc, request)?, devices.failing_read),
                 gives: devices.gives,
             }),
         })
     }
 
-    /// The outcome of the call, which ended with this status.
-    fn telling(self, alloc: Global, status: u8) -> Result<Telling, CaseFault> {
+    /// Has the outcome of the call, which ended with this status, judged. Whether the lines that
+    /// the program wrote are to be checked.
+    fn judge(self, report: &mut Report, case: &mut Case<'_>, attempt: Attempt, status: u8) -> bool {
         let (failed_reads, failed_writes) = (self.reader.failures(), self.writer.failures());
-        Ok(Telling {
-            output: text_on(alloc, self.writer.into_inner())?,
-            error: text_on(alloc, self.error_writer.into_inner())?,
+        let output = self.writer.into_inner();
+        let error = self.error_writer.into_inner();
+        let outcome = Outcome {
+            output: output.held(),
+            error: error.held(),
             status,
             failed_reads,
             failed_writes,
-        })
+        };
+        let is_to_check = case.judge(report, attempt, &outcome);
+        drop(output);
+        drop(error);
+        is_to_check
     }
 }
 
-/// The program `apex`.
-#[derive(Clone, Copy)]
-pub struct Apex;
+/// Makes an attempt of a case, and has its outcome judged. Whether the lines that the program wrote
+/// are to be checked.
+fn attempt_once<R: Threads + Wait + Sync>(
+    rt: &R,
+    alloc: Global,
+    report: &mut Report,
+    case: &mut Case<'_>,
+    attempt: Attempt,
+) -> Result<bool, AllocError> {
+    let request = case.request(attempt);
+    let mut desk = Desk::new(alloc, &request)?;
+    let status = serve(
+        rt,
+        alloc,
+        words_of(alloc, &request),
+        &mut desk.reader,
+        &mut desk.writer,
+        &mut desk.error_writer,
+    );
+    Ok(desk.judge(report, case, attempt, status))
+}
 
-impl Program for Apex {
-    fn told<R: Threads + Wait + Sync>(
-        &self,
-        rt: &R,
-        alloc: Global,
-        request: Request,
-    ) -> Result<Telling, CaseFault> {
-        let mut desk = Desk::new(alloc, request.bytes, request.devices)?;
-        let status = serve(
-            rt,
-            alloc,
-            request.words.ok_or(CliFault::Memory),
-            &mut desk.reader,
-            &mut desk.writer,
-            &mut desk.error_writer,
-        );
-        desk.telling(alloc, status)
+/// Makes an attempt of a case, and has the lines that the program wrote checked if they are to be.
+fn attempt_whole<R: Threads + Wait + Sync>(
+    rt: &R,
+    alloc: Global,
+    report: &mut Report,
+    case: &mut Case<'_>,
+    attempt: Attempt,
+) -> Result<(), AllocError> {
+    if attempt_once(rt, alloc, report, case, attempt)? {
+        attempt_once(rt, alloc, report, case, Attempt::Check)?;
     }
+    Ok(())
+}
 
-    fn check_plain(&self, alloc: Global, table: &str, lines: &str) -> Result<(), CaseFault> {
-        check_plain(alloc, table, lines)
-    }
-
-    fn fault_of(&self, alloc: Global, text: &str) -> Result<String, AllocError> {
-        match read_table(alloc, text.as_bytes()) {
-            Ok(_) => String::from_str(alloc, "none"),
-            Err(fault) => fault.to_string(alloc),
+/// Makes the attempts of a case, until one is not as it should be.
+fn attempt_all<R: Threads + Wait + Sync>(
+    rt: &R,
+    alloc: Global,
+    report: &mut Report,
+    case: &mut Case<'_>,
+) {
+    let attempts = case.attempts(alloc, report);
+    for attempt in attempts.as_slice() {
+        if report.fault().is_none() && attempt_whole(rt, alloc, report, case, *attempt).is_err() {
+            report.blame(CaseFault::Memory);
         }
     }
+    drop(attempts);
+}
+
+/// Plays a case.
+fn play<R: Threads + Wait + Sync>(
+    rt: &R,
+    alloc: Global,
+    report: &mut Report,
+    written: &Written<'_>,
+) {
+    let text = unfolded(alloc, written.lines);
+    let mut case = Case::of(alloc, report, written.kind, &text);
+    attempt_all(rt, alloc, report, &mut case);
+    case.end(report, written);
+    drop(case);
+    drop(text);
+}
+
+/// Plays what is planned, and reports the totals; `Memory` if the plan lacks something.
+pub fn play_all<R: Threads + Wait + Sync>(
+    rt: &R,
+    alloc: Global,
+    report: &mut Report,
+    plan: &Plan<'_>,
+) -> Result<(), CaseFault> {
+    for entry in plan.entries()? {
+        match entry {
+            Entry::Case(written) => play(rt, alloc, report, written),
+            Entry::Examples => report.total_of_examples(),
+            Entry::Readings(example) => report.total_of_readings(example),
+        }
+    }
+    Ok(())
 }

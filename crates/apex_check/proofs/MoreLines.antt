@@ -13,7 +13,7 @@ use Rattle.apex_types.specs.declared.Event.TheVariants.{Turn, Tick}
 use Rattle.apex_types.specs.table.Table.{Table}
 use Rattle.apex_calls.specs.Lines.{line_of, lines_of}
 use Rattle.apex_types.specs.machine.Machine.{Machine, accept, happen, event_of, events_of, replay, run, tick, turn}
-use Rattle.apex_dispatch.proofs.Runs.{accept-room}
+use Rattle.apex_dispatch.proofs.Runs.{accept-full, accept-room}
 use Rattle.apex_history.specs.declared.LineFault.{LineFault}
 use Rattle.apex_history.specs.declared.LineFault.TheVariants as line_fault
 use Rattle.apex_history.specs.ReadLines as words
@@ -24,7 +24,9 @@ use Rattle.apex_check.specs.declared.verdicts.CheckFault.TheVariants.{BadLine, R
 use Rattle.apex_check.specs.declared.verdicts.CheckFault.{CheckFault}
 use Rattle.apex_check.specs.Ahead.{IsAhead}
 use Rattle.apex_check.specs.Histories.{AreLines, Follows, event_named, history_of, is_of_cores, of_cores}
-use Rattle.apex_check.specs.Steps.{Adds, IsLineFaultOf, fault_at}
+use Rattle.apex_check.specs.declared.following.Answer.{Answer}
+use Rattle.apex_check.specs.declared.following.Answer.TheVariants.{Same, Differs, Beyond}
+use Rattle.apex_check.specs.Steps.{Adds, Answers, IsLineFaultOf, Judged, fault_at}
 use Rattle.apex_check.specs.Texts.{IsOneLine, ended}
 use Rattle.apex_check.specs.Verdicts.{JudgesLines, LineIsAtFault, bad, beyond, departs, legal, too_long, unended}
 use Rattle.apex_check.proofs.Separated.{text_more}
@@ -40,6 +42,16 @@ event_adds table machine (Tick n) = (_, refl, refl)
 last_put : {A : Type 0} (o : Option A) (xs : List A) (x : A) → last_or o (xs ++ x ∷ []) ≡ Some x
 last_put o [] x = refl
 last_put o (y ∷ xs) x = last_put (Some y) xs x
+
+last_at : (o : Option Entry) (entry : Entry) (rest : List Entry) (found : Entry) → last_or o (entry ∷ rest) ≡ Some found
+    → get_or (entry ∷ rest) (length rest) found ≡ found
+last_at o entry [] found is = cc
+last_at o entry (next ∷ rest) found is = last_at (Some entry) next rest found is
+
+-- what holds of all entries holds of the last one
+pub holds_of_last : (P : Entry → Type 0) (entries : List Entry) (found : Entry) → last_or None entries ≡ Some found → All P entries → P found
+holds_of_last P [] found is all = absurd cc
+holds_of_last P (entry ∷ rest) found is all = subst P (last_at None entry rest found is) (all (length rest) found (omega arith))
 
 -- the last entry after an event for which there was room
 module _ (table : Table) (machine : Machine) (event : Event) (entries : List Entry) (room : length machine.history < table.limit)
@@ -207,6 +219,24 @@ module _ (table : Table) (entries : List Entry) (bytes : List ℕ) (are : AreLin
       ap (λ l. bytes ++ l) (append_assoc found (10 ∷ []) behind) in
       subst (λ n. LineIsAtFault table (bytes ++ (ended found ++ behind)) (TooLong (n + 1))) (counted entries)
       (too_long (10 ∷ behind) found (bytes, split, are) one (long_line table.cores found named))
+
+-- the judgement on a line, by the comparison of the machine's line with it
+pub judged : (table : Table) (machine new : Machine) (bytes found line : List ℕ) (event : Event)
+    → AreLines table bytes (events_of machine.history) → IsOneLine found → event_named table.cores found ≡ Ok event → line ≡ ended found
+    → new.history ≡ (accept table machine event).history
+    → replay table machine.history ≡ machine → replay table new.history ≡ new → length new.history ≤ table.limit
+    → (answer : Answer) → Answers table machine event line answer → Judged table bytes found new.history (Ok answer)
+judged table machine new bytes found line event are one named e ran again replays fits Same (entry, adds, same) =
+    lines_grow table machine new bytes found event entry are one named (ran ∙ adds.0) adds.1 (sym e ∙ same) again replays fits
+judged table machine new bytes found line event are one named e ran again replays fits Differs (entry, adds, other) = λ behind.
+    let grown : new.history ≡ machine.history ++ entry ∷ [] = ran ∙ adds.0 in
+    let count : length new.history ≡ length machine.history + 1 = omega (arith, ap length grown, length-append machine.history (entry ∷ [])) in
+    let last : last_or None new.history ≡ Some entry = ap (last_or None) grown ∙ last_put None machine.history entry in
+    rw (count, last) (differs table machine.history bytes are found behind event entry one named
+    (next_is table machine new bytes found event entry grown adds.1 again replays) (λ same. other (e ∙ same)))
+judged table machine new bytes found line event are one named e ran again replays fits Beyond many = λ behind.
+    let kept : new.history ≡ machine.history = ran ∙ ap (λ (m : Machine). m.history) (accept-full table machine event many) in
+    rw kept (full table machine.history bytes are found behind event one named many)
 
 pub line_fault_of : (table : Table) (known : Option (List ℕ)) (fault : CheckFault)
     → ((text : List ℕ) × IsAhead text known × LineIsAtFault table text fault) → IsLineFaultOf table known fault

@@ -3,6 +3,7 @@
 use Rattle.std.specs.Prelude.{◌≡◌, ℕ, ◌+◌, ◌*◌, ◌<◌, ◌≤◌, List, [], length, take, Option, IfSome}
 use Rattle.std.specs.Io.KnownBytes.{IsAtEnd}
 use Rattle.apex_types.specs.values.Limits.{most_line}
+use Rattle.apex_check.specs.declared.pending.TheConstants.{READ_ROOM}
 use Rattle.apex_check.specs.declared.pending.Next.{Next}
 use Rattle.apex_check.specs.declared.pending.Next.TheVariants.{Line, Part, Rest, End}
 use Rattle.apex_check.specs.Texts.{IsOneLine, ended}
@@ -25,7 +26,7 @@ Comes Rest pending left =
     IsOneLine pending × (0 < length pending) × (length pending ≤ most_line) × IsAtEnd left
 Comes End pending left = (pending ≡ []) × IsAtEnd left
 
--- a bound of the bytes that can still be taken: those that were read ahead, and 4,096 for each read
--- that is left
+-- a bound of the bytes that can still be taken: those that were read ahead, and the most bytes of a
+-- read for each read that is left
 abbrev pub fuel : List ℕ → ℕ → ℕ
-fuel pending reads = length pending + most_line * reads
+fuel pending reads = length pending + READ_ROOM * reads

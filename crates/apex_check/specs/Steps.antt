@@ -1,5 +1,6 @@
 -- The answer of the machine to a line.
-use Rattle.std.specs.Prelude.{◌≡◌, ◌≢◌, ◌≤◌, ℕ, List, [], ◌∷◌, ◌++◌, length, Option, None, Some, Result, Ok, Err}
+use Rattle.std.specs.Prelude.{◌≡◌, ◌≢◌, ◌+◌, ◌≤◌, ℕ, List, [], ◌∷◌, ◌++◌, length, Option, None, Some, Result, Ok, Err}
+use Rattle.std.specs.List.{last_or}
 use Rattle.apex_check.specs.Terms.{Entry, Event}
 use Rattle.apex_types.specs.table.Table.{Table}
 use Rattle.apex_types.specs.machine.Machine.{Machine, accept, event_of, events_of}
@@ -27,17 +28,23 @@ Adds table machine event entry =
 abbrev pub Answers : Table → Machine → Event → List ℕ → Answer → Type 0
 Answers table machine event line Same =
     (entry : Entry) × Adds table machine event entry × (line ≡ line_of table entry)
-Answers table machine event line (Differs entry) =
-    Adds table machine event entry × (line ≢ line_of table entry) × IsPrintable table entry
+Answers table machine event line Differs =
+    (entry : Entry) × Adds table machine event entry × (line ≢ line_of table entry)
 Answers table machine event line Beyond = table.limit ≤ length machine.history
 
--- the judgement on a line behind bytes that are the text's first lines: it is one more of them, or
--- there is a verdict or a fault, whatever follows
-abbrev pub Judged : Table → List ℕ → List ℕ → List Entry → Result (Option Verdict) CheckFault
-    → Type 0
-Judged table bytes line history (Ok None) = AreLines table (bytes ++ ended line) (events_of history)
-Judged table bytes line history (Ok (Some verdict)) =
-    (behind : List ℕ) → JudgesLines table (bytes ++ (ended line ++ behind)) verdict
+-- the verdict on a history whose latest line is the first that is not the machine's
+abbrev pub departure : List Entry → Verdict
+departure history = DepartsAt (length history) (last_or None history)
+
+-- the judgement on a line behind bytes that are the text's first lines, by the history with its
+-- entry: it is one more of them, or there is a verdict or a fault, whatever follows
+abbrev pub Judged : Table → List ℕ → List ℕ → List Entry → Result Answer CheckFault → Type 0
+Judged table bytes line history (Ok Same) = AreLines table (bytes ++ ended line) (events_of history)
+Judged table bytes line history (Ok Differs) =
+    (behind : List ℕ) → JudgesLines table (bytes ++ (ended line ++ behind)) (departure history)
+Judged table bytes line history (Ok Beyond) =
+    (behind : List ℕ)
+    → JudgesLines table (bytes ++ (ended line ++ behind)) (DepartsAt (length history + 1) None)
 Judged table bytes line history (Err fault) =
     (behind : List ℕ) → LineIsAtFault table (bytes ++ (ended line ++ behind)) fault
 

@@ -1,5 +1,5 @@
 //! The lines of a text beside the machine's.
-ghost use Rattle.std.specs.Prelude.{◌≡◌, ◌↔◌, ◌+◌, ◌<◌, ◌≤◌, ◌++◌, ℕ, List, length, IfOk, IfErr, IfSome, IsOk, None};
+ghost use Rattle.std.specs.Prelude.{◌≡◌, ◌↔◌, ◌+◌, ◌<◌, ◌≤◌, ◌++◌, ℕ, List, length, IfOk, IfErr, IsOk};
 ghost use Rattle.std.specs.Io.KnownBytes.{prepend_known};
 ghost use Rattle.apex_types.specs.values.Limits.{most_entries};
 ghost use Rattle.apex_types.specs.machine.Machine.{opening, accept, events_of};
@@ -9,7 +9,8 @@ ghost use Rattle.apex_history.specs.Counted.{inner_of, failures_of};
 ghost use Rattle.apex_check.specs.Ahead.{IsAhead};
 ghost use Rattle.apex_check.specs.Faults.{CountsCheck};
 ghost use Rattle.apex_check.specs.Histories.{AreLines, event_named, is_of_cores};
-ghost use Rattle.apex_check.specs.Steps.{Answers, IsLineFaultOf, IsOfLine, IsTellable, Judged, fault_at};
+ghost use Rattle.apex_check.specs.Steps.{Answers, IsLineFaultOf, IsOfLine, IsTellable, Judged, departure, fault_at};
+ghost use Rattle.apex_check.specs.declared.following.Answer.TheVariants.{Same};
 ghost use Rattle.apex_check.specs.Texts.{IsOneLine, ended};
 ghost use Rattle.apex_check.specs.Verdicts.{JudgesLines};
 
@@ -19,14 +20,14 @@ use crate::verdicts::{CheckFault, Verdict};
 use apex_dispatch::Kernel;
 use apex_history::{Counted, LineFault, Source, read_line};
 use apex_store::PlainStore;
-use apex_types::{Entry, Event};
+use apex_types::Event;
 
 /// The comparison of the machine's line for an event with a line.
-#[derive(Drop)]
+// Without the entry, which is the latest one: with it each line would clear and copy an entry.
+#[derive(Clone, Copy)]
 pub(crate) enum Answer {
     Same,
-    /// The machine's entry is this one.
-    Differs(Entry),
+    Differs,
     /// The history is full.
     Beyond,
 }
@@ -84,7 +85,7 @@ fn compare(
     if expected.line(kernel.table(), &entry) == line {
         Answer::Same
     } else {
-        Answer::Differs(entry.kept())
+        Answer::Differs
     }
 }
 
@@ -108,22 +109,21 @@ fn fault_at(line: u32, fault: LineFault) -> CheckFault
     }
 }
 
-/// Makes the event that the line names, and gives the verdict if the machine's line is not this
-/// one, which has its line feed.
+/// Makes the event that the line names, and compares the machine's line with this one, which has
+/// its line feed.
 fn judge_line(
     kernel: &mut Kernel<PlainStore>,
     expected: &mut ExpectedLine,
     line: &[u8],
-) -> Result<Option<Verdict>, CheckFault>
+) -> Result<Answer, CheckFault>
     requires { 0 < length line.now }
     ensures table { kernel.new.table ≡ kernel.old.table }
-    ensures more { IfOk result (λ verdict. verdict ≡ None
+    ensures more { IfOk result (λ answer. answer ≡ Same
         → length kernel.new.machine.history ≡ length kernel.old.machine.history + 1) }
     ensures judged { (bytes found : List ℕ)
         → AreLines kernel.old.table bytes (events_of kernel.old.machine.history)
         → IsOneLine found → line.now ≡ ended found
         → Judged kernel.old.table bytes found kernel.new.machine.history result }
-    ensures tellable { IfOk result (λ verdict. IfSome verdict (IsTellable kernel.old.table)) }
     ensures err { IfErr result (IsOfLine) }
 {
     kernel.holds();
@@ -134,10 +134,19 @@ fn judge_line(
     };
     let answer = compare(kernel, expected, event, line);
     kernel.holds();
-    match answer {
-        Answer::Same => Ok(None),
-        Answer::Differs(entry) => Ok(Some(Verdict::DepartsAt(number, Some(entry)))),
-        Answer::Beyond => Ok(Some(Verdict::DepartsAt(number, None))),
+    Ok(answer)
+}
+
+/// The verdict on a history whose latest line is the first that is not the machine's.
+fn departure(kernel: &Kernel<PlainStore>) -> Verdict
+    ensures value { result ≡ departure kernel.now.machine.history }
+    ensures tellable { IsTellable kernel.now.table result }
+{
+    kernel.holds();
+    let line = count(kernel);
+    match kernel.entries().latest() {
+        Some(entry) => Verdict::DepartsAt(line, Some(entry.kept())),
+        None => Verdict::DepartsAt(line, None),
     }
 }
 
@@ -170,9 +179,10 @@ pub(crate) fn judge<R: Source>(
             Next::Rest => return Err(CheckFault::BadLine(count(kernel) + 1)),
             Next::End => return Ok(Verdict::Legal(count(kernel))),
         };
-        if let Some(verdict) = judge_line(kernel, &mut expected, &pending.bytes()[..end + 1])? {
-            return Ok(verdict);
+        match judge_line(kernel, &mut expected, &pending.bytes()[..end + 1])? {
+            Answer::Same => pending.take(end + 1),
+            Answer::Differs => return Ok(departure(kernel)),
+            Answer::Beyond => return Ok(Verdict::DepartsAt(count(kernel) + 1, None)),
         }
-        pending.take(end + 1);
     }
 }

@@ -3,7 +3,7 @@ ghost use Rattle.std.specs.Prelude.{◌≡◌, ◌+◌, ◌*◌, ◌≤◌, ◌<
 ghost use Rattle.std.specs.Io.KnownBytes.{IsAtEnd, Keeps, prepend_known};
 ghost use Rattle.apex_types.specs.values.Limits.{most_line};
 ghost use Rattle.apex_history.specs.Counted.{inner_of, failures_of, reads_left_of, CountsFailure};
-ghost use Rattle.apex_check.specs.declared.pending.TheConstants.{PENDING_ROOM};
+ghost use Rattle.apex_check.specs.declared.pending.TheConstants.{PENDING_ROOM, READ_ROOM};
 ghost use Rattle.apex_check.specs.Ahead.{Comes, IsFirstLine, fuel};
 ghost use Rattle.std.specs.List.{position};
 ghost use Rattle.apex_check.specs.Texts.{IsOneLine, is_line_feed};
@@ -15,8 +15,11 @@ use memchr::memchr;
 use std::io::{Read, Result};
 use std::marker::Model;
 
+/// The most bytes of one read.
+const READ_ROOM: usize = 16_384;
+
 /// The most bytes that are read ahead: a line, and the bytes of one read.
-const PENDING_ROOM: usize = 2 * MOST_LINE;
+const PENDING_ROOM: usize = MOST_LINE + READ_ROOM;
 
 /// The next part of a text.
 #[derive(Clone, Copy, PartialEq, Eq)]
@@ -106,7 +109,7 @@ impl Pending {
         self.start = 0;
     }
 
-    /// Reads once, up to [`MOST_LINE`] bytes, and says how many.
+    /// Reads once, up to [`READ_ROOM`] bytes, and says how many.
     fn fill<R: Source>(&mut self, reader: &mut Counted<R>) -> Result<usize>
         requires { length self.old ≤ most_line }
         ensures kept { OnOk result
@@ -115,11 +118,11 @@ impl Pending {
         ensures more { IfOk result (λ count. length self.new ≡ length self.old + count) }
         ensures end { IfOk result (λ count. count ≡ 0
             → IsAtEnd (R.remaining (inner_of reader.new)) × (self.new ≡ self.old)) }
-        ensures bound { IfOk result (λ count. count ≤ most_line) }
+        ensures bound { IfOk result (λ count. count ≤ READ_ROOM) }
         ensures counted { CountsFailure result (failures_of reader.old) (failures_of reader.new) }
         ensures reads { OnOk result (reads_left_of reader.new + 1 ≡ reads_left_of reader.old) }
     {
-        let mut chunk = [0; MOST_LINE];
+        let mut chunk = [0; READ_ROOM];
         let count = reader.read(&mut chunk)?;
         self.put(&chunk[..count]);
         Ok(count)

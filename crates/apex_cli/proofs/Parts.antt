@@ -1,13 +1,15 @@
 -- The part of an item after its `*`.
-use Rattle.std.proofs.Common.{◌≡◌, ◌∙◌, ℕ, ◌<◌, ◌&&◌, Bool, true, false, refl, sym, ap, arith, List, [], ◌∷◌, length, None, eqb-true}
+use Rattle.std.proofs.Common.{◌≡◌, ◌∙◌, ℕ, ◌-◌, ◌<◌, ◌≤◌, ◌&&◌, Bool, true, false, refl, sym, ap, arith, List, [], ◌∷◌, length, None, Some, eqb-true}
 use Rattle.std.specs.Prelude.{◌==◌}
 use Rattle.std.specs.Char.{is_ascii_digit}
 use Rattle.std.specs.List.{count_by, join_with_byte}
 use Rattle.std.specs.Str.{all_ascii_digits}
+use Rattle.std.proofs.lemmas.Bool.{le-leb, ne_eqb}
 use Rattle.std.proofs.lemmas.List.Splits.{join_with_byte-slice_split, length-slice_split}
 use Rattle.apex_types.specs.values.Numbers.{number_of}
 use Rattle.apex_history.specs.Words.{parts}
-use Rattle.apex_cli.specs.Schedule.{times_after, times_of}
+use Rattle.apex_cli.specs.declared.schedule.Item.TheVariants.{Turns}
+use Rattle.apex_cli.specs.Schedule.{item_of, times_after, times_of}
 
 -- a word that holds a `*` is no number
 digits_of_star : (w : List ℕ) → 0 < count_by (λ b. b == 42) w → all_ascii_digits w ≡ false
@@ -30,6 +32,13 @@ digits_of_star (x ∷ xs) some = go (x == 42) refl (digits_of_star xs)
 
 number_of_star : (w : List ℕ) → 0 < count_by (λ b. b == 42) w → number_of w ≡ None
 number_of_star w some = rw (digits_of_star w some) (grind arith)
+
+-- a core's digit alone is one turn of the core
+pub turn_alone : (digit : ℕ) → 48 ≤ digit → digit ≤ 55 → item_of (digit ∷ []) ≡ Some (Turns (digit - 48) 1)
+turn_alone digit low high =
+    let tick : (digit == 116) ≡ false = ne_eqb digit 116 (λ e. omega (arith, e, high)) in
+    let star : (digit == 42) ≡ false = ne_eqb digit 42 (λ e. omega (arith, e, low)) in
+    rw (tick, star, le-leb 48 digit low, le-leb digit 55 high) refl
 
 -- the parts after the core's `*` give a number of times exactly if they are one number
 pub times_after_star : (w : List ℕ) → times_after (parts 42 w) ≡ times_of w

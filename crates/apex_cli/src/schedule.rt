@@ -42,10 +42,17 @@ fn read_turns(word: &[u8]) -> Option<Item>
     Some(Item::Turns { core, times })
 }
 
+// Most items are one turn, a core's digit alone: no cut is needed there.
+#[inline(always)]
+#[tactic(auto, using(crate::proofs::Parts::turn_alone))]
 fn read_item(word: &[u8]) -> Option<Item>
     ensures { result ≡ item_of word.now }
 {
     match word {
+        [digit @ b'0'..=b'7'] => Some(Item::Turns {
+            core: CoreId::new(*digit - b'0'),
+            times: 1,
+        }),
         [b't', ticks @ ..] => read_ticks(ticks).map(Item::Tick),
         _ => read_turns(word),
     }

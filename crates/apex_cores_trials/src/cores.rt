@@ -2,6 +2,7 @@
 
 mod contention;
 mod crews;
+mod gates;
 mod meetings;
 mod outlines;
 mod reading;
@@ -9,5 +10,6 @@ mod refusals;
 mod values;
 mod workers;
 
-pub use contention::{Storm, weather};
-pub use reading::hold_the_lock;
+pub use crews::is_weathered;
+pub use reading::reads_beside_holder;
+pub use workers::{Shift, makes_ticks, makes_turns};

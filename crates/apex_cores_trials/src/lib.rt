@@ -11,4 +11,6 @@ mod openings;
 #[cfg(test)]
 mod partition;
 #[cfg(test)]
+mod steps;
+#[cfg(test)]
 mod tables;

@@ -1,66 +1,70 @@
 //! Partitions that tests open.
-ghost use Rattle.std.specs.Prelude.{◌≡◌, length};
+ghost use Rattle.std.specs.Prelude.{◌≡◌, None, length};
 ghost use Rattle.apex_receipts.specs.Receipts.{IsNamedAfter};
 
-use crate::cores::{Storm, hold_the_lock, weather};
-use crate::partition::{Scene, act_out};
-use apex_partition::{Naming, NewBoard, Opened, Reader, Seat, Shared, Ticker, open_read};
+use crate::closings::{Outcome, close};
+use crate::steps::{Step, take_steps};
+use apex_partition::{
+    Board, Naming, NewBoard, Opened, Reader, Receipt, Seat, Shared, Ticker, open_read,
+};
 use apex_table::{Table, read_table};
 use std::alloc::Global;
 use std::marker::Brand;
+use std::mem::drop;
 use std::process::Abort;
 use std::sync::Wait;
 use std::thread::Threads;
 
-/// A partition before any event: what threads share, the seats in the order of their cores, the ticker, and
-/// the reader, if there is one.
-#[derive(Drop)]
+/// An open partition, with all that makes its events or sees them.
 pub struct Open<P: Naming> {
+    /// What threads share.
     pub shared: Shared<P>,
+    /// The seats, in the order of their cores, except for those at work.
     pub seats: Vec<Seat<P>>,
-    pub ticker: Ticker<P>,
+    /// The ticker, unless it is at work.
+    pub ticker: Option<Ticker<P>>,
+    /// The reader, if there is one.
     pub reader: Option<Reader<P>>,
+    /// The receipts that were handed out, or those of each worker's last turn.
+    pub receipts: Vec<Receipt<P>>,
 }
 
-/// What is done with an open partition.
-#[derive(Clone, Copy)]
-pub enum Play<'a> {
-    Scene(&'a Scene<'a>),
-    Storm(Storm),
-    /// A reader reads while another thread holds the lock.
-    HeldLock,
-}
-
-/// The table of this text, and a book for its cores.
-pub fn read<R: Abort>(rt: &R, alloc: Global, text: &str) -> (Table, Opened)
-    ensures { length result.1.cores ≡ result.0.cores }
-{
-    let table = read_table(alloc, text.as_bytes()).expect(rt, "the table is lawful");
-    let opened = Opened::new(alloc, u32::from(table.cores())).expect(rt, "memory");
-    (table, opened)
-}
-
-/// Opens a partition of this table, with one reader or with none, and plays.
+/// Opens a partition of this table, with one reader or with none, takes the steps, and closes it.
 pub fn open_and_play<R: Abort + Threads + Wait + Sync>(
     rt: &R,
     alloc: Global,
     text: &str,
     has_reader: bool,
-    play: Play<'_>,
-) {
-    let (table, opened) = read(rt, alloc, text);
-    let board = NewBoard::new(alloc, u32::from(has_reader)).expect(rt, "memory");
-    play_named::<Brand, R>(rt, alloc, table, opened, board, play);
+    steps: &[Step],
+) -> Outcome {
+    let table = read_table(alloc, text.as_bytes()).expect(rt, "the table is lawful");
+    let opened = Opened::new(alloc, u32::from(table.cores())).expect(rt, "memory");
+    if has_reader {
+        let board = NewBoard::new(alloc, 1).expect(rt, "memory");
+        play_with_reader::<Brand, R>(rt, alloc, table, opened, board, steps)
+    } else {
+        play_without_reader::<Brand, R>(rt, alloc, table, opened, steps)
+    }
 }
 
-fn play_named<P: Naming + Send + Sync, R: Abort + Threads + Wait + Sync>(
+/// The one reader of a board.
+fn take_reader<P: Naming, R: Abort>(rt: &R, mut board: Board<P>) -> Reader<P> {
+    let reader = board.take().expect(rt, "the board has a reader");
+    let other = board.take();
+    assert!(rt; other.is_none());
+    drop(other);
+    drop(board);
+    reader
+}
+
+fn play_with_reader<P: Naming + Send + Sync, R: Abort + Threads + Wait + Sync>(
     rt: &R,
     alloc: Global,
     table: Table,
     opened: Opened,
     board: NewBoard,
-    play: Play<'_>,
-)
+    steps: &[Step],
+) -> Outcome
     requires table { P.table ≡ table }
     requires named { IsNamedAfter P.book P.scribe P.voice opened }
     requires cores { length opened.cores ≡ table.cores }
@@ -68,18 +72,53 @@ fn play_named<P: Naming + Send + Sync, R: Abort + Threads + Wait + Sync>(
 {
     let cores = usize::from(table.cores());
     let opened = open_read::<P>(alloc, table, opened, board);
-    let (shared, seats, ticker, mut board) = opened.expect(rt, "memory");
-    let reader = board.take();
-    assert!(rt; board.take().is_none());
+    let (shared, seats, ticker, board) = opened.expect(rt, "memory");
+    let reader = take_reader(rt, board);
     let open = Open {
         shared,
         seats,
-        ticker,
-        reader,
+        ticker: Some(ticker),
+        reader: Some(reader),
+        receipts: Vec::new(alloc),
     };
-    match play {
-        Play::Scene(scene) => act_out(rt, alloc, open, cores, scene),
-        Play::Storm(storm) => weather(rt, alloc, open, cores, storm),
-        Play::HeldLock => hold_the_lock(rt, alloc, open),
-    }
+    play(rt, alloc, open, cores, steps)
+}
+
+fn play_without_reader<P: Naming + Send + Sync, R: Abort + Threads + Wait + Sync>(
+    rt: &R,
+    alloc: Global,
+    table: Table,
+    opened: Opened,
+    steps: &[Step],
+) -> Outcome
+    requires table { P.table ≡ table }
+    requires named { IsNamedAfter P.book P.scribe P.voice opened }
+    requires cores { length opened.cores ≡ table.cores }
+    requires cell { P.cell ≡ None }
+{
+    let cores = usize::from(table.cores());
+    let opened = apex_partition::open::<P>(alloc, table, opened);
+    let (shared, seats, ticker) = opened.expect(rt, "memory");
+    let open = Open {
+        shared,
+        seats,
+        ticker: Some(ticker),
+        reader: None,
+        receipts: Vec::new(alloc),
+    };
+    play(rt, alloc, open, cores, steps)
+}
+
+/// Takes the steps with an open partition, whose table has `cores` cores, and closes it.
+fn play<P: Naming + Send + Sync, R: Abort + Threads + Wait + Sync>(
+    rt: &R,
+    alloc: Global,
+    mut open: Open<P>,
+    cores: usize,
+    steps: &[Step],
+) -> Outcome
+    requires { cores ≡ P.table.cores }
+{
+    take_steps(rt, alloc, &mut open, steps);
+    close(rt, alloc, open, cores)
 }

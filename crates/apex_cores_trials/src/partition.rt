@@ -2,6 +2,5 @@
 
 mod alone;
 mod scenes;
-mod steps;
 
 pub use scenes::{Scene, act_out};

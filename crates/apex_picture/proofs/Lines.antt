@@ -1,16 +1,18 @@
 -- Lines and the events that they name, one more each time.
-use Rattle.std.proofs.Common.{◌≡◌, ◌∙◌, ℕ, ◌+◌, ◌-◌, ◌≤◌, List, [], ◌∷◌, ◌++◌, Some, Ok, refl, sym, ap, arith, length, map, take, drop, subst, append_assoc, append-nil, length-append, take-append-drop}
-use Rattle.std.specs.List.{position}
+use Rattle.std.proofs.Common.{◌≡◌, ◌∙◌, ℕ, ◌+◌, ◌-◌, ◌<◌, ◌≤◌, ◌==◌, true, false, List, [], ◌∷◌, ◌++◌, Some, Ok, Err, refl, sym, ap, arith, length, map, take, drop, subst, append_assoc, append-nil, length-append, take-append-drop}
+use Rattle.std.specs.List.{All, AllByRecursion, position}
 use Rattle.std.specs.Prelude.{◌≢◌}
 use Rattle.std.proofs.Math.Seq.{take-append_seam}
 use Rattle.std.proofs.lemmas.List.{map-append}
 use Rattle.apex_types.specs.declared.Event.{Event}
-use Rattle.std.proofs.lemmas.List.Elements.{All-nil, All-push}
+use Rattle.std.proofs.lemmas.List.Elements.{All-nil, All-push, All-tail}
 use Rattle.apex_dispatch.specs.Events.{IsWithin}
 use Rattle.apex_table.proofs.Results.{all_append}
+use Rattle.apex_history.specs.declared.LineFault.{LineFault}
 use Rattle.apex_check.specs.Histories.{event_named}
-use Rattle.apex_check.specs.Texts.{IsOfTable, IsOneLine, IsParted, IsTableText, ended, is_line_feed, separator}
-use Rattle.apex_check.proofs.FirstLines.{first_feed}
+use Rattle.apex_check.specs.Texts.{HasNoSeparator, IsOfTable, IsOneLine, IsParted, IsTableText, ended, is_line_feed, line_feeds, separator, text_of}
+use Rattle.apex_check.proofs.Apart.{first_of_lines, some_feeds}
+use Rattle.apex_check.proofs.FirstLines.{first_feed, same_first}
 use Rattle.apex_check.proofs.Separated.{from_place, table_none, text_more}
 use Rattle.apex_picture.specs.Histories.{NameEvents}
 
@@ -64,17 +66,58 @@ front_parted text rest line after so_far is same =
     so_far.whole ∙ ap (λ l. front ++ l) (is ∙ ap (λ l. ended l ++ after) same) ∙ sym (append_assoc front (ended separator) after) in
     subst (λ f. IsParted text f after) (sym front_is) (so_far.lines, whole)
 
--- the lines so far, the events that they name, and what is left
+-- no line is the separator, and what is left has no line feed
+pub front_unparted : (text rest : List ℕ) → IsFrontOf text rest → IsOneLine rest → HasNoSeparator text
+front_unparted text rest so_far one =
+    record { front = so_far.front; rest = rest; whole = so_far.whole; lines = so_far.lines; unended = one }
+
+-- the events that lines name begin with the one of the first line
+first_event : (cores : ℕ) (lines : List (List ℕ)) (events : List Event) (line after : List ℕ) → IsOneLine line
+    → line ++ (10 ∷ after) ≡ text_of lines → AllByRecursion IsOneLine lines → map (event_named cores) lines ≡ map Ok events
+    → All (IsWithin cores) events
+    → (event : Event) × (later : List Event) × (event_named cores line ≡ Ok event) × NameEvents cores after later
+first_event cores [] events line after one e apart named within =
+    absurd (omega (arith, ap length e, length-append line (10 ∷ after)))
+first_event cores (l ∷ ls) [] line after one e apart named within =
+    let no : ⊥ = cc in
+    absurd no
+first_event cores (l ∷ ls) (event ∷ later) line after one e apart named within =
+    let same = same_first line l after (text_of ls) one apart.0 (e ∙ first_of_lines l ls) in
+    let names : event_named cores l ≡ Ok event = cc in
+    let others : map (event_named cores) ls ≡ map Ok later = cc in (
+      event,
+      later,
+      ap (event_named cores) same.0 ∙ names,
+      record { lines = ls; whole = same.1; apart = apart.1; named = others; within = All-tail (IsWithin cores) event later within },
+    )
+
+pub first_named : (cores : ℕ) (line after : List ℕ) (events : List Event) → IsOneLine line → NameEvents cores (ended line ++ after) events
+    → (event : Event) × (later : List Event) × (event_named cores line ≡ Ok event) × NameEvents cores after later
+first_named cores line after events one names =
+    first_event cores names.lines events line after one (sym (append_assoc line (10 ∷ []) after) ∙ names.whole) names.apart names.named names.within
+
+-- bytes without a line feed are no line
+no_line : (lines : List (List ℕ)) (rest : List ℕ) → rest ≡ text_of lines → IsOneLine rest → (length rest == 0) ≡ false → ⊥
+no_line [] rest e one some =
+    let none : (length rest == 0) ≡ true = rw e refl in
+    cc
+no_line (l ∷ ls) rest e one some =
+    let feeds : 0 < line_feeds rest = subst (λ t. 0 < line_feeds t) (sym e) (some_feeds [] l (text_of ls)) in
+    omega (arith, feeds, one)
+
+-- the lines so far, the events that they name, and what is left, which names events if the whole text does
 pub record IsNamedOf (cores : ℕ) (text rest : List ℕ) (events : List Event) : Type 0 where
   pub bytes : List ℕ
   pub whole : text ≡ bytes ++ rest
   pub named : NameEvents cores bytes events
+  pub goes_on : (all : List Event) → NameEvents cores text all → (later : List Event) × NameEvents cores rest later
 
 pub named_none : (cores : ℕ) (text : List ℕ) → IsNamedOf cores text text []
 named_none cores text = record {
   bytes = [];
   whole = refl;
   named = record { lines = []; whole = refl; apart = tt; named = refl; within = All-nil (IsWithin cores) };
+  goes_on = λ all names. (all, names);
 }
 
 pub named_more : (cores : ℕ) (text rest line after : List ℕ) (events : List Event) (event : Event)
@@ -96,6 +139,10 @@ named_more cores text rest line after events event so_far is one named within =
             ∙ sym (map-append Ok events (event ∷ []));
         within = All-push (IsWithin cores) events event before.within within;
       };
+      goes_on = λ all names.
+          let (later, behind) = so_far.goes_on all names in
+          let (first, others, is_first, more) = first_named cores line after later one (subst (λ b. NameEvents cores b later) is behind) in
+          (others, more);
     }
 
 pub named_all : (cores : ℕ) (text rest : List ℕ) (events : List Event) → IsNamedOf cores text rest events
@@ -103,3 +150,20 @@ pub named_all : (cores : ℕ) (text rest : List ℕ) (events : List Event) → I
 named_all cores text rest events so_far none =
     let is : text ≡ so_far.bytes = so_far.whole ∙ ap (λ l. so_far.bytes ++ l) none ∙ append-nil so_far.bytes in
     subst (λ t. NameEvents cores t events) (sym is) so_far.named
+
+-- the next line names no event
+pub names_none : (cores : ℕ) (text rest line after : List ℕ) (events : List Event) (fault : LineFault) → IsNamedOf cores text rest events
+    → rest ≡ ended line ++ after → IsOneLine line → event_named cores line ≡ Err fault
+    → (all : List Event) → NameEvents cores text all → ⊥
+names_none cores text rest line after events fault so_far is one fails all names =
+    let (later, behind) = so_far.goes_on all names in
+    let (event, others, named, more) = first_named cores line after later one (subst (λ b. NameEvents cores b later) is behind) in
+    let both = sym named ∙ fails in
+    cc
+
+-- what is left has no line feed
+pub names_unended : (cores : ℕ) (text rest : List ℕ) (events : List Event) → IsNamedOf cores text rest events
+    → IsOneLine rest → (length rest == 0) ≡ false → (all : List Event) → NameEvents cores text all → ⊥
+names_unended cores text rest events so_far one some all names =
+    let (later, behind) = so_far.goes_on all names in
+    no_line behind.lines rest behind.whole one some

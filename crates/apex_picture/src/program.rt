@@ -6,6 +6,7 @@ ghost use Rattle.apex_cli.specs.Exits.{Told};
 ghost use Rattle.apex_cli.specs.Faults.{fault_in};
 ghost use Rattle.apex_picture.specs.Exits.{Draws, End, Ends, IsJudged, IsVerdictOn, PicturesText, RefusesText, Shows, end_in, fails, report_of, status_of};
 ghost use Rattle.apex_picture.specs.Answers.{fault_of_drawing};
+ghost use Rattle.apex_picture.specs.Histories.{HasHistory};
 ghost use Rattle.apex_picture.specs.Tasks.{IsOfEntries, asked_by, task_said};
 
 use crate::schedules::{Plan, draw_events, plan_of, plan_of_history};
@@ -116,7 +117,8 @@ fn draw_text<W: Sink>(
     text: &[u8],
     writer: &mut Counted<W>,
 ) -> Result<(), CliFault>
-    requires { IsOfEntries task.now }
+    requires entries { IsOfEntries task.now }
+    requires history { HasHistory text.now }
     ensures { PicturesText (task_said task.now) text.now
         (W.contents (inner_of writer.old)) (failures_of writer.old) (fault_in result)
         (W.contents (inner_of writer.new)) (failures_of writer.new) }

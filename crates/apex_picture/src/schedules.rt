@@ -1,5 +1,5 @@
 //! The events of a history, and their picture.
-ghost use Rattle.std.specs.Prelude.{◌≡◌, ℕ, true, replicate, All, IfOk, IfErr, OnErr, OnOk, Ok};
+ghost use Rattle.std.specs.Prelude.{◌≡◌, ℕ, true, replicate, All, IfOk, IfErr, IsOk, OnErr, OnOk, Ok};
 ghost use Rattle.std.specs.Io.KnownBytes.{Appends};
 ghost use Rattle.apex_types.specs.machine.Machine.{asked_ticks, event_of, events_of, opening, run};
 ghost use Rattle.apex_dispatch.specs.Events.{IsWithin};
@@ -11,12 +11,12 @@ ghost use Rattle.apex_pictures.specs.Pictures.{picture_text};
 ghost use Rattle.apex_cli.specs.Reports.{fault_of_events};
 ghost use Rattle.apex_cli.specs.Schedule.{are_cores_below, events_of_item, events_of_items, is_core_below};
 ghost use Rattle.apex_cli.specs.declared.CliFault.TheVariants.{Memory};
-ghost use Rattle.apex_picture.specs.Histories.{IsHistoryOf};
+ghost use Rattle.apex_picture.specs.Histories.{HasHistory, IsHistoryOf};
 ghost use Rattle.apex_picture.specs.Tasks.{IsOfEntries, task_said};
 ghost use Rattle.apex_picture.specs.Answers.{answer_of, IsAskedStyle, IsListOf, IsPlanOf, IsRunOf, RefusesItems};
 ghost use Rattle.apex_pictures.specs.declared.Style.TheVariants as Style;
 
-use crate::histories::{History, history_in};
+use crate::histories::{History, history_in, table_in};
 use crate::tasks::Task;
 use crate::words::Format;
 use apex_cli::{CliFault, Item, are_cores_below, run_items};
@@ -83,11 +83,12 @@ fn style_for<S: Store>(task: &Task, kernel: &Kernel<S>) -> Style
 
 /// The table of a text from which it was read before.
 fn read_again(alloc: Global, text: &[u8]) -> Result<Table, AllocError>
+    requires { IsOk (table_of text.now) }
     ensures { IfOk result (λ table. table_of text.now ≡ Ok table) }
 {
-    match read_table(alloc, text) {
-        Ok(table) => Ok(table),
-        Err(_) => Err(AllocError),
+    match table_in(alloc, text)? {
+        Some(table) => Ok(table),
+        None => unreachable!(),
     }
 }
 
@@ -289,13 +290,14 @@ fn style_of(alloc: Global, task: &Task, table: Table, events: &[Event]) -> Resul
 /// The plan for the history that a text has; `Memory` if memory is refused.
 #[tactic(auto, using(crate::proofs::Plans::history_again))]
 pub fn plan_of_history(alloc: Global, task: &Task, text: &[u8]) -> Result<Plan, CliFault>
-    requires { IsOfEntries task.now }
+    requires entries { IsOfEntries task.now }
+    requires history { HasHistory text.now }
     ensures ok { IfOk result (λ plan. IsHistoryOf text.now plan.table plan.events.items) }
     ensures style { IfOk result (λ plan. IsAskedStyle (task_said task.now) plan.style) }
     ensures err { IfErr result (λ fault. fault ≡ Memory) }
 {
     let Some(history) = history_in(alloc, text)? else {
-        return Err(CliFault::Memory);
+        unreachable!();
     };
     let History {
         front,

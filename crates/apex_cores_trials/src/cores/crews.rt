@@ -1,15 +1,17 @@
-//! Threads: one for each seat, one for the ticker, and those of readers.
+//! Threads: one for each core, one for the ticker, and one for a reader.
 
-use super::reading::{HasRead, Told, hold, read_many, read_twice};
-use apex_cores::{CoreReport, Gate, TickerReport, run_core, run_ticker};
-use apex_partition::{Naming, Reader, Seat, Shared, Ticker};
+use super::reading::read_all;
+use super::workers::makes_ticks;
+use crate::openings::Open;
+use apex_cores::{CoreReport, Gate, run_core};
+use apex_partition::{Naming, Seat, Shared, Ticker};
 use apex_types::{CoreId, ProcessId};
 use crossbeam_utils::Backoff;
 use std::alloc::Global;
 use std::process::Abort;
 use std::sync::Wait;
-use std::thread;
-use std::thread::{JoinHandle, Scope, Threads};
+use std::thread::Threads;
+use std::{mem, thread};
 
 /// The turns of each core.
 pub const TURNS: u32 = 500;
@@ -32,133 +34,73 @@ impl Gate for Pauses {
     }
 }
 
-/// The task of a thread, with all that it takes and gives back.
-#[derive(Drop)]
-pub enum Task<P: Naming> {
-    /// The turns of a core.
-    Core(Seat<P>),
-    /// The ticks.
-    Ticker(Ticker<P>),
-    /// Many reads.
-    Reader(Reader<P>),
-    /// To hold the lock until a reader has read.
-    Holder,
-    /// Two reads while another thread holds the lock.
-    ReaderBesideHolder(Reader<P>),
+/// Puts the seat of a worker back, and keeps its last receipt: the number of its turns, and whether a full history
+/// stopped it.
+pub fn put_back<P: Naming, R: Abort>(
+    rt: &R,
+    open: &mut Open<P>,
+    report: CoreReport<P>,
+) -> (u32, bool) {
+    let CoreReport {
+        seat,
+        turns,
+        last,
+        full,
+    } = report;
+    open.seats.push(seat).expect(rt, "memory");
+    let receipt = last.expect(rt, "there were turns");
+    open.receipts.push(receipt).expect(rt, "memory");
+    (turns, full)
 }
 
-/// What a thread reports when it has come to its end.
-#[derive(Drop)]
-pub enum Report<P: Naming> {
-    Core(CoreReport<P>),
-    Ticker(TickerReport<P>),
-    Reader(HasRead<P>),
-    /// Whether the lock was held while a reader read.
-    Beside(bool),
-}
-
-/// What the threads share beside the partition.
-#[derive(Drop)]
-struct Common {
-    gate: Pauses,
-    told: Told,
-}
-
-fn work<P: Naming, R: Wait>(
+/// The reports of the cores, in the order of their seats.
+fn run_cores<P: Naming + Send + Sync, R: Abort + Threads + Wait + Sync>(
     rt: &R,
     shared: &Shared<P>,
-    common: &Common,
-    task: Task<P>,
-) -> Report<P> {
-    match task {
-        Task::Core(seat) => Report::Core(run_core(rt, shared, seat, TURNS, &common.gate)),
-        Task::Ticker(ticker) => Report::Ticker(run_ticker(rt, shared, ticker, TICKS)),
-        Task::Reader(reader) => Report::Reader(read_many(rt, reader)),
-        Task::Holder => Report::Beside(hold(rt, shared, &common.told)),
-        Task::ReaderBesideHolder(mut reader) => {
-            Report::Beside(read_twice(rt, &mut reader, &common.told))
-        }
-    }
+    gate: &Pauses,
+    seats: Vec<Seat<P>>,
+) -> Vec<CoreReport<P>> {
+    let reports = thread::map_vec(rt, seats, &|seat| run_core(rt, shared, seat, TURNS, gate));
+    reports.expect(rt, "memory")
 }
 
-fn start<'s, E, P: Naming + Send + Sync + 's, R: Abort + Threads + Wait + Sync>(
-    rt: &'s R,
-    scope: &'s Scope<'s, E>,
-    shared: &'s Shared<P>,
-    common: &'s Common,
-    task: Task<P>,
-) -> JoinHandle<Report<P>> {
-    let started = scope.spawn(move || work(rt, shared, common, task));
-    started.expect(rt, "a thread")
+/// Whether the ticker made all its ticks, and the reports of the cores.
+fn run_workers<P: Naming + Send + Sync, R: Abort + Threads + Wait + Sync>(
+    rt: &R,
+    shared: &Shared<P>,
+    gate: &Pauses,
+    seats: Vec<Seat<P>>,
+    ticker: &mut Option<Ticker<P>>,
+) -> (bool, Vec<CoreReport<P>>) {
+    thread::join(
+        rt,
+        move || makes_ticks(rt, shared, ticker, TICKS, TICKS),
+        move || run_cores(rt, shared, gate, seats),
+    )
 }
 
-/// Starts a thread for each task, in their order.
-fn start_all<'s, E, P: Naming + Send + Sync + 's, R: Abort + Threads + Wait + Sync>(
-    rt: &'s R,
-    alloc: Global,
-    scope: &'s Scope<'s, E>,
-    shared: &'s Shared<P>,
-    common: &'s Common,
-    tasks: Vec<Task<P>>,
-) -> Vec<JoinHandle<Report<P>>> {
-    let mut started = Vec::new(alloc);
-    for task in tasks {
-        let handle = start(rt, scope, shared, common, task);
-        started.push(handle).expect(rt, "memory");
-    }
-    started
-}
-
-/// Joins the threads in the order in which they were started.
-fn join_all<P: Naming, R: Abort + Threads>(
+/// Whether all cores and the ticker make their events, and the reader, if there is one, sees neither the entries nor
+/// the time go back. Each of them has a thread of its own.
+pub fn is_weathered<P: Naming + Send + Sync, R: Abort + Threads + Wait + Sync>(
     rt: &R,
     alloc: Global,
-    started: Vec<JoinHandle<Report<P>>>,
-) -> Vec<Report<P>> {
-    let mut reports = Vec::new(alloc);
-    for handle in started {
-        reports.push(handle.join(rt)).expect(rt, "memory");
-    }
-    reports
-}
-
-fn run_in<'s, E, P: Naming + Send + Sync + 's, R: Abort + Threads + Wait + Sync>(
-    rt: &'s R,
-    alloc: Global,
-    scope: &'s Scope<'s, E>,
-    shared: &'s Shared<P>,
-    common: &'s Common,
-    tasks: Vec<Task<P>>,
-) -> Vec<Report<P>> {
-    let started = start_all(rt, alloc, scope, shared, common, tasks);
-    join_all(rt, alloc, started)
-}
-
-fn run_on<'x, P: Naming + Send + Sync, R: Abort + Threads + Wait + Sync>(
-    rt: &'x R,
-    alloc: Global,
-    shared: &'x Shared<P>,
-    common: &'x Common,
-    tasks: Vec<Task<P>>,
-) -> Vec<Report<P>> {
-    thread::scope(thread::scope_env(), rt, move |scope| {
-        run_in(rt, alloc, scope, shared, common, tasks)
-    })
-}
-
-/// Has each task done in a thread of its own, with a gate that backs off `pauses` times in each work, and joins
-/// the threads: the reports in the order of the tasks, and the partition.
-pub fn run_all<P: Naming + Send + Sync, R: Abort + Threads + Wait + Sync>(
-    rt: &R,
-    alloc: Global,
-    shared: Shared<P>,
+    open: &mut Open<P>,
     pauses: u32,
-    tasks: Vec<Task<P>>,
-) -> (Vec<Report<P>>, Shared<P>) {
-    let common = Common {
-        gate: Pauses { times: pauses },
-        told: Told::new(),
-    };
-    let reports = run_on(rt, alloc, &shared, &common, tasks);
-    (reports, shared)
+) -> bool {
+    let pauses = Pauses { times: pauses };
+    let seats = mem::replace(&mut open.seats, Vec::new(alloc));
+    let gate = &pauses;
+    let shared = &open.shared;
+    let reader = &mut open.reader;
+    let ticker = &mut open.ticker;
+    let (backwards, (has_ticked, reports)) = thread::join(
+        rt,
+        move || read_all(rt, reader),
+        move || run_workers(rt, shared, gate, seats, ticker),
+    );
+    for report in reports {
+        let made = put_back(rt, open, report);
+        assert!(rt; made == (TURNS, false));
+    }
+    has_ticked && backwards == 0
 }

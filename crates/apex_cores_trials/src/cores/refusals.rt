@@ -1,13 +1,12 @@
 //! Runs of which a thread is refused, and the ticker's thread beside the cores.
 
+use super::gates::Counter;
 use crate::closings::entry_count;
-use apex_cores::{Gate, RunFault, RunPlan, Starts, run_partition_with};
+use apex_cores::{RunFault, RunPlan, Starts, run_partition_with};
 use apex_table::read_table;
-use apex_types::{CoreId, ProcessId};
 use std::alloc::Global;
 use std::process::Abort;
 use std::sync::Wait;
-use std::sync::atomic::{AtomicU32, Ordering};
 use std::thread::Threads;
 
 /// Core 0 makes the four turns of the init list and then works in every second turn; the others are idle.
@@ -30,31 +29,7 @@ const PLAN: RunPlan = RunPlan {
 };
 
 /// The number of core 0's turns that begin work.
-const WORKS: u32 = 1000;
-
-/// A gate that counts its calls.
-#[derive(Drop)]
-struct Counter {
-    calls: AtomicU32,
-}
-
-impl Counter {
-    fn new() -> Counter {
-        Counter {
-            calls: AtomicU32::new(0),
-        }
-    }
-
-    fn calls(&self) -> u32 {
-        self.calls.load(Ordering::SeqCst)
-    }
-}
-
-impl Gate for Counter {
-    fn work(&self, _core: CoreId, _process: ProcessId, _ticks: u32) {
-        self.calls.fetch_add(1, Ordering::SeqCst);
-    }
-}
+const WORKS: u64 = 1000;
 
 /// Refuses the thread of this number, and counts the threads for which it is asked.
 #[derive(Clone, Copy)]
@@ -82,7 +57,7 @@ impl Starts for AllBut {
 struct Outcome {
     entries: Result<usize, RunFault>,
     starts: AllBut,
-    works: u32,
+    works: u64,
 }
 
 /// Runs the partition of this table, of which the thread of this number is refused.

@@ -64,15 +64,8 @@ fn service_of(call: &Option<Call>) -> Option<SemaphoreService> {
     Some(*service)
 }
 
-fn is_signal(call: &Option<Call>) -> bool {
-    match service_of(call) {
-        Some(service) => service == SemaphoreService::Signal,
-        None => false,
-    }
-}
-
-fn is_wait(call: &Option<Call>) -> bool {
-    match service_of(call) {
+fn is_wait(service: Option<SemaphoreService>) -> bool {
+    match service {
         Some(service) => service != SemaphoreService::Signal,
         None => false,
     }
@@ -87,30 +80,29 @@ impl Satisfied {
     }
 
     /// The entry's call is the latest of its process.
-    fn note_call(&mut self, process: Caller, call: &Option<Call>) {
+    fn note_call(&mut self, process: Caller, is_wait: bool) {
         if let Caller::Process(process) = process
             && let Some(latest) = self.is_wait.get_mut(process.place())
         {
-            *latest = is_wait(call);
+            *latest = is_wait;
         }
     }
 
-    /// An accepted call is satisfied at once.
-    fn note_reply(&mut self, call: &Option<Call>, reply: Reply) {
-        if reply == Reply::Code(ReturnCode::NoError) {
-            self.signals = self.signals.saturating_add(u64::from(is_signal(call)));
-            self.waits = self.waits.saturating_add(u64::from(is_wait(call)));
-        }
-    }
-
+    /// A notice answers a wait, and an accepted call is satisfied at once.
     fn note(&mut self, entry: &LentEntry<'_>) {
         for notice in entry.notices {
             if let Notice::Woken(process, ReturnCode::NoError) = notice {
                 self.note_woken(*process);
             }
         }
-        self.note_call(entry.process, &entry.call);
-        self.note_reply(&entry.call, entry.reply);
+        let service = service_of(&entry.call);
+        let waits = is_wait(service);
+        self.note_call(entry.process, waits);
+        if entry.reply == Reply::Code(ReturnCode::NoError) {
+            let signals = service == Some(SemaphoreService::Signal);
+            self.signals = self.signals.saturating_add(u64::from(signals));
+            self.waits = self.waits.saturating_add(u64::from(waits));
+        }
     }
 }
 
@@ -185,14 +177,6 @@ fn listing_of<R: Abort>(rt: &R, alloc: Global, text: &str, history: &str) -> Vec
     listing
 }
 
-/// Whether a listing shows this value.
-fn shows<R: Abort>(rt: &R, alloc: Global, listing: &[u8], value: u64) -> bool {
-    let row = format!(in alloc; "\nsemaphore 1 name S value {value} waiting ");
-    let row = row.expect(rt, "memory");
-    let listing = str::from_utf8(listing).expect(rt, "the listing is text");
-    listing.contains(row.as_str())
-}
-
 /// Whether the status listing of a kernel that has made the events of these lines shows this value.
 pub fn is_value_by_run<R: Abort>(
     rt: &R,
@@ -201,6 +185,9 @@ pub fn is_value_by_run<R: Abort>(
     history: &str,
     value: u64,
 ) -> bool {
+    let row = format!(in alloc; "\nsemaphore 1 name S value {value} waiting ");
+    let row = row.expect(rt, "memory");
     let listing = listing_of(rt, alloc, text, history);
-    shows(rt, alloc, listing.as_slice(), value)
+    let listing = str::from_utf8(listing.as_slice()).expect(rt, "the listing is text");
+    listing.contains(row.as_str())
 }

@@ -7,8 +7,8 @@ use apex_types::{CoreId, Full};
 use std::mem::drop;
 use std::process::Abort;
 
-/// The number of entries that fill the history of `ALONE`.
-pub const MOST_ALONE: u32 = 3;
+/// The answer to an event if the history of `ALONE` has all its entries.
+pub const FULL: Full = Full { entries: 3 };
 
 /// A partition with two cores, whose history is short.
 pub const ALONE: &str = "
@@ -36,10 +36,7 @@ fn fill(rt: &impl Abort, partition: &mut Partition) {
 
 /// Whether a turn and a tick are refused, since the history has all its entries.
 fn is_full(rt: &impl Abort, partition: &mut Partition) -> bool {
-    let full = Err(Full {
-        entries: MOST_ALONE,
-    });
-    turn_of(rt, partition, CoreId::new(0)) == full && partition.tick(3) == full
+    turn_of(rt, partition, CoreId::new(0)) == Err(FULL) && partition.tick(3) == Err(FULL)
 }
 
 #[test]
@@ -48,6 +45,6 @@ fn a_full_history_refuses_both_events(rt: HostRuntime) {
     let mut partition = Partition::boot(rt.alloc(), table).expect(&rt, "memory");
     fill(&rt, &mut partition);
     assert!(rt; is_full(&rt, &mut partition));
-    assert!(rt; partition.entries().len() == MOST_ALONE as usize);
+    assert!(rt; partition.entries().len() == FULL.entries as usize);
     drop(partition);
 }

@@ -1,84 +1,45 @@
-//! Scenes: the steps of two seats and a ticker that share a partition, each with the answer that it must have.
-ghost use Rattle.std.specs.Prelude.{◌≡◌};
+//! Scenes: the steps of two seats and a ticker that share a partition, and what they leave.
 
-use super::alone::ALONE;
-use super::steps::{Shown, Step, take_step};
-use crate::closings::{close, lines_of};
-use crate::openings::{Open, Play, open_and_play};
+use super::alone::{ALONE, FULL};
+use crate::closings::{Outcome, lines_of};
+use crate::openings::open_and_play;
+use crate::steps::{Shown, Step};
 use crate::tables::{STARTED, WAITER_AND_SIGNALLER};
-use apex_partition::{Closed, Naming, Reader, Receipt, Seat, Ticker};
 use std::alloc::Global;
+use std::mem::drop;
 use std::process::Abort;
 use std::sync::Wait;
+use std::thread::Threads;
 
-/// The steps on a table of two cores, and what they leave.
+/// The steps on a table of two cores, with one reader, and what they leave.
 #[derive(Clone, Copy)]
 pub struct Scene<'a> {
-    table: &'a str,
-    steps: &'a [Step],
-    /// The core of each seat, the number of entries that it made, and whether it knows that the history is full.
-    seats: [(u8, u32, bool); 2],
-    /// The number of the ticker's entries, the ticks that they ask for, and whether it knows that the history is full.
-    ticker: (u32, u64, bool),
+    pub table: &'a str,
+    pub steps: &'a [Step],
     /// The front of the closed partition.
-    last: Shown,
+    pub last: Shown,
     /// The lines of the history, one text behind the other.
-    lines: &'a [&'a str],
+    pub lines: &'a [&'a str],
 }
 
-fn is_seat<P: Naming>(seat: &Seat<P>, wanted: (u8, u32, bool)) -> bool {
-    (seat.core().number(), seat.count(), seat.told_full()) == wanted
-}
-
-fn are_seats<P: Naming>(seats: &[Seat<P>], wanted: &[(u8, u32, bool); 2]) -> bool {
-    match (seats, wanted) {
-        ([one, two], [first, second]) => is_seat(one, *first) && is_seat(two, *second),
-        _ => false,
+/// Whether each receipt is confirmed by the entry of its number, and each entry has one.
+fn are_in_order(outcome: &Outcome) -> bool {
+    let mut number = 0u32;
+    for receipt in &outcome.receipts {
+        number = number.saturating_add(1);
+        if receipt.number != number {
+            return false;
+        }
     }
+    outcome.receipts.len() == outcome.partition.entries().len()
 }
 
-fn is_ticker<P: Naming>(ticker: &Ticker<P>, wanted: (u32, u64, bool)) -> bool {
-    (ticker.count(), ticker.sum(), ticker.told_full()) == wanted
-}
-
-/// Whether the seats and the ticker are as the scene leaves them.
-fn is_left<P: Naming>(open: &Open<P>, scene: &Scene<'_>) -> bool {
-    are_seats(open.seats.as_slice(), &scene.seats) && is_ticker(&open.ticker, scene.ticker)
-}
-
-/// The receipts of the events of these steps.
-fn take_steps<P: Naming, R: Abort + Wait>(
-    rt: &R,
-    alloc: Global,
-    open: &mut Open<P>,
-    steps: &[Step],
-) -> Vec<Receipt<P>> {
-    let mut receipts = Vec::new(alloc);
-    for step in steps {
-        take_step(rt, open, &mut receipts, step);
+/// Whether the reader is told of this front, and sees it from then on.
+fn is_told(outcome: &Outcome, last: &Shown) -> bool {
+    match &outcome.fronts {
+        Some((told, seen)) => last.is_in(told) && last.is_in(seen),
+        None => false,
     }
-    receipts
-}
-
-/// Each receipt is confirmed by the entry of its number.
-fn confirm_in_order<P: Naming, R: Abort>(rt: &R, closed: &Closed<P>, receipts: &[Receipt<P>]) {
-    let mut number = 1;
-    for receipt in receipts {
-        let entry = closed.confirm(receipt);
-        assert!(rt; entry.number == number && receipt.entry().number == number);
-        number = entry.number.saturating_add(1);
-    }
-}
-
-/// Whether the reader is told of the whole history, and sees it from then on.
-fn is_told<P: Naming, R: Wait>(
-    rt: &R,
-    closed: &mut Closed<P>,
-    reader: Reader<P>,
-    last: &Shown,
-) -> bool {
-    let (told, mut reader) = closed.tell(rt, reader);
-    last.is_in(&told) && last.is_in(&reader.read(rt))
 }
 
 /// Whether the bytes are these texts, one behind the other.
@@ -93,67 +54,36 @@ fn are_texts(bytes: &[u8], texts: &[&str]) -> bool {
     rest.is_empty()
 }
 
-/// Closes the partition, whose reader is told of the whole history, confirms the receipts, and looks at the lines
-/// of the history.
-fn end<P: Naming, R: Abort + Wait>(
-    rt: &R,
-    alloc: Global,
-    open: Open<P>,
-    cores: usize,
-    receipts: &[Receipt<P>],
-    scene: &Scene<'_>,
-)
-    requires { cores ≡ P.table.cores }
-{
-    let Open {
-        shared,
-        seats,
-        ticker,
-        reader,
-    } = open;
-    let mut closed = close(rt, alloc, shared, seats, ticker, cores);
-    let reader = reader.expect(rt, "the partition has one reader");
-    assert!(rt; is_told(rt, &mut closed, reader, &scene.last));
-    assert!(rt; closed.table().cores() == 2);
-    confirm_in_order(rt, &closed, receipts);
-    let lines = lines_of(rt, alloc, closed);
+/// Plays the scene, and looks at what it leaves.
+pub fn act_out<R: Abort + Threads + Wait + Sync>(rt: &R, alloc: Global, scene: &Scene<'_>) {
+    let outcome = open_and_play(rt, alloc, scene.table, true, scene.steps);
+    assert!(rt; outcome.partition.table().cores() == 2);
+    assert!(rt; are_in_order(&outcome));
+    assert!(rt; is_told(&outcome, &scene.last));
+    let lines = lines_of(rt, alloc, &outcome.partition);
+    drop(outcome);
     assert!(rt; are_texts(lines.as_slice(), scene.lines));
-}
-
-/// Plays the steps on an open partition, whose table has `cores` cores, closes it, and looks at what they
-/// leave.
-pub fn act_out<P: Naming, R: Abort + Wait>(
-    rt: &R,
-    alloc: Global,
-    mut open: Open<P>,
-    cores: usize,
-    scene: &Scene<'_>,
-)
-    requires { cores ≡ P.table.cores }
-{
-    let receipts = take_steps(rt, alloc, &mut open, scene.steps);
-    assert!(rt; is_left(&open, scene));
-    end(rt, alloc, open, cores, receipts.as_slice(), scene);
 }
 
 /// Nine turns of core 0, and one of core 1, in which the signal wakes the waiter.
 const TEN_TURNS: Scene<'static> = Scene {
     table: WAITER_AND_SIGNALLER,
     steps: &[
-        Step::Turn(0, Some(1)),
-        Step::Turn(0, Some(2)),
-        Step::Turn(0, Some(3)),
-        Step::Turn(0, Some(4)),
-        Step::Turn(0, Some(5)),
-        Step::Turn(0, Some(6)),
-        Step::Turn(0, Some(7)),
-        Step::Turn(0, Some(8)),
-        Step::Turn(0, Some(9)),
-        Step::Turn(1, Some(1)),
+        Step::Turn(0, Ok(1)),
+        Step::Turn(0, Ok(2)),
+        Step::Turn(0, Ok(3)),
+        Step::Turn(0, Ok(4)),
+        Step::Turn(0, Ok(5)),
+        Step::Turn(0, Ok(6)),
+        Step::Turn(0, Ok(7)),
+        Step::Turn(0, Ok(8)),
+        Step::Turn(0, Ok(9)),
+        Step::Turn(1, Ok(1)),
         Step::Look(10),
+        Step::Seat(0, (0, 9, false)),
+        Step::Seat(1, (1, 1, false)),
+        Step::Ticker((0, 0, false)),
     ],
-    seats: [(0, 9, false), (1, 1, false)],
-    ticker: (0, 0, false),
     last: Shown {
         entries: 10,
         now: 0,
@@ -168,29 +98,24 @@ const TEN_TURNS: Scene<'static> = Scene {
 
 #[test]
 fn look_sees_the_ten_turns_of_two_seats(rt: HostRuntime) {
-    open_and_play(
-        &rt,
-        rt.alloc(),
-        TEN_TURNS.table,
-        true,
-        Play::Scene(&TEN_TURNS),
-    );
+    act_out(&rt, rt.alloc(), &TEN_TURNS);
 }
 
 /// A turn, a tick and a turn fill the history. Core 1 and the ticker ask twice for more; core 0 does not.
 const FILLED: Scene<'static> = Scene {
     table: ALONE,
     steps: &[
-        Step::Turn(0, Some(1)),
-        Step::Tick(3, Some(1)),
-        Step::Turn(0, Some(2)),
-        Step::Turn(1, None),
-        Step::Tick(4, None),
-        Step::Turn(1, None),
-        Step::Tick(4, None),
+        Step::Turn(0, Ok(1)),
+        Step::Tick(3, Ok(1)),
+        Step::Turn(0, Ok(2)),
+        Step::Turn(1, Err(FULL)),
+        Step::Tick(4, Err(FULL)),
+        Step::Turn(1, Err(FULL)),
+        Step::Tick(4, Err(FULL)),
+        Step::Seat(0, (0, 2, false)),
+        Step::Seat(1, (1, 0, true)),
+        Step::Ticker((1, 3, true)),
     ],
-    seats: [(0, 2, false), (1, 0, true)],
-    ticker: (1, 3, true),
     last: Shown {
         entries: 3,
         now: 3,
@@ -205,10 +130,10 @@ const FILLED: Scene<'static> = Scene {
 
 #[test]
 fn a_seat_that_was_told_full_is_told_so_again(rt: HostRuntime) {
-    open_and_play(&rt, rt.alloc(), FILLED.table, true, Play::Scene(&FILLED));
+    act_out(&rt, rt.alloc(), &FILLED);
 }
 
-/// The steps of `TEN_TURNS`, with what the reader sees before them, before the last one and after it.
+/// The turns of `TEN_TURNS`, with what the reader sees before them, before the last one and after it.
 const READ_BETWEEN: Scene<'static> = Scene {
     table: WAITER_AND_SIGNALLER,
     steps: &[
@@ -217,29 +142,30 @@ const READ_BETWEEN: Scene<'static> = Scene {
             now: 0,
             running: [0, 0],
         }),
-        Step::Turn(0, Some(1)),
-        Step::Turn(0, Some(2)),
-        Step::Turn(0, Some(3)),
-        Step::Turn(0, Some(4)),
-        Step::Turn(0, Some(5)),
-        Step::Turn(0, Some(6)),
-        Step::Turn(0, Some(7)),
-        Step::Turn(0, Some(8)),
-        Step::Turn(0, Some(9)),
+        Step::Turn(0, Ok(1)),
+        Step::Turn(0, Ok(2)),
+        Step::Turn(0, Ok(3)),
+        Step::Turn(0, Ok(4)),
+        Step::Turn(0, Ok(5)),
+        Step::Turn(0, Ok(6)),
+        Step::Turn(0, Ok(7)),
+        Step::Turn(0, Ok(8)),
+        Step::Turn(0, Ok(9)),
         Step::Read(Shown {
             entries: 9,
             now: 0,
             running: [0, 2],
         }),
-        Step::Turn(1, Some(1)),
+        Step::Turn(1, Ok(1)),
         Step::Read(Shown {
             entries: 10,
             now: 0,
             running: [1, 2],
         }),
+        Step::Seat(0, (0, 9, false)),
+        Step::Seat(1, (1, 1, false)),
+        Step::Ticker((0, 0, false)),
     ],
-    seats: [(0, 9, false), (1, 1, false)],
-    ticker: (0, 0, false),
     last: Shown {
         entries: 10,
         now: 0,
@@ -254,11 +180,5 @@ const READ_BETWEEN: Scene<'static> = Scene {
 
 #[test]
 fn front_of_two_seats(rt: HostRuntime) {
-    open_and_play(
-        &rt,
-        rt.alloc(),
-        READ_BETWEEN.table,
-        true,
-        Play::Scene(&READ_BETWEEN),
-    );
+    act_out(&rt, rt.alloc(), &READ_BETWEEN);
 }

@@ -41,8 +41,4 @@ returns-else-eq-clause-answers c =
     let room : length old.machine.history < old.table.limit = search rules in
     let is : last_or None new.machine.history ≡ Some c.in-Some.entry = search rules in
     let ran = ap (λ (k : KernelState). k.machine.history) c.accept.ensures.done in
-    let adds = latest_adds old.table old.machine c.args.event new.machine.history room ran c.in-Some.entry is in
-    let table : new.table ≡ old.table = ap (λ (k : KernelState). k.table) c.accept.ensures.done in
-    let printable = latest_holds old.table old.machine c.args.event new.machine.history room ran (IsPrintable old.table) c.in-Some.entry is
-    (rw table at c.holds.ensures.printable) in
-    rw c.kept.ensures (adds, search rules, printable)
+    (c.in-Some.entry, latest_adds old.table old.machine c.args.event new.machine.history room ran c.in-Some.entry is, search rules)

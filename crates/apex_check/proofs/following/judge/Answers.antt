@@ -1,16 +1,17 @@
-use Rattle.std.proofs.Common.{◌≡◌, ◌∙◌, ℕ, ◌+◌, List, ◌++◌, Option, None, Some, Ok, subst, rules, length, take, arith}
+use Rattle.std.proofs.Common.{◌≡◌, ◌∙◌, ℕ, ◌+◌, List, ◌++◌, None, Ok, subst, rules, length, take, arith}
 use Rattle.std.specs.Io.KnownBytes.{Consumes, prepend_known}
 use Rattle.std.proofs.lemmas.Result.{err_from_is_err_and}
 use Rattle.apex_history.specs.Counted.{inner_of}
 use Rattle.apex_types.specs.table.Table.{Table}
-use Rattle.apex_check.specs.declared.verdicts.Verdict.{Verdict}
 use Rattle.apex_types.specs.machine.Machine.{events_of}
 use Rattle.apex_check.specs.Ahead.{Comes, IsFirstLine}
 use Rattle.apex_check.specs.declared.pending.Next.TheVariants.{Part, Rest, End}
 use Rattle.apex_check.specs.declared.verdicts.CheckFault.TheVariants.{BadLine, TooLong}
-use Rattle.apex_check.specs.declared.verdicts.Verdict.TheVariants.{Legal}
+use Rattle.apex_check.specs.declared.following.Answer.{Answer}
+use Rattle.apex_check.specs.declared.following.Answer.TheVariants.{Differs, Beyond}
+use Rattle.apex_check.specs.declared.verdicts.Verdict.TheVariants.{DepartsAt, Legal}
 use Rattle.apex_check.specs.Histories.{AreLines}
-use Rattle.apex_check.specs.Steps.{Judged}
+use Rattle.apex_check.specs.Steps.{Judged, departure}
 use Rattle.apex_check.specs.Texts.{ended}
 use Rattle.apex_check.specs.Verdicts.{JudgesLines, LineIsAtFault}
 use Rattle.apex_check.proofs.Coming.{line_ahead, none_left, or_nothing, taken_more, text_ahead}
@@ -55,8 +56,8 @@ returns-in-End-clause-ok g c =
     (rw c.count-in-End.ensures.value
     (ends table c.loop-next.kernel.machine.history bytes are pending (or_nothing left) none (none_left left end)))
 
-pub returns-in_err-verdict-clause-err : goal.returns-in_err-verdict-clause-err
-returns-in_err-verdict-clause-err g c =
+pub returns-in_err-judge_line-clause-err : goal.returns-in_err-judge_line-clause-err
+returns-in_err-judge_line-clause-err g c =
     let (bytes, taken, are) = c.loop-next.invariant.lines in
     let table = c.args.kernel.now.table in
     let old = prepend_known c.args.pending.now (g.R.Source.remaining (inner_of c.args.reader.now)) in
@@ -64,18 +65,18 @@ returns-in_err-verdict-clause-err g c =
     let left = g.R.Source.remaining (inner_of c.next.new.reader) in
     let pending = c.next.new.self in
     let end = c.in-Line.end in
-    let fault = c.in_err-verdict.field-0.0 in
+    let fault = c.in_err-judge_line.field-0.0 in
     let first : IsFirstLine end pending = rw c.in-Line.is at c.in-Ok.ensures.comes in
     let e : take (end + 1) c.bytes.result.now ≡ ended (take end pending) = rw c.bytes.ensures first.1 in
     let here : AreLines c.loop-next.kernel.table bytes (events_of c.loop-next.kernel.machine.history) = rw c.loop-next.invariant.table are in
-    let judged = c.in_err-verdict.ensures.judged bytes (take end pending) here first.0 e in
+    let judged = c.in_err-judge_line.ensures.judged bytes (take end pending) here first.0 e in
     let p = err_from_is_err_and c.from_residual.result c.from_residual.ensures.1 in
     rw (p.1, p.2) (line_fault_of table old fault
     (line_ahead (λ (t : List ℕ). LineIsAtFault table t fault) old before left bytes pending end taken c.in-Ok.ensures.kept first
     (rw c.loop-next.invariant.table at judged)))
 
-pub returns-in-Some-clause-ok : goal.returns-in-Some-clause-ok
-returns-in-Some-clause-ok g c =
+pub returns-in-Differs-clause-ok : goal.returns-in-Differs-clause-ok
+returns-in-Differs-clause-ok g c =
     let (bytes, taken, are) = c.loop-next.invariant.lines in
     let table = c.args.kernel.now.table in
     let old = prepend_known c.args.pending.now (g.R.Source.remaining (inner_of c.args.reader.now)) in
@@ -87,12 +88,35 @@ returns-in-Some-clause-ok g c =
     let e : take (end + 1) c.bytes.result.now ≡ ended (take end pending) = rw c.bytes.ensures first.1 in
     let here : AreLines c.loop-next.kernel.table bytes (events_of c.loop-next.kernel.machine.history) = rw c.loop-next.invariant.table are in
     let history = c.judge_line.new.kernel.machine.history in
-    let told : Judged table bytes (take end pending) history (Ok c.in_ok-verdict.field-0) =
-    subst (λ (t : Table). Judged t bytes (take end pending) history (Ok c.in_ok-verdict.field-0)) c.loop-next.invariant.table
-    (c.in_ok-verdict.ensures.judged bytes (take end pending) here first.0 e) in
-    let judged : Judged table bytes (take end pending) history (Ok (Some c.in-Some.verdict)) =
-    subst (λ (v : Option Verdict). Judged table bytes (take end pending) history (Ok v)) c.in-Some.is told in
-    line_ahead (λ (t : List ℕ). JudgesLines table t c.in-Some.verdict) old before left bytes pending end taken c.in-Ok.ensures.kept first judged
+    let told : Judged table bytes (take end pending) history (Ok c.in_ok-judge_line.field-0) =
+    subst (λ (t : Table). Judged t bytes (take end pending) history (Ok c.in_ok-judge_line.field-0)) c.loop-next.invariant.table
+    (c.in_ok-judge_line.ensures.judged bytes (take end pending) here first.0 e) in
+    let judged : Judged table bytes (take end pending) history (Ok Differs) =
+    subst (λ (a : Answer). Judged table bytes (take end pending) history (Ok a)) c.in-Differs.is told in
+    rw c.departure.ensures.value
+    (line_ahead (λ (t : List ℕ). JudgesLines table t (departure history)) old before left bytes pending end taken c.in-Ok.ensures.kept first judged)
+
+pub returns-in-Beyond-clause-ok : goal.returns-in-Beyond-clause-ok
+returns-in-Beyond-clause-ok g c =
+    let (bytes, taken, are) = c.loop-next.invariant.lines in
+    let table = c.args.kernel.now.table in
+    let old = prepend_known c.args.pending.now (g.R.Source.remaining (inner_of c.args.reader.now)) in
+    let before = prepend_known c.loop-next.pending (g.R.Source.remaining (inner_of c.loop-next.reader)) in
+    let left = g.R.Source.remaining (inner_of c.next.new.reader) in
+    let pending = c.next.new.self in
+    let end = c.in-Line.end in
+    let first : IsFirstLine end pending = rw c.in-Line.is at c.in-Ok.ensures.comes in
+    let e : take (end + 1) c.bytes.result.now ≡ ended (take end pending) = rw c.bytes.ensures first.1 in
+    let here : AreLines c.loop-next.kernel.table bytes (events_of c.loop-next.kernel.machine.history) = rw c.loop-next.invariant.table are in
+    let history = c.judge_line.new.kernel.machine.history in
+    let told : Judged table bytes (take end pending) history (Ok c.in_ok-judge_line.field-0) =
+    subst (λ (t : Table). Judged t bytes (take end pending) history (Ok c.in_ok-judge_line.field-0)) c.loop-next.invariant.table
+    (c.in_ok-judge_line.ensures.judged bytes (take end pending) here first.0 e) in
+    let judged : Judged table bytes (take end pending) history (Ok Beyond) =
+    subst (λ (a : Answer). Judged table bytes (take end pending) history (Ok a)) c.in-Beyond.is told in
+    rw c.count-in-Beyond.ensures.value
+    (line_ahead (λ (t : List ℕ). JudgesLines table t (DepartsAt (length history + 1) None)) old before left bytes pending end taken c.in-Ok.ensures.kept first
+    judged)
 
 pub loop-next-smaller : goal.loop-next-smaller
 loop-next-smaller g c =
@@ -103,15 +127,14 @@ loop-next-smaller g c =
     let end = c.in-Line.end in
     let first : IsFirstLine end pending = rw c.in-Line.is at c.in-Ok.ensures.comes in
     let e : take (end + 1) c.bytes.result.now ≡ ended (take end pending) = rw c.bytes.ensures first.1 in
-    let none : c.in_ok-verdict.field-0 ≡ None = search rules in
     let here : AreLines c.loop-next.kernel.table bytes (events_of c.loop-next.kernel.machine.history) = rw c.loop-next.invariant.table are in
     let history = c.judge_line.new.kernel.machine.history in
-    let told : Judged table bytes (take end pending) history (Ok c.in_ok-verdict.field-0) =
-    subst (λ (t : Table). Judged t bytes (take end pending) history (Ok c.in_ok-verdict.field-0)) c.loop-next.invariant.table
-    (c.in_ok-verdict.ensures.judged bytes (take end pending) here first.0 e) in
+    let told : Judged table bytes (take end pending) history (Ok c.in_ok-judge_line.field-0) =
+    subst (λ (t : Table). Judged t bytes (take end pending) history (Ok c.in_ok-judge_line.field-0)) c.loop-next.invariant.table
+    (c.in_ok-judge_line.ensures.judged bytes (take end pending) here first.0 e) in
     let judged : AreLines table (bytes ++ ended (take end pending)) (events_of history) =
-    subst (λ (v : Option Verdict). Judged table bytes (take end pending) history (Ok v)) none told in
-    let more : length c.judge_line.new.kernel.machine.history ≡ length c.loop-next.kernel.machine.history + 1 = c.in_ok-verdict.ensures.more none in
+    subst (λ (a : Answer). Judged table bytes (take end pending) history (Ok a)) c.in-Same.is told in
+    let more : length c.judge_line.new.kernel.machine.history ≡ length c.loop-next.kernel.machine.history + 1 = c.in_ok-judge_line.ensures.more c.in-Same.is in
     omega (arith, more, judged.fits, counted c.judge_line.new.kernel.machine.history)
 
 pub loop-next-preserved : goal.loop-next-preserved
@@ -125,14 +148,13 @@ loop-next-preserved g c =
     let end = c.in-Line.end in
     let first : IsFirstLine end pending = rw c.in-Line.is at c.in-Ok.ensures.comes in
     let e : take (end + 1) c.bytes.result.now ≡ ended (take end pending) = rw c.bytes.ensures first.1 in
-    let none : c.in_ok-verdict.field-0 ≡ None = search rules in
     let here : AreLines c.loop-next.kernel.table bytes (events_of c.loop-next.kernel.machine.history) = rw c.loop-next.invariant.table are in
     let history = c.judge_line.new.kernel.machine.history in
-    let told : Judged table bytes (take end pending) history (Ok c.in_ok-verdict.field-0) =
-    subst (λ (t : Table). Judged t bytes (take end pending) history (Ok c.in_ok-verdict.field-0)) c.loop-next.invariant.table
-    (c.in_ok-verdict.ensures.judged bytes (take end pending) here first.0 e) in
+    let told : Judged table bytes (take end pending) history (Ok c.in_ok-judge_line.field-0) =
+    subst (λ (t : Table). Judged t bytes (take end pending) history (Ok c.in_ok-judge_line.field-0)) c.loop-next.invariant.table
+    (c.in_ok-judge_line.ensures.judged bytes (take end pending) here first.0 e) in
     let judged : AreLines table (bytes ++ ended (take end pending)) (events_of history) =
-    subst (λ (v : Option Verdict). Judged table bytes (take end pending) history (Ok v)) none told in
+    subst (λ (a : Answer). Judged table bytes (take end pending) history (Ok a)) c.in-Same.is told in
     let gone : Consumes old (prepend_known c.take.new.self left) (bytes ++ take (end + 1) pending) =
     rw c.take.ensures (taken_more old before left bytes pending (end + 1) taken c.in-Ok.ensures.kept) in
     record {

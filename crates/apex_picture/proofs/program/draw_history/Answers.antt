@@ -3,6 +3,7 @@ use Rattle.std.proofs.Common.{refl, None, Some}
 use Rattle.std.proofs.KnownBytes.{Keeps-refl}
 use Rattle.std.proofs.lemmas.Result.{err_from_is_err_and}
 use Rattle.apex_picture.proofs.Endings.{shows_departed, shows_legal, shows_refused, shows_unread}
+use Rattle.apex_picture.proofs.HistoryLemmas.{judged_has_history}
 use Rattle.apex_picture.proofs.program.draw_history.Goals as goal
 
 pub returns-in_err-text : goal.returns-in_err-text
@@ -20,6 +21,11 @@ pub returns-in-Some : goal.returns-in-Some
 returns-in-Some g c =
     shows_departed c.in_ok-text.text.items c.as_slice.result.now c.in-Some.verdict.items c.in_ok-text.ensures.bytes
     c.as_slice.ensures.value (rw c.in-Some.is at c.in_ok-verdict.ensures.ok) (Keeps-refl _) (c.in_ok-text.ensures.counted, refl)
+
+pub draw_text-requires-clause-history : goal.draw_text-requires-clause-history
+draw_text-requires-clause-history g c =
+    judged_has_history c.in_ok-text.text.items c.as_slice.result.now c.as_slice-in-None.result.now
+    c.as_slice.ensures.value c.as_slice-in-None.ensures.value (rw c.in-None.is at c.in_ok-verdict.ensures.ok)
 
 pub returns-in_err-draw_text-in-None : goal.returns-in_err-draw_text-in-None
 returns-in_err-draw_text-in-None g c =

@@ -1,6 +1,10 @@
 -- The table that was read again is the one of the text.
+use Rattle.std.proofs.Common.{ap, is_ok}
 use Rattle.apex_picture.proofs.Plans.{same_table, trace_is}
 use Rattle.apex_picture.proofs.schedules.run_for.Goals as goal
+
+pub read_again-requires : goal.read_again-requires
+read_again-requires c = ap is_ok c.requires.table
 
 pub run_of-requires-clause-below : goal.run_of-requires-clause-below
 run_of-requires-clause-below c =
