@@ -24,6 +24,7 @@ pub record IsHistoryOf (text : List ℕ) (table : Table) (events : List Event) :
   pub read : table_of front ≡ Ok table
   pub lines : NameEvents table.cores behind events
 
--- the text has a table up to the first separator, and whole lines behind it, each of which names an event
+-- the text has a table up to the first separator, and whole lines behind it, each of which names
+-- an event
 abbrev pub HasHistory : List ℕ → Type 0
 HasHistory text = (table : Table) × (events : List Event) × IsHistoryOf text table events

@@ -38,7 +38,7 @@ fn is_separator(line: &[u8]) -> bool
     line == b"%%".as_slice()
 }
 
-/// What is before the first line that is exactly `%%`, and what follows it, if there is such a line.
+/// What is before the first line that is exactly `%%`, and what follows it, if there is one.
 fn parted(text: &[u8]) -> Option<(&[u8], &[u8])>
     ensures parts { IfSome result (λ parts. IsParted text.now parts.0.now parts.1.now) }
     ensures none { IfNone result (HasNoSeparator text.now) }
@@ -56,7 +56,8 @@ fn parted(text: &[u8]) -> Option<(&[u8], &[u8])>
 /// The table of a text, if it has one.
 #[tactic(auto, using(crate::proofs::HistoryLemmas::reading_fails))]
 pub fn table_in(alloc: Global, text: &[u8]) -> Result<Option<Table>, AllocError>
-    ensures table { IfOk result (λ found. IfSome found (λ table. table_of text.now ≡ Ok table)) }
+    ensures table { IfOk result (λ found. IfSome found
+        (λ table. table_of text.now ≡ Ok table)) }
     ensures none { IfOk result (λ found. IfNone found (IsErr (table_of text.now))) }
 {
     match read_table(alloc, text) {

@@ -59,8 +59,8 @@ impl Told {
     }
 }
 
-/// Waits until the word has this value, at most for all polls; whether it has.
-fn await_told(word: &AtomicU64, wanted: u64) -> bool {
+/// Waits until the word has this value or a greater one, at most for all polls; whether it has.
+pub fn await_told(word: &AtomicU64, wanted: u64) -> bool {
     let backoff = Backoff::new();
     for _time in 0..POLLS {
         if word.load(Ordering::SeqCst) >= wanted {
