@@ -8,3 +8,7 @@ pub mod Apart
 pub mod GoesOn
 pub mod Told
 pub mod LineFeeds
+pub mod Windows
+pub mod Spaces
+pub mod Places
+pub mod NearLines

@@ -1,5 +1,5 @@
 -- The lines of a history, one more each time.
-use Rattle.std.proofs.Common.{◌≡◌, ◌∙◌, ℕ, ◌+◌, ◌-◌, ◌<◌, ◌≤◌, Bool, true, false, List, [], ◌∷◌, ◌++◌, Option, None, Some, Result, Ok, Err, refl, sym, ap, arith, get_or, length, map, take, nat_lt, subst, append_assoc, append-nil, length-append}
+use Rattle.std.proofs.Common.{◌≡◌, ◌∙◌, ℕ, ◌+◌, ◌<◌, ◌≤◌, Bool, true, false, List, [], ◌∷◌, ◌++◌, Option, None, Some, Result, Ok, Err, refl, sym, ap, arith, get_or, length, map, take, nat_lt, subst, append_assoc, append-nil, length-append, length-take-le, take-take}
 use Rattle.std.specs.Prelude.{◌≢◌}
 use Rattle.std.specs.List.{All, last_or}
 use Rattle.std.proofs.lemmas.Bool.{ltb-true}
@@ -12,7 +12,7 @@ use Rattle.apex_table.proofs.Results.{all_append}
 use Rattle.apex_types.specs.declared.Event.TheVariants.{Turn, Tick}
 use Rattle.apex_types.specs.table.Table.{Table}
 use Rattle.apex_calls.specs.Lines.{line_of, lines_of}
-use Rattle.apex_types.specs.machine.Machine.{Machine, accept, happen, event_of, events_of, replay, run, tick, turn}
+use Rattle.apex_types.specs.machine.Machine.{Machine, accept, happen, event_of, events_of, replay, tick, turn}
 use Rattle.apex_dispatch.proofs.Runs.{accept-full, accept-room}
 use Rattle.apex_history.specs.declared.LineFault.{LineFault}
 use Rattle.apex_history.specs.declared.LineFault.TheVariants as line_fault
@@ -244,7 +244,8 @@ line_fault_of table known Read found = tt
 line_fault_of table known fault found = found
 
 -- a line without its line feed
-pub unended_is : (line found : List ℕ) → line ≡ ended found → take (length line - 1) line ≡ found
-unended_is line found e =
-    let n : length line - 1 ≡ length found = omega (arith, ap length e, length-append found (10 ∷ [])) in
-    rw n (ap (take (length found)) e ∙ take-append_seam found (10 ∷ []))
+pub unended_is : (bytes found : List ℕ) (end : ℕ) → end < length bytes → take (end + 1) bytes ≡ ended found → take end bytes ≡ found
+unended_is bytes found end within e =
+    let n : end ≡ length found = omega (arith, ap length e, length-append found (10 ∷ []), length-take-le (end + 1) bytes (omega (arith, within))) in
+    sym (take-take end (end + 1) bytes (omega arith)) ∙ ap (take end) e
+    ∙ (rw n (take-append_seam found (10 ∷ [])))

@@ -1,5 +1,6 @@
 pub mod Terms
 pub mod Texts
+pub mod Places
 pub mod Ahead
 pub mod Histories
 pub mod Verdicts

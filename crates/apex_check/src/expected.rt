@@ -1,33 +1,52 @@
 //! The machine's own lines.
-ghost use Rattle.std.specs.Prelude.{◌≡◌};
+ghost use Rattle.std.specs.Prelude.{◌≡◌, ◌+◌, ◌≤◌};
+ghost use Rattle.arrayvec.specs.ArrayVec.{array_vec_len};
+ghost use Rattle.apex_types.specs.values.Limits.{most_line};
 ghost use Rattle.apex_calls.specs.Lines.{IsPrintable, line_of};
+ghost use Rattle.apex_history.specs.declared.puts.TheConstants.{LINES_ROOM};
 
 use apex_history::{Lines, NextSteps, put_line};
 use apex_table::Table;
 use apex_types::LentEntry;
 
-/// Room for the line that the machine expects, and the steps that its processes will ask for next.
+/// The bytes of lines behind which one more is put. Once there are more, all are forgotten
+/// together.
+const KEPT_ROOM: usize = 1_024;
+
+/// Room for the lines that the machine expects, and the steps that its processes will ask for next.
 #[derive(Drop)]
-pub(crate) struct ExpectedLine {
-    line: Lines,
+pub(crate) struct ExpectedLines {
+    /// The latest lines, one behind the other.
+    lines: Lines,
     steps: NextSteps,
 }
 
-impl ExpectedLine {
-    pub(crate) fn new() -> ExpectedLine {
-        ExpectedLine {
-            line: Lines::new(),
+impl ExpectedLines {
+    pub(crate) fn new() -> ExpectedLines {
+        ExpectedLines {
+            lines: Lines::new(),
             steps: NextSteps::new(),
         }
     }
 
     /// The line of the entry, with its line feed. Takes no memory.
+    #[tactic(auto, using(std::proofs::lemmas::List::drop_at))]
     pub(crate) fn line(&mut self, table: &Table, entry: &LentEntry<'_>) -> &[u8]
         requires { IsPrintable table.now entry.now }
         ensures { result.now ≡ line_of table.now entry.entry.now }
     {
-        self.line.clear();
-        put_line(&mut self.line, table, &mut self.steps, entry);
-        self.line.as_slice()
+        make_room(&mut self.lines);
+        let start = self.lines.len();
+        put_line(&mut self.lines, table, &mut self.steps, entry);
+        &self.lines.as_slice()[start..]
+    }
+}
+
+/// Forgets the lines if there are many. Then one more fits behind them.
+fn make_room(lines: &mut Lines)
+    ensures { array_vec_len lines.new + most_line ≤ LINES_ROOM }
+{
+    if lines.len() > KEPT_ROOM {
+        lines.clear();
     }
 }

@@ -1,5 +1,5 @@
 //! The lines of a text beside the machine's.
-ghost use Rattle.std.specs.Prelude.{◌≡◌, ◌↔◌, ◌+◌, ◌<◌, ◌≤◌, ◌++◌, ℕ, List, length, IfOk, IfErr, IsOk};
+ghost use Rattle.std.specs.Prelude.{◌≡◌, ◌↔◌, ◌+◌, ◌<◌, ◌≤◌, ◌++◌, ℕ, List, length, take, IfOk, IfErr, IsOk};
 ghost use Rattle.std.specs.Io.KnownBytes.{prepend_known};
 ghost use Rattle.apex_types.specs.values.Limits.{most_entries};
 ghost use Rattle.apex_types.specs.machine.Machine.{opening, accept, events_of};
@@ -14,7 +14,8 @@ ghost use Rattle.apex_check.specs.declared.following.Answer.TheVariants.{Same};
 ghost use Rattle.apex_check.specs.Texts.{IsOneLine, ended};
 ghost use Rattle.apex_check.specs.Verdicts.{JudgesLines};
 
-use crate::expected::ExpectedLine;
+use crate::expected::ExpectedLines;
+use crate::leading::turn_ahead;
 use crate::pending::{Next, Pending};
 use crate::verdicts::{CheckFault, Verdict};
 use apex_dispatch::Kernel;
@@ -42,11 +43,18 @@ fn is_of_cores(cores: u8, event: &Event) -> bool
     }
 }
 
-/// The event that the line names, for a partition with `cores` cores.
-fn named(cores: u8, line: &[u8]) -> Result<Event, LineFault>
-    ensures { result ≡ event_named cores line.now }
+/// The event that the first line of the bytes names, which has `end` bytes, for a partition with
+/// `cores` cores.
+#[tactic(auto, using(crate::proofs::Named::named_within))]
+fn event_ahead(cores: u8, bytes: &[u8], end: usize) -> Result<Event, LineFault>
+    requires { end ≤ length bytes.now }
+    ensures value { result ≡ event_named cores (take end bytes.now) }
+    ensures within { IfOk result (IsWithin cores) }
 {
-    let event = read_line(line)?;
+    let event = match turn_ahead(bytes, end) {
+        Some(turn) => turn,
+        None => read_line(&bytes[..end])?,
+    };
     if is_of_cores(cores, &event) {
         Ok(event)
     } else {
@@ -54,19 +62,20 @@ fn named(cores: u8, line: &[u8]) -> Result<Event, LineFault>
     }
 }
 
-/// The event that the line, which is given without its line feed, names in the history of a partition
-/// with `cores` cores. The line is at fault if it names none, or a core that the partition lacks.
+/// The event that the line, which is given without its line feed, names in the history of a
+/// partition with `cores` cores. The line is at fault if it names none, or a core that the
+/// partition lacks.
 pub fn event_named(cores: u8, line: &[u8]) -> Result<Event, LineFault>
     ensures value { result ≡ event_named cores line.now }
     ensures within { IfOk result (IsWithin cores) }
 {
-    named(cores, line)
+    event_ahead(cores, line, line.len())
 }
 
 /// Makes the event, and compares the machine's line with this one, which has its line feed.
 fn compare(
     kernel: &mut Kernel<PlainStore>,
-    expected: &mut ExpectedLine,
+    expected: &mut ExpectedLines,
     event: Event,
     line: &[u8],
 ) -> Answer
@@ -109,30 +118,31 @@ fn fault_at(line: u32, fault: LineFault) -> CheckFault
     }
 }
 
-/// Makes the event that the line names, and compares the machine's line with this one, which has
-/// its line feed.
+/// Makes the event that the first line of the bytes names, which has `end` bytes and its line feed,
+/// and compares the machine's line with this one.
 fn judge_line(
     kernel: &mut Kernel<PlainStore>,
-    expected: &mut ExpectedLine,
-    line: &[u8],
+    expected: &mut ExpectedLines,
+    bytes: &[u8],
+    end: usize,
 ) -> Result<Answer, CheckFault>
-    requires { 0 < length line.now }
+    requires { end < length bytes.now }
     ensures table { kernel.new.table ≡ kernel.old.table }
     ensures more { IfOk result (λ answer. answer ≡ Same
         → length kernel.new.machine.history ≡ length kernel.old.machine.history + 1) }
-    ensures judged { (bytes found : List ℕ)
-        → AreLines kernel.old.table bytes (events_of kernel.old.machine.history)
-        → IsOneLine found → line.now ≡ ended found
-        → Judged kernel.old.table bytes found kernel.new.machine.history result }
+    ensures judged { (before found : List ℕ)
+        → AreLines kernel.old.table before (events_of kernel.old.machine.history)
+        → IsOneLine found → take (end + 1) bytes.now ≡ ended found
+        → Judged kernel.old.table before found kernel.new.machine.history result }
     ensures err { IfErr result (IsOfLine) }
 {
     kernel.holds();
     let number = count(kernel) + 1;
-    let event = match event_named(kernel.table().cores(), &line[..line.len() - 1]) {
+    let event = match event_ahead(kernel.table().cores(), bytes, end) {
         Ok(event) => event,
         Err(fault) => return Err(fault_at(number, fault)),
     };
-    let answer = compare(kernel, expected, event, line);
+    let answer = compare(kernel, expected, event, &bytes[..end + 1]);
     kernel.holds();
     Ok(answer)
 }
@@ -168,7 +178,7 @@ pub(crate) fn judge<R: Source>(
     ensures counted { CountsCheck result (failures_of reader.old) (failures_of reader.new) }
 {
     kernel.holds();
-    let mut expected = ExpectedLine::new();
+    let mut expected = ExpectedLines::new();
     loop {
         let Ok(next) = pending.next(reader) else {
             return Err(CheckFault::Read);
@@ -179,7 +189,7 @@ pub(crate) fn judge<R: Source>(
             Next::Rest => return Err(CheckFault::BadLine(count(kernel) + 1)),
             Next::End => return Ok(Verdict::Legal(count(kernel))),
         };
-        match judge_line(kernel, &mut expected, &pending.bytes()[..end + 1])? {
+        match judge_line(kernel, &mut expected, pending.bytes(), end)? {
             Answer::Same => pending.take(end + 1),
             Answer::Differs => return Ok(departure(kernel)),
             Answer::Beyond => return Ok(Verdict::DepartsAt(count(kernel) + 1, None)),

@@ -4,6 +4,8 @@
 mod checking;
 mod expected;
 mod following;
+mod lanes;
+mod leading;
 mod pending;
 mod tables;
 mod verdicts;

@@ -1,5 +1,5 @@
 //! The bytes that were read ahead of the line that is looked at, in a buffer of fixed size.
-ghost use Rattle.std.specs.Prelude.{◌≡◌, ◌+◌, ◌*◌, ◌≤◌, ◌<◌, ◌++◌, length, drop, IfOk, IfSome, None, OnOk};
+ghost use Rattle.std.specs.Prelude.{◌≡◌, ◌+◌, ◌*◌, ◌≤◌, ◌<◌, length, drop, IfOk, IfSome, None, OnOk};
 ghost use Rattle.std.specs.Io.KnownBytes.{IsAtEnd, Keeps, prepend_known};
 ghost use Rattle.apex_types.specs.values.Limits.{most_line};
 ghost use Rattle.apex_history.specs.Counted.{inner_of, failures_of, reads_left_of, CountsFailure};
@@ -8,9 +8,9 @@ ghost use Rattle.apex_check.specs.Ahead.{Comes, IsFirstLine, fuel};
 ghost use Rattle.std.specs.List.{position};
 ghost use Rattle.apex_check.specs.Texts.{IsOneLine, is_line_feed};
 
+use crate::lanes::{LANES, lowest, places_of};
 use apex_history::{Counted, Source};
 use apex_types::MOST_LINE;
-use arrayvec::ArrayVec;
 use memchr::memchr;
 use std::io::{Read, Result};
 use std::marker::Model;
@@ -20,6 +20,9 @@ const READ_ROOM: usize = 16_384;
 
 /// The most bytes that are read ahead: a line, and the bytes of one read.
 const PENDING_ROOM: usize = MOST_LINE + READ_ROOM;
+
+/// The bytes among which a line feed is looked for first. Most lines have fewer.
+const NEAR_ROOM: usize = 128;
 
 /// The next part of a text.
 #[derive(Clone, Copy, PartialEq, Eq)]
@@ -37,20 +40,24 @@ pub(crate) enum Next {
 /// The bytes that were read ahead. It takes no memory.
 #[derive(Drop)]
 pub(crate) struct Pending {
-    bytes: ArrayVec<u8, PENDING_ROOM>,
-    /// The number of them that were taken.
+    room: [u8; PENDING_ROOM],
+    /// The place of the first byte that was not taken.
     start: usize,
+    /// The place behind the last byte that was read.
+    end: usize,
 }
 
 impl Model for Pending {
-    ghost use Rattle.std.specs.Prelude.{ℕ, List, ◌≤◌, drop};
-    ghost use Rattle.arrayvec.specs.ArrayVec.{array_vec_len};
+    ghost use Rattle.std.specs.Prelude.{ℕ, List, ◌≡◌, ◌≤◌, length};
+    ghost use Rattle.std.specs.List.{slice_range};
+    ghost use Rattle.apex_check.specs.declared.pending.TheConstants.{PENDING_ROOM};
 
     ghost Value = { List ℕ };
 
-    ghost view = { λ p. drop p.start p.bytes.items };
+    ghost view = { λ p. slice_range p.room p.start p.end };
 
-    ghost invariant = { λ p. p.start ≤ array_vec_len p.bytes };
+    ghost invariant = { λ p. (length p.room ≡ PENDING_ROOM) × (p.start ≤ p.end)
+        × (p.end ≤ PENDING_ROOM) };
 }
 
 /// The place of the first line feed.
@@ -69,44 +76,45 @@ fn first_line(bytes: &[u8]) -> Option<usize>
     line_feed(bytes)
 }
 
+/// The first line's length, without its line feed, if the line feed is near.
+#[inline(always)]
+fn near_line(bytes: &[u8]) -> Option<usize>
+    ensures { IfSome result (λ end. IsFirstLine end bytes.now) }
+{
+    let mut at = 0;
+    while at < NEAR_ROOM && at + LANES <= bytes.len() {
+        let feeds = places_of(b'\n', &bytes[at..]);
+        if feeds != 0 {
+            return Some(at + lowest(feeds));
+        }
+        at += LANES;
+    }
+    None
+}
+
 impl Pending {
     pub(crate) fn new() -> Pending
         ensures { length result ≡ 0 }
     {
         Pending {
-            bytes: ArrayVec::new(),
+            room: [0; PENDING_ROOM],
             start: 0,
+            end: 0,
         }
     }
 
     pub(crate) fn bytes(&self) -> &[u8]
         ensures { result.now ≡ self.now }
     {
-        &self.bytes.as_slice()[self.start..]
+        &self.room[self.start..self.end]
     }
 
     /// Takes `count` bytes from the front.
-    #[tactic(auto, using(crate::proofs::Coming::length_dropped))]
     pub(crate) fn take(&mut self, count: usize)
         requires { count ≤ length self.old }
         ensures { self.new ≡ drop count self.old }
     {
-        let _held = self.bytes.as_slice().len();
         self.start += count;
-    }
-
-    /// Puts the bytes behind the others.
-    fn put(&mut self, more: &[u8])
-        requires { length self.old + length more.now ≤ PENDING_ROOM }
-        ensures { self.new ≡ self.old ++ more.now }
-    {
-        let mut bytes = ArrayVec::new();
-        let kept = bytes.try_extend_from_slice(self.bytes());
-        let put = bytes.try_extend_from_slice(more);
-        let fit = kept.is_ok() && put.is_ok();
-        prove!(fit);
-        self.bytes = bytes;
-        self.start = 0;
     }
 
     /// Reads once, up to [`READ_ROOM`] bytes, and says how many.
@@ -122,14 +130,20 @@ impl Pending {
         ensures counted { CountsFailure result (failures_of reader.old) (failures_of reader.new) }
         ensures reads { OnOk result (reads_left_of reader.new + 1 ≡ reads_left_of reader.old) }
     {
-        let mut chunk = [0; READ_ROOM];
-        let count = reader.read(&mut chunk)?;
-        self.put(&chunk[..count]);
+        let (start, end) = (self.start, self.end);
+        self.room.copy_within(start..end, 0);
+        self.start = 0;
+        self.end = end - start;
+        let end = self.end;
+        let count = reader.read(&mut self.room[end..end + READ_ROOM])?;
+        self.end = end + count;
         Ok(count)
     }
 
-    /// The next part of the text. It reads only if no line feed was read ahead.
-    pub(crate) fn next<R: Source>(&mut self, reader: &mut Counted<R>) -> Result<Next>
+    /// The next part of the text, whose line feed is not near. It reads only if no line feed was
+    /// read ahead.
+    #[inline(never)]
+    fn next_far<R: Source>(&mut self, reader: &mut Counted<R>) -> Result<Next>
         ensures kept { OnOk result
             (Keeps (prepend_known self.old (R.remaining (inner_of reader.old)))
             (prepend_known self.new (R.remaining (inner_of reader.new)))) }
@@ -153,6 +167,25 @@ impl Pending {
                     Next::Rest
                 });
             }
+        }
+    }
+
+    /// The next part of the text. It reads only if no line feed was read ahead.
+    // Inlined: a near line is found without a call.
+    #[inline(always)]
+    pub(crate) fn next<R: Source>(&mut self, reader: &mut Counted<R>) -> Result<Next>
+        ensures kept { OnOk result
+            (Keeps (prepend_known self.old (R.remaining (inner_of reader.old)))
+            (prepend_known self.new (R.remaining (inner_of reader.new)))) }
+        ensures comes { IfOk result
+            (λ next. Comes next self.new (R.remaining (inner_of reader.new))) }
+        ensures counted { CountsFailure result (failures_of reader.old) (failures_of reader.new) }
+        ensures fuel { OnOk result (fuel self.new (reads_left_of reader.new)
+            ≤ fuel self.old (reads_left_of reader.old)) }
+    {
+        match near_line(self.bytes()) {
+            Some(end) => Ok(Next::Line(end)),
+            None => self.next_far(reader),
         }
     }
 }

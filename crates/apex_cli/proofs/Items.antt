@@ -17,16 +17,15 @@ pub joined_nil : (o : Option (List Item)) → joined [] o ≡ o
 joined_nil None = refl
 joined_nil (Some more) = refl
 
--- one more word is read
-pub joined_cons : (read : List Item) (word : List ℕ) (words : List (List ℕ)) (item : Item) → item_of word ≡ Some item
-    → joined read (items_in (word ∷ words)) ≡ joined (read ++ item ∷ []) (items_in words)
-joined_cons read word words item e = rw e (go (items_in words))
+-- one more item is read
+pub joined_cons : (read : List Item) (item : Item) (more : List (Option Item))
+    → joined read (all_some (Some item ∷ more)) ≡ joined (read ++ item ∷ []) (all_some more)
+joined_cons read item more = go (all_some more)
   where
     go : (o : Option (List Item)) → joined read (option_map (λ xs. item ∷ xs) o) ≡ joined (read ++ item ∷ []) o
     go None = refl
     go (Some more) = rw append_assoc refl
 
--- an ill-formed word
-pub joined_none : (read : List Item) (word : List ℕ) (words : List (List ℕ)) → item_of word ≡ None
-    → joined read (items_in (word ∷ words)) ≡ None
-joined_none read word words e = rw e refl
+-- an ill-formed item
+pub joined_none : (read : List Item) (more : List (Option Item)) → joined read (all_some (None ∷ more)) ≡ None
+joined_none read more = refl

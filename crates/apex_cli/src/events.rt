@@ -10,7 +10,7 @@ use apex_types::{Event, Full};
 
 /// The event of an item, and the number of times that it comes.
 #[tactic(auto, unfolding(crate::specs::Schedule::is_core_below))]
-fn repeated(item: &Item) -> (Event, u32)
+pub fn repeated(item: &Item) -> (Event, u32)
     ensures events { events_of_item item.now ≡ replicate result.1 result.0 }
     ensures within { (cores : ℕ) → is_core_below cores item.now ≡ true → IsWithin cores result.0 }
 {

@@ -13,7 +13,7 @@ mod schedule;
 mod tasks;
 mod words;
 
-pub use events::run_items;
+pub use events::{repeated, run_items};
 pub use faults::{CliFault, line_told};
 pub use given::given_words;
 pub use program::{Ending, Exit, run_on, serve};

@@ -123,9 +123,9 @@ fn carry_out<T: Threads + Wait + Sync, R: Source, W: Sink>(
 /// For `check` a table, the line `%%` and the lines of a history come from the reader, and the
 /// verdict goes to the writer.
 ///
-/// For `run --turns N --ticks K` the table comes from the reader. A thread for each core and one for the
-/// ticker run it, and then the lines of their history go to the writer, with `--front` also the line of
-/// the front after its last event.
+/// For `run --turns N --ticks K` the table comes from the reader. A thread for each core and one
+/// for the ticker run it, and then the lines of their history go to the writer, with `--front` also
+/// the line of the front after its last event.
 pub fn run_on<T: Threads + Wait + Sync, R: Source, W: Sink>(
     rt: &T,
     alloc: Global,

@@ -118,8 +118,8 @@ fn write_front<W: Sink>(front: &Option<Front>, writer: &mut Counted<W>) -> io::R
     writer.write_all(text.as_str().as_bytes())
 }
 
-/// Writes the lines of the run's history, and the line of the front behind them, if it is asked for. Takes
-/// no memory.
+/// Writes the lines of the run's history, and the line of the front behind them, if it is asked
+/// for. Takes no memory.
 ///
 /// If a write failed, a prefix of this text was written.
 fn write_run<W: Sink>(run: &mut ThreadRun, writer: &mut Counted<W>) -> io::Result<()>
@@ -141,8 +141,8 @@ fn write_run<W: Sink>(run: &mut ThreadRun, writer: &mut Counted<W>) -> io::Resul
     write_front(&run.front, writer)
 }
 
-/// Runs the plan, by threads, on the table that the reader gives, and writes the lines of its history and,
-/// if it is asked for, the line of the front after it.
+/// Runs the plan, by threads, on the table that the reader gives, and writes the lines of its
+/// history and, if it is asked for, the line of the front after it.
 pub fn run_threads<T: Threads + Wait + Sync, R: Source, W: Sink>(
     rt: &T,
     alloc: Global,

@@ -1,5 +1,5 @@
 //! The items of a schedule's text.
-ghost use Rattle.std.specs.Prelude.{◌≡◌, None, option_map, IfOk, IfErr, IsErrOf, Some};
+ghost use Rattle.std.specs.Prelude.{◌≡◌, ◌<◌, ◌∷◌, None, length, map, option_map, IfOk, IfErr, IfSome, IsErrOf, Some};
 ghost use Rattle.apex_history.specs.Words.{parts, parts_after};
 ghost use Rattle.apex_cli.specs.Schedule.{times_after, turns_of_parts, item_of, items_of, is_core_below, are_cores_below};
 ghost use Rattle.apex_cli.specs.Faults.{IsUsageOrMemory};
@@ -42,19 +42,44 @@ fn read_turns(word: &[u8]) -> Option<Item>
     Some(Item::Turns { core, times })
 }
 
-// Most items are one turn, a core's digit alone: no cut is needed there.
-#[inline(always)]
-#[tactic(auto, using(crate::proofs::Parts::turn_alone))]
 fn read_item(word: &[u8]) -> Option<Item>
     ensures { result ≡ item_of word.now }
 {
     match word {
-        [digit @ b'0'..=b'7'] => Some(Item::Turns {
-            core: CoreId::new(*digit - b'0'),
-            times: 1,
-        }),
         [b't', ticks @ ..] => read_ticks(ticks).map(Item::Tick),
         _ => read_turns(word),
+    }
+}
+
+/// The first item of a text, if its first word is one, and the text behind the space after it.
+// Most items are a turn, or some turns that one digit counts: no word is looked for there.
+#[inline(always)]
+#[tactic(auto, using(crate::proofs::Parts::turn_first, crate::proofs::Parts::turns_first))]
+fn cut_item(text: &[u8]) -> (Option<Item>, Option<&[u8]>)
+    ensures items { map item_of (parts 32 text.now)
+        ≡ result.0 ∷ map item_of (parts_after 32 (option_map (λ rest. rest.now) result.1)) }
+    ensures shorter { IfSome result.1 (λ rest. length rest.now < length text.now) }
+{
+    match text {
+        [digit @ b'0'..=b'7', b' ', after @ ..] => {
+            let core = CoreId::new(*digit - b'0');
+            (Some(Item::Turns { core, times: 1 }), Some(after))
+        }
+        [
+            digit @ b'0'..=b'7',
+            b'*',
+            times @ b'1'..=b'9',
+            b' ',
+            after @ ..,
+        ] => {
+            let core = CoreId::new(*digit - b'0');
+            let times = u32::from(*times - b'0');
+            (Some(Item::Turns { core, times }), Some(after))
+        }
+        _ => {
+            let (word, after) = cut(text, b' ');
+            (read_item(word), after)
+        }
     }
 }
 
@@ -69,11 +94,12 @@ pub fn read_schedule(alloc: Global, text: &[u8]) -> Result<Vec<Item>, CliFault>
     ensures usage { IsErrOf result CliFault.Usage → items_of text.now ≡ None }
     ensures faults { IfErr result IsUsageOrMemory }
 {
-    let mut items = Vec::new(alloc);
+    // An item has a byte at least, and a space is between two.
+    let mut items = Vec::with_capacity(alloc, text.len() / 2 + 1)?;
     let mut rest = Some(text);
     while let Some(ahead) = rest {
-        let (word, after) = cut(ahead, b' ');
-        let Some(item) = read_item(word) else {
+        let (item, after) = cut_item(ahead);
+        let Some(item) = item else {
             return Err(CliFault::Usage);
         };
         if items.push(item).is_err() {

@@ -25,7 +25,8 @@ pub enum Task {
     },
 }
 
-/// The number of turns or ticks that a text asks for, 0 to [`MOST_ENTRIES`]. Any other text is `Usage`.
+/// The number of turns or ticks that a text asks for, 0 to [`MOST_ENTRIES`]. Any other text is
+/// `Usage`.
 fn read_count(text: &str) -> Result<u32, CliFault>
     ensures ok { IfOk result (λ count. count_of text.now ≡ Some count) }
     ensures usage { IsErrOf result CliFault.Usage → count_of text.now ≡ None }

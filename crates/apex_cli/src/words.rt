@@ -15,8 +15,7 @@ use std::alloc::{AllocError, Global};
 pub enum Report {
     /// The lines of its history.
     History,
-    /// All words that the program is given, its name first. `Usage` if a word is no text, `Memory`
-    /// if memory was refused.
+    /// The listing of its last state.
     Status,
 }
 
@@ -109,7 +108,8 @@ fn report_given<'a>(report: Report, matches: &ArgMatches<'a>) -> Option<Request<
 fn has_flag(matches: &ArgMatches<'_>, name: &str) -> bool
     ensures { result ≡ says_given (first_value (found_of matches.now) name.now) }
 {
-    // The text is read, since the contract of `get_flag` is silent on texts that are no truth value.
+    // The text is read, since the contract of `get_flag` is silent on texts that are no truth
+    // value.
     matches!(matches.get_str(name), Some("true"))
 }
 

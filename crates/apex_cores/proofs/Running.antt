@@ -1,6 +1,5 @@
 -- A worker goes on, from event to event.
 use Rattle.std.proofs.Common.{◌≡◌, ℕ, zero, suc, ◌+◌, ◌<◌, true, false, List, [], ◌∷◌, ◌++◌, length, refl, ap, sym, ◌∙◌, arith, length-append, append_assoc, append-nil}
-use Rattle.std.specs.Prelude.{MatchOption, Option, None, Some}
 use Rattle.std.specs.List.{All}
 use Rattle.std.proofs.lemmas.List.Elements.{All-append}
 use Rattle.apex_types.specs.declared.entries.Entry.{Entry}
@@ -67,12 +66,6 @@ whole_ticks before after count t = record { ran = whole before after count t.und
 pub cut_ticks : (before after : Spoken) (count wanted : ℕ) → count < wanted → IsTicking before count after → HasTicked before wanted (told_full after) count true
 unfolding cut
 cut_ticks before after count wanted less t = record { ran = cut before after count wanted less t.underway; ones = t.ones }
-
--- a seat that learns that the history is full has the last receipt that it had
-pub last_stays : (s : Spoken) (count : ℕ) (last : Option Confirmed) → MatchOption last (count ≡ 0) (λ r. (0 < count) × IsLast s r)
-    → MatchOption last (count ≡ 0) (λ r. (0 < count) × IsLast (told_full s) r)
-last_stays s count None none = none
-last_stays s count (Some r) some = (some.0, record { before = some.1.before; last = some.1.last; place = some.1.place })
 
 pub last_made : (s : Spoken) (r : Confirmed) → r.place ≡ length s.own + 1 → IsLast (with_entry s r.entry) r
 last_made s r place = record { before = s.own; last = refl; place = place ∙ sym (length-append s.own (r.entry ∷ [])) }

@@ -37,23 +37,38 @@ pub fn run_core<P: Naming, G: Gate, R: Wait>(
     let backoff = Backoff::new();
     let core = seat.core();
     let mut seat = seat;
-    let mut last = None;
-    for made in 0..turns {
-        let Ok(receipt) = shared.turn(rt, &mut seat) else {
+    if turns == 0 {
+        return CoreReport {
+            seat,
+            turns,
+            last: None,
+            full: false,
+        };
+    }
+    let Ok(mut last) = shared.turn(rt, &mut seat) else {
+        return CoreReport {
+            seat,
+            turns: 0,
+            last: None,
+            full: true,
+        };
+    };
+    for made in 1..turns {
+        between_turns(gate, &backoff, core, last.entry());
+        let Ok(()) = shared.turn_into(rt, &mut seat, &mut last) else {
             return CoreReport {
                 seat,
                 turns: made,
-                last,
+                last: Some(last),
                 full: true,
             };
         };
-        between_turns(gate, &backoff, core, receipt.entry());
-        last = Some(receipt);
     }
+    between_turns(gate, &backoff, core, last.entry());
     CoreReport {
         seat,
         turns,
-        last,
+        last: Some(last),
         full: false,
     }
 }

@@ -17,7 +17,8 @@ use std::marker::Brand;
 use std::sync::Wait;
 use std::thread::Threads;
 
-/// The closed partition and, if there is a reader, which is told of it, the front after its history.
+/// The closed partition and, if there is a reader, which is told of it, the front after its
+/// history.
 fn told<P: Naming, R: Wait>(
     rt: &R,
     mut closed: Closed<P>,
@@ -35,8 +36,8 @@ fn told<P: Naming, R: Wait>(
     (closed.into_partition(), Some(front))
 }
 
-/// Opens a partition that is named after this book, this table and this board, has its cores and its
-/// ticker at work, and closes it. If the board has a reader, it is told of the closed history.
+/// Opens a partition that is named after this book, this table and this board, has its cores and
+/// its ticker at work, and closes it. If the board has a reader, it is told of the closed history.
 fn run_named<P: Naming + Send + Sync, S: Starts, G: Gate + Sync, R: Threads + Wait + Sync>(
     rt: &R,
     alloc: Global,
@@ -106,9 +107,9 @@ pub fn run_partition<G: Gate + Sync, R: Threads + Wait + Sync>(
     run_partition_with(rt, alloc, table, plan, &mut EveryThread, gate)
 }
 
-/// Runs the partition of this table as `run_partition` does, with one reader, which is told of the closed
-/// history. The answer is the closed partition, and the front after its last event, as the reader got
-/// it.
+/// Runs the partition of this table as `run_partition` does, with one reader, which is told of the
+/// closed history. The answer is the closed partition, and the front after its last event, as the
+/// reader got it.
 pub fn run_partition_read<G: Gate + Sync, R: Threads + Wait + Sync>(
     rt: &R,
     alloc: Global,

@@ -28,7 +28,8 @@ pub struct Outcome {
     pub partition: Partition,
     /// The receipts, in the order in which they were handed out.
     pub receipts: Vec<Confirmed>,
-    /// The front of which the reader was told, and the one that it saw from then on; none without a reader.
+    /// The front of which the reader was told, and the one that it saw from then on; none without a
+    /// reader.
     pub fronts: Option<(Front, Front)>,
 }
 
@@ -70,7 +71,8 @@ fn confirm<P: Naming, R: Abort>(
     confirmed
 }
 
-/// The front of which the reader is told, and the one that it sees from then on; none without a reader.
+/// The front of which the reader is told, and the one that it sees from then on; none without a
+/// reader.
 fn tell<P: Naming, R: Wait>(
     rt: &R,
     closed: &mut Closed<P>,
@@ -103,7 +105,8 @@ fn look_back<P: Naming, R: Abort + Wait>(
     }
 }
 
-/// Closes a partition whose table has `cores` cores. The seats of all of them are there, in their order.
+/// Closes a partition whose table has `cores` cores. The seats of all of them are there, in their
+/// order.
 pub fn close<P: Naming, R: Abort + Wait>(
     rt: &R,
     alloc: Global,

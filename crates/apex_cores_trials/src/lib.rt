@@ -1,5 +1,5 @@
-//! The tests of partitions that threads share: seats, receipts, gates, refused threads, and contention.
-//! It has no code of its own.
+//! The tests of partitions that threads share: seats, receipts, gates, refused threads, and
+//! contention. It has no code of its own.
 #![tactic(auto)]
 
 #[cfg(test)]

@@ -9,8 +9,8 @@ use std::process::Abort;
 use std::sync::Wait;
 use std::thread::Threads;
 
-/// What the front of two cores shows: the entries, the time, and the number of the process that each core runs,
-/// which is 0 if it runs none.
+/// What the front of two cores shows: the entries, the time, and the number of the process that
+/// each core runs, which is 0 if it runs none.
 #[derive(Clone, Copy)]
 pub struct Shown {
     pub entries: u32,
@@ -36,10 +36,11 @@ pub enum Step {
     Ticks(u32, u32),
     /// A storm, in which the gate backs off this number of times in each work.
     Storm(u32),
-    /// The seat at this place: its core, the number of its entries, and whether it knows that the history is full.
+    /// The seat at this place: its core, the number of its entries, and whether it knows that the
+    /// history is full.
     Seat(usize, (u8, u32, bool)),
-    /// The ticker: the number of its entries, the ticks that they ask for, and whether it knows that the history is
-    /// full.
+    /// The ticker: the number of its entries, the ticks that they ask for, and whether it knows
+    /// that the history is full.
     Ticker((u32, u64, bool)),
 }
 

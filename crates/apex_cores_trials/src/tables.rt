@@ -1,6 +1,7 @@
 //! The tables that several tests read.
 
-/// Two cores, a process that waits for a semaphore on the one, and one that signals it on the other.
+/// Two cores, a process that waits for a semaphore on the one, and one that signals it on the
+/// other.
 pub const WAITER_AND_SIGNALLER: &str = r#"
 cores = 2
 

@@ -8,6 +8,7 @@ pub mod Counts
 pub mod DuesServed
 pub mod MissesServed
 pub mod Serving
+pub mod Steps
 pub mod ObjectsServe
 pub mod WaitedServe
 pub mod SemaphoresServe

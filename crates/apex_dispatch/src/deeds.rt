@@ -1,49 +1,68 @@
 //! The effect of a turn: an init step, the step of the chosen process, the end of its work, or
 //! nothing.
-ghost use Rattle.std.specs.Prelude.{◌≡◌, ◌<◌, ◌≤◌, length, Some};
+ghost use Rattle.std.specs.Prelude.{◌≡◌, ◌<◌, ◌≤◌, length, None, Some, IfNone, IfSome};
 ghost use Rattle.apex_types.specs.values.Limits.{most_processes, most_steps};
 ghost use Rattle.std.specs.Option.{ForSome};
 ghost use Rattle.apex_types.specs.services.Calls.{is_work};
 ghost use Rattle.apex_types.specs.services.Callers.{IsReady, IsReadyCaller};
 ghost use Rattle.apex_types.specs.services.Premises.{CanServe};
 ghost use Rattle.apex_types.specs.processes.Dues.{HasTime};
-ghost use Rattle.apex_types.specs.machine.Machine.{chosen_deed, move_on, next_place, served, turn_deed};
+ghost use Rattle.apex_types.specs.declared.Caller.TheVariants.{Nobody, Process as ByProcess};
+ghost use Rattle.apex_types.specs.declared.Reply.TheVariants.{Begun, Idle};
+ghost use Rattle.apex_types.specs.machine.Machine.{chosen_deed, move_on, next_place, served, step_deed, turn_deed};
+ghost use Rattle.apex_types.specs.processes.Running.{chosen};
 ghost use Rattle.apex_types.specs.processes.Periods.{HasNoFutureRelease};
 ghost use Rattle.apex_types.specs.processes.Stamps.{HasManyStamps, HasOrderlyStarts};
 ghost use Rattle.apex_types.specs.table.Table.{IsKnown};
 ghost use Rattle.apex_types.specs.machine.Works.{work_begun};
-ghost use Rattle.apex_dispatch.specs.Deeds.{Does};
+ghost use Rattle.apex_dispatch.specs.Deeds.{due_after, Asks, Does};
 ghost use Rattle.apex_dispatch.specs.Premises.{AreOf, IsKnownTo};
 
 use crate::objects::Objects;
 use crate::services::serve;
 use apex_store::Store;
 use apex_table::{ProcessConfig, Table};
-use apex_types::{Call, Caller, CallerCall, CoreId, Notices, OpenWork, ProcessId, Reply, Work};
+use apex_types::{
+    Call, Caller, CallerCall, CoreId, Mode, Notices, OpenWork, ProcessId, Reply, Work,
+};
 
-/// A call that was carried out, and its reply; no call at an idle turn and a tick.
+/// A call that was carried out, and its reply.
 #[derive(Drop)]
 pub(crate) struct Deed {
     pub(crate) caller: Caller,
-    pub(crate) call: Option<Call>,
+    pub(crate) call: Call,
     pub(crate) reply: Reply,
+}
+
+/// The work that the caller asks for, if it does.
+// In a function of its own, so that only a turn that begins work looks at its caller and call.
+#[inline(never)]
+fn work_asked(caller: &Caller, call: &Call) -> Option<Work>
+    ensures { result ≡ work_begun caller.now (Some call.now) Begun }
+{
+    let Caller::Process(process) = *caller else {
+        return None;
+    };
+    let Call::Work(amount) = *call else {
+        return None;
+    };
+    Some(Work { process, amount })
 }
 
 impl Deed {
     /// The work that the call began.
+    #[inline(always)]
     pub(crate) fn begun(&self) -> Option<Work>
-        ensures { result ≡ work_begun self.now.caller self.now.call self.now.reply }
+        ensures { result ≡ work_begun self.now.caller (Some self.now.call) self.now.reply }
     {
-        let Caller::Process(process) = self.caller else {
-            return None;
-        };
-        let Some(Call::Work(amount)) = self.call else {
-            return None;
-        };
-        let Reply::Begun = self.reply else {
-            return None;
-        };
-        Some(Work { process, amount })
+        match self.reply {
+            Reply::Begun => {
+                // Copies, so that the deed itself need not lie in memory.
+                let (caller, call) = (self.caller, self.call);
+                work_asked(&caller, &call)
+            }
+            _ => None,
+        }
     }
 }
 
@@ -64,12 +83,13 @@ fn ask<S: Store>(
     requires can { CanServe (S.roster store.old) notices.old }
     requires releases { HasNoFutureRelease (S.roster store.old) }
     ensures { Does (served (S.roster store.old) objects.old caller call)
-        result.caller result.call result.reply (S.roster store.new) objects.new notices.old notices.new }
+        result.caller (Some result.call) result.reply
+        (S.roster store.new) objects.new notices.old notices.new }
 {
     let reply = serve(store, objects, &caller, &call, notices);
     Deed {
         caller,
-        call: Some(call),
+        call,
         reply,
     }
 }
@@ -106,47 +126,87 @@ fn is_work(call: &Call) -> bool
     matches!(call, Call::Work(_))
 }
 
-/// The process carries out its step. It moves on before it, except for work, which two turns carry
-/// out; the end of its script is STOP_SELF.
+/// A call that is to be carried out, and its caller.
+#[derive(Drop)]
+struct Asked {
+    caller: Caller,
+    call: Call,
+}
+
+/// The call of the process's step, before which the process moves on, except for work, which two
+/// turns carry out; the end of its script is STOP_SELF.
 #[inline(always)]
-fn carry_out_step<S: Store>(
-    table: &Table,
-    store: &mut S,
-    objects: &mut Objects,
-    process: ProcessId,
-    notices: &mut Notices,
-) -> Deed
+fn take_step<S: Store>(table: &Table, store: &mut S, process: ProcessId) -> Call
     requires process { process < length table.now.processes }
     requires ready { IsReady (S.roster store.old) process }
     requires records { length (S.roster store.old).records ≡ length table.now.processes }
-    requires objects { AreOf table.now objects.old }
     requires starts { HasOrderlyStarts (S.roster store.old) }
-    requires can { CanServe (S.roster store.old) notices.old }
     requires releases { HasNoFutureRelease (S.roster store.old) }
-    ensures { Does (chosen_deed table.now (S.roster store.old) objects.old (Some process))
-        result.caller result.call result.reply (S.roster store.new) objects.new notices.old notices.new }
+    ensures { Asks table.now
+        (λ objects. chosen_deed table.now (S.roster store.old) objects (Some process))
+        (S.roster store.old) (ByProcess process) result (S.roster store.new) }
 {
     table.lawful();
-    let caller = Caller::Process(process);
     let step = store.record(process).step;
-    match table.process(process).call(usize::from(step)) {
-        Some(call) if is_work(&call) => ask(store, objects, caller, call, notices),
+    let config = table.process(process);
+    match config.call(usize::from(step)) {
+        Some(call) if is_work(&call) => call,
         Some(call) => {
-            move_on(table, store, process);
-            ask(store, objects, caller, call, notices)
+            store.set_step(process, next_place(config, step));
+            call
         }
-        None => ask(
-            store,
-            objects,
-            caller,
-            Call::Caller(CallerCall::StopSelf),
-            notices,
-        ),
+        None => Call::Caller(CallerCall::StopSelf),
     }
 }
 
-/// Ends the work that the core has begun; else carries out the init step that is due, else the step
-/// of the core's chosen process, else nothing.
+/// The init step that is due in a turn of the core, after `init_made` init steps.
+fn due_call<S: Store>(table: &Table, store: &S, core: CoreId, init_made: usize) -> Option<Call>
+    ensures { result ≡ due_after table.now (S.roster store.now) core init_made }
+{
+    if store.mode() == Mode::ColdStart && core.number() == 0 {
+        table.init_call(init_made)
+    } else {
+        None
+    }
+}
+
+/// The init step that is due after `init_made` of them, else the step of the core's chosen process,
+/// else nothing.
+#[inline(always)]
+fn next_call<S: Store>(
+    table: &Table,
+    store: &mut S,
+    core: CoreId,
+    init_made: usize,
+) -> Option<Asked>
+    requires records { length (S.roster store.old).records ≡ length table.now.processes }
+    requires starts { HasOrderlyStarts (S.roster store.old) }
+    requires releases { HasNoFutureRelease (S.roster store.old) }
+    ensures asked { IfSome result (λ asked. Asks table.now
+        (λ objects. step_deed table.now (S.roster store.old) objects core
+        (due_after table.now (S.roster store.old) core init_made))
+        (S.roster store.old) asked.caller asked.call (S.roster store.new)) }
+    ensures due { IfNone result (due_after table.now (S.roster store.old) core init_made ≡ None) }
+    ensures idle { IfNone result (chosen (S.roster store.old) core ≡ None) }
+    ensures same { IfNone result (S.roster store.new ≡ S.roster store.old) }
+{
+    if let Some(call) = due_call(table, store, core, init_made) {
+        table.lawful();
+        return Some(Asked {
+            caller: Caller::Init,
+            call,
+        });
+    }
+    let process = store.chosen(core)?;
+    let call = take_step(table, store, process);
+    Some(Asked {
+        caller: Caller::Process(process),
+        call,
+    })
+}
+
+/// Ends the work that the core has begun; else carries out the init step that is due after
+/// `init_made` of them, else the step of the core's chosen process, else nothing.
 #[inline(always)]
 pub(crate) fn carry_out<S: Store>(
     table: &Table,
@@ -154,47 +214,42 @@ pub(crate) fn carry_out<S: Store>(
     objects: &mut Objects,
     core: CoreId,
     begun: Option<OpenWork>,
-    due: Option<Call>,
+    init_made: usize,
     notices: &mut Notices,
-) -> Deed
+) -> Option<Deed>
     requires begun { ForSome begun (λ o. o.work.process < length (S.roster store.old).records) }
-    requires due { ForSome due (IsKnown table.now) }
     requires records { length (S.roster store.old).records ≡ length table.now.processes }
     requires objects { AreOf table.now objects.old }
     requires starts { HasOrderlyStarts (S.roster store.old) }
     requires can { CanServe (S.roster store.old) notices.old }
     requires releases { HasNoFutureRelease (S.roster store.old) }
-    ensures { Does (turn_deed table.now (S.roster store.old) objects.old core begun due)
-        result.caller result.call result.reply (S.roster store.new) objects.new notices.old notices.new }
+    ensures done { IfSome result (λ deed. Does
+        (turn_deed table.now (S.roster store.old) objects.old core begun
+        (due_after table.now (S.roster store.old) core init_made))
+        deed.caller (Some deed.call) deed.reply
+        (S.roster store.new) objects.new notices.old notices.new) }
+    ensures idle { IfNone result (Does (turn_deed table.now (S.roster store.old) objects.old core
+        begun (due_after table.now (S.roster store.old) core init_made))
+        Nobody None Idle (S.roster store.new) objects.new notices.old notices.new) }
 {
     if let Some(begun) = begun {
         let process = begun.work.process;
         let caller = Caller::Process(process);
-        let call = Some(Call::Work(begun.work.amount));
+        let call = Call::Work(begun.work.amount);
         if begun.unbroken {
             move_on(table, store, process);
-            return Deed {
+            return Some(Deed {
                 caller,
                 call,
                 reply: Reply::Done,
-            };
+            });
         }
-        return Deed {
+        return Some(Deed {
             caller,
             call,
             reply: Reply::Lost,
-        };
+        });
     }
-    if let Some(call) = due {
-        table.lawful();
-        return ask(store, objects, Caller::Init, call, notices);
-    }
-    match store.chosen(core) {
-        Some(process) => carry_out_step(table, store, objects, process, notices),
-        None => Deed {
-            caller: Caller::Nobody,
-            call: None,
-            reply: Reply::Idle,
-        },
-    }
+    let asked = next_call(table, store, core, init_made)?;
+    Some(ask(store, objects, asked.caller, asked.call, notices))
 }

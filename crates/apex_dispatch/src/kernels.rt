@@ -15,7 +15,7 @@ ghost use Rattle.apex_history.specs.Counted.{inner_of, failures_of, CountsFailur
 ghost use Rattle.apex_dispatch.specs.Events.{IsWithin};
 ghost use Rattle.apex_dispatch.specs.Kernel.{kernel_in};
 
-use crate::deeds::{Deed, carry_out};
+use crate::deeds::carry_out;
 use crate::listing::Listing;
 use crate::objects::Objects;
 use crate::ticks::pass_time;
@@ -55,18 +55,6 @@ impl<S: Store> Model for Kernel<S> {
         k.init_made k.log.limit k.works };
 }
 
-/// The init step that is due in a turn of the core, after `init_made` init steps.
-fn due_call<S: Store>(table: &Table, store: &S, init_made: usize, core: CoreId) -> Option<Call>
-    ensures { result ≡ (if is_cold_start (S.roster store.now).mode && core == 0
-        then call_in table.now.init init_made else None) }
-{
-    if store.mode() == Mode::ColdStart && core.number() == 0 {
-        table.init_call(init_made)
-    } else {
-        None
-    }
-}
-
 /// The number of init steps that a turn with this caller carries out.
 fn steps_by(caller: &Caller) -> usize
     ensures { result ≡ (if is_by_init caller.now then 1 else 0) }
@@ -92,18 +80,26 @@ fn refuse_full(log: &Log) -> Result<(), Full>
     }
 }
 
-/// Adds the entry of a deed.
+/// Adds the entry of an event.
 #[inline(always)]
-fn append<S: Store>(log: &mut Log, store: &S, who: Who, deed: Deed, notices: &Notices)
+fn append<S: Store>(
+    log: &mut Log,
+    store: &S,
+    who: Who,
+    process: Caller,
+    call: Option<Call>,
+    reply: Reply,
+    notices: &Notices,
+)
     requires room { length log.old.entries < log.old.limit }
     requires few_entries { log.old.limit ≤ most_entries }
     ensures entries { log.new.entries ≡ log.old.entries ++ record {
       number = length log.old.entries + 1;
       now = (S.roster store.now).now;
       who = who;
-      process = deed.caller;
-      call = deed.call;
-      reply = deed.reply;
+      process = process;
+      call = call;
+      reply = reply;
       notices = notices.now;
     } ∷ [] }
     ensures limit { log.new.limit ≡ log.old.limit }
@@ -113,9 +109,9 @@ fn append<S: Store>(log: &mut Log, store: &S, who: Who, deed: Deed, notices: &No
         number,
         now: store.now(),
         who,
-        process: deed.caller,
-        call: deed.call,
-        reply: deed.reply,
+        process,
+        call,
+        reply,
         notices: notices.as_slice(),
     });
 }
@@ -153,27 +149,45 @@ impl<S: Store> Kernel<S> {
             × (e.entries ≡ self.old.table.limit)) }
     {
         refuse_full(&self.log)?;
-        let due = due_call(&self.table, &self.store, self.init_made, core);
         self.notices.clear();
-        let deed = carry_out(
+        let who = Who::Core(core);
+        match carry_out(
             &self.table,
             &mut self.store,
             &mut self.objects,
             core,
             self.works.at(core),
-            due,
+            self.init_made,
             &mut self.notices,
-        );
-        self.init_made += steps_by(&deed.caller);
-        self.works.begin(core, deed.begun());
-        self.works.watch(&self.store);
-        append(
-            &mut self.log,
-            &self.store,
-            Who::Core(core),
-            deed,
-            &self.notices,
-        );
+        ) {
+            Some(deed) => {
+                self.init_made += steps_by(&deed.caller);
+                self.works.begin(core, deed.begun());
+                self.works.watch(&self.store);
+                append(
+                    &mut self.log,
+                    &self.store,
+                    who,
+                    deed.caller,
+                    Some(deed.call),
+                    deed.reply,
+                    &self.notices,
+                );
+            }
+            None => {
+                self.works.begin(core, None);
+                self.works.watch(&self.store);
+                append(
+                    &mut self.log,
+                    &self.store,
+                    who,
+                    Caller::Nobody,
+                    None,
+                    Reply::Idle,
+                    &self.notices,
+                );
+            }
+        }
         Ok(())
     }
 
@@ -193,12 +207,15 @@ impl<S: Store> Kernel<S> {
         self.notices.clear();
         let went = pass_time(&mut self.store, n, &mut self.notices);
         self.works.watch(&self.store);
-        let deed = Deed {
-            caller: Caller::Nobody,
-            call: None,
-            reply: Reply::Advanced(n, went),
-        };
-        append(&mut self.log, &self.store, Who::Ticker, deed, &self.notices);
+        append(
+            &mut self.log,
+            &self.store,
+            Who::Ticker,
+            Caller::Nobody,
+            None,
+            Reply::Advanced(n, went),
+            &self.notices,
+        );
         Ok(())
     }
 

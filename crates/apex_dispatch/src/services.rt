@@ -23,8 +23,8 @@ mod time;
 pub(crate) use process::ProcessObject;
 
 /// Carries out a call of any service.
-// In a function of its own, so that its callers are small enough to be inlined.
-#[inline(never)]
+// Inlined at its one call, so that neither the call nor the reply is copied.
+#[inline(always)]
 pub(crate) fn serve<S: Store>(
     store: &mut S,
     objects: &mut Objects,

@@ -14,7 +14,7 @@ const CORES: usize = MOST_CORES as usize;
 #[derive(Drop)]
 pub(crate) struct Works {
     of_core: [Option<OpenWork>; CORES],
-    /// Whether any core has begun work so far. Without it no event looks at the cores' work.
+    /// Whether any core has begun work so far. If none has, no event looks at the cores' work.
     has_begun: bool,
 }
 
@@ -47,6 +47,9 @@ impl Works {
     pub(crate) fn at(&self, core: CoreId) -> Option<OpenWork>
         ensures { result ≡ work_at self.now core }
     {
+        if !self.has_begun {
+            return None;
+        }
         self.of_core[usize::from(core.number())]
     }
 
@@ -55,7 +58,10 @@ impl Works {
         ensures { (c : ℕ) → work_at self.new c
             ≡ (if c == core then option_map fresh work else work_at self.old c) }
     {
-        self.has_begun = self.has_begun || work.is_some();
+        if work.is_none() && !self.has_begun {
+            return;
+        }
+        self.has_begun = true;
         self.of_core[usize::from(core.number())] = work.map(|work| OpenWork {
             work,
             unbroken: true,
@@ -70,13 +76,22 @@ impl Works {
     }
 
     /// An event has gone by: a core whose chosen process is another one now has lost its work.
+    #[inline(always)]
     pub(crate) fn watch<S: Store>(&mut self, store: &S)
         ensures { (c : ℕ) → work_at self.new c
             ≡ option_map (watched (S.roster store.now) c) (work_at self.old c) }
     {
-        if !self.has_begun {
-            return;
+        if self.has_begun {
+            self.watch_cores(store);
         }
+    }
+
+    /// The same, core by core.
+    #[inline(never)]
+    fn watch_cores<S: Store>(&mut self, store: &S)
+        ensures { (c : ℕ) → work_at self.new c
+            ≡ option_map (watched (S.roster store.now) c) (work_at self.old c) }
+    {
         self.places();
         for core in 0..8 {
             self.watch_core(store, CoreId::new(core));

@@ -50,8 +50,8 @@ impl EventFlag {
         self.up
     }
 
-    /// SET_EVENT: the event flag is up, and all processes that wait for it are woken, the longest waiter
-    /// first. INVALID_PARAM if the event flag isn't created.
+    /// SET_EVENT: the event flag is up, and all processes that wait for it are woken, the longest
+    /// waiter first. INVALID_PARAM if the event flag isn't created.
     pub fn set<S: Store>(&mut self, store: &mut S, id: EventId, notices: &mut Notices) -> Reply
         requires stamps { HasManyStamps (S.roster store.old) }
         requires room { length notices.old ≤ most_processes }
@@ -79,8 +79,9 @@ impl EventFlag {
     }
 
     /// WAIT_EVENT: if the event flag is down the caller waits until the timeout, in ticks, is over.
-    /// INVALID_PARAM if the event flag isn't created; INVALID_MODE if the caller owns a mutex and the
-    /// timeout isn't 0, or no process calls; NOT_AVAILABLE in place of a wait if the timeout is 0.
+    /// INVALID_PARAM if the event flag isn't created; INVALID_MODE if the caller owns a mutex and
+    /// the timeout isn't 0, or no process calls; NOT_AVAILABLE in place of a wait if the timeout is
+    /// 0.
     pub fn wait<S: Store>(
         &self,
         store: &mut S,

@@ -1,5 +1,5 @@
-//! The services of blackboards and of event flags (ARINC 653 Part 1, intrapartition communication), over
-//! any store.
+//! The services of blackboards and of event flags (ARINC 653 Part 1, intrapartition communication),
+//! over any store.
 //!
 //! Each is an object of its kind. A display and a set release every process that waits, in the
 //! order in which they wait.

@@ -1,7 +1,8 @@
 -- The text of a number, two digits behind the others.
-use Rattle.std.proofs.Common.{◌≡◌, ℕ, zero, suc, ◌+◌, ◌-◌, ◌*◌, ◌/◌, ◌%◌, ◌^◌, ◌<◌, ◌≤◌, Bool, true, ◌&&◌, T, eqb, List, [], ◌∷◌, ◌++◌, get_or, ap, sym, ◌∙◌, inl, inr, arith, eq-zero-or-pos, eqb→eq, append_assoc}
+use Rattle.std.proofs.Common.{◌≡◌, ℕ, zero, suc, ◌+◌, ◌-◌, ◌*◌, ◌/◌, ◌%◌, ◌^◌, ◌<◌, ◌≤◌, Bool, true, ◌&&◌, T, eqb, List, [], ◌∷◌, ◌++◌, get_or, ap, sym, ◌∙◌, inl, inr, arith, eq-zero-or-pos, eqb→eq, append_assoc, refl}
 use Rattle.std.specs.Prelude.{decimal}
 use Rattle.itoa.proofs.Decimal.{decimal_pair, decimal_two}
+use Rattle.std.proofs.lemmas.Fmt.{decimal_digit}
 use lib.Ieee.Fits.{and_l, and_r}
 use Rattle.apex_history.specs.declared.puts.TheConstants.{PAIRS}
 
@@ -32,3 +33,9 @@ pub pair_behind : (before most whole : List ℕ) (n : ℕ) → 100 ≤ n → n <
 pair_behind before most whole n low high first last =
     last ∙ ap (λ text. text ++ (48 + n % 100 / 10) ∷ (48 + n % 100 % 10) ∷ []) first
     ∙ append_assoc before (decimal (n / 100)) _ ∙ ap (λ text. before ++ text) (sym (decimal_pair n low high))
+
+-- a number of five digits
+pub five_digits : (n : ℕ) → 10000 ≤ n → n < 100000
+    → decimal n ≡ (48 + n / 100 / 100) ∷ (48 + n / 100 % 100 / 10) ∷ (48 + n / 100 % 100 % 10) ∷ (48 + n % 100 / 10) ∷ (48 + n % 100 % 10) ∷ []
+five_digits n low high =
+    rw (decimal_pair n (omega arith) (omega arith), decimal_pair (n / 100) (omega arith) (omega arith), decimal_digit (n / 100 / 100) (omega arith)) refl

@@ -1,13 +1,13 @@
 -- Texts that reach a writer by way of a page.
-use Rattle.std.proofs.Common.{◌≡◌, ℕ, List, ◌++◌, Option, sym, ap, subst, ◌∙◌, append_assoc}
+use Rattle.std.proofs.Common.{◌≡◌, ℕ, List, [], ◌∷◌, ◌++◌, Option, sym, ap, subst, ◌∙◌, append_assoc}
 use Rattle.std.proofs.KnownBytes.{Appends-trans}
 use Rattle.std.specs.Io.KnownBytes.{Appends}
 use Rattle.apex_history.specs.Terms.{Entry}
 use Rattle.apex_types.specs.table.Table.{Table}
-use Rattle.apex_calls.specs.Lines.{lines_of}
+use Rattle.apex_calls.specs.Lines.{line_of, lines_of}
 use Rattle.apex_history.specs.Counted.{AppendsBeginning}
 use Rattle.apex_history.specs.Page.{Passes}
-use Rattle.apex_history.proofs.LinesOf.{lines_split}
+use Rattle.apex_history.proofs.LinesOf.{lines_more, lines_split}
 
 -- a prefix of a text is one of a longer text
 pub beginning_longer : (a b : Option (List ℕ)) (text more : List ℕ) → AppendsBeginning a b text → AppendsBeginning a b (text ++ more)
@@ -34,13 +34,18 @@ passes_all a b c text held p more =
     let (done, split, first) = p in
     subst (Appends a c) (sym split) (Appends-trans a b c done held first more)
 
--- the page hands on a part of its text, and takes a line
-pub passes_more : (a b c : Option (List ℕ)) (text held kept line : List ℕ) → Passes a b text held → Passes b c held kept → Passes a c (text ++ line) (kept ++ line)
-passes_more a b c text held kept line p q =
+-- the page hands on a part of what is held
+pub passes_then : (a b c : Option (List ℕ)) (text held kept : List ℕ) → Passes a b text held → Passes b c held kept → Passes a c text kept
+passes_then a b c text held kept p q =
     let (front, whole, first) = p in
     let (done, split, second) = q in
-    let same : text ≡ (front ++ done) ++ kept = whole ∙ ap (λ l. front ++ l) split ∙ sym (append_assoc front done kept) in
-    (front ++ done, ap (λ l. l ++ line) same ∙ append_assoc (front ++ done) kept line, Appends-trans a b c front done first second)
+    (front ++ done, whole ∙ ap (λ l. front ++ l) split ∙ sym (append_assoc front done kept), Appends-trans a b c front done first second)
+
+-- one line more is held
+pub passes_line : (a b : Option (List ℕ)) (table : Table) (entries : List Entry) (entry : Entry) (page lines more : List ℕ)
+    → Passes a b (lines_of table entries) (page ++ lines) → more ≡ lines ++ line_of table entry → Passes a b (lines_of table (entries ++ entry ∷ [])) (page ++ more)
+passes_line a b table entries entry page lines more p put =
+    rw (lines_more table entries entry, put, ← append_assoc page lines (line_of table entry)) (passes_with a b _ _ (line_of table entry) p)
 
 -- a prefix of the page's part of the first lines is a prefix of all lines
 pub beginning_of_lines : (a b c : Option (List ℕ)) (table : Table) (first others entries : List Entry) (held : List ℕ)

@@ -15,11 +15,9 @@ pub(crate) struct Link {
     pub(crate) call: Call,
     /// The place of the call behind it in the ring.
     next: u32,
-    /// The number of calls that came into the ring before it.
-    before: u32,
 }
 
-const _: () = prove!(size_of::<Link>() == 32);
+const _: () = prove!(size_of::<Link>() == 28);
 
 impl Model for Link {
     ghost use Rattle.apex_history.specs.Terms.{Call};
@@ -36,11 +34,22 @@ struct Ring {
     next: u32,
     /// The place of the call that came last into the ring.
     last: u32,
+    /// The number of its calls.
+    count: u32,
 }
 
-/// The calls of a log's entries. Those of a process lie in a ring, in the order of its first round.
-/// Scripts loop, so that a process's next call is mostly the one behind its latest. If it is another,
-/// it is looked for in the ring. No place in a ring has an effect on an entry.
+impl Ring {
+    /// Whether each call comes into the ring, also one that is there: it has fewer calls than a
+    /// script may have steps.
+    fn grows(&self) -> bool {
+        self.count < MOST_STEPS as u32
+    }
+}
+
+/// The calls of a log's entries. The first ones of a process, as many as a script may have steps,
+/// lie in a ring, in their order. Scripts loop, so that a later call is mostly the one behind the
+/// latest. If it is another, it is looked for in the ring. No place in a ring has an effect on an
+/// entry.
 #[derive(Drop)]
 pub(crate) struct Calls {
     links: Vec<Link>,
@@ -87,6 +96,9 @@ impl Calls {
         ensures place { IfSome result (λ place. slice_get self.new.calls place ≡ Some call) }
     {
         let ring = self.rings.get_mut(process.place())?.as_mut()?;
+        if ring.grows() {
+            return None;
+        }
         let place = ring.next;
         let link = self.links.get(place as usize)?;
         if !is_same(&link.call, &call) {
@@ -115,36 +127,19 @@ impl Calls {
         Err(place)
     }
 
-    /// Whether the process is in its first round: its latest call came last into the ring, which has
-    /// fewer calls than a script may have.
-    fn grows(&self, ring: &Ring) -> bool {
-        match self.links.get(ring.last as usize) {
-            Some(last) => last.next == ring.next && self.count(ring) < MOST_STEPS as u32,
-            None => false,
-        }
-    }
-
-    /// The number of the ring's calls.
-    fn count(&self, ring: &Ring) -> u32 {
-        match self.links.get(ring.last as usize) {
-            Some(last) => last.before.saturating_add(1),
-            None => 0,
-        }
-    }
-
-    /// The place of the call in the ring, or else the place of the one that it is to be put behind. In
-    /// the first round each call is put into the ring, also one that is there.
+    /// The place of the call in the ring, or else the place of the one that it is to be put behind.
+    /// While the ring grows, each call is put behind the last one.
     fn place_in(&self, ring: &Ring, call: &Call) -> Result<u32, u32>
         ensures { IfOk result (λ place. slice_get self.now.calls place ≡ Some call.now) }
     {
-        if self.grows(ring) {
+        if ring.grows() {
             return Err(ring.last);
         }
         self.find(ring.next, call)
     }
 
-    /// Puts the call behind this one into a ring of `before` calls, or into a ring of its own.
-    fn add(&mut self, behind: Option<u32>, before: u32, call: &Call) -> u32
+    /// Puts the call behind this one into its ring, or into a ring of its own.
+    fn add(&mut self, behind: Option<u32>, call: &Call) -> u32
         requires room { length self.old.calls < self.old.room }
         requires few { length self.old.calls < most_entries }
         ensures place { slice_get self.new.calls result ≡ Some call.now }
@@ -158,16 +153,12 @@ impl Calls {
                 next = mem::replace(&mut link.next, place);
             }
         }
-        self.links.push_reserved(Link {
-            call: *call,
-            next,
-            before,
-        });
+        self.links.push_reserved(Link { call: *call, next });
         place
     }
 
-    /// The place of the call in the ring of the process, into which it is put in the first round, and
-    /// later if it is not there.
+    /// The place of the call in the ring of the process, into which it is put if the ring grows or
+    /// lacks it.
     #[inline(never)]
     fn put_in_ring(&mut self, process: ProcessId, call: &Call) -> u32
         requires room { length self.old.calls < self.old.room }
@@ -176,28 +167,28 @@ impl Calls {
         ensures calls { GrowsTo self.old.calls self.new.calls }
         ensures room { self.new.room ≡ self.old.room }
     {
-        let (place, last) = match self.rings.get(process.place()).copied().flatten() {
+        let (place, last, count) = match self.rings.get(process.place()).copied().flatten() {
             Some(ring) => match self.place_in(&ring, call) {
-                Ok(place) => (place, ring.last),
+                Ok(place) => (place, ring.last, ring.count),
                 Err(behind) => {
-                    let place = self.add(Some(behind), self.count(&ring), call);
-                    (place, place)
+                    let place = self.add(Some(behind), call);
+                    (place, place, ring.count.saturating_add(1))
                 }
             },
             None => {
-                let place = self.add(None, 0, call);
-                (place, place)
+                let place = self.add(None, call);
+                (place, place, 1)
             }
         };
         let next = self.links.get(place as usize).map(|link| link.next);
         if let Some(ring) = self.rings.get_mut(process.place()) {
-            *ring = next.map(|next| Ring { next, last });
+            *ring = next.map(|next| Ring { next, last, count });
         }
         place
     }
 
-    /// The place of the caller's call, which is put behind all others in the first round, and later if
-    /// it is not in the caller's ring. Takes no memory.
+    /// The place of the caller's call, which is put behind all others if the caller's ring grows or
+    /// lacks it. Takes no memory.
     // The call comes as a value, so that the rest of its entry need not lie in memory.
     #[inline(always)]
     pub(crate) fn put(&mut self, caller: &Caller, call: Call) -> u32
@@ -212,7 +203,7 @@ impl Calls {
                 Some(place) => place,
                 None => self.put_in_ring(*process, &call),
             },
-            Caller::Init | Caller::Nobody => self.add(None, 0, &call),
+            Caller::Init | Caller::Nobody => self.add(None, &call),
         }
     }
 }

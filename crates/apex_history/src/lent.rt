@@ -6,6 +6,7 @@ ghost use Rattle.std.specs.List.{AllByRecursion, last_or};
 ghost use Rattle.apex_history.specs.RowEntries.{entries_from, IsWithin};
 
 use crate::calls::Link;
+use crate::entry_parts::EntryParts;
 use crate::rows::Row;
 use apex_types::{LentEntry, Notice};
 use std::marker::Model;
@@ -35,7 +36,62 @@ impl<'a> Model for Entries<'a> {
         (length e.notices.now)) e.rows.now × (e.place + length e.rows.now ≤ most_entries) };
 }
 
+/// The entries of a history that are left, the oldest first, each by its parts.
+#[derive(Drop)]
+pub(crate) struct EntriesByParts<'a> {
+    rows: &'a [Row],
+    calls: &'a [Link],
+    notices: &'a [Notice],
+    /// The place of the first of them, counted from 0.
+    place: u32,
+}
+
+impl<'a> Model for EntriesByParts<'a> {
+    ghost use Rattle.std.specs.Prelude.{◌+◌, ◌≤◌, List, length};
+    ghost use Rattle.std.specs.List.{AllByRecursion};
+    ghost use Rattle.apex_types.specs.values.Limits.{most_entries};
+    ghost use Rattle.apex_types.specs.declared.Entry.{Entry};
+    ghost use Rattle.apex_history.specs.RowEntries.{entries_from, IsWithin};
+
+    ghost Value = { List Entry };
+
+    ghost view = { λ e. entries_from e.calls.now e.notices.now e.place e.rows.now };
+
+    ghost invariant = { λ e. AllByRecursion (IsWithin (length e.calls.now)
+        (length e.notices.now)) e.rows.now × (e.place + length e.rows.now ≤ most_entries) };
+}
+
+#[tactic(auto, using(crate::proofs::EntriesOf::length_entries))]
+impl<'a> Iterator for EntriesByParts<'a> {
+    type Item = EntryParts<'a>;
+
+    ghost next_gives = { YieldsFirst (λ left. left) };
+
+    ghost remaining = { item_count (λ left. left) };
+
+    #[inline(always)]
+    fn next(&mut self) -> Option<EntryParts<'a>> {
+        let (row, others) = self.rows.split_first()?;
+        let entry = row.parts(self.place, self.calls, self.notices);
+        self.rows = others;
+        self.place += 1;
+        Some(entry)
+    }
+}
+
 impl<'a> Entries<'a> {
+    /// The entries, each by its parts.
+    pub(crate) fn by_parts(self) -> EntriesByParts<'a>
+        ensures { result ≡ self.entry }
+    {
+        EntriesByParts {
+            rows: self.rows,
+            calls: self.calls,
+            notices: self.notices,
+            place: self.place,
+        }
+    }
+
     /// The entries of these rows.
     pub(crate) fn new(rows: &'a [Row], calls: &'a [Link], notices: &'a [Notice]) -> Entries<'a>
         requires within { AllByRecursion (IsWithin (length calls.now) (length notices.now)) rows.now }

@@ -5,6 +5,7 @@
 mod calls;
 mod counting;
 mod devices;
+mod entry_parts;
 mod events;
 mod histories;
 mod lent;

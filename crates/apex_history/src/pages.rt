@@ -37,8 +37,8 @@ impl Model for Page {
 }
 
 impl Page {
-    /// An empty page, which takes the memory for [`PAGE_ROOM`] bytes at once. It fails only for want of
-    /// memory.
+    /// An empty page, which takes the memory for [`PAGE_ROOM`] bytes at once. It fails only for
+    /// want of memory.
     pub fn new(alloc: Global) -> Result<Page, AllocError>
         ensures { IfOk result (λ page. page ≡ []) }
     {

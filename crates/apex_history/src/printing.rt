@@ -11,7 +11,7 @@ ghost use Rattle.apex_history.specs.Page.{Passes};
 use crate::counting::Counted;
 use crate::lent::Entries;
 use crate::pages::Page;
-use crate::puts::{LINES_ROOM, Lines, put_line};
+use crate::puts::{LINES_ROOM, Lines, put_line, put_parts};
 use crate::sources::Sink;
 use crate::steps::NextSteps;
 use apex_table::Table;
@@ -62,24 +62,6 @@ pub(crate) fn pass_on<W: Sink>(
     Ok(())
 }
 
-/// Moves the lines into the page if one more may not fit behind them.
-fn make_room<W: Sink>(lines: &mut Lines, page: &mut Page, writer: &mut Counted<W>) -> Result<()>
-    ensures ok { OnOk result
-        (Passes (W.contents (inner_of writer.old)) (W.contents (inner_of writer.new))
-        (page.old ++ lines.old.items) (page.new ++ lines.new.items)) }
-    ensures room { OnOk result (array_vec_len lines.new + most_line ≤ LINES_ROOM) }
-    ensures empty { OnErr result (page.new ≡ []) }
-    ensures err { OnErr result
-        (AppendsBeginning (W.contents (inner_of writer.old)) (W.contents (inner_of writer.new))
-        (page.old ++ lines.old.items)) }
-    ensures counted { CountsFailure result (failures_of writer.old) (failures_of writer.new) }
-{
-    if lines.len() + MOST_LINE <= LINES_ROOM {
-        return Ok(());
-    }
-    pass_on(lines, page, writer)
-}
-
 /// Writes out the text of the page, and then the lines.
 fn hand_on<W: Sink>(lines: &mut Lines, page: &mut Page, writer: &mut Counted<W>) -> Result<()>
     ensures ok { OnOk result
@@ -119,9 +101,11 @@ pub fn print_history<W: Sink>(
     let mut lines = Lines::new();
     let mut steps = NextSteps::new();
     page.clear();
-    for entry in entries {
-        make_room(&mut lines, page, writer)?;
-        put_line(&mut lines, table, &mut steps, &entry);
+    for entry in entries.by_parts() {
+        put_parts(&mut lines, table, &mut steps, &entry);
+        if lines.len() + MOST_LINE > LINES_ROOM {
+            pass_on(&mut lines, page, writer)?;
+        }
     }
     hand_on(&mut lines, page, writer)
 }

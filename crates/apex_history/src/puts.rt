@@ -13,12 +13,13 @@ mod message;
 mod status;
 mod status_rows;
 
+use crate::entry_parts::EntryParts;
 use crate::steps::NextSteps;
 use apex_calls::{MOST_SHAPES, MOST_WORD};
 use apex_table::Table;
 use apex_types::{
-    Call, Caller, DeadlineType, Id, LentEntry, MOST_LINE, MOST_LITERAL, MOST_NOTICES, Name, Notice,
-    Reply, ReturnCode, Timeout, Who,
+    Call, Caller, CoreId, DeadlineType, Id, LentEntry, MOST_LINE, MOST_LITERAL, MOST_NOTICES, Name,
+    Notice, ProcessId, Reply, ReturnCode, Timeout, Who,
 };
 use arrayvec::ArrayVec;
 use call::put_called;
@@ -48,8 +49,8 @@ const NOTICES_ROOM: usize = NOTICE_ROOM * MOST_NOTICES;
 static PAIRS: [u8; 200] =
     *b"00010203040506070809101112131415161718192021222324252627282930313233343536373839404142434445464748495051525354555657585960616263646566676869707172737475767778798081828384858687888990919293949596979899";
 
-/// Lines of a history, one behind the other: a buffer of at most [`LINES_ROOM`] bytes, of which a line
-/// takes at most [`MOST_LINE`].
+/// Lines of a history, one behind the other: a buffer of at most [`LINES_ROOM`] bytes, of which a
+/// line takes at most [`MOST_LINE`].
 pub type Lines = ArrayVec<u8, LINES_ROOM>;
 
 #[inline(always)]
@@ -72,6 +73,26 @@ fn put_bytes(line: &mut Lines, text: &[u8])
     prove!(fits);
 }
 
+// A text that is known beforehand. It comes as a value, so that it is a part of the code.
+#[inline(always)]
+fn put_text<const N: usize>(line: &mut Lines, text: [u8; N])
+    requires { array_vec_len line.old + N ≤ LINES_ROOM }
+    ensures text { line.new.items ≡ line.old.items ++ text.entry }
+    ensures len { array_vec_len line.new ≡ array_vec_len line.old + N }
+{
+    put_bytes(line, &text);
+}
+
+// A single byte, for which there is no test whether it fits.
+#[inline(always)]
+fn put_one(line: &mut Lines, byte: u8)
+    requires { array_vec_len line.old < LINES_ROOM }
+    ensures text { line.new.items ≡ line.old.items ++ byte ∷ [] }
+    ensures len { array_vec_len line.new ≡ array_vec_len line.old + 1 }
+{
+    line.push(byte);
+}
+
 // A number of one digit, as most numbers of a line are.
 #[inline(always)]
 #[tactic(auto, using(std::proofs::lemmas::Fmt::decimal_digit))]
@@ -81,20 +102,30 @@ fn put_digit(line: &mut Lines, digit: u8)
     ensures text { line.new.items ≡ line.old.items ++ decimal digit }
     ensures short { array_vec_len line.new ≤ array_vec_len line.old + 1 }
 {
-    put_bytes(line, &[b'0' + digit]);
+    put_one(line, b'0' + digit);
 }
 
 // The two digits of a number below 100, of which the first one may be a zero.
 #[inline(always)]
 #[tactic(auto, using(crate::proofs::Digits::pair_at))]
+fn pair(number: u8) -> (u8, u8)
+    requires { number < 100 }
+    ensures { result ≡ (48 + number / 10, 48 + number % 10) }
+{
+    let from = usize::from(number) * 2;
+    (PAIRS[from], PAIRS[from + 1])
+}
+
+// Those two digits.
+#[inline(always)]
 fn put_pair(line: &mut Lines, number: u8)
     requires digits { number < 100 }
     requires room { array_vec_len line.old + 2 ≤ LINES_ROOM }
     ensures text { line.new.items ≡ line.old.items ++ (48 + number / 10) ∷ (48 + number % 10) ∷ [] }
     ensures short { array_vec_len line.new ≤ array_vec_len line.old + 2 }
 {
-    let from = usize::from(number) * 2;
-    put_bytes(line, &[PAIRS[from], PAIRS[from + 1]]);
+    let (tens, ones) = pair(number);
+    put_bytes(line, &[tens, ones]);
 }
 
 // A number of at most two digits.
@@ -125,10 +156,26 @@ fn put_hundreds(line: &mut Lines, number: u32)
     put_pair(line, (number % 100) as u8);
 }
 
-// A number of five or six digits, as most entries of a long history have.
+// A number of five digits, as most entries of a long history have.
+#[inline(always)]
+#[tactic(auto, using(crate::proofs::Digits::five_digits))]
+fn put_five_digits(line: &mut Lines, number: u32)
+    requires digits { (10000 ≤ number) × (number < 100000) }
+    requires room { array_vec_len line.old + 10 ≤ LINES_ROOM }
+    ensures text { line.new.items ≡ line.old.items ++ decimal number }
+    ensures short { array_vec_len line.new ≤ array_vec_len line.old + 5 }
+{
+    let hundreds = number / 100;
+    let first = b'0' + (hundreds / 100) as u8;
+    let middle = pair((hundreds % 100) as u8);
+    let last = pair((number % 100) as u8);
+    put_bytes(line, &[first, middle.0, middle.1, last.0, last.1]);
+}
+
+// A number of six digits.
 #[tactic(auto, using(crate::proofs::Digits::pair_behind))]
-fn put_thousands(line: &mut Lines, number: u32)
-    requires digits { (10000 ≤ number) × (number < 1000000) }
+fn put_six_digits(line: &mut Lines, number: u32)
+    requires digits { (100000 ≤ number) × (number < 1000000) }
     requires room { array_vec_len line.old + 10 ≤ LINES_ROOM }
     ensures text { line.new.items ≡ line.old.items ++ decimal number }
     ensures short { array_vec_len line.new ≤ array_vec_len line.old + 6 }
@@ -158,8 +205,10 @@ fn put_number(line: &mut Lines, number: u32)
         put_below_hundred(line, number as u8);
     } else if number < 10_000 {
         put_hundreds(line, number);
+    } else if number < 100_000 {
+        put_five_digits(line, number);
     } else if number < 1_000_000 {
-        put_thousands(line, number);
+        put_six_digits(line, number);
     } else {
         put_digits(line, number);
     }
@@ -189,6 +238,7 @@ fn put_long_number(line: &mut Lines, number: u64)
     }
 }
 
+#[inline(always)]
 #[tactic(auto, using(crate::proofs::LinesOf::id_put))]
 fn put_id<K: Copy>(line: &mut Lines, id: Id<K>)
     requires { array_vec_len line.old + 10 ≤ LINES_ROOM }
@@ -199,19 +249,21 @@ fn put_id<K: Copy>(line: &mut Lines, id: Id<K>)
     put_number(line, id.number());
 }
 
-fn put_code(line: &mut Lines, code: &ReturnCode)
-    requires { array_vec_len line.old + 14 ≤ LINES_ROOM }
-    ensures text { line.new.items ≡ line.old.items ++ code_text code.now }
-    ensures short { array_vec_len line.new ≤ array_vec_len line.old + 14 }
+// A return code, with a space before it.
+#[inline(always)]
+fn put_spaced_code(line: &mut Lines, code: &ReturnCode)
+    requires { array_vec_len line.old + 15 ≤ LINES_ROOM }
+    ensures text { line.new.items ≡ line.old.items ++ codes " " ++ code_text code.now }
+    ensures short { array_vec_len line.new ≤ array_vec_len line.old + 15 }
 {
     match code {
-        ReturnCode::NoError => put(line, "NO_ERROR"),
-        ReturnCode::NoAction => put(line, "NO_ACTION"),
-        ReturnCode::NotAvailable => put(line, "NOT_AVAILABLE"),
-        ReturnCode::InvalidParam => put(line, "INVALID_PARAM"),
-        ReturnCode::InvalidConfig => put(line, "INVALID_CONFIG"),
-        ReturnCode::InvalidMode => put(line, "INVALID_MODE"),
-        ReturnCode::TimedOut => put(line, "TIMED_OUT"),
+        ReturnCode::NoError => put_text(line, *b" NO_ERROR"),
+        ReturnCode::NoAction => put_text(line, *b" NO_ACTION"),
+        ReturnCode::NotAvailable => put_text(line, *b" NOT_AVAILABLE"),
+        ReturnCode::InvalidParam => put_text(line, *b" INVALID_PARAM"),
+        ReturnCode::InvalidConfig => put_text(line, *b" INVALID_CONFIG"),
+        ReturnCode::InvalidMode => put_text(line, *b" INVALID_MODE"),
+        ReturnCode::TimedOut => put_text(line, *b" TIMED_OUT"),
     }
 }
 
@@ -235,93 +287,192 @@ fn put_name(line: &mut Lines, name: &Name)
     put_bytes(line, name.as_bytes());
 }
 
+// The tick that was asked for.
+#[inline(never)]
 #[tactic(auto, using(std::proofs::Common::append_assoc))]
+fn put_tick(line: &mut Lines, ticks: u32)
+    requires { array_vec_len line.old + 15 ≤ LINES_ROOM }
+    ensures text { line.new.items ≡ line.old.items ++ codes "tick " ++ decimal ticks }
+    ensures short { array_vec_len line.new ≤ array_vec_len line.old + 15 }
+{
+    put(line, "tick ");
+    put_number(line, ticks);
+}
+
+#[inline(always)]
 fn put_no_call(line: &mut Lines, reply: &Reply)
     requires { array_vec_len line.old + 15 ≤ LINES_ROOM }
     ensures text { line.new.items ≡ line.old.items ++ no_call_text reply.now }
     ensures short { array_vec_len line.new ≤ array_vec_len line.old + 15 }
 {
     match reply {
-        Reply::Advanced(asked, _) => {
-            put(line, "tick ");
-            put_number(line, *asked);
-        }
-        _ => put(line, "idle"),
+        Reply::Advanced(asked, _) => put_tick(line, *asked),
+        _ => put_text(line, *b"idle"),
     }
 }
 
-fn put_asked(line: &mut Lines, table: &Table, steps: &mut NextSteps, entry: &LentEntry<'_>)
+#[inline(always)]
+fn put_asked(line: &mut Lines, table: &Table, steps: &mut NextSteps, entry: &EntryParts<'_>)
     requires known { IfSome entry.now.call (IsKnown table.now) }
     requires room { array_vec_len line.old + CALL_ROOM ≤ LINES_ROOM }
     ensures text { line.new.items ≡ line.old.items
         ++ asked_text table.now entry.entry.now.call entry.entry.now.reply }
     ensures short { array_vec_len line.new ≤ array_vec_len line.old + CALL_ROOM }
 {
-    match &entry.call {
+    match entry.call {
         Some(call) => put_called(line, table, steps, &entry.process, call),
-        None => put_no_call(line, &entry.reply),
+        None => put_no_call(line, entry.reply),
     }
 }
 
+// The time after a turn, and its core, with a space before each.
+#[inline(always)]
+#[tactic(auto, using(std::proofs::Common::append_assoc, std::proofs::lemmas::Fmt::decimal_digit))]
+fn put_turn(line: &mut Lines, now: u64, core: CoreId)
+    requires { array_vec_len line.old + 40 ≤ LINES_ROOM }
+    ensures text { line.new.items ≡ line.old.items
+        ++ codes " " ++ decimal now ++ codes " " ++ codes "core" ++ decimal core }
+    ensures short { array_vec_len line.new ≤ array_vec_len line.old + 30 }
+{
+    let core = b'0' + core.number();
+    if now < 10 {
+        let time = b'0' + now as u8;
+        put_bytes(line, &[b' ', time, b' ', b'c', b'o', b'r', b'e', core]);
+    } else {
+        put_one(line, b' ');
+        put_long_number(line, now);
+        put_bytes(line, &[b' ', b'c', b'o', b'r', b'e', core]);
+    }
+}
+
+// The time after an event, and its maker, with a space before each.
+#[inline(always)]
 #[tactic(auto, using(std::proofs::Common::append_assoc))]
-fn put_who(line: &mut Lines, who: &Who)
-    requires { array_vec_len line.old + 14 ≤ LINES_ROOM }
-    ensures text { line.new.items ≡ line.old.items ++ who_text who.now }
-    ensures short { array_vec_len line.new ≤ array_vec_len line.old + 14 }
+fn put_event(line: &mut Lines, now: u64, who: &Who)
+    requires { array_vec_len line.old + 40 ≤ LINES_ROOM }
+    ensures text { line.new.items ≡ line.old.items
+        ++ codes " " ++ decimal now ++ codes " " ++ who_text who.now }
+    ensures short { array_vec_len line.new ≤ array_vec_len line.old + 30 }
 {
     match who {
-        Who::Core(core) => {
-            put(line, "core");
-            put_number(line, u32::from(core.number()));
+        Who::Core(core) => put_turn(line, now, *core),
+        Who::Ticker => {
+            put_one(line, b' ');
+            put_long_number(line, now);
+            put(line, " ticker");
         }
-        Who::Ticker => put(line, "ticker"),
     }
 }
 
+// An id, with a space before and behind it.
+#[inline(always)]
+#[tactic(auto, using(std::proofs::Common::append_assoc, std::proofs::lemmas::Fmt::decimal_digit, crate::proofs::Digits::two_digits))]
+fn put_spaced_id<K: Copy>(line: &mut Lines, id: Id<K>)
+    requires { array_vec_len line.old + 12 ≤ LINES_ROOM }
+    ensures text { line.new.items ≡ line.old.items ++ codes " " ++ id_text id ++ codes " " }
+    ensures short { array_vec_len line.new ≤ array_vec_len line.old + 5 }
+{
+    prove!(id.place() < 256);
+    let number = id.number();
+    if number < 10 {
+        put_bytes(line, &[b' ', b'0' + number as u8, b' ']);
+    } else if number < 100 {
+        let (tens, ones) = pair(number as u8);
+        put_bytes(line, &[b' ', tens, ones, b' ']);
+    } else {
+        put_one(line, b' ');
+        put_id(line, id);
+        put_one(line, b' ');
+    }
+}
+
+// The caller, with a space before and behind it.
+#[inline(always)]
 fn put_caller(line: &mut Lines, caller: &Caller)
-    requires { array_vec_len line.old + 10 ≤ LINES_ROOM }
-    ensures text { line.new.items ≡ line.old.items ++ caller_text caller.now }
-    ensures short { array_vec_len line.new ≤ array_vec_len line.old + 10 }
+    requires { array_vec_len line.old + 12 ≤ LINES_ROOM }
+    ensures text { line.new.items ≡ line.old.items
+        ++ codes " " ++ caller_text caller.now ++ codes " " }
+    ensures short { array_vec_len line.new ≤ array_vec_len line.old + 6 }
 {
     match caller {
-        Caller::Process(process) => put_id(line, *process),
-        Caller::Init => put(line, "init"),
-        Caller::Nobody => put(line, "-"),
+        Caller::Process(process) => put_spaced_id(line, *process),
+        Caller::Init => put_text(line, *b" init "),
+        Caller::Nobody => put_text(line, *b" - "),
     }
 }
 
+// A return code as a reply, with an arrow before it.
+fn put_code_reply(line: &mut Lines, code: &ReturnCode)
+    requires { array_vec_len line.old + 18 ≤ LINES_ROOM }
+    ensures text { line.new.items ≡ line.old.items ++ codes " -> " ++ code_text code.now }
+    ensures short { array_vec_len line.new ≤ array_vec_len line.old + 18 }
+{
+    match code {
+        ReturnCode::NoError => put(line, " -> NO_ERROR"),
+        ReturnCode::NoAction => put(line, " -> NO_ACTION"),
+        ReturnCode::NotAvailable => put(line, " -> NOT_AVAILABLE"),
+        ReturnCode::InvalidParam => put(line, " -> INVALID_PARAM"),
+        ReturnCode::InvalidConfig => put(line, " -> INVALID_CONFIG"),
+        ReturnCode::InvalidMode => put(line, " -> INVALID_MODE"),
+        ReturnCode::TimedOut => put(line, " -> TIMED_OUT"),
+    }
+}
+
+// Any reply, with an arrow before it.
+#[inline(never)]
 #[tactic(auto, using(std::proofs::Common::append_assoc))]
-fn put_reply(line: &mut Lines, table: &Table, reply: &Reply)
-    requires { array_vec_len line.old + 144 ≤ LINES_ROOM }
-    ensures text { line.new.items ≡ line.old.items ++ reply_text table.now reply.now }
-    ensures short { array_vec_len line.new ≤ array_vec_len line.old + 144 }
+fn put_any_reply(line: &mut Lines, table: &Table, reply: &Reply)
+    requires { array_vec_len line.old + 148 ≤ LINES_ROOM }
+    ensures text { line.new.items ≡ line.old.items
+        ++ codes " -> " ++ reply_text table.now reply.now }
+    ensures short { array_vec_len line.new ≤ array_vec_len line.old + 148 }
 {
     match reply {
-        Reply::Code(code) => put_code(line, code),
+        Reply::Code(code) => put_code_reply(line, code),
         Reply::Value(value) => {
-            put(line, "VALUE ");
+            put(line, " -> VALUE ");
             put_long_number(line, *value);
         }
         Reply::Status(first, second) => {
-            put(line, "STATUS ");
+            put(line, " -> STATUS ");
             put_number(line, *first);
-            put(line, " ");
+            put_one(line, b' ');
             put_number(line, *second);
         }
         Reply::Message(message) => {
-            put(line, "MESSAGE ");
+            put(line, " -> MESSAGE ");
             put_message(line, table, message);
         }
-        Reply::Blocked => put(line, "BLOCKED"),
-        Reply::Gone => put(line, "GONE"),
-        Reply::Idle => put(line, "IDLE"),
-        Reply::Begun => put(line, "BEGUN"),
-        Reply::Done => put(line, "DONE"),
-        Reply::Lost => put(line, "LOST"),
+        Reply::Blocked => put(line, " -> BLOCKED"),
+        Reply::Gone => put(line, " -> GONE"),
+        Reply::Idle => put(line, " -> IDLE"),
+        Reply::Begun => put(line, " -> BEGUN"),
+        Reply::Done => put(line, " -> DONE"),
+        Reply::Lost => put(line, " -> LOST"),
         Reply::Advanced(_, went) => {
-            put(line, "ADVANCED ");
+            put(line, " -> ADVANCED ");
             put_number(line, *went);
         }
+    }
+}
+
+// The reply, with an arrow before it: first those that most entries have, each with a test of its
+// own.
+#[inline(always)]
+fn put_reply(line: &mut Lines, table: &Table, reply: &Reply)
+    requires { array_vec_len line.old + 148 ≤ LINES_ROOM }
+    ensures text { line.new.items ≡ line.old.items
+        ++ codes " -> " ++ reply_text table.now reply.now }
+    ensures short { array_vec_len line.new ≤ array_vec_len line.old + 148 }
+{
+    if let Reply::Code(ReturnCode::NoError) = reply {
+        put_text(line, *b" -> NO_ERROR");
+    } else if let Reply::Blocked = reply {
+        put_text(line, *b" -> BLOCKED");
+    } else if let Reply::Idle = reply {
+        put_text(line, *b" -> IDLE");
+    } else {
+        put_any_reply(line, table, reply);
     }
 }
 
@@ -335,6 +486,37 @@ fn deadline_name(deadline: &DeadlineType) -> &'static str
     }
 }
 
+// The word of a process that was woken, and its id.
+#[inline(always)]
+#[tactic(auto, using(std::proofs::Common::append_assoc, std::proofs::lemmas::Fmt::decimal_digit, crate::proofs::Digits::two_digits))]
+fn put_woken(line: &mut Lines, process: ProcessId)
+    requires { array_vec_len line.old + 20 ≤ LINES_ROOM }
+    ensures text { line.new.items ≡ line.old.items ++ codes " | woken " ++ id_text process }
+    ensures short { array_vec_len line.new ≤ array_vec_len line.old + 12 }
+{
+    prove!(process.place() < 256);
+    let number = process.number();
+    if number < 10 {
+        let digit = b'0' + number as u8;
+        put_bytes(
+            line,
+            &[b' ', b'|', b' ', b'w', b'o', b'k', b'e', b'n', b' ', digit],
+        );
+    } else if number < 100 {
+        let (tens, ones) = pair(number as u8);
+        put_bytes(
+            line,
+            &[
+                b' ', b'|', b' ', b'w', b'o', b'k', b'e', b'n', b' ', tens, ones,
+            ],
+        );
+    } else {
+        put_text(line, *b" | woken ");
+        put_id(line, process);
+    }
+}
+
+#[inline(always)]
 #[tactic(auto, using(std::proofs::Common::append_assoc))]
 fn put_noticed(line: &mut Lines, notice: &Notice)
     requires { array_vec_len line.old + 40 ≤ LINES_ROOM }
@@ -343,24 +525,23 @@ fn put_noticed(line: &mut Lines, notice: &Notice)
 {
     match notice {
         Notice::Woken(process, code) => {
-            put(line, " | woken ");
-            put_id(line, *process);
-            put(line, " ");
-            put_code(line, code);
+            put_woken(line, *process);
+            put_spaced_code(line, code);
         }
         Notice::Released(process) => {
-            put(line, " | released ");
+            put_text(line, *b" | released ");
             put_id(line, *process);
         }
         Notice::Missed(process, deadline) => {
-            put(line, " | missed ");
+            put_text(line, *b" | missed ");
             put_id(line, *process);
-            put(line, " ");
+            put_one(line, b' ');
             put(line, deadline_name(deadline));
         }
     }
 }
 
+#[inline(always)]
 fn put_notices(line: &mut Lines, notices: &[Notice])
     requires few_notices { length notices.now ≤ most_notices }
     requires room { array_vec_len line.old + NOTICES_ROOM + 13 ≤ LINES_ROOM }
@@ -372,34 +553,33 @@ fn put_notices(line: &mut Lines, notices: &[Notice])
     }
 }
 
+/// Puts the line of the entry, as [`put_line`] does.
 #[inline(always)]
 #[tactic(auto, using(std::proofs::Common::append_assoc))]
-fn put_entry(lines: &mut Lines, table: &Table, steps: &mut NextSteps, entry: &LentEntry<'_>)
+pub(crate) fn put_parts(
+    lines: &mut Lines,
+    table: &Table,
+    steps: &mut NextSteps,
+    entry: &EntryParts<'_>,
+)
     requires printable { IsPrintable table.now entry.now }
     requires room { array_vec_len lines.old + most_line ≤ LINES_ROOM }
     ensures text { lines.new.items ≡ lines.old.items ++ line_of table.now entry.entry.now }
-    ensures short { array_vec_len lines.new ≤ array_vec_len lines.old + most_line }
+    ensures room { array_vec_len lines.new ≤ array_vec_len lines.old + most_line }
 {
     put_number(lines, entry.number);
-    put(lines, " ");
-    put_long_number(lines, entry.now);
-    put(lines, " ");
-    put_who(lines, &entry.who);
-    put(lines, " ");
+    put_event(lines, entry.now, entry.who);
     put_caller(lines, &entry.process);
-    put(lines, " ");
     put_asked(lines, table, steps, entry);
-    put(lines, " -> ");
-    put_reply(lines, table, &entry.reply);
+    put_reply(lines, table, entry.reply);
     put_notices(lines, entry.notices);
-    put(lines, "\n");
+    put_one(lines, b'\n');
 }
 
 /// Puts the line of the entry, with its line feed, behind the others. Takes no memory.
 ///
-/// A line has at most [`MOST_LINE`] bytes: so much room there has to be. A call that is the next one
-/// of its caller by `steps` is put fastest.
-// Inlined, so that no entry is copied on its way into a line.
+/// A line has at most [`MOST_LINE`] bytes: so much room there has to be. A call that is the next
+/// one of its caller by `steps` is put fastest.
 #[inline(always)]
 #[tactic(auto, using(crate::proofs::LinesOf::length_put))]
 pub fn put_line(lines: &mut Lines, table: &Table, steps: &mut NextSteps, entry: &LentEntry<'_>)
@@ -408,5 +588,5 @@ pub fn put_line(lines: &mut Lines, table: &Table, steps: &mut NextSteps, entry: 
     ensures text { lines.new.items ≡ lines.old.items ++ line_of table.now entry.entry.now }
     ensures short { length (line_of table.now entry.entry.now) ≤ most_line }
 {
-    put_entry(lines, table, steps, entry);
+    put_parts(lines, table, steps, &EntryParts::of(entry));
 }

@@ -1,14 +1,15 @@
 //! An entry as a log keeps it.
-ghost use Rattle.std.specs.Prelude.{◌≡◌, ◌<◌, length};
+ghost use Rattle.std.specs.Prelude.{◌≡◌, ◌<◌, length, option_map};
 ghost use Rattle.apex_types.specs.values.Limits.{most_entries};
 ghost use Rattle.apex_history.specs.RowEntries.{caller_in, call_in, entry_of, IsAmong, IsWithin};
 
 use crate::calls::Link;
+use crate::entry_parts::EntryParts;
 use apex_types::{Call, Caller, LentEntry, Notice, Reply, Who};
 use std::marker::Model;
 
-/// The caller of an entry, and the place of the call in the log's calls, if there is one. One enum for
-/// both takes no more room than an `Option` of the place alone.
+/// The caller of an entry, and the place of the call in the log's calls, if there is one. One enum
+/// for both takes no more room than an `Option` of the place alone.
 #[derive(Clone, Copy)]
 pub(crate) enum Asked {
     For(Caller, u32),
@@ -36,10 +37,25 @@ impl Asked {
             Asked::Nothing(_) => None,
         }
     }
+
+    /// The call, where the log keeps it.
+    #[inline(always)]
+    fn kept_call<'a>(&self, calls: &'a [Link]) -> Option<&'a Call>
+        requires { IsAmong (length calls.now) self.now }
+        ensures { option_map (λ call. call.now) result ≡ call_in calls.now self.now }
+    {
+        match self {
+            Asked::For(_, place) => {
+                let link = &calls[*place as usize];
+                Some(&link.call)
+            }
+            Asked::Nothing(_) => None,
+        }
+    }
 }
 
-/// An entry as a log keeps it: the row's place is its number, its call is one of the log's calls, and
-/// its notices are a part of those of all rows. The order of the fields leaves no gaps.
+/// An entry as a log keeps it: the row's place is its number, its call is one of the log's calls,
+/// and its notices are a part of those of all rows. The order of the fields leaves no gaps.
 #[derive(Drop)]
 pub(crate) struct Row {
     pub(crate) now: u64,
@@ -90,6 +106,30 @@ impl Row {
             process: self.asked.caller(),
             call: self.asked.call(calls),
             reply: self.reply,
+            notices: &notices[start..start + usize::from(self.count)],
+        }
+    }
+
+    /// The parts of the entry of this row at this place, counted from 0.
+    #[inline(always)]
+    pub(crate) fn parts<'a>(
+        &'a self,
+        place: u32,
+        calls: &'a [Link],
+        notices: &'a [Notice],
+    ) -> EntryParts<'a>
+        requires within { IsWithin (length calls.now) (length notices.now) self.now }
+        requires place { place < most_entries }
+        ensures { result ≡ entry_of calls.now notices.now place self.entry.now }
+    {
+        let start = self.start as usize;
+        EntryParts {
+            number: place + 1,
+            now: self.now,
+            who: &self.who,
+            process: self.asked.caller(),
+            call: self.asked.kept_call(calls),
+            reply: &self.reply,
             notices: &notices[start..start + usize::from(self.count)],
         }
     }

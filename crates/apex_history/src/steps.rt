@@ -4,14 +4,25 @@ ghost use Rattle.apex_types.specs.table.Table.{call_in, process_config};
 ghost use Rattle.apex_calls.specs.CallText.{call_text};
 
 use apex_table::Table;
-use apex_types::{Call, MOST_PROCESSES, MOST_STEPS, ProcessId};
+use apex_types::{Call, MOST_PROCESSES, MOST_STEPS, ObjectCall, ProcessId};
 
-/// Whether the calls are equal.
+/// Whether the calls are equal. The services that scripts ask for most are compared in place.
 #[inline(always)]
 pub(crate) fn is_same(one: &Call, other: &Call) -> bool
     ensures { result ≡ true → one.now ≡ other.now }
 {
-    *one == *other
+    match (one, other) {
+        (
+            Call::Semaphore(ObjectCall::KindService(one, asked)),
+            Call::Semaphore(ObjectCall::KindService(other, also)),
+        ) => *one == *other && *asked == *also,
+        (
+            Call::Buffer(ObjectCall::KindService(one, asked)),
+            Call::Buffer(ObjectCall::KindService(other, also)),
+        ) => *one == *other && *asked == *also,
+        (Call::Time(one), Call::Time(other)) => *one == *other,
+        _ => *one == *other,
+    }
 }
 
 /// Whether the step at this place of the process's script asks for this call.
@@ -26,20 +37,6 @@ fn asks_for(table: &Table, process: ProcessId, place: u8, call: &Call) -> bool
     }
 }
 
-/// The place of the first step of the process's script that asks for this call.
-#[inline(never)]
-fn first_place(table: &Table, process: ProcessId, call: &Call) -> Option<u8>
-    ensures { IfSome result (λ place. call_in (process_config table.now process).script place
-        ≡ Some call.now) }
-{
-    for place in 0..MOST_STEPS as u8 {
-        if asks_for(table, process, place, call) {
-            return Some(place);
-        }
-    }
-    None
-}
-
 /// The place behind this one in the process's script, or the first one at the end of it.
 #[inline(always)]
 fn place_behind(table: &Table, process: ProcessId, place: u8) -> u8 {
@@ -50,9 +47,27 @@ fn place_behind(table: &Table, process: ProcessId, place: u8) -> u8 {
     }
 }
 
-/// The place of the step that each process is expected to ask for next: the one behind the step that
-/// it asked for last, or the first one. Scripts go on in order, so that a line's call is mostly found
-/// at once, and its text is copied from the table. A wrong place has no effect on a line's bytes.
+/// The place of a step of the process's script that asks for this call: the first one from this
+/// place on, and then from the script's first step on.
+#[inline(never)]
+fn place_from(table: &Table, process: ProcessId, from: u8, call: &Call) -> Option<u8>
+    ensures { IfSome result (λ place. call_in (process_config table.now process).script place
+        ≡ Some call.now) }
+{
+    let mut place = from;
+    for _ in 0..=MOST_STEPS {
+        if asks_for(table, process, place, call) {
+            return Some(place);
+        }
+        place = place_behind(table, process, place);
+    }
+    None
+}
+
+/// The place of the step that each process is expected to ask for next: the one behind the step
+/// whose text was copied last, or the first one. Scripts go on in order, so that a line's call is
+/// mostly found soon, and its text is copied from the table. A wrong place has no effect on a
+/// line's bytes.
 #[derive(Drop)]
 pub struct NextSteps {
     places: [u8; MOST_PROCESSES],
@@ -80,7 +95,7 @@ impl NextSteps {
         let place = if asks_for(table, process, *next, call) {
             *next
         } else {
-            first_place(table, process, call)?
+            place_from(table, process, *next, call)?
         };
         *next = place_behind(table, process, place);
         table.step_text(process, usize::from(place))

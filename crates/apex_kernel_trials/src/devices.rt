@@ -13,8 +13,8 @@ fn failure_of(call: io::Result<()>) -> Option<ErrorKind> {
     }
 }
 
-/// Of the calls of the writer, which has room for five bytes, the second one fails, and the one that finds too
-/// little room.
+/// Of the calls of the writer, which has room for five bytes, the second one fails, and the one
+/// that finds too little room.
 fn fail_twice<R: Abort>(rt: &R, writer: &mut Counted<&mut FailAt>) {
     assert!(rt; failure_of(writer.write_all(b"ab")).is_none());
     assert!(rt; failure_of(writer.flush()).is_some() && writer.failures() == 1);

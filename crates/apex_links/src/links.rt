@@ -48,7 +48,7 @@ impl LinkSet {
     }
 
     /// The number of nodes that the calls, reading ones too, have read or written since the set was
-    /// made.
+    /// made, modulo 2^64.
     pub fn visits(&self) -> u64 {
         self.chains.visits()
     }

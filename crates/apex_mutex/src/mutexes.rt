@@ -12,8 +12,8 @@ ghost use Rattle.apex_types.specs.processes.Stamps.{HasManyStamps};
 
 use apex_store::{Object, Store, hand_over, wait_for};
 use apex_types::{
-    Caller, Holding, Holdings, MOST_DEPTH, MutexId, MutexKind, MutexService, Notices, ProcessId,
-    Record, Reply, ReturnCode, Timeout, Wait,
+    Caller, Holding, MOST_DEPTH, MutexId, MutexKind, MutexService, Notices, ProcessId, Record,
+    Reply, ReturnCode, Timeout, Wait,
 };
 use std::marker::Model;
 
@@ -66,18 +66,16 @@ impl Mutex {
         Mutex { created: false }
     }
 
-    /// The process, which calls and does not own this mutex, owns it too if it is free, else it waits
-    /// until the timeout, in ticks, is over. `owned` has the mutexes that it owns already.
+    /// The process, which calls and does not own this mutex, owns it too if it is free, else it
+    /// waits until the timeout, in ticks, is over.
     fn acquire_from<S: Store>(
         &self,
         store: &mut S,
         id: MutexId,
         process: ProcessId,
-        owned: &Holdings,
         timeout: Timeout,
     ) -> Reply
-        requires owned { owned.now ≡ (record_at (S.roster store.old) process).owned }
-        requires few_owned { length owned.now < most_owned }
+        requires few_owned { length (record_at (S.roster store.old) process).owned < most_owned }
         requires ready { IsReady (S.roster store.old) process }
         requires stamps { HasManyStamps (S.roster store.old) }
         requires time { HasTime (S.roster store.old) }
@@ -92,7 +90,7 @@ impl Mutex {
             ceiling: store.ceiling(id),
             depth: 1,
         };
-        let mut owned = *owned;
+        let mut owned = store.record(process).owned;
         owned.push(holding);
         store.own(process, owned);
         Reply::Code(ReturnCode::NoError)
@@ -124,20 +122,21 @@ impl Mutex {
         let Caller::Process(process) = caller else {
             return Reply::Code(ReturnCode::InvalidMode);
         };
-        let record = *store.record(*process);
-        if may_not_wait(&record, id, timeout)
-            || owns_most(store, &record, id)
+        let record = store.record(*process);
+        if may_not_wait(record, id, timeout)
+            || owns_most(store, record, id)
             || record.base > store.ceiling(id)
-            || is_deepest(&record, id)
+            || is_deepest(record, id)
         {
             return Reply::Code(ReturnCode::InvalidMode);
         }
         match record.owned.holding_of(id) {
             Some(holding) => {
-                store.own(*process, record.owned.with_depth(id, holding.depth + 1));
+                let deeper = record.owned.with_depth(id, holding.depth + 1);
+                store.own(*process, deeper);
                 Reply::Code(ReturnCode::NoError)
             }
-            None => self.acquire_from(store, id, *process, &record.owned, timeout),
+            None => self.acquire_from(store, id, *process, timeout),
         }
     }
 
@@ -164,17 +163,19 @@ impl Mutex {
         let Caller::Process(process) = caller else {
             return Reply::Code(ReturnCode::InvalidMode);
         };
-        let record = *store.record(*process);
+        let record = store.record(*process);
         if !record.owns(id) {
             return Reply::Code(ReturnCode::InvalidMode);
         }
         match record.owned.holding_of(id) {
             Some(holding) if holding.depth > 1 => {
-                store.own(*process, record.owned.with_depth(id, holding.depth - 1));
+                let left = record.owned.with_depth(id, holding.depth - 1);
+                store.own(*process, left);
                 Reply::Code(ReturnCode::NoError)
             }
             Some(holding) => {
-                store.own(*process, record.owned.without(id));
+                let left = record.owned.without(id);
+                store.own(*process, left);
                 hand_over(store, &holding, notices);
                 Reply::Code(ReturnCode::NoError)
             }

@@ -37,8 +37,8 @@ impl<P: Naming> Model for Closed<P> {
 }
 
 impl<P: Naming> Closed<P> {
-    /// The closed partition of this history, which its scribe has finished and, if it has readers, its
-    /// publisher has published.
+    /// The closed partition of this history, which its scribe has finished and, if it has readers,
+    /// its publisher has published.
     pub(crate) fn new(
         partition: Partition,
         story: Story<P>,
@@ -80,8 +80,8 @@ impl<P: Naming> Closed<P> {
         self.partition.entry(receipt.entry().number as usize - 1)
     }
 
-    /// Tells a reader of the whole history: the front after it, and the reader, which has seen it. What the
-    /// reader had seen is a prefix of it. It promises only if it returns.
+    /// Tells a reader of the whole history: the front after it, and the reader, which has seen it.
+    /// What the reader had seen is a prefix of it. It promises only if it returns.
     pub fn tell<R: Wait>(&mut self, rt: &R, reader: Reader<P>) -> (Front, Reader<P>)
         ensures same { self.new ≡ self.old }
         ensures saw { IsPrefix reader self.old }

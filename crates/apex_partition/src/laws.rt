@@ -4,8 +4,8 @@ ghost use Rattle.apex_partition.specs.Forward.{FrontsGoForward};
 use apex_dispatch::{histories_replay, time_goes_forward};
 use apex_table::Table;
 
-/// A front after a longer history has no fewer entries and no earlier time. So a reader's later front has
-/// no fewer entries and no earlier time than each that it read before.
+/// A front after a longer history has no fewer entries and no earlier time. So a reader's later
+/// front has no fewer entries and no earlier time than each that it read before.
 pub fn fronts_go_forward(table: &Table)
     ensures { FrontsGoForward table.now }
 {

@@ -29,12 +29,12 @@ fn seated<P: Naming>(alloc: Global, voices: Vec<Voice<P>>) -> Result<Vec<Seat<P>
     Ok(seats)
 }
 
-/// A partition before any event, a seat for each core, in the order of their numbers, the ticker, and the
-/// board with the partition's readers.
+/// A partition before any event, a seat for each core, in the order of their numbers, the ticker,
+/// and the board with the partition's readers.
 ///
-/// It takes all the memory that events will fill, and fails only for want of memory, which leaves nothing
-/// behind. `P` is named after the book that was opened for it, after the table, and after the cell of the
-/// board.
+/// It takes all the memory that events will fill, and fails only for want of memory, which leaves
+/// nothing behind. `P` is named after the book that was opened for it, after the table, and after
+/// the cell of the board.
 pub fn open_read<P: Naming>(
     alloc: Global,
     table: Table,

@@ -18,7 +18,7 @@ use apex_history::Entries;
 use apex_process::QueueStore;
 use apex_store::Store;
 use apex_table::Table;
-use apex_types::{CoreId, Entry, Full, LentEntry, ProcessId, State};
+use apex_types::{CoreId, Full, LentEntry, ProcessId, State};
 use arrayvec::ArrayVec;
 use std::alloc::{AllocError, Global};
 use std::marker::Model;
@@ -119,8 +119,8 @@ impl Partition {
         self.store().state(process)
     }
 
-    /// The front of the partition: how many entries its history has, the time, and which process each core
-    /// runs.
+    /// The front of the partition: how many entries its history has, the time, and which process
+    /// each core runs.
     pub fn front(&self) -> Front
         ensures shown { result ≡ front_of self.now.table self.now.machine }
         ensures after { IsFrontAfter self.now.table self.now.machine.history result }
@@ -163,12 +163,12 @@ impl Partition {
     }
 
     /// The last entry of the history, which has one.
-    pub(crate) fn latest(&self) -> Entry
+    pub(crate) fn latest(&self) -> LentEntry<'_>
         requires { 0 < length self.now.machine.history }
         ensures { last_or None self.now.machine.history ≡ Some result }
     {
         match self.kernel.entries().latest() {
-            Some(entry) => entry.kept(),
+            Some(entry) => entry,
             None => unreachable!(),
         }
     }

@@ -1,5 +1,6 @@
-//! The value under the lock: the partition, the scribe of its history, and the publisher of its fronts.
-ghost use Rattle.std.specs.Prelude.{◌≡◌, ℕ, ◌+◌, ◌<◌, ◌≤◌, ◌++◌, ◌∷◌, [], None, All, IfErr, IfOk, IfSome, IsOk, MatchOption, OnErr, ◌↔◌, length, slice_index_or, vec_len};
+//! The value under the lock: the partition, the scribe of its history, and the publisher of its
+//! fronts.
+ghost use Rattle.std.specs.Prelude.{◌≡◌, ℕ, ◌+◌, ◌<◌, ◌≤◌, ◌++◌, ◌∷◌, [], None, All, IfErr, IfOk, IfSome, IsOk, MatchOption, OnErr, OnOk, ◌↔◌, length, slice_index_or, vec_len};
 ghost use Rattle.apex_types.specs.declared.entries.Entry.{Entry};
 ghost use Rattle.apex_types.specs.declared.entries.Who.TheVariants.{Core, Ticker as ToTicker};
 ghost use Rattle.apex_types.specs.values.Limits.{most_ticks};
@@ -20,8 +21,8 @@ use apex_types::{Entry as KeptEntry, Full};
 use std::marker::Model;
 use std::sync::Wait;
 
-/// The partition with the scribe that writes its history down and, if it has readers, the publisher of its
-/// fronts. Contracts see it as the partition.
+/// The partition with the scribe that writes its history down and, if it has readers, the publisher
+/// of its fronts. Contracts see it as the partition.
 ///
 /// Whenever the lock is free, the front after the whole history is published.
 #[derive(Drop)]
@@ -60,7 +61,27 @@ fn record_latest<P: Naming>(
     ensures place { result.place ≡ length voice.old.own + 1 }
 {
     partition.stays_within();
-    scribe.record(voice, partition.latest())
+    scribe.record(voice, &partition.latest())
+}
+
+/// Writes that entry down as `record_latest` does. Its receipt takes the place of this one.
+fn record_latest_into<P: Naming>(
+    partition: &Partition,
+    scribe: &mut Scribe<P>,
+    voice: &mut Voice<P>,
+    receipt: &mut Receipt<P>,
+)
+    requires table { partition.now.table ≡ P.table }
+    requires latest { (e : Entry)
+        × IsLatest scribe.old voice.old.who e partition.now.machine.history }
+    ensures history { scribe.new ≡ partition.now.machine.history }
+    ensures voice { voice.new ≡ with_entry voice.old receipt.new.entry }
+    ensures latest { IsLatest
+        scribe.old voice.old.who receipt.new.entry partition.now.machine.history }
+    ensures place { receipt.new.place ≡ length voice.old.own + 1 }
+{
+    partition.stays_within();
+    scribe.record_into(voice, &partition.latest(), receipt);
 }
 
 /// Publishes the front after the partition's last entry, if it has readers.
@@ -81,8 +102,8 @@ fn publish_latest<P: Naming, R: Wait>(
 }
 
 impl<P: Naming> Published<P> {
-    /// A partition before any event, a scribe that has written nothing and, if the partition has readers,
-    /// a publisher that has published nothing.
+    /// A partition before any event, a scribe that has written nothing and, if the partition has
+    /// readers, a publisher that has published nothing.
     pub fn new(
         partition: Partition,
         scribe: Scribe<P>,
@@ -100,8 +121,8 @@ impl<P: Naming> Published<P> {
         }
     }
 
-    /// One turn of the seat's core, whole, and the receipt of its entry. If it is accepted, the front after
-    /// it is published.
+    /// One turn of the seat's core, whole, and the receipt of its entry. If it is accepted, the
+    /// front after it is published.
     pub fn turn<R: Wait>(&mut self, rt: &R, seat: &mut Seat<P>) -> Result<Receipt<P>, Full>
         ensures accepted { IsOk result ↔ (length self.old.machine.history < self.old.table.limit) }
         ensures done { IfOk result (λ r. (core : ℕ) × (seat.old.who ≡ Core core)
@@ -121,8 +142,40 @@ impl<P: Naming> Published<P> {
         Ok(receipt)
     }
 
-    /// One tick of `n`, whole, and the receipt of its entry. If it is accepted, the front after it is
-    /// published.
+    /// One turn as `turn` makes it. If it is accepted, the receipt of its entry takes the place of
+    /// this one, so that no whole entry is copied.
+    pub fn turn_into<R: Wait>(
+        &mut self,
+        rt: &R,
+        seat: &mut Seat<P>,
+        receipt: &mut Receipt<P>,
+    ) -> Result<(), Full>
+        ensures accepted { IsOk result ↔ (length self.old.machine.history < self.old.table.limit) }
+        ensures done { OnOk result ((core : ℕ) × (seat.old.who ≡ Core core)
+            × (self.new ≡ after_turn self.old core)
+            × (self.new.machine.history
+            ≡ self.old.machine.history ++ receipt.new.entry ∷ [])) }
+        ensures ok { OnOk result (IsReceiptOf seat.old receipt.new seat.new) }
+        ensures refused { OnErr result (self.new ≡ self.old) }
+        ensures learns { OnErr result (seat.new ≡ told_full seat.old) }
+        ensures same { OnErr result (receipt.new ≡ receipt.old) }
+        ensures full { IfErr result (λ e. e.entries ≡ P.table.limit) }
+    {
+        match self.partition.turn(seat.core) {
+            Ok(()) => {
+                record_latest_into(&self.partition, &mut self.scribe, &mut seat.voice, receipt);
+                publish_latest(rt, &self.partition, &mut self.publisher, receipt.entry());
+                Ok(())
+            }
+            Err(full) => {
+                self.scribe.refuse(&mut seat.voice);
+                Err(full)
+            }
+        }
+    }
+
+    /// One tick of `n`, whole, and the receipt of its entry. If it is accepted, the front after it
+    /// is published.
     pub fn tick<R: Wait>(
         &mut self,
         rt: &R,

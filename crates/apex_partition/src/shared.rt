@@ -1,5 +1,5 @@
 //! A partition that threads share.
-ghost use Rattle.std.specs.Prelude.{◌≡◌, ℕ, ◌<◌, ◌≤◌, All, IfErr, IfOk, IfSome, OnErr, slice_index_or, vec_len};
+ghost use Rattle.std.specs.Prelude.{◌≡◌, ℕ, ◌<◌, ◌≤◌, All, IfErr, IfOk, IfSome, OnErr, OnOk, slice_index_or, vec_len};
 ghost use Rattle.std.specs.Fn.{FnOnceReturnsAt};
 ghost use Rattle.apex_types.specs.declared.entries.Entry.{Entry};
 ghost use Rattle.apex_types.specs.declared.entries.Who.TheVariants.{Core, Ticker as ToTicker};
@@ -37,6 +37,22 @@ impl<P: Naming> Shared<P> {
         ensures full { IfErr result (λ e. e.entries ≡ P.table.limit) }
     {
         self.lock.lock(rt).turn(rt, seat)
+    }
+
+    /// One turn of the seat's core, whole, as [`Shared::turn`] makes it. Its receipt takes the
+    /// place of this one. A full history answers [`Full`], and stays as it is, as the receipt does.
+    pub fn turn_into<R: Wait>(
+        &self,
+        rt: &R,
+        seat: &mut Seat<P>,
+        receipt: &mut Receipt<P>,
+    ) -> Result<(), Full>
+        ensures ok { OnOk result (IsReceiptOf seat.old receipt.new seat.new) }
+        ensures learns { OnErr result (seat.new ≡ told_full seat.old) }
+        ensures same { OnErr result (receipt.new ≡ receipt.old) }
+        ensures full { IfErr result (λ e. e.entries ≡ P.table.limit) }
+    {
+        self.lock.lock(rt).turn_into(rt, seat, receipt)
     }
 
     /// One tick, whole: time goes on by `n` ticks, but not past the next instant at which a wait

@@ -1,5 +1,5 @@
 //! The events of a history, and their picture.
-ghost use Rattle.std.specs.Prelude.{◌≡◌, ℕ, true, replicate, All, IfOk, IfErr, IsOk, OnErr, OnOk, Ok};
+ghost use Rattle.std.specs.Prelude.{◌≡◌, true, All, IfOk, IfErr, IsOk, OnErr, OnOk, Ok};
 ghost use Rattle.std.specs.Io.KnownBytes.{Appends};
 ghost use Rattle.apex_types.specs.machine.Machine.{asked_ticks, event_of, events_of, opening, run};
 ghost use Rattle.apex_dispatch.specs.Events.{IsWithin};
@@ -9,7 +9,7 @@ ghost use Rattle.apex_table.specs.Reading.{table_of};
 ghost use Rattle.apex_pictures.specs.Drawing.{CountsDrawing};
 ghost use Rattle.apex_pictures.specs.Pictures.{picture_text};
 ghost use Rattle.apex_cli.specs.Reports.{fault_of_events};
-ghost use Rattle.apex_cli.specs.Schedule.{are_cores_below, events_of_item, events_of_items, is_core_below};
+ghost use Rattle.apex_cli.specs.Schedule.{are_cores_below, events_of_items};
 ghost use Rattle.apex_cli.specs.declared.CliFault.TheVariants.{Memory};
 ghost use Rattle.apex_picture.specs.Histories.{HasHistory, IsHistoryOf};
 ghost use Rattle.apex_picture.specs.Tasks.{IsOfEntries, task_said};
@@ -19,7 +19,7 @@ ghost use Rattle.apex_pictures.specs.declared.Style.TheVariants as Style;
 use crate::histories::{History, history_in, table_in};
 use crate::tasks::Task;
 use crate::words::Format;
-use apex_cli::{CliFault, Item, are_cores_below, run_items};
+use apex_cli::{CliFault, Item, are_cores_below, repeated, run_items};
 use apex_dispatch::Kernel;
 use apex_history::{Counted, Sink};
 use apex_pictures::{DrawFault, Frame, Style, draw};
@@ -156,18 +156,6 @@ fn run_of(alloc: Global, task: &Task, items: &[Item], table: Table) -> Result<Ru
     let fault = ran(&mut kernel, items);
     kernel.holds();
     run_in(alloc, task, &kernel, fault)
-}
-
-/// The event of an item, and the number of times that it comes.
-#[tactic(auto, unfolding(apex_cli::specs::Schedule::is_core_below))]
-fn repeated(item: &Item) -> (Event, u32)
-    ensures events { events_of_item item.now ≡ replicate result.1 result.0 }
-    ensures within { (cores : ℕ) → is_core_below cores item.now ≡ true → IsWithin cores result.0 }
-{
-    match *item {
-        Item::Turns { core, times } => (Event::Turn(core), times),
-        Item::Tick(ticks) => (Event::Tick(ticks.count()), 1),
-    }
 }
 
 /// The events for which items ask.

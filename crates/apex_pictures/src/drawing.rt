@@ -30,7 +30,7 @@ use std::io::Write;
 use thiserror::Error;
 
 /// The least number of bytes that are gathered before they are written.
-const GATHERED: usize = 32_768;
+const GATHERED: usize = 131_072;
 
 /// The reason why a picture was not drawn to its end.
 #[derive(Clone, Copy, Debug, PartialEq, Eq, Error)]
@@ -207,11 +207,11 @@ fn make_room<W: Sink>(text: &mut Vec<u8>, writer: &mut Counted<W>) -> Result<(),
     hand_on(text, writer)
 }
 
-/// Draws the picture of the run of the events, on a kernel before any event, and writes it column by
-/// column. It leaves out events for which the history has no room.
+/// Draws the picture of the run of the events, on a kernel before any event, and writes it column
+/// by column. It leaves out events for which the history has no room.
 ///
-/// It takes memory for the text of a column and not for the history. If memory is refused or a write
-/// fails, a prefix of the picture was written.
+/// It takes memory for the text of a column and not for the history. If memory is refused or a
+/// write fails, a prefix of the picture was written.
 pub fn draw<S: Store, W: Sink>(
     alloc: Global,
     style: &Style,

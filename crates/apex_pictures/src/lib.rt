@@ -9,6 +9,7 @@ mod drawing;
 mod frames;
 mod laws;
 mod moments;
+mod pieces;
 mod stamps;
 mod styles;
 mod svg;

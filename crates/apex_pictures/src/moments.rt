@@ -68,22 +68,25 @@ fn is_process(process: ProcessId, chosen: Option<ProcessId>) -> bool
     }
 }
 
-/// The state of a process, by its record and the process that its core runs.
+/// The state of a process, by its record and the process that each core runs. It looks at the
+/// latter only for an eligible process.
+#[inline(always)]
 pub(crate) fn state_of(
     process: ProcessId,
     row: &Record,
     mode: Mode,
-    chosen: Option<ProcessId>,
+    running: &[Option<ProcessId>],
 ) -> State
     ensures { result ≡ (if not row.now.started then Dormant
         else if not (is_eligible mode row.now) then Waiting
-        else if is_process process chosen then Running else Ready) }
+        else if is_process process (slice_index_or running.now row.now.core None) then Running
+        else Ready) }
 {
     if !row.started {
         State::Dormant
     } else if !row.is_eligible(mode) {
         State::Waiting
-    } else if is_process(process, chosen) {
+    } else if is_process(process, running_at(running, row.core)) {
         State::Running
     } else {
         State::Ready
@@ -119,9 +122,9 @@ fn cell_of<S: Store>(store: &S, process: ProcessId, running: &[Option<ProcessId>
     ensures { result ≡ cell_of (S.roster store.now) process }
 {
     let row = store.record(process);
-    let chosen = running_at(running, row.core);
+    prove!(u32::from(row.core.number()) < MOST_CORES);
     Cell {
-        state: state_of(process, row, store.mode(), chosen),
+        state: state_of(process, row, store.mode(), running),
         wait: row.wait,
         owned: row.owned,
     }

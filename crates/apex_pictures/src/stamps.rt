@@ -1,6 +1,7 @@
 //! The texts of a slice's end and of its beginning, before the number of its track and behind it.
-ghost use Rattle.std.specs.Prelude.{◌≡◌};
+ghost use Rattle.std.specs.Prelude.{◌≡◌, ◌≤◌, length};
 ghost use Rattle.apex_pictures.specs.Stamps.{IsGroup, IsStamp, begin_back, begin_front, end_back, end_front};
+ghost use Rattle.apex_pictures.specs.declared.stamps.TheConstants.{BEGIN_ROOM, END_ROOM, FRONT};
 
 use arrayvec::ArrayString;
 use itoa::Buffer;
@@ -8,11 +9,14 @@ use itoa::Buffer;
 /// The most digits of a time.
 const DIGITS: usize = 20;
 
+/// The bytes before the number of a track.
+pub(crate) const FRONT: usize = 26;
+
 /// The most bytes behind the number of a track at the end of a slice.
-const END_ROOM: usize = DIGITS + 7;
+pub(crate) const END_ROOM: usize = DIGITS + 7;
 
 /// The same at the beginning of a slice.
-const BEGIN_ROOM: usize = 2 * DIGITS + 31;
+pub(crate) const BEGIN_ROOM: usize = 2 * DIGITS + 31;
 
 /// The time of an entry, and its texts, which are the same in all slices.
 #[derive(Drop)]
@@ -47,24 +51,30 @@ impl Stamp {
     }
 
     /// What is behind the number of a track at the end of a slice.
+    #[inline(always)]
     pub(crate) fn end(&self) -> &str
-        ensures { result.now ≡ self.now.end.bytes }
+        ensures value { result.now ≡ self.now.end.bytes }
+        ensures short { length result.now ≤ END_ROOM }
     {
         self.end.as_str()
     }
 
     /// What is behind the number of a track at the beginning of a slice, up to its name.
+    #[inline(always)]
     pub(crate) fn begin(&self) -> &str
-        ensures { result.now ≡ self.now.begin.bytes }
+        ensures value { result.now ≡ self.now.begin.bytes }
+        ensures short { length result.now ≤ BEGIN_ROOM }
     {
         self.begin.as_str()
     }
 }
 
 /// What is before the number of a track of a group at the end of a slice.
+#[inline(always)]
 pub(crate) fn end_front(group: u8) -> &'static str
     requires { IsGroup group }
-    ensures { result.now ≡ end_front group }
+    ensures value { result.now ≡ end_front group }
+    ensures len { length result.now ≡ FRONT }
 {
     if group == 1 {
         ",\n{\"ph\":\"E\",\"pid\":1,\"tid\":"
@@ -74,9 +84,11 @@ pub(crate) fn end_front(group: u8) -> &'static str
 }
 
 /// What is before the number of a track of a group at the beginning of a slice.
+#[inline(always)]
 pub(crate) fn begin_front(group: u8) -> &'static str
     requires { IsGroup group }
-    ensures { result.now ≡ begin_front group }
+    ensures value { result.now ≡ begin_front group }
+    ensures len { length result.now ≡ FRONT }
 {
     if group == 1 {
         ",\n{\"ph\":\"B\",\"pid\":1,\"tid\":"

@@ -1,7 +1,8 @@
 //! A picture as a trace in the Trace Event Format, which is JSON: tracks of the cores and of the
 //! processes, and counters of the objects. An entry's number is its time in microseconds; the
 //! partition's time is an argument.
-ghost use Rattle.std.specs.Prelude.{◌≡◌, ◌++◌, flat_map, length, map, OnOk};
+ghost use Rattle.std.specs.Prelude.{◌≡◌, ◌+◌, ◌≤◌, ◌++◌, flat_map, is_some, length, map, OnOk};
+ghost use Rattle.arrayvec.specs.ArrayVec.{array_vec_len};
 ghost use Rattle.apex_types.specs.text.Listing.{texts_of};
 ghost use Rattle.apex_types.specs.values.Limits.{most_cores};
 ghost use Rattle.apex_pictures.specs.Counts.{HasCounts};
@@ -9,18 +10,21 @@ ghost use Rattle.apex_pictures.specs.Moments.{moment_in, none_shown, running_in,
 ghost use Rattle.apex_pictures.specs.Places.{of_places};
 ghost use Rattle.apex_pictures.specs.Stamps.{IsStamp, Stamps};
 ghost use Rattle.apex_pictures.specs.Trace as trace;
+ghost use Rattle.apex_pictures.specs.declared.pieces.TheConstants.{PIECE_ROOM};
+ghost use Rattle.apex_pictures.specs.declared.trace.TheConstants.{BEGIN, END, NAME};
 ghost use Rattle.apex_pictures.specs.Tracks.{bare, bare_cells, cell_on, track_of};
 
 use crate::counters::put_first_counts;
 use crate::moments::{CORES, running_at};
-use crate::stamps::{Stamp, begin_front, end_front};
-use crate::texts::{Part, put, put_all, put_json, put_number};
+use crate::pieces::{Piece, add, add_json, add_number, add_text};
+use crate::stamps::{BEGIN_ROOM, END_ROOM, FRONT, Stamp, begin_front, end_front};
+use crate::texts::{Part, put, put_all};
 use crate::tracks::{Track, Tracks, state_on, track_of};
-use crate::words::{deadline_word, id_part, name_of, put_id};
+use crate::words::{deadline_word, id_part, name_of};
 use apex_dispatch::Kernel;
 use apex_store::Store;
 use apex_table::Table;
-use apex_types::{CoreId, DeadlineType, LentEntry, Notice, ProcessId, State};
+use apex_types::{CoreId, DeadlineType, LentEntry, MOST_NAME, Notice, ProcessId, State};
 use std::alloc::AllocError;
 
 /// The place of a slice or a mark in a trace: its group, its track and its time.
@@ -108,111 +112,111 @@ pub(crate) fn put_head(text: &mut Vec<u8>, table: &Table, first: &Tracks) -> Res
     put_first_counts(text, table, first.counts())
 }
 
-/// Puts the end of a slice.
-fn put_end(text: &mut Vec<u8>, spot: Spot, stamp: &Stamp) -> Result<(), AllocError>
-    requires { Stamps stamp.now spot }
-    ensures { OnOk result (text.new.items ≡ text.old.items ++ trace.end_text spot) }
+/// The most bytes of the end of a slice: the front, the number of the track and the back.
+const END: usize = FRONT + 10 + END_ROOM;
+
+/// The most bytes of the beginning of a slice, up to its name.
+const BEGIN: usize = FRONT + 10 + BEGIN_ROOM;
+
+/// The most bytes of the name of a slice and of what is behind it: the number of a process, and its
+/// name, of which JSON escapes each byte at the most.
+const NAME: usize = 10 + 1 + 2 * MOST_NAME + 2;
+
+/// Adds the end of a slice.
+#[inline(always)]
+fn add_end(piece: &mut Piece, spot: Spot, stamp: &Stamp)
+    requires stamps { Stamps stamp.now spot }
+    requires room { array_vec_len piece.old + END ≤ PIECE_ROOM }
+    ensures text { piece.new.items ≡ piece.old.items ++ trace.end_text spot }
+    ensures short { array_vec_len piece.new ≤ array_vec_len piece.old + END }
 {
-    put(text, end_front(spot.group))?;
-    put_number(text, u64::from(spot.track))?;
-    put(text, stamp.end())
+    add(piece, end_front(spot.group));
+    add_number(piece, spot.track);
+    add(piece, stamp.end());
 }
 
-/// Puts the beginning of a slice, up to its name.
-fn put_begin(text: &mut Vec<u8>, spot: Spot, stamp: &Stamp) -> Result<(), AllocError>
-    requires { Stamps stamp.now spot }
-    ensures { OnOk result (text.new.items ≡ text.old.items
-        ++ trace.begin_text spot stamp.now.ticks) }
+/// Adds the beginning of a slice, up to its name.
+#[inline(always)]
+fn add_begin(piece: &mut Piece, spot: Spot, stamp: &Stamp)
+    requires stamps { Stamps stamp.now spot }
+    requires room { array_vec_len piece.old + BEGIN ≤ PIECE_ROOM }
+    ensures text { piece.new.items ≡ piece.old.items ++ trace.begin_text spot stamp.now.ticks }
+    ensures short { array_vec_len piece.new ≤ array_vec_len piece.old + BEGIN }
 {
-    put(text, begin_front(spot.group))?;
-    put_number(text, u64::from(spot.track))?;
-    put(text, stamp.begin())
+    add(piece, begin_front(spot.group));
+    add_number(piece, spot.track);
+    add(piece, stamp.begin());
 }
 
-/// Puts the name of the slice of a process that a core runs.
+/// Adds the name of the slice of a process that a core runs.
+#[inline(always)]
 #[tactic(auto, using(std::proofs::Common::append_assoc), unfolding(crate::specs::Trace::run_name_text))]
-fn put_run_name(text: &mut Vec<u8>, table: &Table, process: ProcessId) -> Result<(), AllocError>
-    ensures { OnOk result (text.new.items ≡ text.old.items
-        ++ trace.run_name_text table.now process) }
+fn add_run_name(piece: &mut Piece, table: &Table, process: ProcessId)
+    requires { array_vec_len piece.old + NAME ≤ PIECE_ROOM }
+    ensures text { piece.new.items ≡ piece.old.items ++ trace.run_name_text table.now process }
+    ensures short { array_vec_len piece.new ≤ array_vec_len piece.old + NAME }
 {
-    put_id(text, process)?;
-    put(text, " ")?;
-    put_json(text, name_of(table, process))?;
-    put(text, "\"}")
+    add_number(piece, process.number());
+    add_text(piece, *b" ");
+    add_json(piece, name_of(table, process));
+    add_text(piece, *b"\"}");
 }
 
-/// Puts the slice of a process that a core begins to run.
+/// Adds the slice of the process that a core runs, if it runs one.
+#[inline(always)]
 #[tactic(auto, using(std::proofs::Common::append_assoc))]
-fn put_run(
-    text: &mut Vec<u8>,
-    table: &Table,
-    spot: Spot,
-    stamp: &Stamp,
-    process: ProcessId,
-) -> Result<(), AllocError>
-    requires { Stamps stamp.now spot }
-    ensures { OnOk result (text.new.items ≡ text.old.items
-        ++ trace.run_text table.now spot stamp.now.ticks process) }
-{
-    put_begin(text, spot, stamp)?;
-    put_run_name(text, table, process)
-}
-
-/// Puts the slice of the process that a core runs, if it runs one.
-fn put_running(
-    text: &mut Vec<u8>,
+fn add_running(
+    piece: &mut Piece,
     table: &Table,
     spot: Spot,
     stamp: &Stamp,
     running: &Option<ProcessId>,
-) -> Result<(), AllocError>
-    requires { Stamps stamp.now spot }
-    ensures { OnOk result (text.new.items ≡ text.old.items
-        ++ trace.run_of table.now spot stamp.now.ticks running.now) }
+)
+    requires stamps { Stamps stamp.now spot }
+    requires room { array_vec_len piece.old + BEGIN + NAME ≤ PIECE_ROOM }
+    ensures { piece.new.items ≡ piece.old.items
+        ++ trace.run_of table.now spot stamp.now.ticks running.now }
 {
-    match running {
-        Some(process) => put_run(text, table, spot, stamp, *process),
-        None => Ok(()),
+    if let Some(process) = running {
+        add_begin(piece, spot, stamp);
+        add_run_name(piece, table, *process);
     }
 }
 
-/// Puts a slice that has this name, which ends with the end of the slice's text.
+/// Adds the slice of the state that a process enters; DORMANT has no slice.
+#[inline(always)]
 #[tactic(auto, using(std::proofs::Common::append_assoc))]
-fn put_slice(text: &mut Vec<u8>, spot: Spot, stamp: &Stamp, name: &str) -> Result<(), AllocError>
-    requires { Stamps stamp.now spot }
-    ensures { OnOk result (text.new.items ≡ text.old.items
-        ++ (trace.begin_text spot stamp.now.ticks ++ name.now)) }
+fn add_being(piece: &mut Piece, spot: Spot, stamp: &Stamp, state: State)
+    requires stamps { Stamps stamp.now spot }
+    requires room { array_vec_len piece.old + BEGIN + NAME ≤ PIECE_ROOM }
+    ensures { piece.new.items ≡ piece.old.items ++ trace.being_text spot stamp.now.ticks state }
 {
-    put_begin(text, spot, stamp)?;
-    put(text, name)
-}
-
-/// Puts the slice of the state that a process enters; DORMANT has no slice.
-fn put_being(text: &mut Vec<u8>, spot: Spot, stamp: &Stamp, state: State) -> Result<(), AllocError>
-    requires { Stamps stamp.now spot }
-    ensures { OnOk result (text.new.items ≡ text.old.items
-        ++ trace.being_text spot stamp.now.ticks state) }
-{
+    if let State::Dormant = state {
+        return;
+    }
+    add_begin(piece, spot, stamp);
     match state {
-        State::Dormant => Ok(()),
-        State::Ready => put_slice(text, spot, stamp, "READY\"}"),
-        State::Running => put_slice(text, spot, stamp, "RUNNING\"}"),
-        State::Waiting => put_slice(text, spot, stamp, "WAITING\"}"),
+        State::Dormant => unreachable!(),
+        State::Ready => add_text(piece, *b"READY\"}"),
+        State::Running => add_text(piece, *b"RUNNING\"}"),
+        State::Waiting => add_text(piece, *b"WAITING\"}"),
     }
 }
 
-/// Puts the end of a slice, if there is one.
-fn put_ended(text: &mut Vec<u8>, spot: Spot, stamp: &Stamp, begun: bool) -> Result<(), AllocError>
-    requires { Stamps stamp.now spot }
-    ensures { OnOk result (text.new.items ≡ text.old.items ++ trace.ended begun spot) }
+/// Adds the end of a slice, if there is one.
+#[inline(always)]
+fn add_ended(piece: &mut Piece, spot: Spot, stamp: &Stamp, begun: bool)
+    requires stamps { Stamps stamp.now spot }
+    requires room { array_vec_len piece.old + END ≤ PIECE_ROOM }
+    ensures text { piece.new.items ≡ piece.old.items ++ trace.ended begun spot }
+    ensures short { array_vec_len piece.new ≤ array_vec_len piece.old + END }
 {
     if begun {
-        put_end(text, spot, stamp)
-    } else {
-        Ok(())
+        add_end(piece, spot, stamp);
     }
 }
 
+#[inline(always)]
 fn is_same_process(before: &Option<ProcessId>, after: &Option<ProcessId>) -> bool
     ensures { result ≡ trace.same_process before.now after.now }
 {
@@ -225,8 +229,30 @@ fn is_same_process(before: &Option<ProcessId>, after: &Option<ProcessId>) -> boo
     }
 }
 
+/// Puts the end of the slice on the track of a core, and the beginning of the next one.
+// Not inlined, as on most tracks an entry changes nothing.
+#[inline(never)]
+fn put_switch(
+    text: &mut Vec<u8>,
+    table: &Table,
+    spot: Spot,
+    stamp: &Stamp,
+    before: &Option<ProcessId>,
+    after: &Option<ProcessId>,
+) -> Result<(), AllocError>
+    requires { Stamps stamp.now spot }
+    ensures { OnOk result (text.new.items ≡ text.old.items
+        ++ (trace.ended (is_some before.now) spot
+        ++ trace.run_of table.now spot stamp.now.ticks after.now)) }
+{
+    let mut piece = Piece::new();
+    add_ended(&mut piece, spot, stamp, before.is_some());
+    add_running(&mut piece, table, spot, stamp, after);
+    text.extend_from_slice(piece.as_slice())
+}
+
 /// Puts the changes on the track of a core.
-#[tactic(auto, using(std::proofs::Common::append_assoc))]
+#[inline(always)]
 fn put_core(
     text: &mut Vec<u8>,
     table: &Table,
@@ -243,11 +269,10 @@ fn put_core(
     if is_same_process(before, after) {
         return Ok(());
     }
-    let spot = core_spot(core, time);
-    put_ended(text, spot, stamp, before.is_some())?;
-    put_running(text, table, spot, stamp, after)
+    put_switch(text, table, core_spot(core, time), stamp, before, after)
 }
 
+#[inline(always)]
 fn is_same_state(before: State, after: State) -> bool
     ensures { result ≡ trace.same_state before after }
 {
@@ -263,8 +288,29 @@ fn is_begun(state: State) -> bool
     }
 }
 
+/// Puts the end of the slice on the track of a process, and the beginning of the next one.
+// Not inlined, as on most tracks an entry changes nothing.
+#[inline(never)]
+fn put_change(
+    text: &mut Vec<u8>,
+    spot: Spot,
+    stamp: &Stamp,
+    before: State,
+    after: State,
+) -> Result<(), AllocError>
+    requires { Stamps stamp.now spot }
+    ensures { OnOk result (text.new.items ≡ text.old.items
+        ++ (trace.ended (trace.is_begun before) spot
+        ++ trace.being_text spot stamp.now.ticks after)) }
+{
+    let mut piece = Piece::new();
+    add_ended(&mut piece, spot, stamp, is_begun(before));
+    add_being(&mut piece, spot, stamp, after);
+    text.extend_from_slice(piece.as_slice())
+}
+
 /// Puts the changes on the track of a process.
-#[tactic(auto, using(std::proofs::Common::append_assoc))]
+#[inline(always)]
 fn put_process(
     text: &mut Vec<u8>,
     process: ProcessId,
@@ -280,9 +326,7 @@ fn put_process(
     if is_same_state(before, after) {
         return Ok(());
     }
-    let spot = process_spot(process, time);
-    put_ended(text, spot, stamp, is_begun(before))?;
-    put_being(text, spot, stamp, after)
+    put_change(text, process_spot(process, time), stamp, before, after)
 }
 
 /// The track of a core.
@@ -307,8 +351,8 @@ fn process_spot(process: ProcessId, time: u64) -> Spot
     }
 }
 
-/// Puts the changes on the tracks of the cores, by the process that each core ran before and the one
-/// that it runs now.
+/// Puts the changes on the tracks of the cores, by the process that each core ran before and the
+/// one that it runs now.
 pub(crate) fn put_cores(
     text: &mut Vec<u8>,
     table: &Table,

@@ -9,13 +9,13 @@ ghost use Rattle.apex_pictures.specs.Trace.{changes_text};
 ghost use Rattle.apex_pictures.specs.Tracks.{bare, cell_on, no_track, track_of};
 
 use crate::counts::Counts;
-use crate::moments::{CORES, running_at, running_of, state_of};
+use crate::moments::{CORES, running_of, state_of};
 use crate::stamps::Stamp;
 use crate::trace::{put_processes, put_runs};
 use apex_dispatch::Kernel;
 use apex_store::Store;
 use apex_table::Table;
-use apex_types::{MOST_PROCESSES, ProcessId, State};
+use apex_types::{MOST_CORES, MOST_PROCESSES, ProcessId, State};
 use arrayvec::ArrayVec;
 use std::alloc::AllocError;
 use std::marker::Model;
@@ -62,6 +62,7 @@ impl Model for Tracks {
 }
 
 /// The track of a process, given the process that each core runs.
+#[inline(always)]
 pub(crate) fn track_of<S: Store>(
     store: &S,
     process: ProcessId,
@@ -72,9 +73,9 @@ pub(crate) fn track_of<S: Store>(
     ensures { result ≡ track_of (S.roster store.now) process }
 {
     let row = store.record(process);
-    let chosen = running_at(running, row.core);
+    prove!(u32::from(row.core.number()) < MOST_CORES);
     Track {
-        state: state_of(process, row, store.mode(), chosen),
+        state: state_of(process, row, store.mode(), running),
     }
 }
 

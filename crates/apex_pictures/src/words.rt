@@ -1,5 +1,6 @@
 //! The words for states, waits and notices.
-ghost use Rattle.std.specs.Prelude.{◌≡◌, ◌++◌, OnOk};
+ghost use Rattle.std.specs.Prelude.{◌≡◌, ◌≤◌, ◌++◌, length, OnOk};
+ghost use Rattle.apex_types.specs.values.Limits.{most_name};
 ghost use Rattle.apex_types.specs.text.Texts.{id_text, process_name};
 ghost use Rattle.apex_pictures.specs.Texts.{part_text};
 ghost use Rattle.apex_calls.specs.Lines.{deadline_text};
@@ -44,7 +45,8 @@ pub(crate) fn notice_word(notice: &Notice) -> &'static str
 
 /// The name of a process; no byte if there is no such process.
 pub(crate) fn name_of(table: &Table, process: ProcessId) -> &[u8]
-    ensures { result.now ≡ process_name table.now process }
+    ensures value { result.now ≡ process_name table.now process }
+    ensures short { length result.now ≤ most_name }
 {
     if process.place() < table.process_count() {
         table.process(process).name().as_bytes()

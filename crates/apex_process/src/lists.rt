@@ -93,6 +93,8 @@ impl Lists {
     }
 
     /// The process is in no list from now on.
+    // Inlined, as every change of a list begins with it.
+    #[inline(always)]
     pub(crate) fn leave(&mut self, process: ProcessId)
         requires { process < self.old.links.processes }
         ensures links { self.new.links ≡ removed self.old.links process }

@@ -68,19 +68,14 @@ fn read<'a>(records: &'a PlainStore, reads: &Visits, process: ProcessId) -> &'a 
 fn stays_at(row: &Record, base: u8) -> bool
     ensures { result ≡ (owns_some row.now && is_level (record row.now { base = base }) row.now) }
 {
-    row.owns_some() && Record { base, ..*row }.current_priority() == row.current_priority()
+    row.owns_some() && row.owned.raised(base) == row.current_priority()
 }
 
 /// The current priority of this record stays with these mutexes.
 fn is_level_with(row: &Record, owned: &Holdings) -> bool
     ensures { result ≡ is_level (record row.now { owned = owned.now }) row.now }
 {
-    Record {
-        owned: *owned,
-        ..*row
-    }
-    .current_priority()
-        == row.current_priority()
+    owned.raised(row.base) == row.current_priority()
 }
 
 /// The process of this record is ready.
@@ -138,12 +133,12 @@ impl QueueStore {
     }
 
     /// The number of records, and of nodes of lists, at which the calls, reading ones too, have
-    /// looked since the store was made. It stays at the greatest `u64`.
+    /// looked since the store was made, modulo 2^64.
     pub fn visits(&self) -> u64 {
         self.reads
             .count()
-            .saturating_add(self.lists.visits())
-            .saturating_add(self.timers.visits())
+            .wrapping_add(self.lists.visits())
+            .wrapping_add(self.timers.visits())
     }
 }
 
@@ -278,11 +273,12 @@ impl Store for QueueStore {
     }
 
     fn own(&mut self, process: ProcessId, owned: Holdings) {
-        let row = *read(&self.records, &self.reads, process);
-        self.records.own(process, owned);
+        let row = read(&self.records, &self.reads, process);
+        let is_level = is_level_with(row, &owned);
         self.owners
             .change(process, row.owned.as_slice(), owned.as_slice());
-        if !is_level_with(&row, &owned) {
+        self.records.own(process, owned);
+        if !is_level {
             let row = read(&self.records, &self.reads, process);
             self.lists.put_oldest(process, row);
         }

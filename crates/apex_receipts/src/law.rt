@@ -1,6 +1,6 @@
 //! The rule of the book, and the steps that are made on it.
 
-use apex_types::Entry;
+use apex_types::{Entry, LentEntry};
 use logbook::{Gain, Pen, Plain, Play, Rule, Seen, Word};
 use std::snapshot::Snapshot;
 
@@ -107,14 +107,14 @@ impl<'a> Plain<Call<'a>, Note, u64> for Say {
 
 /// A note with an entry, its speaker, and the speaker for which it is.
 #[derive(Drop)]
-pub struct Draft<'a> {
+pub struct Draft<'a, 'e> {
     pub by: &'a Snapshot<Pen>,
     pub of: &'a Snapshot<Pen>,
-    pub entry: &'a Entry,
+    pub entry: &'a LentEntry<'e>,
     pub next: &'a Pen,
 }
 
-impl<'a> Plain<Draft<'a>, Note, u64> for Say {
+impl<'a, 'e> Plain<Draft<'a, 'e>, Note, u64> for Say {
     ghost use Rattle.std.specs.Prelude.{None, Some};
 
     ghost ask = { λ d. record { by = d.by.now.value.nib.key; of = d.of.now.value.nib.key; entry = Some d.entry.now; key = d.next.now.nib.key } };

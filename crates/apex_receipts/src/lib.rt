@@ -2,6 +2,7 @@
 //! history whenever the lock is taken again.
 #![tactic(auto)]
 
+mod keeping;
 mod law;
 mod meetings;
 mod naming;

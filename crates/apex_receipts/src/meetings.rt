@@ -5,7 +5,7 @@ ghost use Rattle.apex_receipts.specs.Rules.{HasMet, HasWritten, head_of};
 
 use crate::law::{Head, Known};
 use crate::speakers::Speaker;
-use apex_types::Entry;
+use apex_types::LentEntry;
 
 /// The scribe hears the notes that the voice had heard, and then the voice those that the scribe
 /// has seen.
@@ -28,7 +28,7 @@ pub fn write_for(
     scribe: &mut Speaker,
     voice: &mut Speaker,
     heard: &Known,
-    entry: &Entry,
+    entry: &LentEntry<'_>,
 )
     requires head { head.now ≡ head_of scribe.old.book }
     requires books { (voice.old.book ≡ scribe.old.book) × (heard.now.book ≡ scribe.old.book) }

@@ -1,16 +1,18 @@
 //! The scribe, which writes the history down under the lock.
 ghost use Rattle.std.specs.Prelude.{◌≡◌, ◌+◌, ◌<◌, ◌≤◌, ◌^◌, true, [], ◌∷◌, ◌++◌, length};
+ghost use Rattle.apex_receipts.specs.Notes.{ends, entries_of};
 ghost use Rattle.apex_receipts.specs.Receipts.{Stands, own_entries, told_full, with_entry};
 ghost use Rattle.apex_receipts.specs.Rules.{head_of};
 
-use crate::law::Head;
+use crate::keeping::keep_in;
+use crate::law::{Head, Known};
 use crate::meetings::{meet, write_for};
 use crate::naming::Naming;
 use crate::receipts::Receipt;
 use crate::speakers::Speaker;
 use crate::stories::Story;
 use crate::voices::Voice;
-use apex_types::Entry;
+use apex_types::LentEntry;
 use std::marker::{Model, PhantomData};
 
 /// The scribe, which writes the history down (this profile). Contracts see it as the entries that
@@ -52,27 +54,67 @@ impl<P: Naming> Scribe<P> {
         }
     }
 
-    /// Writes down an entry of the voice's core or ticker, and gives the receipt of it.
-    pub fn record(&mut self, voice: &mut Voice<P>, entry: Entry) -> Receipt<P>
-        requires who { entry.who ≡ voice.old.who }
-        requires number { entry.number ≡ length self.old + 1 }
+    /// Writes down an entry of the voice's core or ticker. The answer is the history with this entry as
+    /// its last one.
+    fn write_down(&mut self, voice: &mut Voice<P>, entry: &LentEntry<'_>) -> Known
+        requires who { entry.now.who ≡ voice.old.who }
+        requires number { entry.now.number ≡ length self.old + 1 }
         requires room { length self.old < P.table.limit }
         requires few_entries { P.table.limit < 2 ^ 32 }
-        ensures history { self.new ≡ self.old ++ entry ∷ [] }
-        ensures voice { voice.new ≡ with_entry voice.old entry }
-        ensures receipt { result ≡ record { entry = entry; place = length voice.old.own + 1 } }
+        ensures history { self.new ≡ self.old ++ entry.entry.now ∷ [] }
+        ensures voice { voice.new ≡ with_entry voice.old entry.entry.now }
+        ensures book { result.book ≡ P.book }
+        ensures stands { Stands (entries_of P.scribe result.log) entry.entry.now
+            (length voice.old.own + 1) }
+        ensures unended { ends P.scribe result.log ≡ 0 }
     {
         let head = &self.head;
         let scribe = &mut self.speaker;
-        write_for(head, scribe, &mut voice.speaker, &voice.heard, &entry);
+        write_for(head, scribe, &mut voice.speaker, &voice.heard, entry);
         voice.heard = self.speaker.seen().again();
         voice.count += 1;
+        voice.heard.again()
+    }
+
+    /// Writes down an entry of the voice's core or ticker, and gives the receipt of it, which keeps it.
+    pub fn record(&mut self, voice: &mut Voice<P>, entry: &LentEntry<'_>) -> Receipt<P>
+        requires who { entry.now.who ≡ voice.old.who }
+        requires number { entry.now.number ≡ length self.old + 1 }
+        requires room { length self.old < P.table.limit }
+        requires few_entries { P.table.limit < 2 ^ 32 }
+        ensures history { self.new ≡ self.old ++ entry.entry.now ∷ [] }
+        ensures voice { voice.new ≡ with_entry voice.old entry.entry.now }
+        ensures receipt { result
+            ≡ record { entry = entry.entry.now; place = length voice.old.own + 1 } }
+    {
+        let seen = self.write_down(voice, entry);
         Receipt {
-            entry,
-            place: voice.count,
-            seen: voice.heard.again(),
+            entry: entry.kept(),
+            place: voice.count(),
+            seen,
             of: PhantomData,
         }
+    }
+
+    /// Writes down an entry as `record` does. Its receipt takes the place of this one.
+    pub fn record_into(
+        &mut self,
+        voice: &mut Voice<P>,
+        entry: &LentEntry<'_>,
+        receipt: &mut Receipt<P>,
+    )
+        requires who { entry.now.who ≡ voice.old.who }
+        requires number { entry.now.number ≡ length self.old + 1 }
+        requires room { length self.old < P.table.limit }
+        requires few_entries { P.table.limit < 2 ^ 32 }
+        ensures history { self.new ≡ self.old ++ entry.entry.now ∷ [] }
+        ensures voice { voice.new ≡ with_entry voice.old entry.entry.now }
+        ensures receipt { receipt.new
+            ≡ record { entry = entry.entry.now; place = length voice.old.own + 1 } }
+    {
+        receipt.seen = self.write_down(voice, entry);
+        receipt.place = voice.count();
+        keep_in(&mut receipt.entry, entry);
     }
 
     /// Lets the voice know that the history is full.

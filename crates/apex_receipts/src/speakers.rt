@@ -6,7 +6,7 @@ ghost use Rattle.apex_receipts.specs.Notes.{said, written};
 ghost use Rattle.apex_receipts.specs.Rules.{HasAdded, HasHeard, HasSaid, MaySay, head_of};
 
 use crate::law::{Call, Draft, Head, Hear, Known, Law, Note, Nothing, Say, Take};
-use apex_types::Entry;
+use apex_types::LentEntry;
 use logbook::{Offer, Pen, Word};
 use std::marker::Model;
 use std::snapshot::Snapshot;
@@ -132,7 +132,7 @@ impl Speaker {
     }
 
     /// Writes an entry down for a speaker that has called once more than it was written for.
-    pub fn write(&mut self, head: &Head, other: &Speaker, entry: &Entry)
+    pub fn write(&mut self, head: &Head, other: &Speaker, entry: &LentEntry<'_>)
         requires head { head.now ≡ head_of self.old.book }
         requires book { other.now.book ≡ self.old.book }
         requires called { written self.old.id other.now.id self.old.log

@@ -1,3 +1,4 @@
+pub mod FirstPassing
 pub mod TheLeast
 pub mod Queues
 pub mod NextRelease

@@ -2,17 +2,18 @@
 ghost use Rattle.std.specs.Prelude.{◌≡◌};
 ghost use Rattle.apex_types.specs.processes.Running.{is_before, is_older, is_process, runs_on};
 ghost use Rattle.apex_types.specs.processes.Dues.{is_due_at, is_missed_at};
-ghost use Rattle.apex_types.specs.processes.Queues.{is_queue, is_same_queue};
+ghost use Rattle.apex_types.specs.processes.Queues.{is_queue};
 ghost use Rattle.apex_types.specs.processes.Waiters.{waits_before, waits_behind, waits_in};
 
-use apex_types::{CoreId, Discipline, Mode, ProcessId, Queue, Record};
+use apex_types::{CoreId, Discipline, Mode, ProcessId, Queue, Record, Wait};
 
 /// The process is eligible and bound to the core.
 #[tactic(auto, unfolding(apex_types::specs::processes::Running::runs_on))]
 pub fn runs_on(mode: Mode, core: CoreId, row: &Record) -> bool
     ensures { result ≡ runs_on mode core row.now }
 {
-    row.core == core && row.is_eligible(mode)
+    // Most processes wait, so that is looked at first.
+    row.core == core && row.wait.is_none() && row.is_eligible(mode)
 }
 
 /// The process is this one.
@@ -32,18 +33,25 @@ pub fn is_older(first: &Record, second: &Record) -> bool
     first.since < second.since
 }
 
-/// The first has the greater current priority, or an equal one and has been ready for longer.
-pub fn is_before(first: &Record, second: &Record) -> bool
+/// As [`is_before`], by the ceilings of the mutexes that the two own.
+// Out of line, since few processes own a mutex: so the loop of a scan has no loop in it.
+#[inline(never)]
+fn is_raised_before(first: &Record, second: &Record) -> bool
     ensures { result ≡ is_before first.now second.now }
 {
     let (mine, other) = (first.current_priority(), second.current_priority());
     other < mine || (mine == other && is_older(first, second))
 }
 
-fn is_same_queue(one: Queue, other: Queue) -> bool
-    ensures { result ≡ is_same_queue one other }
+/// The first has the greater current priority, or an equal one and has been ready for longer.
+pub fn is_before(first: &Record, second: &Record) -> bool
+    ensures { result ≡ is_before first.now second.now }
 {
-    one == other
+    if first.owns_some() || second.owns_some() {
+        is_raised_before(first, second)
+    } else {
+        second.base < first.base || (first.base == second.base && is_older(first, second))
+    }
 }
 
 /// The process waits in the queue.
@@ -51,9 +59,19 @@ fn is_same_queue(one: Queue, other: Queue) -> bool
 pub fn waits_in(queue: Queue, row: &Record) -> bool
     ensures { result ≡ waits_in queue row.now }
 {
-    match row.queue() {
-        Some(other) => is_same_queue(queue, other),
-        None => false,
+    let Some(wait) = &row.wait else {
+        return false;
+    };
+    match queue {
+        Queue::Normal => matches!(wait, Wait::Normal(_)),
+        Queue::Semaphore(semaphore) => *wait == Wait::Semaphore(semaphore),
+        Queue::Buffer(buffer) => match wait {
+            Wait::Receive(other) | Wait::Send(other, _) => *other == buffer,
+            _ => false,
+        },
+        Queue::Blackboard(blackboard) => *wait == Wait::Blackboard(blackboard),
+        Queue::EventFlag(event_flag) => *wait == Wait::EventFlag(event_flag),
+        Queue::Mutex(mutex) => *wait == Wait::Mutex(mutex),
     }
 }
 

@@ -236,20 +236,6 @@ impl PlainStore {
         };
     }
 
-    /// The process has this record with the next stamp downwards.
-    fn put_oldest(&mut self, process: ProcessId, row: Record)
-        requires known { process < length self.old.records }
-        requires stamps { stamps.HasStamps self.old }
-        ensures { self.new ≡ stamps.oldest self.old process row }
-    {
-        let stamp = self.next_old;
-        self.next_old -= 1;
-        self.records[process.place()] = Record {
-            since: stamp,
-            ..row
-        };
-    }
-
     /// The process has this record, and is the newest if the record is eligible.
     // Inlined, so that the record is built in its place.
     #[inline(always)]
@@ -319,6 +305,8 @@ impl Store for PlainStore {
         &self.records[process.place()]
     }
 
+    // Inlined, since each turn asks for it in one place.
+    #[inline(always)]
     fn chosen(&self, core: CoreId) -> Option<ProcessId> {
         let order = Runnable {
             mode: self.mode,
@@ -327,6 +315,8 @@ impl Store for PlainStore {
         first_of(&order, &self.records)
     }
 
+    // Inlined, so that the scan for a caller looks for the one kind of wait that it names.
+    #[inline(always)]
     fn first(&self, queue: Queue) -> Option<ProcessId> {
         let order = Waiting {
             discipline: self.discipline(&queue),
@@ -459,12 +449,12 @@ impl Store for PlainStore {
     }
 
     fn own(&mut self, process: ProcessId, owned: Holdings) {
-        let row = *self.record(process);
-        let changed = Record { owned, ..row };
-        if is_level(&changed, &row) {
-            self.put(process, changed);
-        } else {
-            self.put_oldest(process, changed);
+        let row = &mut self.records[process.place()];
+        let before = row.current_priority();
+        row.owned = owned;
+        if row.current_priority() != before {
+            row.since = self.next_old;
+            self.next_old -= 1;
         }
     }
 

@@ -1,5 +1,5 @@
 //! The one search for the process that comes first.
-ghost use Rattle.std.specs.Prelude.{◌≡◌, ◌<◌, ◌≤◌, Bool, length, IfSome};
+ghost use Rattle.std.specs.Prelude.{◌≡◌, ◌<◌, ◌≤◌, Bool, length, position, IfSome};
 ghost use Rattle.apex_types.specs.values.Limits.{most_processes};
 ghost use Rattle.std.specs.Cmp.{IsStrictWeakOrder};
 ghost use Rattle.apex_types.specs.declared.records.Record.{Record};
@@ -96,26 +96,30 @@ impl Order for Behind {
     }
 }
 
+/// The place of the first record that the order looks at.
+fn place_passing<O: Order>(order: &O, records: &[Record]) -> Option<usize>
+    ensures value { result ≡ position (O.passes order.now) records.now }
+    ensures known { IfSome result (λ p. p < length records.now) }
+{
+    records.iter().position(|row| order.passes(row))
+}
+
 /// The first of those that the order looks at, by a scan of all records from the first one on.
+// Inlined, as the call that scans is.
+#[inline(always)]
+#[tactic(auto, using(crate::proofs::FirstPassing::none_is_least))]
 pub fn first_of<O: Order>(order: &O, records: &[Record]) -> Option<ProcessId>
     requires { length records.now ≤ most_processes }
     ensures value { result ≡ place_of_least (O.passes order.now)
         (O.precedes order.now) records.now }
     ensures known { IfSome result (λ p. p < length records.now) }
 {
-    let mut found: Option<ProcessId> = None;
-    for place in 0..records.len() {
+    let mut first = place_passing(order, records)?;
+    for place in first + 1..records.len() {
         let row = &records[place];
-        if !order.passes(row) {
-            continue;
-        }
-        let comes_first = match found {
-            Some(first) => order.precedes(row, &records[first.place()]),
-            None => true,
-        };
-        if comes_first {
-            found = Some(ProcessId::at(place as u8));
+        if order.passes(row) && order.precedes(row, &records[first]) {
+            first = place;
         }
     }
-    found
+    Some(ProcessId::at(first as u8))
 }

@@ -72,7 +72,7 @@ impl Timeline {
     }
 
     /// The number of nodes that the calls, reading ones too, have read or written since the line
-    /// was made.
+    /// was made, modulo 2^64.
     pub fn visits(&self) -> u64 {
         self.links.visits()
     }

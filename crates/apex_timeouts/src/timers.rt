@@ -47,9 +47,9 @@ impl Timers {
     }
 
     /// The number of nodes of the lines that the calls, reading ones too, have read or written
-    /// since they were made.
+    /// since they were made, modulo 2^64.
     pub fn visits(&self) -> u64 {
-        self.dues.visits().saturating_add(self.deadlines.visits())
+        self.dues.visits().wrapping_add(self.deadlines.visits())
     }
 
     /// The wait of the process ends by itself at this instant, in ticks, from now on, or never.

@@ -14,8 +14,9 @@ use std::str;
 use std::sync::Wait;
 use std::thread::Threads;
 
-/// The table of a storm. On each of these cores a process takes a semaphore, a mutex and a place of a buffer, and
-/// one stops, starts and moves the processes of the next core and of the one after it.
+/// The table of a storm. On each of these cores a process takes a semaphore, a mutex and a place of
+/// a buffer, and one stops, starts and moves the processes of the next core and of the one after
+/// it.
 macro_rules! storm_table {
     ($(($core:literal, $next:literal, $after:literal))*) => {
         concat!(
@@ -119,8 +120,8 @@ fn agrees<R: Abort>(rt: &R, alloc: Global, lines: &[u8], value: u64) {
     assert!(rt; is_value_by_run(rt, alloc, TABLE, history, value));
 }
 
-/// The history has all entries that were planned, and the value of S is the same by its lines, by its
-/// entries, and in the listing of a kernel that makes its events anew.
+/// The history has all entries that were planned, and the value of S is the same by its lines, by
+/// its entries, and in the listing of a kernel that makes its events anew.
 fn look_at<R: Abort>(rt: &R, alloc: Global, outcome: Outcome) {
     assert!(rt; are_last(&outcome) && is_told(&outcome));
     let value = value_by_entries(outcome.partition.entries());
@@ -160,7 +161,8 @@ fn twenty_storms_are_weathered(rt: HostRuntime) {
     weather_all(&rt, rt.alloc(), 20, STORM, false);
 }
 
-// While a process backs off at the gate, others move it and stop it, so that much of its work is lost.
+// While a process backs off at the gate, others move it and stop it, so that much of its work is
+// lost.
 #[test]
 fn a_storm_is_weathered_where_work_takes_time(rt: HostRuntime) {
     weather_all(&rt, rt.alloc(), 1, SLOW_STORM, false);

@@ -20,8 +20,8 @@ pub const TURNS: u32 = 500;
 /// The ticks of the ticker.
 pub const TICKS: u32 = 100;
 
-/// The cores and the ticker of a storm, each of which begins its work once all have begun, and a gate that
-/// backs off in each work.
+/// The cores and the ticker of a storm, each of which begins its work once all have begun, and a
+/// gate that backs off in each work.
 #[derive(Drop)]
 struct Crew {
     /// The number of times that the gate backs off.
@@ -89,8 +89,8 @@ fn makes_all_ticks<P: Naming, R: Abort + Wait>(
     makes_ticks(rt, shared, ticker, TICKS, TICKS)
 }
 
-/// Puts the seat of a worker back, and keeps its last receipt: the number of its turns, and whether a full history
-/// stopped it.
+/// Puts the seat of a worker back, and keeps its last receipt: the number of its turns, and whether
+/// a full history stopped it.
 pub fn put_back<P: Naming, R: Abort>(
     rt: &R,
     open: &mut Open<P>,
@@ -134,8 +134,9 @@ fn run_workers<P: Naming + Send + Sync, R: Abort + Threads + Wait + Sync>(
     )
 }
 
-/// Whether all cores and the ticker make their events, each in a thread of its own that has seen all others begin,
-/// and the reader, if there is one, sees neither the entries nor the time go back.
+/// Whether all cores and the ticker make their events, each in a thread of its own that has seen
+/// all others begin, and the reader, if there is one, sees neither the entries nor the time go
+/// back.
 pub fn is_weathered<P: Naming + Send + Sync, R: Abort + Threads + Wait + Sync>(
     rt: &R,
     alloc: Global,

@@ -28,7 +28,8 @@ impl Counter {
         self.calls.load(Ordering::SeqCst)
     }
 
-    /// The sums of the numbers of the cores, of the numbers of the processes, and of the units of work.
+    /// The sums of the numbers of the cores, of the numbers of the processes, and of the units of
+    /// work.
     pub fn sums(&self) -> (u64, u64, u64) {
         let cores = self.cores.load(Ordering::SeqCst);
         let processes = self.processes.load(Ordering::SeqCst);

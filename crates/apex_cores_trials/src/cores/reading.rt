@@ -24,7 +24,8 @@ fn read_once<P: Naming, R: Wait>(rt: &R, reader: &mut Reader<P>) -> (u32, u64) {
     (front.entries, front.now)
 }
 
-/// Makes all reads, one after the other, and returns the number of those that go back. Without a reader there is none.
+/// Makes all reads, one after the other, and returns the number of those that go back. Without a
+/// reader there is none.
 pub fn read_all<P: Naming, R: Wait>(rt: &R, reader: &mut Option<Reader<P>>) -> u32 {
     let Some(reader) = reader else {
         return 0;
@@ -41,8 +42,8 @@ pub fn read_all<P: Naming, R: Wait>(rt: &R, reader: &mut Option<Reader<P>>) -> u
     backwards
 }
 
-/// The words between the holder of the lock and the reader's thread: whether the lock is held, and the
-/// number of reads since then.
+/// The words between the holder of the lock and the reader's thread: whether the lock is held, and
+/// the number of reads since then.
 #[derive(Drop)]
 struct Told {
     held: AtomicU64,

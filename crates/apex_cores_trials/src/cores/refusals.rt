@@ -9,7 +9,8 @@ use std::process::Abort;
 use std::sync::Wait;
 use std::thread::Threads;
 
-/// Core 0 makes the four turns of the init list and then works in every second turn; the others are idle.
+/// Core 0 makes the four turns of the init list and then works in every second turn; the others are
+/// idle.
 const THREE_CORES: &str = r#"
 cores = 3
 history = 8000
@@ -86,9 +87,11 @@ fn run_without<R: Abort + Threads + Wait + Sync>(
     }
 }
 
-/// Whether the run answers that the thread of this number was refused, once those before it have ended.
+/// Whether the run answers that the thread of this number was refused, once those before it have
+/// ended.
 fn is_told_of_refusal(run: &Outcome, refused: u32) -> bool {
-    // The threads that had begun have come to their end when the run has, so that all work of core 0 was done.
+    // The threads that had begun have come to their end when the run has, so that all work of core
+    // 0 was done.
     let works = if refused == 0 { 0 } else { WORKS };
     run.entries == Err(RunFault::NoThread)
         && run.starts.asked == refused.saturating_add(1)

@@ -32,8 +32,8 @@ fn value_after(signals: u64, waits: u64) -> Option<u64> {
     INITIAL.saturating_add(signals).checked_sub(waits)
 }
 
-/// The value by the printed lines: one more for each signal that was accepted, and one less for each wait
-/// that was satisfied, at once or by a signal that wakes its process.
+/// The value by the printed lines: one more for each signal that was accepted, and one less for
+/// each wait that was satisfied, at once or by a signal that wakes its process.
 pub fn value_by_lines(history: &str) -> Option<u64> {
     let signals = lines_with(history, "SIGNAL_SEMAPHORE S -> NO_ERROR");
     let woken = lines_with(history, "SIGNAL_SEMAPHORE S -> NO_ERROR | woken");
@@ -106,8 +106,8 @@ impl Satisfied {
     }
 }
 
-/// The value by the entries (ARINC 653 Part 1, semaphores): the initial one, plus the satisfied signals, less
-/// the satisfied waits. A wait is satisfied at once, or by a notice that answers it.
+/// The value by the entries (ARINC 653 Part 1, semaphores): the initial one, plus the satisfied
+/// signals, less the satisfied waits. A wait is satisfied at once, or by a notice that answers it.
 pub fn value_by_entries(entries: Entries<'_>) -> Option<u64> {
     let mut satisfied = Satisfied {
         signals: 0,

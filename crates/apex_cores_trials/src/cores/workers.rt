@@ -51,8 +51,8 @@ fn is_last<P: Naming>(last: Option<&Receipt<P>>, shift: Shift) -> bool {
     }
 }
 
-/// Whether the worker of the last core makes the shift. When it ends, the gate has done the work that these turns
-/// began, and no other work.
+/// Whether the worker of the last core makes the shift. When it ends, the gate has done the work
+/// that these turns began, and no other work.
 pub fn makes_turns<P: Naming, R: Abort + Wait>(rt: &R, open: &mut Open<P>, shift: Shift) -> bool {
     let gate = Counter::new();
     let seat = open.seats.pop().expect(rt, "the core has a seat");

@@ -101,7 +101,8 @@ fn look_sees_the_ten_turns_of_two_seats(rt: HostRuntime) {
     act_out(&rt, rt.alloc(), &TEN_TURNS);
 }
 
-/// A turn, a tick and a turn fill the history. Core 1 and the ticker ask twice for more; core 0 does not.
+/// A turn, a tick and a turn fill the history. Core 1 and the ticker ask twice for more; core 0
+/// does not.
 const FILLED: Scene<'static> = Scene {
     table: ALONE,
     steps: &[
@@ -133,7 +134,8 @@ fn a_seat_that_was_told_full_is_told_so_again(rt: HostRuntime) {
     act_out(&rt, rt.alloc(), &FILLED);
 }
 
-/// The turns of `TEN_TURNS`, with what the reader sees before them, before the last one and after it.
+/// The turns of `TEN_TURNS`, with what the reader sees before them, before the last one and after
+/// it.
 const READ_BETWEEN: Scene<'static> = Scene {
     table: WAITER_AND_SIGNALLER,
     steps: &[

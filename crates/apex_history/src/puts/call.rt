@@ -115,8 +115,9 @@ fn put_call(line: &mut Lines, table: &Table, call: &Call)
     put_words(line, table, &arguments, row.2);
 }
 
-/// The call of this caller, as the table writes its step. If the call is that of a step of the caller's
-/// script, then the step's text is copied.
+/// The call of this caller, as the table writes its step. If the call is that of a step of the
+/// caller's script, then the step's text is copied.
+#[inline(always)]
 pub(super) fn put_called(
     line: &mut Lines,
     table: &Table,

@@ -1,5 +1,5 @@
 -- What a service of a store needs before it can be carried out.
-use Rattle.std.specs.Prelude.{ℕ, ◌≤◌, List, length}
+use Rattle.std.specs.Prelude.{◌≤◌, List, length}
 use Rattle.apex_types.specs.values.Limits.{most_processes}
 use Rattle.apex_types.specs.values.Terms.{Notice}
 use Rattle.apex_types.specs.processes.Roster.{Roster}

@@ -1,9 +1,10 @@
-use Rattle.std.proofs.Common.{◌≡◌, ◌∙◌, ℕ, ◌+◌, List, ◌++◌, None, Ok, subst, rules, length, take, arith}
+use Rattle.std.proofs.Common.{◌≡◌, ◌∙◌, ℕ, ◌+◌, List, ◌++◌, None, Ok, subst, length, take, arith}
 use Rattle.std.specs.Io.KnownBytes.{Consumes, prepend_known}
 use Rattle.std.proofs.lemmas.Result.{err_from_is_err_and}
 use Rattle.apex_history.specs.Counted.{inner_of}
 use Rattle.apex_types.specs.table.Table.{Table}
 use Rattle.apex_types.specs.machine.Machine.{events_of}
+use Rattle.apex_check.specs.Terms.{Entry}
 use Rattle.apex_check.specs.Ahead.{Comes, IsFirstLine}
 use Rattle.apex_check.specs.declared.pending.Next.TheVariants.{Part, Rest, End}
 use Rattle.apex_check.specs.declared.verdicts.CheckFault.TheVariants.{BadLine, TooLong}
@@ -17,6 +18,12 @@ use Rattle.apex_check.specs.Verdicts.{JudgesLines, LineIsAtFault}
 use Rattle.apex_check.proofs.Coming.{line_ahead, none_left, or_nothing, taken_more, text_ahead}
 use Rattle.apex_check.proofs.MoreLines.{counted, ends, line_fault_of, rests, runs_on}
 use Rattle.apex_check.proofs.following.judge.Goals as goal
+
+-- the judgement by the table that stayed and the answer that was found
+judged_by : {now table : Table} (bytes line : List ℕ) (history : List Entry) {answer found : Answer} → now ≡ table → answer ≡ found
+    → Judged now bytes line history (Ok answer) → Judged table bytes line history (Ok found)
+judged_by {now} {table} bytes line history {answer} {found} same is judged =
+    subst (λ (a : Answer). Judged table bytes line history (Ok a)) is (subst (λ (t : Table). Judged t bytes line history (Ok answer)) same judged)
 
 pub returns-in-Part-clause-err : goal.returns-in-Part-clause-err
 returns-in-Part-clause-err g c =
@@ -88,11 +95,8 @@ returns-in-Differs-clause-ok g c =
     let e : take (end + 1) c.bytes.result.now ≡ ended (take end pending) = rw c.bytes.ensures first.1 in
     let here : AreLines c.loop-next.kernel.table bytes (events_of c.loop-next.kernel.machine.history) = rw c.loop-next.invariant.table are in
     let history = c.judge_line.new.kernel.machine.history in
-    let told : Judged table bytes (take end pending) history (Ok c.in_ok-judge_line.field-0) =
-    subst (λ (t : Table). Judged t bytes (take end pending) history (Ok c.in_ok-judge_line.field-0)) c.loop-next.invariant.table
-    (c.in_ok-judge_line.ensures.judged bytes (take end pending) here first.0 e) in
     let judged : Judged table bytes (take end pending) history (Ok Differs) =
-    subst (λ (a : Answer). Judged table bytes (take end pending) history (Ok a)) c.in-Differs.is told in
+    judged_by bytes (take end pending) history c.loop-next.invariant.table c.in-Differs.is (c.in_ok-judge_line.ensures.judged bytes (take end pending) here first.0 e) in
     rw c.departure.ensures.value
     (line_ahead (λ (t : List ℕ). JudgesLines table t (departure history)) old before left bytes pending end taken c.in-Ok.ensures.kept first judged)
 
@@ -109,11 +113,8 @@ returns-in-Beyond-clause-ok g c =
     let e : take (end + 1) c.bytes.result.now ≡ ended (take end pending) = rw c.bytes.ensures first.1 in
     let here : AreLines c.loop-next.kernel.table bytes (events_of c.loop-next.kernel.machine.history) = rw c.loop-next.invariant.table are in
     let history = c.judge_line.new.kernel.machine.history in
-    let told : Judged table bytes (take end pending) history (Ok c.in_ok-judge_line.field-0) =
-    subst (λ (t : Table). Judged t bytes (take end pending) history (Ok c.in_ok-judge_line.field-0)) c.loop-next.invariant.table
-    (c.in_ok-judge_line.ensures.judged bytes (take end pending) here first.0 e) in
     let judged : Judged table bytes (take end pending) history (Ok Beyond) =
-    subst (λ (a : Answer). Judged table bytes (take end pending) history (Ok a)) c.in-Beyond.is told in
+    judged_by bytes (take end pending) history c.loop-next.invariant.table c.in-Beyond.is (c.in_ok-judge_line.ensures.judged bytes (take end pending) here first.0 e) in
     rw c.count-in-Beyond.ensures.value
     (line_ahead (λ (t : List ℕ). JudgesLines table t (DepartsAt (length history + 1) None)) old before left bytes pending end taken c.in-Ok.ensures.kept first
     judged)
@@ -129,11 +130,8 @@ loop-next-smaller g c =
     let e : take (end + 1) c.bytes.result.now ≡ ended (take end pending) = rw c.bytes.ensures first.1 in
     let here : AreLines c.loop-next.kernel.table bytes (events_of c.loop-next.kernel.machine.history) = rw c.loop-next.invariant.table are in
     let history = c.judge_line.new.kernel.machine.history in
-    let told : Judged table bytes (take end pending) history (Ok c.in_ok-judge_line.field-0) =
-    subst (λ (t : Table). Judged t bytes (take end pending) history (Ok c.in_ok-judge_line.field-0)) c.loop-next.invariant.table
-    (c.in_ok-judge_line.ensures.judged bytes (take end pending) here first.0 e) in
     let judged : AreLines table (bytes ++ ended (take end pending)) (events_of history) =
-    subst (λ (a : Answer). Judged table bytes (take end pending) history (Ok a)) c.in-Same.is told in
+    judged_by bytes (take end pending) history c.loop-next.invariant.table c.in-Same.is (c.in_ok-judge_line.ensures.judged bytes (take end pending) here first.0 e) in
     let more : length c.judge_line.new.kernel.machine.history ≡ length c.loop-next.kernel.machine.history + 1 = c.in_ok-judge_line.ensures.more c.in-Same.is in
     omega (arith, more, judged.fits, counted c.judge_line.new.kernel.machine.history)
 
@@ -150,11 +148,8 @@ loop-next-preserved g c =
     let e : take (end + 1) c.bytes.result.now ≡ ended (take end pending) = rw c.bytes.ensures first.1 in
     let here : AreLines c.loop-next.kernel.table bytes (events_of c.loop-next.kernel.machine.history) = rw c.loop-next.invariant.table are in
     let history = c.judge_line.new.kernel.machine.history in
-    let told : Judged table bytes (take end pending) history (Ok c.in_ok-judge_line.field-0) =
-    subst (λ (t : Table). Judged t bytes (take end pending) history (Ok c.in_ok-judge_line.field-0)) c.loop-next.invariant.table
-    (c.in_ok-judge_line.ensures.judged bytes (take end pending) here first.0 e) in
     let judged : AreLines table (bytes ++ ended (take end pending)) (events_of history) =
-    subst (λ (a : Answer). Judged table bytes (take end pending) history (Ok a)) c.in-Same.is told in
+    judged_by bytes (take end pending) history c.loop-next.invariant.table c.in-Same.is (c.in_ok-judge_line.ensures.judged bytes (take end pending) here first.0 e) in
     let gone : Consumes old (prepend_known c.take.new.self left) (bytes ++ take (end + 1) pending) =
     rw c.take.ensures (taken_more old before left bytes pending (end + 1) taken c.in-Ok.ensures.kept) in
     record {

@@ -1,4 +1,4 @@
-use Rattle.std.specs.Prelude.{◌≡◌, ◌<◌, MatchOption}
+use Rattle.std.specs.Prelude.{◌<◌}
 use Rattle.apex_cores.specs.Runs.{IsLast}
 use Rattle.apex_cores.proofs.Running.{IsUnderway}
 use Rattle.apex_cores.proofs.cores.run_core.Given as goal
@@ -6,5 +6,6 @@ use Rattle.apex_cores.proofs.cores.run_core.Given as goal
 abbrev pub invariant-loop-made : goal.invariant-loop-made
 invariant-loop-made g l = record {
   underway : IsUnderway l.fn.seat l.made l.seat;
-  last : MatchOption l.last (l.made ≡ 0) (λ r. (0 < l.made) × IsLast l.seat r);
+  some : 0 < l.made;
+  last : IsLast l.seat l.last;
 }

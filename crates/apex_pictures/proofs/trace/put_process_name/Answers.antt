@@ -4,4 +4,4 @@ use Rattle.apex_pictures.proofs.trace.put_process_name.Goals as goal
 
 pub returns : goal.returns
 unfolding process_name_text
-returns c = rw (c.id_part.ensures, c.name_of.ensures) at c.put_all.ensures
+returns c = rw (c.id_part.ensures, c.name_of.ensures.value) at c.put_all.ensures

@@ -12,9 +12,9 @@ invariant_of-self c =
     let was = c.self.inside.records in
     let known = rw (← c.self.view_is) at c.requires.known in
     let eligible = rw (← c.self.view_is) at c.requires.eligible in
-    let differs = rw c.read.ensures at (sym c.is_level_with.ensures ∙ c.if-not-is_level_with.true) in (
-      aged_row was _ _ c.self.inside.lists _ c.args.process c.read-row.result.now c.self.invariant.0 c.own.ensures
-          (ages_own was c.args.process c.args.owned known c.self.invariant.0.stamped eligible differs) c.read-row.ensures
+    let differs = rw c.read-row.ensures at (sym c.is_level_with-is_level.ensures ∙ c.if-not-is_level.true) in (
+      aged_row was _ _ c.self.inside.lists _ c.args.process c.read-row-then-not-is_level.result.now c.self.invariant.0 c.own.ensures
+          (ages_own was c.args.process c.args.owned known c.self.invariant.0.stamped eligible differs) c.read-row-then-not-is_level.ensures
           c.put_oldest.ensures.links c.put_oldest.ensures.priorities c.put_oldest.ensures.core c.put_oldest.ensures.priority,
       timers_kept was _ _ c.self.inside.timers.dues c.self.inside.timers.deadlines c.self.invariant.1 c.own.ensures (timers_own was c.args.process known c.args.owned),
       owners_changed was _ _ _ _ c.args.process c.args.owned c.self.invariant.2 c.own.ensures
@@ -22,11 +22,11 @@ invariant_of-self c =
           (rw c.as_slice-2.ensures.value at c.change.ensures.here) (λ m q _. c.change.ensures.others m q),
     )
 
-pub invariant_of-self-else-not-is_level_with : goal.invariant_of-self-else-not-is_level_with
-invariant_of-self-else-not-is_level_with c =
+pub invariant_of-self-else-not-is_level : goal.invariant_of-self-else-not-is_level
+invariant_of-self-else-not-is_level c =
     let was = c.self.inside.records in
     let known = rw (← c.self.view_is) at c.requires.known in
-    let level = rw c.read.ensures at (sym c.is_level_with.ensures ∙ c.if-not-is_level_with.false) in (
+    let level = rw c.read-row.ensures at (sym c.is_level_with-is_level.ensures ∙ c.if-not-is_level.false) in (
       kept_by was _ _ c.self.inside.lists c.self.invariant.0 c.own.ensures (keeps_own was c.args.process c.args.owned known c.self.invariant.0.stamped level),
       timers_kept was _ _ c.self.inside.timers.dues c.self.inside.timers.deadlines c.self.invariant.1 c.own.ensures (timers_own was c.args.process known c.args.owned),
       owners_changed was _ _ _ _ c.args.process c.args.owned c.self.invariant.2 c.own.ensures

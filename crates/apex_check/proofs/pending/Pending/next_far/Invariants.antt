@@ -3,7 +3,7 @@ use Rattle.std.proofs.Common.{◌≡◌, ◌-◌, ◌≤◌, length}
 use Rattle.std.specs.Io.KnownBytes.{Keeps, prepend_known}
 use Rattle.apex_history.specs.Counted.{inner_of, failures_of, reads_left_of}
 use Rattle.apex_check.specs.Ahead.{fuel}
-use Rattle.apex_check.proofs.pending.Pending.next.Given as goal
+use Rattle.apex_check.proofs.pending.Pending.next_far.Given as goal
 
 abbrev pub invariant-loop-end : goal.invariant-loop-end
 invariant-loop-end g l = record {

@@ -1,7 +1,7 @@
 use Rattle.std.proofs.Common.{◌≡◌, ℕ, nat_lt, option_map, if◌then◌else◌}
 use Rattle.apex_types.specs.machine.Works.{watched}
 use Rattle.apex_dispatch.specs.Works.{work_at}
-use Rattle.apex_dispatch.proofs.works.Works.watch.Given as goal
+use Rattle.apex_dispatch.proofs.works.Works.watch_cores.Given as goal
 
 abbrev pub invariant-loop-core : goal.invariant-loop-core
 invariant-loop-core g l = (c : ℕ) → work_at l.self c

@@ -3,7 +3,7 @@ use Rattle.std.proofs.lemmas.Bool.{cases_lt, lt-ltb}
 use Rattle.std.proofs.lemmas.List.{get_or_past}
 use Rattle.apex_dispatch.specs.Terms.{OpenWork}
 use Rattle.apex_dispatch.specs.Works.{work_at}
-use Rattle.apex_dispatch.proofs.works.Works.watch.Goals as goal
+use Rattle.apex_dispatch.proofs.works.Works.watch_cores.Goals as goal
 
 -- no work is open past the last core
 nothing : (b : Bool) → cond {A = Option OpenWork} b None None ≡ None
