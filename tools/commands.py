@@ -1,26 +1,23 @@
-#!/usr/bin/env python3
-"""tools/commands [PAGE..]: runs the commands of the pages, and compares what they print with what is shown.
+"""Runs the commands of the pages, and compares what they print with what is shown.
 
-The pages are README.md, docs/TOUR.md, docs/EXAMPLES.md and docs/SWEEPS.md. An indented block whose
-first word is a command is run with bash, the blocks of a page one after the other in one shell, in a
-new folder that has links to the files at the top. The blocks without a language that follow it, up to
-the next command, are lines of what it prints, in that order; standard error counts too, but for the
-line that a program is not proved. The commands in NOT_RUN are not run, and are counted. It ends with
-status 1 if a block differs, if a block of output has no command, or if a page shows none.
+An indented block whose first word is a command is run with bash, the blocks of a page one after the
+other in one shell, in a new folder that has links to the files at the top. The blocks without a language
+that follow it, up to the next command, are lines of what it prints, in that order; standard error counts
+too, but for the line that a program is not proved. The commands in NOT_RUN are not run, and are counted.
+It is a fault if a block differs, if a block of output has no command, or if a page shows none.
 """
 import os
-import pathlib
 import re
 import shutil
 import subprocess
-import sys
 import tempfile
 from dataclasses import dataclass, field
 
-HOME = pathlib.Path(__file__).resolve().parent.parent
-PAGES = ["README.md", "docs/TOUR.md", "docs/EXAMPLES.md", "docs/SWEEPS.md"]
+from common import HOME
+
+PAGES = ["README.md", "docs/TOUR.md"]
 # What takes too long, or needs what a machine may lack: a command that begins so is not run.
-NOT_RUN = ["rt ci", "./apex prove", "sbatch ", "parallel --sshlogin "]
+NOT_RUN = ["rt ci", "./apex prove"]
 BUILTINS = {"for", "while", "if", "export", "cd", "test", "time"}
 MARK = "== tools/commands: end of block"
 NOTICE = "apex: this program is not proved"
@@ -35,14 +32,13 @@ class Command:
     shows: list[tuple[int, list[str]]] = field(default_factory=list)
 
     def is_run(self) -> bool:
-        needs = self.text.split()[0]
-        return not self.text.startswith(tuple(NOT_RUN)) and (needs != "parallel" or shutil.which(needs) is not None)
+        return not self.text.startswith(tuple(NOT_RUN))
 
 
 def is_command(text: str) -> bool:
     word = text.lstrip("({ ").split()[0] if text.lstrip("({ ") else ""
     known = word in BUILTINS or word.startswith("./") or re.match(r"[A-Za-z_]+=", word) is not None
-    return known or (HOME / word).is_file() or word == "parallel" or word == "sbatch" or shutil.which(word) is not None
+    return known or (HOME / word).is_file() or shutil.which(word) is not None
 
 
 def commands_of(text: str) -> tuple[list[Command], list[str]]:
@@ -110,11 +106,5 @@ def check_page(name: str) -> list[str]:
     return faults if shown else [*faults, f"{name}: no block of output was compared"]
 
 
-def main() -> int:
-    faults = [it for name in sys.argv[1:] or PAGES for it in check_page(name)]
-    print(*faults, sep="\n", end="\n" if faults else "")
-    return 1 if faults else 0
-
-
-if __name__ == "__main__":
-    sys.exit(main())
+def faults() -> list[str]:
+    return [it for name in PAGES for it in check_page(name)]

@@ -1,18 +1,15 @@
-#!/usr/bin/env python3
 """Compares the rows of the services with docs/FORMATS.md and with the cases of the services.
 
-    tools/services       prints the faults, and fails if there are any
-
 A row of crates/apex_calls/src/catalogue.rt has the word of a service, the shapes of its arguments, and
-whether an init list may have it. The table of steps has the same words and arguments, of the same
-kinds and ranges; the section of the init list names the same services; and each service has a row of
-cases in crates/apex_cases/stdin, with a line of its word, so that exchanged services are seen.
+whether an init list may have it. The tables of the services have the same words and arguments, each in
+the section of its kind, and the section of steps the ranges of the numbers; the section of the init
+list names the same services; and each service has a row of cases in crates/apex_cases/stdin, with a
+line of its word, so that exchanged services are seen.
 """
-import pathlib
 import re
-import sys
 
-HOME = pathlib.Path(__file__).resolve().parent.parent
+from common import HOME
+
 CATALOGUE = "crates/apex_calls/src/catalogue.rt"
 FORMATS = "docs/FORMATS.md"
 CASES = "crates/apex_cases/stdin"
@@ -48,7 +45,7 @@ def section(title):
 
 
 def written(word, shapes, letters):
-    """The step as the table of steps writes it, where the numbers have these letters."""
+    """The step as the tables of the services write it, where the numbers have these letters."""
     numbers = iter(letters)
     return " ".join([word] + [LETTERS.get(name) or next(numbers, "?") for name, _ in shapes])
 
@@ -58,38 +55,43 @@ def in_words(name):
     return re.sub(r"(?<=[a-z])(?=[A-Z])", " ", name).lower()
 
 
+def steps_by_kind():
+    """The steps of the tables of the services, each with the title of its table."""
+    for title, table in re.findall(r"^([A-Z][\w ]+):\n\n\| Step .*\n\|[-|]+\n((?:\|.*\n)+)", section("Services"), re.MULTILINE):
+        for step in re.findall(r"^\| `([^`]*)` \|", table, re.MULTILINE):
+            yield title.lower(), step
+
+
 def faults_of_steps(shapes):
-    """The faults of the table of steps."""
-    page, faults, seen = section("Steps"), [], set()
-    for steps, meaning in re.findall(r"^\| (`.*`) \| (.*) \|$", page, re.MULTILINE):
-        for step in re.findall(r"`([^`]*)`", steps):
-            word, *arguments = step.split(" ")
-            letters = [argument for argument in arguments if argument.islower()]
-            seen.add(word)
-            if word not in shapes or step != written(word, shapes[word], letters):
-                faults.append(f"{FORMATS}: no row of {CATALOGUE} has the step {step}")
-                continue
-            for name, args in shapes[word]:
-                if name in ("Entry", "Named") and in_words(args[0]) not in meaning and "the entry named" not in meaning:
-                    faults.append(f"{FORMATS}: {step} does not name the kind {args[0]}")
-                if name == "Number":
-                    low, high = (f"{number(arg):,}" for arg in args)
-                    if not re.search(rf"`?{letters[0]}`? (?:a number )?from {low} to {high}\b", page.replace(" is a number", " a number")):
-                        faults.append(f"{FORMATS}: {step} has no number from {low} to {high}")
-    return faults + [f"{FORMATS}: the table of steps lacks {word}" for word in shapes if word not in seen]
+    """The faults of the tables of the services, and of the ranges in the section of steps."""
+    ranges, faults, seen = section("Steps"), [], set()
+    for title, step in steps_by_kind():
+        word, *arguments = step.split(" ")
+        letters = [argument for argument in arguments if argument.islower()]
+        seen.add(word)
+        # The modes have rows of their own.
+        given = "SET_PARTITION_MODE M" if word == "SET_PARTITION_MODE" else step
+        if word not in shapes or given != written(word, shapes[word], letters):
+            faults.append(f"{FORMATS}: no row of {CATALOGUE} has the step {step}")
+            continue
+        for name, args in shapes[word]:
+            if name in ("Entry", "Named") and not title.startswith(in_words(args[0])):
+                faults.append(f"{FORMATS}: {step}, of the kind {args[0]}, is in the table of {title}")
+            if name == "Number":
+                low, high = (f"{number(arg):,}" for arg in args)
+                if not re.search(rf"`{letters[0]}`,? (?:[\w ]*, )?(?:is )?a number from {low} to {high}\b", ranges):
+                    faults.append(f"{FORMATS}: {step} has no number from {low} to {high}")
+    return faults + [f"{FORMATS}: no table of the services has {word}" for word in shapes if word not in seen]
 
 
 def faults_of_init_list(shapes, init):
-    """The faults of the two lists of what an init list may have, and may not have."""
-    page = section("The init list")
-    may, may_not = page.split("Any other step is BadInitStep there:")
+    """The faults of the list of what an init list may have."""
+    may = section("The init list").split("Any other step is BadInitStep there.")[0]
     words = set(re.findall(r"`([A-Za-z_]+)`", may)) & set(shapes)
     for before, after in re.findall(r"`([A-Z_]+)\.\.([A-Z_]+)`", may):
         words |= {word for word in shapes if word.startswith(before) and word.endswith(after) and word not in ("GET_MY_ID", "GET_MY_PROCESSOR_CORE_ID")}
-    others = set(re.findall(r"`([A-Za-z_]+)`", may_not.split(". ")[0]))
     faults = [f"{FORMATS}: an init list may have {word}, as its row says" for word in sorted(init - words)]
-    faults += [f"{FORMATS}: the row of {word} is not one of an init list" for word in sorted(words - init)]
-    return faults + [f"{FORMATS}: {word} is BadInitStep or not" for word in sorted(others ^ (set(shapes) - init))]
+    return faults + [f"{FORMATS}: the row of {word} is not one of an init list" for word in sorted(words - init)]
 
 
 def faults_of_cases(shapes):
@@ -102,14 +104,9 @@ def faults_of_cases(shapes):
     ]
 
 
-def main():
+def report():
+    """What was compared, and the faults."""
     shapes, init = rows()
     faults = [] if shapes else [f"{CATALOGUE}: no rows"]
     faults += faults_of_steps(shapes) + faults_of_init_list(shapes, init) + faults_of_cases(shapes)
-    print(f"{CATALOGUE}: {len(shapes)} services, {len(init)} of them for init lists")
-    print(*faults, sep="\n", end="\n" if faults else "")
-    return 1 if faults else 0
-
-
-if __name__ == "__main__":
-    sys.exit(main())
+    return [f"{CATALOGUE}: {len(shapes)} services, {len(init)} of them for init lists"], faults
