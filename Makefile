@@ -13,7 +13,7 @@ test: ## play all cases and run all tests, not proved
 
 prove: ## prove and build both programs
 	tools/program apex --proved
-	tools/program apex_picture --proved
+	tools/program apex_lab --proved
 
 check: ## the gate: prove everything, try the wrong bodies, run tests and programs
 	rt ci
@@ -28,7 +28,7 @@ doc: ## print the comments of the crates, calls and definitions to out/doc, and 
 
 man:
 	mkdir -p out/man
-	for page in apex apex_picture; do tools/manual man/$$page.txt $(VERSION) > out/man/$$page.1; done
+	for page in apex apex_lab; do tools/manual man/$$page.txt $(VERSION) > out/man/$$page.1; done
 
 bench: ## measure the built program
 	bench/replay "$$(tools/program apex)"
@@ -39,7 +39,7 @@ install: man ## install the program below PREFIX (/usr/local): the proved one if
 	install -d $(ROOT)/bin $(ROOT)/libexec/apex $(ROOT)/share/apex/man $(ROOT)/share/apex/tools
 	install -d $(ROOT)/share/man/man1 $(ROOT)/share/bash-completion/completions
 	install "$$(tools/program apex)" $(ROOT)/libexec/apex/apex
-	install "$$(tools/program apex_picture)" $(ROOT)/libexec/apex/apex_picture
+	install "$$(tools/program apex_lab)" $(ROOT)/libexec/apex/apex_lab
 	install apex $(ROOT)/bin/apex
 	install -m 644 VERSION $(ROOT)/share/apex
 	install -m 644 man/*.txt $(ROOT)/share/apex/man

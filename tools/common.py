@@ -5,7 +5,7 @@ import subprocess
 
 HOME = pathlib.Path(__file__).resolve().parent.parent
 DATA = "crates/apex_cases/data"
-SECOND = "apex_picture"
+SECOND = "apex_lab"
 COMMANDS = {"schedule": "replay", "listing": "status"}
 SILENT = "status given return cut word unfetched gives room mute reads writes cuts changes verdict lines stands".split()
 

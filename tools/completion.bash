@@ -2,11 +2,11 @@
 _apex() {
     local word=${COMP_WORDS[COMP_CWORD]} before=${COMP_WORDS[COMP_CWORD-1]} words
     case ${COMP_WORDS[1]}:$COMP_CWORD in
-        *:1) words='replay status run check lint init-turns picture prove --help --version --program --unproved' ;;
-        picture:2) words='svg trace' ;;
+        *:1) words='replay status run check lint init-turns lab picture prove --help --version --program --unproved' ;;
+        lab:2 | picture:2) words='svg trace' ;;
         replay:* | status:*) words='--schedule' ;;
         run:*) words='--turns --ticks --front' ;;
-        picture:*) words='--schedule --from --to' ;;
+        lab:* | picture:*) words='--schedule --from --to' ;;
     esac
     [[ $before == --schedule || $before == --turns || $before == --ticks || $before == --from || $before == --to ]] && return
     mapfile -t COMPREPLY < <(compgen -W "${words:-}" -- "$word"; compgen -f -- "$word")

@@ -14,7 +14,7 @@ fn main(rt: HostRuntime) -> ExitCode {
     let status = serve(
         &rt,
         rt.alloc(),
-        given_words(rt.alloc(), &rt),
+        given_words(&rt),
         &mut reader,
         &mut writer,
         &mut error_writer,

@@ -6,8 +6,8 @@ use lib.ListN.{get_elem?}
 use Rattle.crossbeam_utils.specs.Register.{Forks, Merges, Turns}
 use Rattle.atomic_table.proofs.Lists.{at_set, at_snoc}
 use Rattle.apex_types.specs.declared.entries.Entry.{Entry}
-use Rattle.apex_types.specs.values.Limits.{most_cores}
-use Rattle.apex_types.specs.table.Table.{Table}
+use Rattle.apex_types.specs.declared.limits.TheConstants.{MOST_CORES}
+use Rattle.apex_machine.specs.table.Table.{Table}
 use Rattle.apex_board.specs.declared.law.View.{View}
 use Rattle.apex_board.specs.declared.law.View.TheVariants.{Blank, Publishes, Reads, Spent}
 use Rattle.apex_board.specs.Cells.{Adds, Finds, IsKept, IsPublished, Knows, Sees}
@@ -42,7 +42,7 @@ alone views pass v one at = go pass (subst (λ (l : List View). get_elem? l pass
     go (suc k) e = absurd (some-ne-none v (sym e))
 
 -- the cell becomes one of a partition that opens
-pub opens : (table : Table) (pass : ℕ) → table.cores ≤ most_cores → Forks IsKept pass Blank (Publishes table [] []) Spent
+pub opens : (table : Table) (pass : ℕ) → table.cores ≤ MOST_CORES → Forks IsKept pass Blank (Publishes table [] []) Spent
 opens table pass few words views (inl blank) at = inr record {
   table = table;
   history = [];

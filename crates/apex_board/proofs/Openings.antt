@@ -3,12 +3,13 @@ use Rattle.std.proofs.Common.{◌≡◌, ℕ, zero, suc, ◌<◌, ◌≤◌, fal
 use Rattle.std.specs.Int.{w64, from_le_bytes}
 use Rattle.std.specs.List.{range_with_len}
 use Rattle.std.proofs.lemmas.List.FromFn.{length-map-range_with_len}
-use Rattle.apex_types.specs.values.Limits.{most_cores}
-use Rattle.apex_types.specs.machine.Machine.{opening}
-use Rattle.apex_types.specs.processes.Roster.{Roster, is_normal, opening_roster}
-use Rattle.apex_types.specs.processes.Running.{chosen}
-use Rattle.apex_types.specs.table.Table.{Table}
-use Rattle.apex_types.proofs.Starts.{chosen_ready, early_ineligible}
+use Rattle.apex_types.specs.declared.limits.TheConstants.{MOST_CORES}
+use Rattle.apex_machine.specs.Machine.{opening}
+use Rattle.apex_types.specs.Modes.{is_normal}
+use Rattle.apex_machine.specs.processes.Roster.{Roster, opening_roster}
+use Rattle.apex_machine.specs.processes.Running.{chosen}
+use Rattle.apex_machine.specs.table.Table.{Table}
+use Rattle.apex_machine.proofs.Starts.{chosen_ready, early_ineligible}
 use Rattle.apex_board.specs.Fronts.{FitsWords, IsSmallId, Shows, byte_of, core_byte, front_of, words_of}
 
 -- before NORMAL no core runs a process
@@ -30,7 +31,7 @@ zero_byte : (table : Table) (core : ℕ) → core_byte (front_of table (opening 
 zero_byte table core = ap byte_of (none_at (chosen (opening_roster table)) (none_opens table) (range_with_len 0 table.cores) core)
 
 pub opening_words : (table : Table) → words_of (front_of table (opening table)) ≡ 0 ∷ 0 ∷ 0 ∷ []
-opening_words table = ap (λ (byte : ℕ → ℕ). 0 ∷ 0 ∷ from_le_bytes w64 (map byte (range_with_len 0 most_cores)) ∷ []) (λ i core. zero_byte table core i)
+opening_words table = ap (λ (byte : ℕ → ℕ). 0 ∷ 0 ∷ from_le_bytes w64 (map byte (range_with_len 0 MOST_CORES)) ∷ []) (λ i core. zero_byte table core i)
 
 none_small : (f : ℕ → Option ℕ) → ((core : ℕ) → f core ≡ None) → (cores : List ℕ) (k : ℕ) (d : Option ℕ) → k < length (map f cores)
     → IfSome (get_or (map f cores) k d) IsSmallId
@@ -38,14 +39,14 @@ none_small f none [] k d below = absurd (omega (arith, below))
 none_small f none (c ∷ cores) zero d below = rw (none c) tt
 none_small f none (c ∷ cores) (suc k) d below = none_small f none cores k d (omega (arith, below))
 
-pub opening_fits : (table : Table) → table.cores ≤ most_cores → FitsWords (front_of table (opening table))
+pub opening_fits : (table : Table) → table.cores ≤ MOST_CORES → FitsWords (front_of table (opening table))
 opening_fits table few = record {
   entries = omega arith;
   cores = omega (arith, few, length-map-range_with_len (chosen (opening_roster table)) 0 table.cores);
   ids = none_small (chosen (opening_roster table)) (none_opens table) (range_with_len 0 table.cores);
 }
 
-pub opening_shows : (table : Table) (words : List ℕ) → table.cores ≤ most_cores → words ≡ 0 ∷ 0 ∷ 0 ∷ [] → Shows table [] words
+pub opening_shows : (table : Table) (words : List ℕ) → table.cores ≤ MOST_CORES → words ≡ 0 ∷ 0 ∷ 0 ∷ [] → Shows table [] words
 opening_shows table words few zeros = record {
   front = front_of table (opening table);
   after = record { events = []; told = refl; shown = refl };

@@ -5,8 +5,8 @@ use Rattle.std.specs.List.{range_with_len}
 use Rattle.std.proofs.lemmas.List.{get_or_past, map-append, take_more}
 use Rattle.std.proofs.lemmas.Nat.{le_bytes_8}
 use Rattle.std.proofs.lemmas.List.FromFn.{get_or-map-range_with_len, length-map-range_with_len, take-map-range_with_len}
-use Rattle.apex_types.specs.values.Limits.{most_cores}
-use Rattle.apex_types.specs.table.Table.{Table}
+use Rattle.apex_types.specs.declared.limits.TheConstants.{MOST_CORES}
+use Rattle.apex_machine.specs.table.Table.{Table}
 use Rattle.apex_types.specs.declared.entries.Entry.{Entry}
 use Rattle.apex_board.specs.Fronts.{FitsWords, Front, IsFrontAfter, IsSmallId, byte_of, core_byte, core_bytes, words_of}
 
@@ -23,8 +23,8 @@ bytes_injective (x ∷ xs) [] e = absurd cc
 bytes_injective (x ∷ xs) (y ∷ ys) e = cc (byte_injective x y cc, bytes_injective xs ys cc)
 
 -- the bytes of the cores that the partition has
-pub bytes_of : (front : Front) → length front.chosen ≤ most_cores → take (length front.chosen) (core_bytes front) ≡ map byte_of front.chosen
-bytes_of front few = take-map-range_with_len (core_byte front) 0 most_cores (length front.chosen) few ∙ same 0 front.chosen (λ k. ap (λ (i : ℕ). get_or front.chosen i None) (omega arith))
+pub bytes_of : (front : Front) → length front.chosen ≤ MOST_CORES → take (length front.chosen) (core_bytes front) ≡ map byte_of front.chosen
+bytes_of front few = take-map-range_with_len (core_byte front) 0 MOST_CORES (length front.chosen) few ∙ same 0 front.chosen (λ k. ap (λ (i : ℕ). get_or front.chosen i None) (omega arith))
   where
     same : (a : ℕ) (xs : List (Option ℕ)) → ((k : ℕ) → get_or front.chosen (a + k) None ≡ get_or xs k None) → map (core_byte front) (range_with_len a (length xs)) ≡ map byte_of xs
     same a [] agree = refl
@@ -64,14 +64,14 @@ small_at xs small core = ⊎_elim
 
 small_bytes : (front : Front) → FitsWords front → (i : ℕ) → get_or (core_bytes front) i 0 < 256
 small_bytes front fits i = ⊎_elim
-    (λ (past : most_cores ≤ i). rw (get_or_past (core_bytes front) i 0 (omega (arith, past, length-map-range_with_len (core_byte front) 0 most_cores))) (omega arith))
-    (λ (within : i < most_cores). rw (get_or-map-range_with_len (core_byte front) 0 most_cores i i 0 within (omega arith)) (small_at front.chosen fits.ids i))
-    (half most_cores i)
+    (λ (past : MOST_CORES ≤ i). rw (get_or_past (core_bytes front) i 0 (omega (arith, past, length-map-range_with_len (core_byte front) 0 MOST_CORES))) (omega arith))
+    (λ (within : i < MOST_CORES). rw (get_or-map-range_with_len (core_byte front) 0 MOST_CORES i i 0 within (omega arith)) (small_at front.chosen fits.ids i))
+    (half MOST_CORES i)
 
 -- the bytes of the third word are those of the cores
 pub bytes_back : (front : Front) (word : ℕ) → FitsWords front → word ≡ from_le_bytes w64 (core_bytes front) → to_le_bytes w64 word ≡ core_bytes front
 bytes_back front word fits is =
-    le_bytes_8 (core_bytes front) word (length-map-range_with_len (core_byte front) 0 most_cores) (small_bytes front fits) is
+    le_bytes_8 (core_bytes front) word (length-map-range_with_len (core_byte front) 0 MOST_CORES) (small_bytes front fits) is
 
 -- what is read from the words is the front that was written
 pub decoded : (front : Front) (words : List ℕ) (chosen : List (Option ℕ)) (cores : ℕ) (bytes : List ℕ) → words ≡ words_of front → FitsWords front

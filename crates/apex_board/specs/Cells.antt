@@ -4,7 +4,7 @@ use mathlib.Core.List.{IsPrefix}
 use mathlib.Core.Option.{some}
 use lib.ListN.{get_elem?}
 use Rattle.apex_types.specs.declared.entries.Entry.{Entry}
-use Rattle.apex_types.specs.table.Table.{Table}
+use Rattle.apex_machine.specs.table.Table.{Table}
 use Rattle.apex_board.specs.declared.law.View.{View}
 use Rattle.apex_board.specs.declared.law.View.TheVariants.{Blank, Publishes, Reads, Spent}
 use Rattle.apex_board.specs.Fronts.{Shows}

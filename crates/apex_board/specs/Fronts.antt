@@ -4,10 +4,10 @@ use Rattle.std.specs.Int.{w64, from_le_bytes}
 use Rattle.std.specs.List.{range_with_len}
 use Rattle.apex_types.specs.declared.entries.Entry.{Entry}
 use Rattle.apex_types.specs.declared.entries.Event.{Event}
-use Rattle.apex_types.specs.values.Limits.{most_cores}
-use Rattle.apex_types.specs.machine.Machine.{Machine, opening, run}
-use Rattle.apex_types.specs.processes.Running.{chosen}
-use Rattle.apex_types.specs.table.Table.{Table}
+use Rattle.apex_types.specs.declared.limits.TheConstants.{MOST_CORES}
+use Rattle.apex_machine.specs.Machine.{Machine, opening, run}
+use Rattle.apex_machine.specs.processes.Running.{chosen}
+use Rattle.apex_machine.specs.table.Table.{Table}
 
 -- what a front shows of a state: the number of entries, the time, and the chosen process of each core
 pub record Front : Type 0 where
@@ -40,7 +40,7 @@ core_byte front core = byte_of (slice_index_or front.chosen core None)
 
 -- the bytes of all cores that a partition may have, from core 0 on
 abbrev pub core_bytes : Front → List ℕ
-core_bytes front = map (core_byte front) (range_with_len 0 most_cores)
+core_bytes front = map (core_byte front) (range_with_len 0 MOST_CORES)
 
 -- the three words of a front: the entries, the time, and the bytes of the cores, that of core 0 the lowest
 abbrev pub words_of : Front → List ℕ
@@ -53,7 +53,7 @@ IsSmallId p = p < 255
 -- the front is small enough for its words
 pub record FitsWords (front : Front) : Type 0 where
   pub entries : front.entries < 2 ^ 32
-  pub cores : length front.chosen ≤ most_cores
+  pub cores : length front.chosen ≤ MOST_CORES
   pub ids : All (λ (running : Option ℕ). IfSome running IsSmallId) front.chosen
 
 -- the words are those of the front after this history of a run of the table

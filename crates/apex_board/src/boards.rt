@@ -1,6 +1,6 @@
 //! The board: a new one, and the readers of a partition that opens.
 ghost use Rattle.std.specs.Prelude.{◌≡◌, ◌+◌, ◌≤◌, [], None, IfOk, IfSome, MatchOption};
-ghost use Rattle.apex_types.specs.values.Limits.{most_cores};
+ghost use Rattle.apex_types.specs.declared.limits.TheConstants.{MOST_CORES};
 ghost use Rattle.apex_board.specs.Boards.{HasPublished, most_readers};
 
 use crate::law::{Cell, Mark};
@@ -99,7 +99,7 @@ impl NewBoard {
     ) -> Result<(Option<Publisher<P>>, Board<P>), AllocError>
         requires cell { P.cell ≡ self.cell }
         requires cores { cores ≡ P.table.cores }
-        requires few_cores { P.table.cores ≤ most_cores }
+        requires few_cores { P.table.cores ≤ MOST_CORES }
         ensures publisher { IfOk result (λ parts. HasPublished P.cell [] parts.0) }
         ensures board { IfOk result (λ parts. parts.1 ≡ self.readers) }
     {

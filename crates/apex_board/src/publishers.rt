@@ -1,10 +1,10 @@
 //! The publisher of a partition's fronts, under its lock.
 ghost use Rattle.std.specs.Prelude.{◌≡◌, ◌≤◌, [], ◌∷◌, ◌++◌, IfOk, Some};
-ghost use Rattle.apex_types.specs.values.Limits.{most_cores};
+ghost use Rattle.apex_types.specs.declared.limits.TheConstants.{MOST_CORES};
 ghost use Rattle.std.specs.Arc.{arc_value};
 ghost use mathlib.Core.List.{IsPrefix};
 ghost use Rattle.crossbeam_utils.specs.Seq.{cell_view};
-ghost use Rattle.apex_board.specs.Fronts.{FitsWords, IsFrontAfter, Shows, words_of};
+ghost use Rattle.apex_board.specs.Fronts.{FitsWords, IsFrontAfter, Shows};
 ghost use Rattle.apex_board.specs.declared.law.View.TheVariants.{Blank};
 
 use crate::fronts::Front;
@@ -65,7 +65,7 @@ impl<P: Naming> Publisher<P> {
         requires cell { mark.table_id ≡ (arc_value cell).table.shared.table_id }
         requires name { P.cell ≡ Some mark.table_id }
         requires blank { cell_view mark ≡ Blank }
-        requires few_cores { P.table.cores ≤ most_cores }
+        requires few_cores { P.table.cores ≤ MOST_CORES }
         ensures { result ≡ [] }
     {
         let _nobody = cell.split_pass::<Opening<P>>(&mut mark);

@@ -1,20 +1,21 @@
 //! The buffer as its services see it, with its messages and the services that buffers alone have.
 ghost use Rattle.std.specs.Prelude.{◌≡◌, ◌<◌, ◌≤◌, [], ◌∷◌, length, false, IfNone, IfSome, OnSome};
-ghost use Rattle.apex_types.specs.values.Limits.{most_messages, most_processes};
-ghost use Rattle.apex_types.specs.services.BufferServices as services;
-ghost use Rattle.apex_types.specs.services.Callers.{IsReady, IsReadyCaller};
-ghost use Rattle.apex_types.specs.processes.Dues.{HasTime};
-ghost use Rattle.apex_types.specs.processes.Roster.{Roster};
-ghost use Rattle.apex_types.specs.services.Rows.{Leaves};
-ghost use Rattle.apex_types.specs.services.Premises.{CanServe};
-ghost use Rattle.apex_types.specs.processes.Stamps.{HasManyStamps};
-ghost use Rattle.apex_types.specs.processes.Waiters.{first_waiter};
-ghost use Rattle.apex_types.specs.declared.records.Queue.TheVariants as queues;
+ghost use Rattle.apex_types.specs.declared.limits.TheConstants.{MOST_MESSAGES, MOST_PROCESSES};
+ghost use Rattle.apex_machine.specs.services.BufferServices as services;
+ghost use Rattle.apex_machine.specs.services.Callers.{IsReady, IsReadyCaller};
+ghost use Rattle.apex_machine.specs.processes.Dues.{HasTime};
+ghost use Rattle.apex_machine.specs.processes.Roster.{Roster};
+ghost use Rattle.apex_machine.specs.services.Rows.{Leaves};
+ghost use Rattle.apex_machine.specs.services.Premises.{CanServe};
+ghost use Rattle.apex_machine.specs.processes.Stamps.{HasManyStamps};
+ghost use Rattle.apex_machine.specs.processes.Waiters.{first_waiter};
+ghost use Rattle.apex_machine.specs.declared.records.Queue.TheVariants as queues;
 
+use apex_machine::{Queue, Wait};
 use apex_store::{Object, Store, grant, is_unfit, is_waiting_owner, wait_for};
 use apex_types::{
-    BufferId, BufferKind, BufferService, Caller, MOST_MESSAGES, Message, Notices, ProcessId, Queue,
-    Reply, ReturnCode, Timeout, Wait,
+    BufferId, BufferKind, BufferService, Caller, MOST_MESSAGES, Message, Notices, ProcessId, Reply,
+    ReturnCode, Timeout,
 };
 use arrayvec::ArrayVec;
 use std::marker::Model;
@@ -30,8 +31,8 @@ pub struct Buffer {
 
 impl Model for Buffer {
     ghost use Rattle.std.specs.Prelude.{◌≤◌};
-    ghost use Rattle.apex_types.specs.values.Limits.{most_messages};
-    ghost use Rattle.apex_types.specs.services.BufferServices.{BufferObject};
+    ghost use Rattle.apex_types.specs.declared.limits.TheConstants.{MOST_MESSAGES};
+    ghost use Rattle.apex_machine.specs.services.BufferServices.{BufferObject};
 
     ghost Value = { BufferObject };
 
@@ -42,7 +43,7 @@ impl Model for Buffer {
       messages = b.messages.items;
     } };
 
-    ghost invariant = { λ b. b.capacity ≤ most_messages };
+    ghost invariant = { λ b. b.capacity ≤ MOST_MESSAGES };
 }
 
 /// The process waits for a message of a buffer.
@@ -69,7 +70,7 @@ impl Buffer {
     /// A buffer that isn't created yet, for messages of up to `longest` bytes, and for as many of
     /// them as its capacity.
     pub fn new(longest: u8, capacity: u8) -> Buffer
-        requires { capacity ≤ most_messages }
+        requires { capacity ≤ MOST_MESSAGES }
         ensures { result ≡ record {
           longest = longest;
           capacity = capacity;
@@ -88,7 +89,7 @@ impl Buffer {
     /// The messages that it holds, the first one first.
     pub fn messages(&self) -> &[Message]
         ensures value { result.now ≡ self.now.messages }
-        ensures few_messages { length result.now ≤ most_messages }
+        ensures few_messages { length result.now ≤ MOST_MESSAGES }
     {
         self.messages.as_slice()
     }
@@ -160,7 +161,7 @@ impl Buffer {
         ensures taken { OnSome result
             (self.new ≡ record self.old { messages = self.new.messages }) }
         ensures first { IfSome result (λ m. self.old.messages ≡ m ∷ self.new.messages) }
-        ensures room { OnSome result (length self.new.messages < most_messages) }
+        ensures room { OnSome result (length self.new.messages < MOST_MESSAGES) }
         ensures empty { IfNone result (self.old.messages ≡ []) }
         ensures kept { IfNone result (self.new ≡ self.old) }
     {
@@ -180,9 +181,9 @@ impl Buffer {
         message: &Message,
         notices: &mut Notices,
     ) -> Reply
-        requires space { length self.old.messages < most_messages }
+        requires space { length self.old.messages < MOST_MESSAGES }
         requires stamps { HasManyStamps (S.roster store.old) }
-        requires room { length notices.old ≤ most_processes }
+        requires room { length notices.old ≤ MOST_PROCESSES }
         ensures { Leaves (services.received (S.roster store.old) self.old message.now
             (first_waiter (S.roster store.old) (queues.Buffer id)))
             (S.roster store.new) self.new result notices.old notices.new }
@@ -238,9 +239,9 @@ impl Object for Buffer {
 
     type KindService = BufferService;
 
-    ghost use Rattle.apex_types.specs.processes.Roster.{Roster};
-    ghost use Rattle.apex_types.specs.services.BufferServices.{buffer_kind};
-    ghost use Rattle.apex_types.specs.table.Table.{BufferConfig};
+    ghost use Rattle.apex_machine.specs.processes.Roster.{Roster};
+    ghost use Rattle.apex_machine.specs.services.BufferServices.{buffer_kind};
+    ghost use Rattle.apex_machine.specs.table.Table.{BufferConfig};
 
     ghost Config = { BufferConfig };
 
@@ -257,7 +258,6 @@ impl Object for Buffer {
     }
 
     fn status<S: Store>(&self, store: &S, id: BufferId) -> Reply
-        requires stands { Unit {0} }
         ensures { result ≡ services.buffer_status (S.roster store.now) self.now id }
     {
         let waiting = store.waiting(Queue::Buffer(id));
@@ -272,7 +272,6 @@ impl Object for Buffer {
         service: &BufferService,
         notices: &mut Notices,
     ) -> Reply
-        requires stands { Unit {0} }
         requires caller { IsReadyCaller (S.roster store.old) caller.now }
         requires can { CanServe (S.roster store.old) notices.old }
         ensures { Leaves (services.buffer_service

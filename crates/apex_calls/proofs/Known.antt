@@ -1,7 +1,7 @@
 -- The things that a call names are entries of the table, word by word.
 use Rattle.std.proofs.Common.{ℕ}
 use Rattle.std.specs.List.{AllByRecursion}
-use Rattle.apex_types.specs.table.Table.{Table, IsKnown}
+use Rattle.apex_machine.specs.table.Table.{Table, IsKnown}
 use Rattle.apex_calls.specs.Terms.{BlackboardService, BufferService, Call, EventFlagService, MutexService, ProcessService, SemaphoreService}
 use Rattle.apex_types.specs.declared.calls.BlackboardService.TheVariants.{Display, Read, Clear}
 use Rattle.apex_types.specs.declared.calls.BufferService.TheVariants.{Send}

@@ -1,14 +1,10 @@
--- Each row of the code's constant is that of its service.
+-- Each row is that of its service.
 use Rattle.std.proofs.Common.{◌≡◌, ℕ, List, [], ◌∷◌, map, Bool, true, false, cond, Option, Some, None, IfSome, option_map, refl}
 use Rattle.std.specs.List.{AllByRecursion}
 use Rattle.std.specs.Str.{bytes_eq}
 use Rattle.apex_calls.specs.Terms.{Service}
-use Rattle.apex_calls.specs.Catalogue.{Row, rows, row_in, row_of, IsRow}
+use Rattle.apex_calls.specs.Catalogue.{Row, all_services, rows, row_in, row_of, IsRow}
 use Rattle.apex_calls.specs.declared.catalogue.Service.TheVariants.{SetPartitionMode}
-
--- the services in the order of the rows
-abbrev services : List Service
-services = map (λ (r : Row). r.service) rows
 
 -- the row of each service is found by its word
 pub found_by_word : (s : Service) → row_in rows (row_of s).word ≡ Some (row_of s)
@@ -24,7 +20,7 @@ own_rows [] = tt
 own_rows (s ∷ ss) = (own_row s, own_rows ss)
 
 all_rows : AllByRecursion IsRow rows
-all_rows = own_rows services
+all_rows = own_rows all_services
 
 found : (P : Row → Type 0) (b : Bool) (r : Row) (rest : Option Row) → P r → IfSome rest P → IfSome (cond b (Some r) rest) P
 found P true r rest here there = here

@@ -1,43 +1,30 @@
 -- The services: a row for each, with its word, the shapes of the words behind it, and whether an init
 -- list may have it (ARINC 653 Part 1; mutexes and `work`: this profile).
 use Rattle.std.specs.Prelude.{◌≡◌, ℕ, codes, Bool, true, false, List, [], ◌∷◌, map, Option}
-use Rattle.std.specs.Borrow.{Bor}
 use Rattle.std.specs.List.{find}
 use Rattle.std.specs.Str.{bytes_eq}
-use Rattle.apex_types.specs.values.Limits.{most_span, most_work}
+use Rattle.apex_types.specs.declared.limits.TheConstants.{MOST_SPAN, MOST_WORK}
+use Rattle.apex_calls.specs.declared.catalogue.Row as declared
 use Rattle.apex_calls.specs.declared.catalogue.Kind.TheVariants.{Process, Semaphore, Buffer, Blackboard, EventFlag, Mutex}
 use Rattle.apex_calls.specs.Terms.{Service, Shape}
 use Rattle.apex_calls.specs.declared.catalogue.Service.TheVariants as services
 use Rattle.apex_calls.specs.declared.catalogue.Shape.TheVariants.{Entry, Named, Number, Timeout, Message, Mode}
-use Rattle.apex_calls.specs.declared.catalogue.TheConstants.{CATALOGUE}
 
 -- a service, its word in a step, the shapes of the words behind it, and whether an init list may have it
 pub record Row : Type 0 where
   pub service : Service
   pub word : List ℕ
   pub shapes : List Shape
-  pub init : Bool
+  pub may_init : Bool
 
 -- a row, by its parts
 abbrev pub row : Service → List ℕ → List Shape → Bool → Row
-row service word shapes init =
-    record { service = service; word = word; shapes = shapes; init = init }
+row service word shapes may_init =
+    record { service = service; word = word; shapes = shapes; may_init = may_init }
 
 -- a row of the code, as a call sees it
-abbrev pub view : Service × Bor (List ℕ) × Bor (List Shape) × Bool → Row
-view given = row given.0 given.1.now given.2.now given.3
-
--- a row of the code's constant
-abbrev pub given : Service × record { now : List ℕ } × record { now : List Shape } × Bool → Row
-given r = row r.0 r.1.now r.2.now r.3
-
--- the rows of the code
-abbrev pub rows : List Row
-rows = map given CATALOGUE
-
--- the row that has this word
-abbrev pub row_in : List Row → List ℕ → Option Row
-row_in rows word = find (λ (r : Row). bytes_eq r.word word) rows
+abbrev pub view : declared.Row → Row
+view given = row given.service given.word.now given.shapes.now given.may_init
 
 -- the row of each service
 abbrev pub row_of : Service → Row
@@ -70,9 +57,9 @@ row_of services.GetMyProcessorCoreId =
 row_of services.TimedWait = row services.TimedWait (codes "TIMED_WAIT") (Timeout ∷ []) false
 row_of services.PeriodicWait = row services.PeriodicWait (codes "PERIODIC_WAIT") [] false
 row_of services.Replenish =
-    row services.Replenish (codes "REPLENISH") (Number 1 most_span ∷ []) false
+    row services.Replenish (codes "REPLENISH") (Number 1 MOST_SPAN ∷ []) false
 row_of services.GetTime = row services.GetTime (codes "GET_TIME") [] true
-row_of services.Work = row services.Work (codes "work") (Number 1 most_work ∷ []) false
+row_of services.Work = row services.Work (codes "work") (Number 1 MOST_WORK ∷ []) false
 row_of services.CreateSemaphore =
     row services.CreateSemaphore (codes "CREATE_SEMAPHORE") (Named Semaphore ∷ []) true
 row_of services.GetSemaphoreId =
@@ -126,6 +113,32 @@ row_of services.AcquireMutex =
     row services.AcquireMutex (codes "ACQUIRE_MUTEX") (Entry Mutex ∷ Timeout ∷ []) false
 row_of services.ReleaseMutex =
     row services.ReleaseMutex (codes "RELEASE_MUTEX") (Entry Mutex ∷ []) false
+
+-- the services, in the order of the code's rows
+abbrev pub all_services : List Service
+all_services =
+    services.SetPartitionMode ∷ services.GetPartitionStatus ∷ services.CreateProcess
+    ∷ services.GetProcessId ∷ services.GetProcessStatus ∷ services.InitializeProcessCoreAffinity
+    ∷ services.SetPriority ∷ services.Start ∷ services.DelayedStart ∷ services.Stop
+    ∷ services.Suspend ∷ services.Resume ∷ services.StopSelf ∷ services.SuspendSelf
+    ∷ services.GetMyId ∷ services.GetMyProcessorCoreId ∷ services.TimedWait ∷ services.PeriodicWait
+    ∷ services.Replenish ∷ services.GetTime ∷ services.Work ∷ services.CreateSemaphore
+    ∷ services.GetSemaphoreId ∷ services.GetSemaphoreStatus ∷ services.WaitSemaphore
+    ∷ services.SignalSemaphore ∷ services.CreateBuffer ∷ services.GetBufferId
+    ∷ services.GetBufferStatus ∷ services.SendBuffer ∷ services.ReceiveBuffer
+    ∷ services.CreateBlackboard ∷ services.GetBlackboardId ∷ services.GetBlackboardStatus
+    ∷ services.DisplayBlackboard ∷ services.ReadBlackboard ∷ services.ClearBlackboard
+    ∷ services.CreateEvent ∷ services.GetEventId ∷ services.GetEventStatus ∷ services.SetEvent
+    ∷ services.ResetEvent ∷ services.WaitEvent ∷ services.CreateMutex ∷ services.GetMutexId
+    ∷ services.GetMutexStatus ∷ services.AcquireMutex ∷ services.ReleaseMutex ∷ []
+
+-- the rows of all services
+abbrev pub rows : List Row
+rows = map row_of all_services
+
+-- the row that has this word
+abbrev pub row_in : List Row → List ℕ → Option Row
+row_in rows word = find (λ (r : Row). bytes_eq r.word word) rows
 
 -- the row is that of its service
 pub record IsRow (r : Row) : Type 0 where

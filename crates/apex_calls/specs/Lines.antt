@@ -6,9 +6,9 @@ use Rattle.apex_types.specs.declared.entries.Notice.TheVariants.{Woken, Released
 use Rattle.apex_types.specs.declared.entries.Reply.TheVariants.{Code, Value, Status, Message as Gets, Blocked, Gone, Idle as IdleTurn, Begun, Done, Lost, Advanced}
 use Rattle.apex_types.specs.declared.entries.ReturnCode.TheVariants.{NoError, NoAction, NotAvailable, InvalidParam, InvalidConfig, InvalidMode, TimedOut}
 use Rattle.apex_types.specs.declared.entries.Who.TheVariants.{Core, Ticker}
-use Rattle.apex_types.specs.declared.records.DeadlineType.TheVariants.{Soft, Hard}
-use Rattle.apex_types.specs.table.Table.{Table, IsKnown}
-use Rattle.apex_types.specs.text.Texts.{id_text, message_text}
+use Rattle.apex_types.specs.declared.modes.DeadlineType.TheVariants.{Soft, Hard}
+use Rattle.apex_machine.specs.table.Table.{Table, IsKnown}
+use Rattle.apex_machine.specs.text.Texts.{id_text, message_text}
 use Rattle.apex_calls.specs.CallText.{call_text}
 
 -- the name of a return code

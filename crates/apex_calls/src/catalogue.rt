@@ -93,13 +93,26 @@ pub enum Service {
     ReleaseMutex,
 }
 
-/// A service's row: the service, its word in a step, the shapes of the words behind it, and whether
-/// an init list may have it.
-pub type Row = (Service, &'static str, &'static [Shape], bool);
+/// A service's row.
+#[derive(Clone, Copy)]
+pub struct Row {
+    pub service: Service,
+    /// The service's word in a step.
+    pub word: &'static str,
+    /// The shapes of the words behind the service's word.
+    pub shapes: &'static [Shape],
+    /// Whether an init list may have the service.
+    pub may_init: bool,
+}
 
 macro_rules! rows {
-    ($($service:ident $word:literal [$($shape:expr),*] $init:literal;)*) => {
-        [$((Service::$service, $word, &[$($shape),*], $init)),*]
+    ($($service:ident $word:literal [$($shape:expr),*] $may_init:literal;)*) => {
+        [$(Row {
+            service: Service::$service,
+            word: $word,
+            shapes: &[$($shape),*],
+            may_init: $may_init,
+        }),*]
     };
 }
 
@@ -160,7 +173,7 @@ fn row_in(rows: &'static [Row], word: &str) -> Option<&'static Row>
     ensures { option_map (λ row. view row.now) result ≡ row_in (map view rows.now) word.now }
 {
     for row in rows {
-        if row.1 == word {
+        if row.word == word {
             return Some(row);
         }
     }
@@ -178,8 +191,8 @@ pub fn row_of_word(word: &str) -> Option<&'static Row>
 /// The row of this service.
 pub fn row_of(service: Service) -> &'static Row
     ensures row { view result.now ≡ row_of service }
-    ensures word { length result.now.1.now ≤ MOST_WORD }
-    ensures shapes { length result.now.2.now ≤ MOST_SHAPES }
+    ensures word { length result.now.word.now ≤ MOST_WORD }
+    ensures shapes { length result.now.shapes.now ≤ MOST_SHAPES }
 {
     &CATALOGUE[service as usize]
 }

@@ -4,12 +4,12 @@ use Rattle.std.specs.List.{AllByRecursion}
 use Rattle.std.proofs.lemmas.Bool.{cases_lt, lt-ltb}
 use Rattle.std.proofs.lemmas.Grind.{flat_map-append}
 use Rattle.std.proofs.lemmas.List.{append_cancel_left, length-map, map-append}
-use Rattle.apex_types.specs.values.Limits.{most_line}
+use Rattle.apex_types.specs.declared.limits.TheConstants.{MOST_LINE}
 use Rattle.apex_check.specs.Terms.{Entry, Event}
-use Rattle.apex_types.specs.table.Table.{Table}
+use Rattle.apex_machine.specs.table.Table.{Table}
 use Rattle.apex_calls.specs.Lines.{line_of, lines_of}
-use Rattle.apex_types.specs.machine.Machine.{Machine, accept, happen, opening, run}
-use Rattle.apex_dispatch.proofs.Runs.{accept-full, accept-room, length-happen, run-append}
+use Rattle.apex_machine.specs.Machine.{Machine, accept, happen, opening, run}
+use Rattle.apex_laws.proofs.Runs.{accept-full, accept-room, length-happen, run-append}
 use Rattle.apex_history.specs.declared.LineFault.{LineFault}
 use Rattle.apex_history.specs.declared.LineFault.TheVariants.{TooLong}
 use Rattle.apex_check.specs.Histories.{Follows, IsNext, event_named, history_of}
@@ -88,12 +88,12 @@ module _ (table : Table) (firsts all : List Event) (line behind : List ℕ) (on 
       (event, later, names, on.both ∙ ap (λ (l : List Event). firsts ++ l) is)
 
 -- a line that is longer than any names no event
-long_is_none : (cores : ℕ) (line : List ℕ) (event : Event) → most_line < length line → event_named cores line ≡ Ok event → ⊥
+long_is_none : (cores : ℕ) (line : List ℕ) (event : Event) → MOST_LINE < length line → event_named cores line ≡ Ok event → ⊥
 long_is_none cores line event long names =
     let none : Err TooLong ≡ Ok event = rw (lt-ltb _ _ long) at names in
     cc
 
-first_long : (cores : ℕ) (lines : List (List ℕ)) (events : List Event) (part behind : List ℕ) → IsOneLine part → most_line < length part
+first_long : (cores : ℕ) (lines : List (List ℕ)) (events : List Event) (part behind : List ℕ) → IsOneLine part → MOST_LINE < length part
     → part ++ behind ≡ text_of lines → map (event_named cores) lines ≡ map Ok events → ⊥
 first_long cores [] events part behind one long e named = omega (arith, ap length e, length-append part behind)
 first_long cores (l ∷ ls) [] part behind one long e named = cc
@@ -103,7 +103,7 @@ first_long cores (l ∷ ls) (event ∷ events) part behind one long e named =
     long_is_none cores l event (omega (arith, more, long)) names
 
 pub not_too_long : {table : Table} {firsts all : List Event} → (part behind : List ℕ) → GoesOn table firsts all (part ++ behind)
-    → IsOneLine part → most_line < length part → ⊥
+    → IsOneLine part → MOST_LINE < length part → ⊥
 not_too_long {table} part behind on one long = first_long table.cores on.lines on.events part behind one long on.whole on.named
 
 -- bytes without a line feed are no line

@@ -6,14 +6,14 @@ use Rattle.std.proofs.lemmas.Bool.{ltb-true}
 use Rattle.std.proofs.lemmas.Grind.{flat_map-append}
 use Rattle.std.proofs.lemmas.List.{length-map, map-append}
 use Rattle.std.proofs.Math.Seq.{take-append_seam, get_or-append_seam}
-use Rattle.apex_types.specs.values.Limits.{most_line}
+use Rattle.apex_types.specs.declared.limits.TheConstants.{MOST_LINE}
 use Rattle.apex_check.specs.Terms.{Entry, Event}
 use Rattle.apex_table.proofs.Results.{all_append}
-use Rattle.apex_types.specs.declared.Event.TheVariants.{Turn, Tick}
-use Rattle.apex_types.specs.table.Table.{Table}
+use Rattle.apex_types.specs.declared.entries.Event.TheVariants.{Turn, Tick}
+use Rattle.apex_machine.specs.table.Table.{Table}
 use Rattle.apex_calls.specs.Lines.{line_of, lines_of}
-use Rattle.apex_types.specs.machine.Machine.{Machine, accept, happen, event_of, events_of, replay, tick, turn}
-use Rattle.apex_dispatch.proofs.Runs.{accept-full, accept-room}
+use Rattle.apex_machine.specs.Machine.{Machine, accept, happen, event_of, events_of, replay, tick, turn}
+use Rattle.apex_laws.proofs.Runs.{accept-full, accept-room}
 use Rattle.apex_history.specs.declared.LineFault.{LineFault}
 use Rattle.apex_history.specs.declared.LineFault.TheVariants as line_fault
 use Rattle.apex_history.specs.ReadLines as words
@@ -152,13 +152,13 @@ bad_or_ok : (named : Option Event) → or_bad_line named ≡ Err line_fault.TooL
 bad_or_ok None e = cc
 bad_or_ok (Some event) e = cc
 
-long_line : (cores : ℕ) (line : List ℕ) → event_named cores line ≡ Err line_fault.TooLong → most_line < length line
-long_line cores line e = go (nat_lt most_line (length line)) refl
+long_line : (cores : ℕ) (line : List ℕ) → event_named cores line ≡ Err line_fault.TooLong → MOST_LINE < length line
+long_line cores line e = go (nat_lt MOST_LINE (length line)) refl
   where
     found : line_result line ≡ Err line_fault.TooLong
     found = named_by cores (line_result line) e
 
-    go : (b : Bool) → nat_lt most_line (length line) ≡ b → most_line < length line
+    go : (b : Bool) → nat_lt MOST_LINE (length line) ≡ b → MOST_LINE < length line
     go true t = ltb-true _ _ t
     go false t = absurd (bad_or_ok (words.event_named (parts 32 line)) (rw t at found))
 
@@ -196,14 +196,14 @@ module _ (table : Table) (entries : List Entry) (bytes : List ℕ) (are : AreLin
       subst (λ n. JudgesLines table (bytes ++ (pending ++ left)) (Legal n)) (counted entries)
       (legal (bytes, whole, are))
 
-  pub rests : (pending left : List ℕ) → IsOneLine pending → 0 < length pending → length pending ≤ most_line → left ≡ []
+  pub rests : (pending left : List ℕ) → IsOneLine pending → 0 < length pending → length pending ≤ MOST_LINE → left ≡ []
       → LineIsAtFault table (bytes ++ (pending ++ left)) (BadLine (length entries + 1))
   rests pending left one some few end =
       let whole : bytes ++ (pending ++ left) ≡ bytes ++ pending = ap (λ l. bytes ++ l) (ap (λ l. pending ++ l) end ∙ append-nil pending) in
       subst (λ n. LineIsAtFault table (bytes ++ (pending ++ left)) (BadLine (n + 1))) (counted entries)
       (unended pending (bytes, whole, are) one some few)
 
-  pub runs_on : (pending left : List ℕ) → IsOneLine pending → most_line < length pending
+  pub runs_on : (pending left : List ℕ) → IsOneLine pending → MOST_LINE < length pending
       → LineIsAtFault table (bytes ++ (pending ++ left)) (TooLong (length entries + 1))
   runs_on pending left one long =
       subst (λ n. LineIsAtFault table (bytes ++ (pending ++ left)) (TooLong (n + 1))) (counted entries)

@@ -2,11 +2,11 @@
 use Rattle.std.proofs.Common.{◌≡◌, ℕ, ◌≤◌, Bool, true, false, List, [], ◌∷◌, Option, None, Some, Ok, Err, refl, take, drop, length, nat_lt, ltb-true, leb-true, codes}
 use Rattle.std.specs.Prelude.{IfOk, IfSome, nat_le, if◌then◌else◌, option_map, ◌&&◌}
 use Rattle.std.specs.Str.{bytes_eq}
-use Rattle.apex_types.specs.values.Limits.{most_line, most_ticks}
-use Rattle.apex_types.specs.values.Numbers.{number_of, at_least, at_most}
+use Rattle.apex_types.specs.declared.limits.TheConstants.{MOST_LINE, MOST_TICKS}
+use Rattle.apex_types.specs.Numbers.{number_of, at_least, at_most}
 use Rattle.apex_check.specs.Terms.{Event}
-use Rattle.apex_types.specs.declared.Event.TheVariants.{Turn, Tick}
-use Rattle.apex_dispatch.specs.Events.{IsWithin}
+use Rattle.apex_types.specs.declared.entries.Event.TheVariants.{Turn, Tick}
+use Rattle.apex_machine.specs.Events.{IsWithin}
 use Rattle.apex_history.specs.declared.LineFault.TheVariants.{BadLine, TooLong}
 use Rattle.apex_history.specs.ReadLines as words
 use Rattle.apex_history.specs.ReadLines.{turn_named, tick_named, either_event, or_bad_line}
@@ -17,7 +17,7 @@ use Rattle.apex_check.specs.Histories.{event_named, of_cores}
 abbrev InRange : Option Event → Type 0
 InRange None = Unit {0}
 InRange (Some (Turn core)) = Unit {0}
-InRange (Some (Tick n)) = (1 ≤ n) × (n ≤ most_ticks)
+InRange (Some (Tick n)) = (1 ≤ n) × (n ≤ MOST_TICKS)
 
 most : (m : ℕ) (o : Option ℕ) → IfSome (at_most m o) (λ n. n ≤ m)
 most m None = tt
@@ -35,8 +35,8 @@ least l m (Some n) few = go (nat_le l n) refl
     go true t = (leb-true l n t, few)
     go false t = tt
 
-ticks_range : (word : List ℕ) → IfSome (ticks_of word) (λ n. (1 ≤ n) × (n ≤ most_ticks))
-ticks_range word = least 1 most_ticks (at_most most_ticks (number_of word)) (most most_ticks (number_of word))
+ticks_range : (word : List ℕ) → IfSome (ticks_of word) (λ n. (1 ≤ n) × (n ≤ MOST_TICKS))
+ticks_range word = least 1 MOST_TICKS (at_most MOST_TICKS (number_of word)) (most MOST_TICKS (number_of word))
 
 turn_range : (who : List ℕ) → InRange (turn_named who)
 turn_range who = go (bytes_eq (take 4 who) (codes "core")) (core_of (drop 4 who))
@@ -54,7 +54,7 @@ tick_range (who ∷ process ∷ call ∷ []) = tt
 tick_range (who ∷ process ∷ call ∷ ticks ∷ rest) =
     go (bytes_eq who (codes "ticker") && bytes_eq process (codes "-") && bytes_eq call (codes "tick")) (ticks_of ticks) (ticks_range ticks)
   where
-    go : (b : Bool) (o : Option ℕ) → IfSome o (λ n. (1 ≤ n) × (n ≤ most_ticks)) → InRange (if b then option_map Tick o else None)
+    go : (b : Bool) (o : Option ℕ) → IfSome o (λ n. (1 ≤ n) × (n ≤ MOST_TICKS)) → InRange (if b then option_map Tick o else None)
     go true None within = tt
     go true (Some n) within = within
     go false o within = tt
@@ -80,7 +80,7 @@ of_cores_within cores (Some (Turn core)) range = go (nat_lt core cores) refl
     go false t = tt
 
 pub named_within : (cores : ℕ) (line : List ℕ) → IfOk (event_named cores line) (IsWithin cores)
-named_within cores line = go (nat_lt most_line (length line))
+named_within cores line = go (nat_lt MOST_LINE (length line))
   where
     go : (b : Bool) → IfOk (of_cores cores (if b then Err TooLong else or_bad_line (words.event_named (parts 32 line)))) (IsWithin cores)
     go true = tt

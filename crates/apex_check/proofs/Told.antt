@@ -2,7 +2,7 @@
 use Rattle.std.proofs.Common.{◌≡◌, ◌∙◌, ℕ, List, [], ◌∷◌, Option, Some, Result, Ok, Err, refl, sym, ap, subst, arith, length, length-append}
 use Rattle.std.specs.Prelude.{IfSome}
 use Rattle.apex_check.specs.Terms.{Event}
-use Rattle.apex_types.specs.table.Table.{Table}
+use Rattle.apex_machine.specs.table.Table.{Table}
 use Rattle.apex_history.specs.Ports.{Ports}
 use Rattle.apex_check.specs.declared.verdicts.Verdict.{Verdict}
 use Rattle.apex_check.specs.declared.verdicts.Verdict.TheVariants.{Legal}

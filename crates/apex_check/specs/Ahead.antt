@@ -2,7 +2,7 @@
 -- has left.
 use Rattle.std.specs.Prelude.{◌≡◌, ℕ, ◌+◌, ◌*◌, ◌<◌, ◌≤◌, List, [], length, take, Option, IfSome}
 use Rattle.std.specs.Io.KnownBytes.{IsAtEnd}
-use Rattle.apex_types.specs.values.Limits.{most_line}
+use Rattle.apex_types.specs.declared.limits.TheConstants.{MOST_LINE}
 use Rattle.apex_check.specs.declared.pending.TheConstants.{READ_ROOM}
 use Rattle.apex_check.specs.declared.pending.Next.{Next}
 use Rattle.apex_check.specs.declared.pending.Next.TheVariants.{Line, Part, Rest, End}
@@ -21,9 +21,9 @@ IsFirstLine end bytes =
 -- the next part of a text, by the bytes that were read ahead and those that are left
 abbrev pub Comes : Next → List ℕ → Option (List ℕ) → Type 0
 Comes (Line end) pending left = IsFirstLine end pending
-Comes Part pending left = IsOneLine pending × (most_line < length pending)
+Comes Part pending left = IsOneLine pending × (MOST_LINE < length pending)
 Comes Rest pending left =
-    IsOneLine pending × (0 < length pending) × (length pending ≤ most_line) × IsAtEnd left
+    IsOneLine pending × (0 < length pending) × (length pending ≤ MOST_LINE) × IsAtEnd left
 Comes End pending left = (pending ≡ []) × IsAtEnd left
 
 -- a bound of the bytes that can still be taken: those that were read ahead, and the most bytes of a

@@ -2,9 +2,9 @@
 use Rattle.std.specs.Prelude.{◌≡◌, ℕ, ◌≤◌, Bool, true, nat_lt, if◌then◌else◌, List, [], ◌∷◌, ◌++◌, length, map, Result, Ok, Err}
 use Rattle.std.specs.List.{AllByRecursion}
 use Rattle.apex_check.specs.Terms.{Entry, Event}
-use Rattle.apex_types.specs.declared.Event.TheVariants.{Turn, Tick}
-use Rattle.apex_types.specs.table.Table.{Table}
-use Rattle.apex_types.specs.machine.Machine.{run, opening}
+use Rattle.apex_types.specs.declared.entries.Event.TheVariants.{Turn, Tick}
+use Rattle.apex_machine.specs.table.Table.{Table}
+use Rattle.apex_machine.specs.Machine.{run, opening}
 use Rattle.apex_calls.specs.Lines.{lines_of}
 use Rattle.apex_history.specs.ReadLines.{line_result}
 use Rattle.apex_history.specs.declared.LineFault.{LineFault}

@@ -1,7 +1,7 @@
 -- Legal texts.
 use Rattle.std.specs.Prelude.{◌≡◌, ◌↔◌, ℕ, List, [], length, Option, Some, Result, Ok, Err}
 use Rattle.apex_check.specs.Terms.{Event}
-use Rattle.apex_types.specs.table.Table.{Table}
+use Rattle.apex_machine.specs.table.Table.{Table}
 use Rattle.apex_check.specs.declared.verdicts.Verdict.{Verdict}
 use Rattle.apex_check.specs.declared.verdicts.Verdict.TheVariants.{Legal}
 use Rattle.apex_check.specs.declared.verdicts.CheckFault.{CheckFault}

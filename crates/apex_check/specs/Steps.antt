@@ -2,8 +2,8 @@
 use Rattle.std.specs.Prelude.{◌≡◌, ◌≢◌, ◌+◌, ◌≤◌, ℕ, List, [], ◌∷◌, ◌++◌, length, Option, None, Some, Result, Ok, Err}
 use Rattle.std.specs.List.{last_or}
 use Rattle.apex_check.specs.Terms.{Entry, Event}
-use Rattle.apex_types.specs.table.Table.{Table}
-use Rattle.apex_types.specs.machine.Machine.{Machine, accept, event_of, events_of}
+use Rattle.apex_machine.specs.table.Table.{Table}
+use Rattle.apex_machine.specs.Machine.{Machine, accept, event_of, events_of}
 use Rattle.apex_calls.specs.Lines.{line_of, IsPrintable}
 use Rattle.apex_check.specs.declared.following.Answer.{Answer}
 use Rattle.apex_check.specs.declared.following.Answer.TheVariants.{Same, Differs, Beyond}

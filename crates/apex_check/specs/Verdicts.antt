@@ -1,8 +1,8 @@
 -- The verdict on the history of a text, or the first fault.
 use Rattle.std.specs.Prelude.{◌≡◌, ◌≢◌, ℕ, ◌+◌, ◌<◌, ◌≤◌, List, [], ◌++◌, length, codes, decimal, Option, None, Some, Ok, Err}
-use Rattle.apex_types.specs.values.Limits.{most_line}
+use Rattle.apex_types.specs.declared.limits.TheConstants.{MOST_LINE}
 use Rattle.apex_check.specs.Terms.{Entry, Event}
-use Rattle.apex_types.specs.table.Table.{Table}
+use Rattle.apex_machine.specs.table.Table.{Table}
 use Rattle.apex_calls.specs.Lines.{line_of}
 use Rattle.apex_table.specs.Reading.{table_of}
 use Rattle.apex_table.specs.declared.TableFault.{TableFault}
@@ -58,11 +58,11 @@ pub data LineIsAtFault (table : Table) (text : List ℕ) : CheckFault → Type 0
       → LineIsAtFault table text (BadLine (length events + 1))
   -- the rest, of 1 to 4,096 bytes, has no line feed
   unended : {events : List Event} (rest : List ℕ)
-      → Follows table text events rest → IsOneLine rest → 0 < length rest → length rest ≤ most_line
+      → Follows table text events rest → IsOneLine rest → 0 < length rest → length rest ≤ MOST_LINE
       → LineIsAtFault table text (BadLine (length events + 1))
   -- more than 4,096 bytes come next before any line feed
   too_long : {events : List Event} (behind line : List ℕ)
-      → Follows table text events (line ++ behind) → IsOneLine line → most_line < length line
+      → Follows table text events (line ++ behind) → IsOneLine line → MOST_LINE < length line
       → LineIsAtFault table text (TooLong (length events + 1))
 
 -- The first fault of a text.

@@ -1,7 +1,7 @@
 //! The machine's own lines.
 ghost use Rattle.std.specs.Prelude.{◌≡◌, ◌+◌, ◌≤◌};
 ghost use Rattle.arrayvec.specs.ArrayVec.{array_vec_len};
-ghost use Rattle.apex_types.specs.values.Limits.{most_line};
+ghost use Rattle.apex_types.specs.declared.limits.TheConstants.{MOST_LINE};
 ghost use Rattle.apex_calls.specs.Lines.{IsPrintable, line_of};
 ghost use Rattle.apex_history.specs.declared.puts.TheConstants.{LINES_ROOM};
 
@@ -44,7 +44,7 @@ impl ExpectedLines {
 
 /// Forgets the lines if there are many. Then one more fits behind them.
 fn make_room(lines: &mut Lines)
-    ensures { array_vec_len lines.new + most_line ≤ LINES_ROOM }
+    ensures { array_vec_len lines.new + MOST_LINE ≤ LINES_ROOM }
 {
     if lines.len() > KEPT_ROOM {
         lines.clear();

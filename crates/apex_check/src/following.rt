@@ -1,9 +1,9 @@
 //! The lines of a text beside the machine's.
 ghost use Rattle.std.specs.Prelude.{◌≡◌, ◌↔◌, ◌+◌, ◌<◌, ◌≤◌, ◌++◌, ℕ, List, length, take, IfOk, IfErr, IsOk};
 ghost use Rattle.std.specs.Io.KnownBytes.{prepend_known};
-ghost use Rattle.apex_types.specs.values.Limits.{most_entries};
-ghost use Rattle.apex_types.specs.machine.Machine.{opening, accept, events_of};
-ghost use Rattle.apex_dispatch.specs.Events.{IsWithin};
+ghost use Rattle.apex_types.specs.declared.limits.TheConstants.{MOST_ENTRIES};
+ghost use Rattle.apex_machine.specs.Machine.{opening, accept, events_of};
+ghost use Rattle.apex_machine.specs.Events.{IsWithin};
 ghost use Rattle.apex_dispatch.specs.Kernel.{kernel_in};
 ghost use Rattle.apex_history.specs.Counted.{inner_of, failures_of};
 ghost use Rattle.apex_check.specs.Ahead.{IsAhead};
@@ -81,7 +81,8 @@ fn compare(
 ) -> Answer
     requires { IsWithin kernel.old.table.cores event }
     ensures new { kernel.new
-        ≡ kernel_in kernel.old.table (accept kernel.old.table kernel.old.machine event) }
+        ≡ kernel_in kernel.old.table (accept kernel.old.table kernel.old.machine event)
+        kernel.new.store }
     ensures answers { Answers kernel.old.table kernel.old.machine event line.now result }
 {
     let Ok(()) = kernel.accept(event) else {
@@ -101,7 +102,7 @@ fn compare(
 /// The number of entries that the history has.
 fn count(kernel: &Kernel<PlainStore>) -> u32
     ensures value { result ≡ length kernel.now.machine.history }
-    ensures range { result ≤ most_entries }
+    ensures range { result ≤ MOST_ENTRIES }
 {
     kernel.holds();
     kernel.table().lawful();

@@ -1,7 +1,7 @@
 //! The bytes that were read ahead of the line that is looked at, in a buffer of fixed size.
 ghost use Rattle.std.specs.Prelude.{◌≡◌, ◌+◌, ◌*◌, ◌≤◌, ◌<◌, length, drop, IfOk, IfSome, None, OnOk};
 ghost use Rattle.std.specs.Io.KnownBytes.{IsAtEnd, Keeps, prepend_known};
-ghost use Rattle.apex_types.specs.values.Limits.{most_line};
+ghost use Rattle.apex_types.specs.declared.limits.TheConstants.{MOST_LINE};
 ghost use Rattle.apex_history.specs.Counted.{inner_of, failures_of, reads_left_of, CountsFailure};
 ghost use Rattle.apex_check.specs.declared.pending.TheConstants.{PENDING_ROOM, READ_ROOM};
 ghost use Rattle.apex_check.specs.Ahead.{Comes, IsFirstLine, fuel};
@@ -119,7 +119,7 @@ impl Pending {
 
     /// Reads once, up to [`READ_ROOM`] bytes, and says how many.
     fn fill<R: Source>(&mut self, reader: &mut Counted<R>) -> Result<usize>
-        requires { length self.old ≤ most_line }
+        requires { length self.old ≤ MOST_LINE }
         ensures kept { OnOk result
             (Keeps (prepend_known self.old (R.remaining (inner_of reader.old)))
             (prepend_known self.new (R.remaining (inner_of reader.new)))) }

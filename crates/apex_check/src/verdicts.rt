@@ -1,7 +1,8 @@
 //! The verdict on a text, and why a text has none.
-ghost use Rattle.std.specs.Prelude.{◌≡◌, ◌+◌, ◌≤◌, ◌++◌, length, decimal};
+ghost use Rattle.std.specs.Prelude.{◌≡◌, ◌+◌, ◌≤◌, ◌++◌, length, decimal, Some};
 ghost use Rattle.arrayvec.specs.ArrayVec.{array_vec_len};
 ghost use Rattle.apex_history.specs.declared.puts.TheConstants.{LINES_ROOM};
+ghost use Rattle.apex_check.specs.Faults.{fault_text};
 ghost use Rattle.apex_check.specs.Steps.{IsTellable};
 ghost use Rattle.apex_check.specs.TableFaults.{fault_of_table};
 ghost use Rattle.apex_check.specs.Verdicts.{verdict_text};
@@ -12,7 +13,8 @@ use apex_table::{Table, TableFault};
 use apex_types::Entry;
 use itoa::Buffer;
 use std::alloc::AllocError;
-use thiserror::Error;
+use std::error::Error;
+use std::fmt;
 
 /// The verdict on a text's history.
 #[derive(Drop)]
@@ -27,28 +29,41 @@ pub enum Verdict {
 /// The reason why a text has no verdict, or why its verdict was not written whole.
 ///
 /// A line is given by its number, counted from 1 behind the separator.
-#[derive(Clone, Copy, Debug, PartialEq, Eq, Error)]
+///
+/// Its text is the line of the program without the program's name.
+#[derive(Clone, Copy, Debug, PartialEq, Eq)]
 pub enum CheckFault {
     /// A growth was refused.
-    #[error("out of memory")]
     Memory,
     /// The text before the separator is no table. The fault is never `TableFault::Memory`.
-    #[error("table refused: {0}")]
     Table(TableFault),
     /// No line is exactly `%%`.
-    #[error("no separator")]
     NoSeparator,
     /// The line names no event, or a core that the table lacks, or it has no line feed.
-    #[error("history refused: BadLine at line {0}")]
     BadLine(u32),
     /// The line has more than 4,096 bytes.
-    #[error("history refused: TooLong at line {0}")]
     TooLong(u32),
-    #[error("read failed")]
     Read,
-    #[error("write failed")]
     Write,
 }
+
+impl fmt::Display for CheckFault {
+    ghost output = { λ fault. Some (fault_text fault) };
+
+    fn fmt<W: fmt::Write>(&self, f: &mut fmt::Formatter<W>) -> fmt::Result {
+        match self {
+            CheckFault::Memory => f.write_str("out of memory"),
+            CheckFault::Table(fault) => write!(f, "table refused: {fault}"),
+            CheckFault::NoSeparator => f.write_str("no separator"),
+            CheckFault::BadLine(line) => write!(f, "history refused: BadLine at line {line}"),
+            CheckFault::TooLong(line) => write!(f, "history refused: TooLong at line {line}"),
+            CheckFault::Read => f.write_str("read failed"),
+            CheckFault::Write => f.write_str("write failed"),
+        }
+    }
+}
+
+impl Error for CheckFault {}
 
 impl From<AllocError> for CheckFault {
     ghost from_gives = { λ _ fault. fault ≡ Memory };

@@ -1,14 +1,14 @@
 -- Runs of the events of a schedule's items, one event after the other.
-use Rattle.std.proofs.Common.{◌≡◌, ◌∙◌, ℕ, ◌+◌, ◌<◌, ◌≤◌, arith, refl, sym, ap, inl, inr, List, [], ◌∷◌, ◌++◌, length, drop, true, false, add-one, Option, None, Some, Ok}
+use Rattle.std.proofs.Common.{◌≡◌, ◌∙◌, ℕ, ◌+◌, ◌<◌, ◌≤◌, arith, refl, sym, inl, inr, List, [], ◌∷◌, ◌++◌, length, drop, true, false, add-one, Option, None, Some, Ok}
 use Rattle.std.specs.Prelude.{replicate, slice_index_or}
 use Rattle.std.proofs.Math.Seq.{drop-cons}
 use Rattle.std.proofs.lemmas.Bool.{both_ways, cases_Bool, cases_lt, le-leb, lt-leb}
 use Rattle.std.proofs.lemmas.List.Folds.{list_all_at}
 use Rattle.apex_cli.specs.Terms.{Event}
-use Rattle.apex_types.specs.machine.Machine.{Machine, accept, run, opening}
-use Rattle.apex_types.specs.table.Table.{Table}
+use Rattle.apex_machine.specs.Machine.{Machine, accept, run, opening}
+use Rattle.apex_machine.specs.table.Table.{Table}
 use Rattle.apex_table.specs.Reading.{table_of}
-use Rattle.apex_dispatch.proofs.Runs.{accept-room, length-happen, run-append}
+use Rattle.apex_laws.proofs.Runs.{accept-room, length-happen, run-append}
 use Rattle.apex_cli.specs.declared.schedule.Item.{Item}
 use Rattle.apex_cli.specs.declared.faults.CliFault.{CliFault}
 use Rattle.apex_cli.specs.declared.faults.CliFault.TheVariants.{HistoryFull}

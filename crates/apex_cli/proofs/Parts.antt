@@ -6,8 +6,8 @@ use Rattle.std.specs.List.{count_by, join_with_byte}
 use Rattle.std.specs.Str.{all_ascii_digits}
 use Rattle.std.proofs.lemmas.Bool.{le-leb, ne_eqb}
 use Rattle.std.proofs.lemmas.List.Splits.{join_with_byte-slice_split, length-slice_split}
-use Rattle.apex_types.specs.values.Limits.{most_entries}
-use Rattle.apex_types.specs.values.Numbers.{digits_value, number_of}
+use Rattle.apex_types.specs.declared.limits.TheConstants.{MOST_ENTRIES}
+use Rattle.apex_types.specs.Numbers.{digits_value, number_of}
 use Rattle.apex_history.specs.Words.{parts}
 use Rattle.apex_cli.specs.declared.schedule.Item.{Item}
 use Rattle.apex_cli.specs.declared.schedule.Item.TheVariants.{Turns}
@@ -56,7 +56,7 @@ times_digit digit low high =
     let value : digits_value (digit ∷ []) ≡ digit - 48 = omega arith in
     let number : number_of (digit ∷ []) ≡ Some (digit - 48) =
     rw (le-leb 48 digit (omega (arith, low)), le-leb digit 57 high) (ap Some value) in
-    rw (number, le-leb (digit - 48) most_entries (omega (arith, high)), le-leb 1 (digit - 48) (omega (arith, low))) refl
+    rw (number, le-leb (digit - 48) MOST_ENTRIES (omega (arith, high)), le-leb 1 (digit - 48) (omega (arith, low))) refl
 
 turns_alone : (core digit : ℕ) → 48 ≤ core → core ≤ 55 → 49 ≤ digit → digit ≤ 57
     → item_of (core ∷ 42 ∷ digit ∷ []) ≡ Some (Turns (core - 48) (digit - 48))

@@ -1,6 +1,6 @@
 -- The line of the front after a run.
 use Rattle.std.specs.Prelude.{ℕ, List, [], ◌++◌, Option, None, Some, codes, decimal, flat_map}
-use Rattle.apex_types.specs.text.Texts.{id_text}
+use Rattle.apex_machine.specs.text.Texts.{id_text}
 use Rattle.apex_board.specs.Fronts.{Front}
 
 -- the id of the process that a core runs, or `-`, behind a space

@@ -1,9 +1,9 @@
 -- The answer of `replay` and of `status`: a refusal, or the report of a run.
 use Rattle.std.specs.Prelude.{◌≡◌, ◌⊎◌, ℕ, List, Option, Some, None, Result, Ok, Err, length, nat_le, if◌then◌else◌}
 use Rattle.apex_cli.specs.Terms.{Event}
-use Rattle.apex_types.specs.table.Table as tables
-use Rattle.apex_types.specs.text.Listing.{listing}
-use Rattle.apex_types.specs.machine.Machine.{Machine, run, opening}
+use Rattle.apex_machine.specs.table.Table as tables
+use Rattle.apex_machine.specs.text.Listing.{listing}
+use Rattle.apex_machine.specs.Machine.{Machine, run, opening}
 use Rattle.apex_calls.specs.Lines.{lines_of}
 use Rattle.apex_table.specs.declared.TableFault.{TableFault}
 use Rattle.apex_table.specs.Reading.{table_of}

@@ -1,7 +1,7 @@
 -- The task of the program: by the words of the command line, and by the items of a schedule.
 use Rattle.std.specs.Prelude.{ℕ, Bool, List, Option, Some, option_and_then, option_map}
-use Rattle.apex_types.specs.values.Limits.{most_entries}
-use Rattle.apex_types.specs.values.Numbers.{at_most, number_of}
+use Rattle.apex_types.specs.declared.limits.TheConstants.{MOST_ENTRIES}
+use Rattle.apex_types.specs.Numbers.{at_most, number_of}
 use Rattle.apex_cli.specs.declared.schedule.Item.{Item}
 use Rattle.apex_cli.specs.declared.tasks.Task.{Task}
 use Rattle.apex_cli.specs.declared.tasks.Task.TheVariants as task
@@ -35,7 +35,7 @@ task_said (task.Run plan with_front) = a_run plan.turns plan.ticks with_front
 
 -- the number of turns or ticks for which a text asks, 0 to 65,536
 abbrev pub count_of : List ℕ → Option ℕ
-count_of text = at_most most_entries (number_of text)
+count_of text = at_most MOST_ENTRIES (number_of text)
 
 -- a run by threads, for the texts of its turns and of its ticks
 abbrev pub run_asked : List ℕ → List ℕ → Bool → Option Asked

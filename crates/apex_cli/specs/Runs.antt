@@ -1,9 +1,9 @@
 -- The ways in which a run by threads ends.
-use Rattle.std.specs.Prelude.{◌≡◌, ℕ, Bool, true, false, ◌++◌, ◌⊎◌, Result, List, Option, MatchOption, None, Some, Ok, Err, nat_le, if◌then◌else◌}
+use Rattle.std.specs.Prelude.{◌≡◌, ℕ, Bool, true, false, ◌++◌, ◌⊎◌, Result, List, Option, MatchOption, None, Some, Ok, Err, IsOk, nat_le, if◌then◌else◌}
 use Rattle.std.specs.Io.KnownBytes.{Appends, Keeps}
 use Rattle.apex_cli.specs.Terms.{Entry}
 use Rattle.apex_calls.specs.Lines.{lines_of}
-use Rattle.apex_types.specs.table.Table as tables
+use Rattle.apex_machine.specs.table.Table as tables
 use Rattle.apex_table.specs.Reading.{table_of}
 use Rattle.apex_table.specs.declared.TableFault.{TableFault}
 use Rattle.apex_history.specs.Counted.{AppendsBeginning}
@@ -45,9 +45,10 @@ abbrev pub refusal_of : Result tables.Table TableFault → Option CliFault
 refusal_of (Ok table) = None
 refusal_of (Err fault) = Some (Table fault)
 
--- memory or a thread was refused, or the table's text is, with this fault
+-- memory was refused; or a thread was, to a table that is read; or the table's text is refused, with this fault
 abbrev pub RefusesRun : CliFault → Result tables.Table TableFault → Type 0
-RefusesRun fault read = (fault ≡ Memory) ⊎ ((fault ≡ NoThread) ⊎ (refusal_of read ≡ Some fault))
+RefusesRun fault read =
+    (fault ≡ Memory) ⊎ (((fault ≡ NoThread) × IsOk read) ⊎ (refusal_of read ≡ Some fault))
 
 -- The ways in which a run by threads ends: by how many turns of each core and how many ticks are asked
 -- for, whether the front is, the reader and the writer before, the fault, and the reader and the writer
@@ -65,8 +66,9 @@ pub data Runs (turns ticks : ℕ) (with_front : Bool) (before : Ports) : Option 
       → refusal_of (table_of bytes) ≡ Some fault → Keeps before.held after.held
       → NoneFails before after
       → Runs turns ticks with_front before (Some fault) after
-  -- a thread was refused: nothing was written
-  no_thread : {after : Ports} → Keeps before.held after.held → NoneFails before after
+  -- the bytes are a table, and a thread was refused: nothing was written
+  no_thread : (bytes : List ℕ) → {after : Ports} → IsLeft bytes before → IsOk (table_of bytes)
+      → Keeps before.held after.held → NoneFails before after
       → Runs turns ticks with_front before (Some NoThread) after
   -- the lines of a history that threads made were written, and the front after it, if it is asked for
   written : (bytes : List ℕ) (table : tables.Table) (history : List Entry) (front : Option Front)

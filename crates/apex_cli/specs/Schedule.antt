@@ -2,13 +2,13 @@
 use Rattle.std.specs.Prelude.{ℕ, ◌+◌, ◌≤◌, Bool, true, List, [], ◌∷◌, Option, Some, None, length, map, option_map, option_and_then}
 use Rattle.std.specs.Prelude.{◌==◌, nat_lt, if◌then◌else◌, replicate}
 use Rattle.std.specs.List.{list_all, flat_map}
-use Rattle.apex_types.specs.values.Limits.{most_entries}
-use Rattle.apex_types.specs.machine.Machine.{run}
+use Rattle.apex_types.specs.declared.limits.TheConstants.{MOST_ENTRIES}
+use Rattle.apex_machine.specs.Machine.{run}
 use Rattle.apex_cli.specs.Terms.{Event}
-use Rattle.apex_types.specs.declared.Event.TheVariants as event
+use Rattle.apex_types.specs.declared.entries.Event.TheVariants as event
 use Rattle.apex_cli.specs.declared.schedule.Item.{Item}
 use Rattle.apex_cli.specs.declared.schedule.Item.TheVariants.{Turns, Tick}
-use Rattle.apex_types.specs.values.Numbers.{number_of, at_least, at_most}
+use Rattle.apex_types.specs.Numbers.{number_of, at_least, at_most}
 use Rattle.apex_history.specs.Words.{parts, core_of, ticks_of}
 use Rattle.apex_dispatch.specs.Kernel.{KernelState, kernel_in}
 
@@ -20,7 +20,7 @@ all_some (value ∷ rest) =
 
 -- the number of times that an item comes, 1 to 65,536
 abbrev pub times_of : List ℕ → Option ℕ
-times_of word = at_least 1 (at_most most_entries (number_of word))
+times_of word = at_least 1 (at_most MOST_ENTRIES (number_of word))
 
 -- the number of times, by the parts after the core: once if there are none
 abbrev pub times_after : List (List ℕ) → Option ℕ
@@ -64,10 +64,10 @@ is_core_below cores (Tick ticks) = true
 abbrev pub are_cores_below : ℕ → List Item → Bool
 are_cores_below cores items = list_all (is_core_below cores) items
 
--- the kernel after these events, up to the first for which its history has no room
-abbrev pub after_events : KernelState → List Event → KernelState
-after_events kernel events = kernel_in kernel.table (run kernel.table kernel.machine events)
+-- the kernel after these events, up to the first for which its history has no room, with this store
+abbrev pub after_events : {S : Type 0} → KernelState S → List Event → S → KernelState S
+after_events kernel events store = kernel_in kernel.table (run kernel.table kernel.machine events) store
 
 -- the history has room for n entries more
-abbrev pub HasRoomFor : ℕ → KernelState → Type 0
+abbrev pub HasRoomFor : {S : Type 0} → ℕ → KernelState S → Type 0
 HasRoomFor n kernel = length kernel.machine.history + n ≤ kernel.table.limit

@@ -1,6 +1,6 @@
 //! The events that the items of a schedule ask for, made one after the other.
 ghost use Rattle.std.specs.Prelude.{◌≡◌, ◌↔◌, ◌<◌, ℕ, true, length, replicate, IfErr, IsOk};
-ghost use Rattle.apex_dispatch.specs.Events.{IsWithin};
+ghost use Rattle.apex_machine.specs.Events.{IsWithin};
 ghost use Rattle.apex_cli.specs.Schedule.{HasRoomFor, after_events, are_cores_below, events_of_item, events_of_items, is_core_below};
 
 use crate::schedule::Item;
@@ -23,7 +23,8 @@ pub fn repeated(item: &Item) -> (Event, u32)
 /// Runs the event `times` times, up to the first for which the history has no room.
 fn run_repeated(kernel: &mut Kernel<QueueStore>, event: &Event, times: u32) -> Result<(), Full>
     requires { IsWithin kernel.old.table.cores event.now }
-    ensures done { kernel.new ≡ after_events kernel.old (replicate times event.now) }
+    ensures done { kernel.new
+        ≡ after_events kernel.old (replicate times event.now) kernel.new.store }
     ensures accepted { IsOk result ↔ HasRoomFor times kernel.old }
     ensures full { IfErr result (λ e. e.entries ≡ kernel.old.table.limit) }
 {
@@ -38,7 +39,8 @@ fn run_repeated(kernel: &mut Kernel<QueueStore>, event: &Event, times: u32) -> R
 /// memory: there is no list of them.
 pub fn run_items(kernel: &mut Kernel<QueueStore>, items: &[Item]) -> Result<(), Full>
     requires { are_cores_below kernel.old.table.cores items.now ≡ true }
-    ensures done { kernel.new ≡ after_events kernel.old (events_of_items items.now) }
+    ensures done { kernel.new
+        ≡ after_events kernel.old (events_of_items items.now) kernel.new.store }
     ensures accepted { IsOk result ↔ HasRoomFor (length (events_of_items items.now)) kernel.old }
     ensures full { IfErr result (λ e. e.entries ≡ kernel.old.table.limit) }
 {

@@ -1,7 +1,7 @@
 //! The line of the front after a run.
 ghost use Rattle.std.specs.Prelude.{◌≡◌, ◌+◌, ◌*◌, ◌<◌, ◌≤◌, ◌++◌, length, decimal, flat_map};
 ghost use Rattle.arrayvec.specs.ArrayString.{array_string_len};
-ghost use Rattle.apex_types.specs.values.Limits.{most_cores};
+ghost use Rattle.apex_types.specs.declared.limits.TheConstants.{MOST_CORES};
 ghost use Rattle.apex_cli.specs.FrontLines.{front_line, front_text, running_text};
 ghost use Rattle.apex_cli.specs.declared.fronts.TheConstants.{FRONT_ROOM};
 
@@ -52,10 +52,10 @@ fn put_running(line: &mut FrontLine, running: &Option<ProcessId>)
 
 /// The process that each core runs.
 fn put_chosen(line: &mut FrontLine, chosen: &[Option<ProcessId>])
-    requires few_cores { length chosen.now ≤ most_cores }
-    requires room { array_string_len line.old + 11 * most_cores < FRONT_ROOM }
+    requires few_cores { length chosen.now ≤ MOST_CORES }
+    requires room { array_string_len line.old + 11 * MOST_CORES < FRONT_ROOM }
     ensures text { line.new.bytes ≡ line.old.bytes ++ flat_map running_text chosen.now }
-    ensures short { array_string_len line.new ≤ array_string_len line.old + 11 * most_cores }
+    ensures short { array_string_len line.new ≤ array_string_len line.old + 11 * MOST_CORES }
 {
     for running in chosen {
         put_running(line, running);

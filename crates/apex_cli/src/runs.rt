@@ -1,10 +1,12 @@
 //! A run by threads.
-ghost use Rattle.std.specs.Prelude.{◌≡◌, All, IfOk, IfErr, OnOk, OnErr};
+ghost use Rattle.std.specs.Prelude.{◌≡◌, All, IfOk, IfErr, None, OnOk, OnErr, length};
+ghost use Rattle.apex_board.specs.Fronts.{IsFrontAfter};
 ghost use Rattle.apex_calls.specs.Lines.{IsPrintable};
 ghost use Rattle.apex_table.specs.Reading.{table_of};
 ghost use Rattle.apex_history.specs.Counted.{failures_of, CountsFailure};
 ghost use Rattle.apex_cli.specs.Faults.{fault_in};
 ghost use Rattle.apex_cli.specs.FrontLines.{front_text};
+ghost use Rattle.apex_receipts.specs.Receipts.{IsNamedAfter};
 ghost use Rattle.apex_cores.specs.Plans.{HasRunByThreads, plan_of};
 ghost use Rattle.apex_cli.specs.Runs.{FrontAsked, IsRunOf, RefusesRun, Runs, fault_of_plan, text_of};
 ghost use Rattle.apex_cli.specs.Streams.{HasWritten, HasWrittenSome, ports_of};
@@ -13,12 +15,13 @@ use crate::faults::CliFault;
 use crate::fronts::front_text;
 use apex_cores::{Gate, RunFault, RunPlan, run_partition, run_partition_read};
 use apex_history::{Counted, Page, Sink, Source, print_history, read_all};
-use apex_partition::{Front, Partition};
+use apex_partition::{Closed, Front, Naming, NewBoard, Opened, Partition, Reader};
 use apex_table::{Table, read_table};
 use apex_types::{CoreId, ProcessId};
 use std::alloc::Global;
 use std::io;
 use std::io::Write;
+use std::marker::Brand;
 use std::sync::Wait;
 use std::thread::Threads;
 
@@ -26,7 +29,17 @@ use std::thread::Threads;
 struct AtOnce;
 
 impl Gate for AtOnce {
-    fn work(&self, _core: CoreId, _process: ProcessId, _ticks: u32) {}
+    ghost use Rattle.std.specs.Prelude.{⊤};
+
+    type Token = ();
+
+    ghost does = { λ _ _ _ _ _. ⊤ };
+
+    fn enter(&self, _core: CoreId) {}
+
+    fn work(&self, _token: &mut (), _core: CoreId, _process: ProcessId, _ticks: u32) {}
+
+    fn leave(&self, _token: ()) {}
 }
 
 /// A run by threads whose history is to be written.
@@ -53,6 +66,50 @@ fn fault_of_plan(table: &Table, plan: RunPlan) -> Option<CliFault>
     }
 }
 
+/// Runs the plan on this table, in a partition that is named after this book.
+fn run_named<P: Naming + Send + Sync, T: Threads + Wait + Sync>(
+    rt: &T,
+    alloc: Global,
+    table: Table,
+    opened: Opened,
+    plan: RunPlan,
+) -> Result<Partition, RunFault>
+    requires table { P.table ≡ table }
+    requires named { IsNamedAfter P.book P.scribe P.voice opened }
+    requires cores { length opened.cores ≡ table.cores }
+    requires cell { P.cell ≡ None }
+    ensures { IfOk result (λ partition. HasRunByThreads table plan partition) }
+{
+    let closed: Closed<P> = run_partition(rt, alloc, table, opened, plan, &AtOnce)?;
+    Ok(closed.into_partition())
+}
+
+/// Runs the plan as `run_named` does, beside the one reader of this board: the partition, and the
+/// front after its last event.
+fn run_read<P: Naming + Send + Sync, T: Threads + Wait + Sync>(
+    rt: &T,
+    alloc: Global,
+    table: Table,
+    opened: Opened,
+    board: NewBoard,
+    plan: RunPlan,
+) -> Result<(Partition, Front), RunFault>
+    requires table { P.table ≡ table }
+    requires named { IsNamedAfter P.book P.scribe P.voice opened }
+    requires cores { length opened.cores ≡ table.cores }
+    requires cell { P.cell ≡ board.cell }
+    requires reader { board.readers ≡ 1 }
+    ensures ran { IfOk result (λ ran. HasRunByThreads table plan ran.0) }
+    ensures front { IfOk result (λ ran. IsFrontAfter table ran.0.machine.history ran.1) }
+{
+    let ran: (Closed<P>, Reader<P>) = run_partition_read(
+        rt, alloc, table, opened, board, plan, &AtOnce,
+    )?;
+    let (mut closed, reader) = ran;
+    let (front, _reader) = closed.tell(rt, reader);
+    Ok((closed.into_partition(), front))
+}
+
 /// Runs the plan on this table, with the front after the last event, if it is asked for.
 fn run_plan<T: Threads + Wait + Sync>(
     rt: &T,
@@ -64,11 +121,14 @@ fn run_plan<T: Threads + Wait + Sync>(
     ensures ran { IfOk result (λ ran. HasRunByThreads table plan ran.0) }
     ensures front { IfOk result (λ ran. FrontAsked table ran.0.machine.history with_front ran.1) }
 {
+    table.lawful();
+    let opened = Opened::new(alloc, u32::from(table.cores()))?;
     if with_front {
-        let (partition, front) = run_partition_read(rt, alloc, table, plan, &AtOnce)?;
+        let board = NewBoard::new(alloc, 1)?;
+        let (partition, front) = run_read::<Brand, T>(rt, alloc, table, opened, board, plan)?;
         return Ok((partition, Some(front)));
     }
-    let partition = run_partition(rt, alloc, table, plan, &AtOnce)?;
+    let partition = run_named::<Brand, T>(rt, alloc, table, opened, plan)?;
     Ok((partition, None))
 }
 

@@ -1,7 +1,7 @@
 -- Threads that are asked for, one after the other.
-use Rattle.std.proofs.Common.{◌≡◌, ℕ, zero, suc, ◌+◌, ◌<◌, ◌≤◌, ◌⊎◌, Bool, true, refl, subst, sym, inl, inr, arith, ◌∙◌}
+use Rattle.std.proofs.Common.{◌≡◌, ℕ, zero, suc, ◌+◌, ◌<◌, ◌≤◌, Bool, true, refl, subst, sym, arith, ◌∙◌}
 use Rattle.std.specs.Prelude.{Result}
-use Rattle.apex_cores.specs.Starts.{HasAsked, HasGivenUp, HaveAgreed, IsRefused}
+use Rattle.apex_cores.specs.Starts.{AreAsked, HaveAgreed, LacksThread}
 use Rattle.apex_cores.specs.declared.faults.RunFault.{RunFault}
 
 agreed_next : {S : Type 0} (asks : S → ℕ → Bool → S → Type 0) (number n k : ℕ) (before middle after : S) → k ≡ number + n
@@ -19,45 +19,32 @@ agreed_more asks n k before middle after begun next is =
     let first : n ≡ 0 + n = omega arith in
     subst (λ m. HaveAgreed asks 0 m before after) same (agreed_next asks 0 n k before middle after (is ∙ first) begun next)
 
--- no thread was asked for
-pub none_asked : {S : Type 0} (asks : S → ℕ → Bool → S → Type 0) (threads : ℕ) (fault : RunFault) (s : S) → HasGivenUp asks threads fault s s
-none_asked asks threads fault s = record { agreed = 0; last = s; begun = refl; few = omega arith; ended = inl refl }
-
--- the next thread was refused, or it was agreed to and did not start
-pub given_up : {S : Type 0} (asks : S → ℕ → Bool → S → Type 0) (threads n k : ℕ) (fault : RunFault) (before middle after : S)
-    → HaveAgreed asks 0 n before middle → asks middle k true after ⊎ IsRefused asks k fault middle after → k ≡ n → n < threads
-    → HasGivenUp asks threads fault before after
-given_up asks threads n k fault before middle after begun (inl agreed) is below = record {
-  agreed = n + 1;
-  last = after;
-  begun = agreed_more asks n k before middle after begun agreed is;
-  few = omega (arith, below);
-  ended = inl refl;
-}
-given_up asks threads n k fault before middle after begun (inr refused) is below = record {
-  agreed = n;
+-- the thread that was asked for last did not start
+pub lacks_this : {S : Type 0} (asks : S → ℕ → Bool → S → Type 0) (threads n k : ℕ) (before middle after : S)
+    → HaveAgreed asks 0 n before middle → (answer : Bool) × asks middle k answer after → k ≡ n → n < threads
+    → LacksThread asks threads before after
+lacks_this asks threads n k before middle after agreed asked is below = record {
+  number = n;
+  below = below;
   last = middle;
-  begun = begun;
-  few = omega (arith, below);
-  ended = inr (below, subst (λ j. IsRefused asks j fault middle after) is refused);
+  agreed = agreed;
+  answer = asked.0;
+  asked = subst (λ j. asks middle j asked.0 after) is asked.1;
 }
 
--- a run that gives up among some threads does so among more
-pub given_up_more : {S : Type 0} (asks : S → ℕ → Bool → S → Type 0) (threads more : ℕ) (fault : RunFault) (before after : S) → threads ≤ more
-    → HasGivenUp asks threads fault before after → HasGivenUp asks more fault before after
-given_up_more asks threads more fault before after fewer up = record {
-  agreed = up.agreed;
-  last = up.last;
-  begun = up.begun;
-  few = omega (arith, fewer, up.few);
-  ended = at up.ended;
-} where
-  at : (up.last ≡ after) ⊎ ((up.agreed < threads) × IsRefused asks up.agreed fault up.last after)
-      → (up.last ≡ after) ⊎ ((up.agreed < more) × IsRefused asks up.agreed fault up.last after)
-  at (inl same) = inl same
-  at (inr (below, refused)) = inr (omega (arith, below, fewer), refused)
+-- a run that lacks one of some threads lacks one of more
+pub lacks_of_more : {S : Type 0} (asks : S → ℕ → Bool → S → Type 0) (threads more : ℕ) (before after : S) → threads ≤ more
+    → LacksThread asks threads before after → LacksThread asks more before after
+lacks_of_more asks threads more before after fewer lacks = record {
+  number = lacks.number;
+  below = omega (arith, fewer, lacks.below);
+  last = lacks.last;
+  agreed = lacks.agreed;
+  answer = lacks.answer;
+  asked = lacks.asked;
+}
 
 -- as many threads as a table has cores, and one more
-pub asked_of_table : {S T : Type 0} (asks : S → ℕ → Bool → S → Type 0) (seats cores : ℕ) (result : Result T RunFault) (before : S)
-    → HasAsked asks (seats + 1) result before → seats ≡ cores → HasAsked asks (cores + 1) result before
-asked_of_table asks seats cores result before asked same = subst (λ n. HasAsked asks (n + 1) result before) same asked
+pub asked_of_table : {S T : Type 0} (asks : S → ℕ → Bool → S → Type 0) (seats cores : ℕ) (result : Result T RunFault) (before after : S)
+    → AreAsked asks (seats + 1) result before after → seats ≡ cores → AreAsked asks (cores + 1) result before after
+asked_of_table asks seats cores result before after asked same = subst (λ n. AreAsked asks (n + 1) result before after) same asked

@@ -1,15 +1,14 @@
 -- The closed history of a run has the entries that each worker has made.
-use Rattle.std.proofs.Common.{Option, None, Some, IsSome, MatchOption, ◌+◌, ◌≡◌, ℕ, suc, ◌<◌, ◌≤◌, Bool, true, false, List, [], ◌∷◌, length, slice_index_or, refl, ap, sym, subst, ◌∙◌, inl, inr, arith}
+use Rattle.std.proofs.Common.{◌≡◌, ℕ, suc, ◌<◌, ◌≤◌, Bool, true, false, List, [], ◌∷◌, length, slice_index_or, refl, ap, sym, subst, ◌∙◌, inl, inr, arith}
 use Rattle.std.specs.Prelude.{All}
 use Rattle.std.specs.List.{AllByRecursion}
-use Rattle.apex_types.specs.table.Table.{Table}
+use Rattle.apex_machine.specs.table.Table.{Table}
 use Rattle.apex_types.specs.declared.entries.Entry.{Entry}
 use Rattle.apex_types.specs.declared.entries.Who.{Who}
 use Rattle.apex_types.specs.declared.entries.Who.TheVariants.{Core, Ticker}
-use Rattle.apex_dispatch.specs.Kernel.{KernelState}
 use Rattle.apex_receipts.specs.Receipts.{Spoken, count_who, unspoken}
 use Rattle.apex_partition.specs.Seats.{IsOneOf, IsRun, IsSettled}
-use Rattle.apex_cores.specs.Plans.{HasNoOthers, HasRunByThreads, IsRunByThreads, plan_of}
+use Rattle.apex_cores.specs.Plans.{HasNoOthers, IsRunByThreads, plan_of}
 use Rattle.apex_cores.specs.Runs.{HasRun, IsTickOfOne}
 use Rattle.apex_cores.specs.Threads.{HasWorked, HaveWorked}
 use Rattle.apex_cores.specs.declared.plans.RunPlan.{RunPlan}
@@ -57,7 +56,8 @@ all_worked table plan history seats last closed worked = record {
   ticker = worked_in table history Ticker last plan.ticks worked.ticker.made worked.ticker.full closed.ticker worked.ticker.ran.ran;
 }
 
-by_threads : (table : Table) (plan : RunPlan) (history : List Entry) (seats : List Spoken) (last : Spoken)
+-- so the history is one that threads make of the table
+pub by_threads : (table : Table) (plan : RunPlan) (history : List Entry) (seats : List Spoken) (last : Spoken)
     → HasClosed table history seats last → HaveWorked plan table.cores seats last
     → IsRunByThreads table (plan_of table.cores plan) history
 by_threads table plan history seats last closed worked =
@@ -69,20 +69,3 @@ by_threads table plan history seats last closed worked =
       full = is_full (plan_of table.cores plan) table.limit history all;
       few = stays_within (plan_of table.cores plan) table.limit history all;
     }
-
--- so the partition of that history has the run of the table that it is named after
-pub ran_by_threads : (named table : Table) (plan : RunPlan) (partition : KernelState) (history : List Entry) (many : ℕ)
-    (seats : List Spoken) (last : Spoken) → named ≡ table → partition.table ≡ named → partition.machine.history ≡ history
-    → many ≡ named.cores → HasClosed named history seats last → HaveWorked plan many seats last
-    → HasRunByThreads table plan partition
-ran_by_threads named table plan partition history many seats last is same_table same_history same_many closed worked =
-    subst (λ (t : Table). HasRunByThreads t plan partition) is (record {
-      of_table = same_table;
-      history = subst (λ (es : List Entry). IsRunByThreads named (plan_of named.cores plan) es) (sym same_history)
-          (by_threads named plan history seats last closed (subst (λ (n : ℕ). HaveWorked plan n seats last) same_many worked));
-    })
-
--- of readers that are there one was taken
-pub some_taken : {A : Type 0} (taken : Option A) (old new readers : ℕ) → MatchOption taken (old ≡ 0) (λ _. old ≡ new + 1) → old ≡ readers → 0 < readers → IsSome taken
-some_taken None old new readers given is some = absurd (omega (arith, given, is, some))
-some_taken (Some x) old new readers given is some = refl

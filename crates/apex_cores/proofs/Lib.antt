@@ -4,3 +4,4 @@ pub mod Rows
 pub mod Closing
 pub mod Crossing
 pub mod Asking
+pub mod Handing

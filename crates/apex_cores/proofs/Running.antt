@@ -18,10 +18,10 @@ pub record IsTicking (before : Spoken) (count : ℕ) (after : Spoken) : Type 0 w
   pub underway : IsUnderway before count after
   pub ones : All IsTickOfOne underway.entries
 
-pub none_yet : (s : Spoken) → IsUnderway s 0 s
+unfoldable pub none_yet : (s : Spoken) → IsUnderway s 0 s
 none_yet s = record { entries = []; made = record { who = refl; own = sym (append-nil s.own) }; counted = refl; told = refl }
 
-pub one_more : (before s : Spoken) (count : ℕ) (e : Entry) → IsUnderway before count s → IsUnderway before (count + 1) (with_entry s e)
+unfoldable pub one_more : (before s : Spoken) (count : ℕ) (e : Entry) → IsUnderway before count s → IsUnderway before (count + 1) (with_entry s e)
 one_more before s count e u = record {
   entries = u.entries ++ e ∷ [];
   made = record { who = u.made.who; own = ap (λ (es : List Entry). es ++ e ∷ []) u.made.own ∙ append_assoc before.own u.entries (e ∷ []) };

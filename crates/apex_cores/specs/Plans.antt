@@ -2,8 +2,8 @@
 use Rattle.std.specs.Prelude.{◌≡◌, ℕ, ◌+◌, ◌*◌, ◌<◌, ◌≤◌, List, All, length}
 use Rattle.apex_types.specs.declared.entries.Entry.{Entry}
 use Rattle.apex_types.specs.declared.entries.Who.TheVariants.{Core, Ticker}
-use Rattle.apex_types.specs.table.Table.{Table}
-use Rattle.apex_dispatch.specs.Kernel.{KernelState}
+use Rattle.apex_machine.specs.table.Table.{Table}
+use Rattle.apex_partition.specs.Headline.{PartitionState}
 use Rattle.apex_receipts.specs.Receipts.{count_who, own_entries}
 use Rattle.apex_partition.specs.Seats.{IsOneOf, IsRun}
 use Rattle.apex_cores.specs.Runs.{IsTickOfOne}
@@ -58,6 +58,6 @@ pub record IsRunByThreads (table : Table) (plan : Plan) (history : List Entry) :
   pub few : IsWithinPlan plan history
 
 -- the closed partition of a run by threads: it has the table, and such a history
-pub record HasRunByThreads (table : Table) (plan : RunPlan) (partition : KernelState) : Type 0 where
+pub record HasRunByThreads (table : Table) (plan : RunPlan) (partition : PartitionState) : Type 0 where
   pub of_table : partition.table ≡ table
   pub history : IsRunByThreads table (plan_of table.cores plan) partition.machine.history

@@ -1,8 +1,9 @@
 //! The worker of one core.
 ghost use Rattle.std.specs.Prelude.{◌≡◌, ◌<◌, MatchOption};
 ghost use Rattle.apex_cores.specs.Runs.{HasRun, IsLast};
+ghost use Rattle.apex_cores.specs.Works.{HaveBeenDone};
 
-use crate::gates::{Gate, between_turns};
+use crate::gates::{Gate, follow_turn};
 use apex_partition::{Naming, Receipt, Seat, Shared};
 use crossbeam_utils::Backoff;
 use std::sync::Wait;
@@ -21,18 +22,21 @@ pub struct CoreReport<P: Naming> {
 }
 
 /// Takes `turns` turns of the seat's core, one after the other, and stops earlier only if the
-/// history is full. The work that a turn has begun is done at the gate before the next turn, and
-/// after an idle turn the worker backs off. Takes no memory, if the gate takes none.
+/// history is full. The gate does the work that a turn has begun before the next turn, with the
+/// worker's token, and after an idle turn the worker backs off. Takes no memory, if the gate takes
+/// none.
 pub fn run_core<P: Naming, G: Gate, R: Wait>(
     rt: &R,
     shared: &Shared<P>,
     seat: Seat<P>,
     turns: u32,
     gate: &G,
+    token: &mut G::Token,
 ) -> CoreReport<P>
     ensures ran { HasRun seat turns result.seat result.turns result.full }
     ensures last { MatchOption result.last (result.turns ≡ 0)
         (λ r. (0 < result.turns) × IsLast result.seat r) }
+    ensures works { HaveBeenDone G.does seat result.seat token.old token.new }
 {
     let backoff = Backoff::new();
     let core = seat.core();
@@ -53,8 +57,8 @@ pub fn run_core<P: Naming, G: Gate, R: Wait>(
             full: true,
         };
     };
+    follow_turn(gate, token, &backoff, core, last.entry());
     for made in 1..turns {
-        between_turns(gate, &backoff, core, last.entry());
         let Ok(()) = shared.turn_into(rt, &mut seat, &mut last) else {
             return CoreReport {
                 seat,
@@ -63,12 +67,28 @@ pub fn run_core<P: Naming, G: Gate, R: Wait>(
                 full: true,
             };
         };
+        follow_turn(gate, token, &backoff, core, last.entry());
     }
-    between_turns(gate, &backoff, core, last.entry());
     CoreReport {
         seat,
         turns,
         last: Some(last),
         full: false,
     }
+}
+
+/// Takes `turns` turns of the seat's core, as `run_core` does, with a token of its own.
+pub fn run_worker<P: Naming, G: Gate, R: Wait>(
+    rt: &R,
+    shared: &Shared<P>,
+    seat: Seat<P>,
+    turns: u32,
+    gate: &G,
+) -> CoreReport<P>
+    ensures { HasRun seat turns result.seat result.turns result.full }
+{
+    let mut token = gate.enter(seat.core());
+    let report = run_core(rt, shared, seat, turns, gate, &mut token);
+    gate.leave(token);
+    report
 }

@@ -1,6 +1,6 @@
 //! The starts of a run's threads, any of which may be refused.
-ghost use Rattle.std.specs.Prelude.{◌≡◌, ℕ, Bool, true, false, IfErr, OnOk};
-ghost use Rattle.apex_cores.specs.Starts.{IsRefused};
+ghost use Rattle.std.specs.Prelude.{◌≡◌, ℕ, Bool, true, false, IfErr, OnErr, OnOk};
+ghost use Rattle.apex_cores.specs.declared.faults.RunFault.TheVariants.{NoThread};
 
 use crate::faults::RunFault;
 
@@ -31,7 +31,8 @@ impl Starts for EveryThread {
 /// Asks for the thread of this number; `NoThread` if it is refused.
 pub fn ask<S: Starts>(starts: &mut S, thread: u32) -> Result<(), RunFault>
     ensures agreed { OnOk result (S.asks starts.old thread true starts.new) }
-    ensures refused { IfErr result (λ fault. IsRefused S.asks thread fault starts.old starts.new) }
+    ensures refused { OnErr result (S.asks starts.old thread false starts.new) }
+    ensures fault { IfErr result (λ fault. fault ≡ NoThread) }
 {
     if starts.may(thread) {
         Ok(())

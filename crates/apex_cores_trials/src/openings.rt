@@ -29,21 +29,29 @@ pub struct Open<P: Naming> {
     pub receipts: Vec<Receipt<P>>,
 }
 
-/// Opens a partition of this table, with one reader or with none, takes the steps, and closes it.
+/// Those who read the fronts of a partition.
+#[derive(Clone, Copy)]
+pub enum Audience {
+    Nobody,
+    OneReader,
+}
+
+/// Opens a partition of this table, with this audience, takes the steps, and closes it.
 pub fn open_and_play<R: Abort + Threads + Wait + Sync>(
     rt: &R,
     alloc: Global,
     text: &str,
-    has_reader: bool,
+    audience: Audience,
     steps: &[Step],
 ) -> Outcome {
     let table = read_table(alloc, text.as_bytes()).expect(rt, "the table is lawful");
     let opened = Opened::new(alloc, u32::from(table.cores())).expect(rt, "memory");
-    if has_reader {
-        let board = NewBoard::new(alloc, 1).expect(rt, "memory");
-        play_with_reader::<Brand, R>(rt, alloc, table, opened, board, steps)
-    } else {
-        play_without_reader::<Brand, R>(rt, alloc, table, opened, steps)
+    match audience {
+        Audience::Nobody => play_without_reader::<Brand, R>(rt, alloc, table, opened, steps),
+        Audience::OneReader => {
+            let board = NewBoard::new(alloc, 1).expect(rt, "memory");
+            play_with_reader::<Brand, R>(rt, alloc, table, opened, board, steps)
+        }
     }
 }
 

@@ -5,8 +5,8 @@ use Rattle.std.proofs.KnownBytes.{Appends-nil, Appends-trans}
 use Rattle.std.specs.Prelude.{flat_map}
 use Rattle.std.proofs.lemmas.List.{take_more}
 use Rattle.std.proofs.lemmas.List.Concat.{flat_map-append}
-use Rattle.apex_types.specs.text.Listing.{listing_of, texts_of}
-use Rattle.apex_types.specs.text.Status.{time_line, mode_line, history_line}
+use Rattle.apex_machine.specs.text.Listing.{listing_of, texts_of}
+use Rattle.apex_machine.specs.text.Status.{time_line, mode_line, history_line}
 use Rattle.apex_history.specs.Counted.{AppendsBeginning}
 use Rattle.apex_history.specs.Page.{Passes}
 use Rattle.apex_history.proofs.Passing.{beginning_after, beginning_longer, passes_with}

@@ -3,21 +3,22 @@ use Rattle.std.proofs.Common.{◌≡◌, ℕ, ◌+◌, ◌*◌, ◌<◌, ◌≤�
 use Rattle.std.proofs.lemmas.List.Elements.{All-nil, All-push}
 use Rattle.std.proofs.lemmas.List.Sums.{sum_by-append}
 use Rattle.std.proofs.lemmas.Int.{ints}
-use Rattle.apex_types.specs.values.Limits.{most_ticks}
-use Rattle.apex_dispatch.specs.Terms.{Call, Caller, Entry, Event, Notice, OpenWork, Reply}
-use Rattle.apex_types.specs.services.Callers.{is_by_init}
-use Rattle.apex_types.specs.machine.History.{init_count}
-use Rattle.apex_types.specs.machine.Machine.{Machine, Objects, objects_after, happen, replay, machine_with, events_of, entry_of, open_work}
-use Rattle.apex_types.specs.processes.Roster.{Roster, opening_roster}
-use Rattle.apex_types.specs.table.Table.{Table, IsLawful}
+use Rattle.apex_types.specs.declared.limits.TheConstants.{MOST_TICKS}
+use Rattle.apex_laws.specs.Terms.{Call, Caller, Entry, Event, Notice, OpenWork, Reply}
+use Rattle.apex_machine.specs.services.Callers.{is_by_init}
+use Rattle.apex_machine.specs.History.{init_count}
+use Rattle.apex_machine.specs.Deeds.{Objects}
+use Rattle.apex_machine.specs.Machine.{Machine, objects_after, happen, replay, machine_with, events_of, entry_of, open_work}
+use Rattle.apex_machine.specs.processes.Roster.{Roster, opening_roster}
+use Rattle.apex_machine.specs.table.Table.{Table, IsLawful}
 use Rattle.apex_dispatch.specs.Deeds.{Does}
-use Rattle.apex_dispatch.specs.Events.{IsWithin}
+use Rattle.apex_machine.specs.Events.{IsWithin}
 use Rattle.apex_dispatch.specs.Kernel.{KernelState, IsKept, kernel_in, kernel_with}
-use Rattle.apex_types.specs.processes.Stamps.{HasManyStamps}
-use Rattle.apex_types.specs.machine.Works.{fresh, is_turn_of, watched, work_begun}
+use Rattle.apex_machine.specs.processes.Stamps.{HasManyStamps}
+use Rattle.apex_machine.specs.Works.{fresh, is_turn_of, watched, work_begun}
 use Rattle.apex_dispatch.specs.Works.{work_at}
-use Rattle.apex_dispatch.proofs.OpenWorks.{open_after}
-use Rattle.apex_dispatch.proofs.Sound.{IsSound, who_of, deed_at, happened, happens, objects_happen, sound_run, sound_happen, told}
+use Rattle.apex_laws.proofs.OpenWorks.{open_after}
+use Rattle.apex_laws.proofs.Sound.{IsSound, who_of, deed_at, happened, happens, objects_happen, sound_run, sound_happen, told}
 
 -- the history has one more init step if the init list asked for the call
 init_count_happen : (table : Table) (machine : Machine) (event : Event)
@@ -31,18 +32,19 @@ init_count_happen table machine event =
     ∙ omega arith
 
 -- the machine of a kernel is sound
-pub kept_sound : {kernel : KernelState} {init_made log_limit : ℕ} {works : List (Option OpenWork)}
+pub kept_sound : {S : Type 0} {kernel : KernelState S} {init_made log_limit : ℕ} {works : List (Option OpenWork)}
     → IsKept kernel init_made log_limit works → IsSound kernel.table kernel.machine
-kept_sound {kernel} kept =
+kept_sound {S} {kernel} kept =
     subst (IsSound kernel.table) kept.replays (sound_run kernel.table kept.lawful (events_of kernel.machine.history))
 
 -- and its time is in range
-pub kept_time : {kernel : KernelState} {init_made log_limit : ℕ} {works : List (Option OpenWork)} → IsKept kernel init_made log_limit works
-    → kernel.machine.roster.now ≤ most_ticks * length kernel.machine.history
+pub kept_time : {S : Type 0} {kernel : KernelState S} {init_made log_limit : ℕ} {works : List (Option OpenWork)}
+    → IsKept kernel init_made log_limit works
+    → kernel.machine.roster.now ≤ MOST_TICKS * length kernel.machine.history
 kept_time kept = (kept_sound kept).time kept.events
 
 -- and stamps are left
-pub kept_stamps : {kernel : KernelState} {init_made log_limit : ℕ} {works : List (Option OpenWork)}
+pub kept_stamps : {S : Type 0} {kernel : KernelState S} {init_made log_limit : ℕ} {works : List (Option OpenWork)}
     → IsKept kernel init_made log_limit works → HasManyStamps kernel.machine.roster
 kept_stamps kept =
     let sound = kept_sound kept in
@@ -58,15 +60,15 @@ machine_is : (table : Table) (machine : Machine) → replay table machine.histor
 machine_is table machine replays = ap (λ (m : Machine). record machine { past = m.past }) replays
 
 -- the kernel is the one after the event, and keeps the facts that each kernel keeps
-pub record IsAfter (table : Table) (old : Machine) (event : Event) (kernel : KernelState)
+pub record IsAfter {S : Type 0} (table : Table) (old : Machine) (event : Event) (kernel : KernelState S)
     (init_made log_limit : ℕ) (works : List (Option OpenWork)) : Type 0 where
-  pub is : kernel ≡ kernel_in table (happen table old event)
+  pub is : kernel ≡ kernel_in table (happen table old event) kernel.store
   pub kept : IsKept kernel init_made log_limit works
 
 -- the kernel after an event for which there was room
-module _ (table : Table) (objects : Objects) (roster : Roster) (history : List Entry)
+module _ {S : Type 0} (table : Table) (objects : Objects) (roster : Roster) (history : List Entry) (store : S)
     (init_made log_limit : ℕ) (works : List (Option OpenWork))
-    (kept : IsKept (kernel_with table objects roster history) init_made log_limit works)
+    (kept : IsKept (kernel_with table objects roster history store) init_made log_limit works)
     (room : length history < table.limit) (event : Event) where
   abbrev machine : Machine
   machine = machine_with table roster history
@@ -100,13 +102,13 @@ module _ (table : Table) (objects : Objects) (roster : Roster) (history : List E
       → new_limit ≡ log_limit
       → (new_works : List (Option OpenWork)) → ((core : ℕ) → work_at new_works core ≡ option_map (watched left core)
       (if is_turn_of core (who_of event) then option_map fresh (work_begun caller call reply) else work_at works core))
-      → IsWithin table.cores event
-      → IsAfter table machine event (kernel_with table now left entries) new_made new_limit new_works
-  after_does {caller} {call} {reply} {left} {now} {notices} does entries entered new_made new_limit made same new_works looked range =
+      → IsWithin table.cores event → (new_store : S)
+      → IsAfter table machine event (kernel_with table now left entries new_store) new_made new_limit new_works
+  after_does {caller} {call} {reply} {left} {now} {notices} does entries entered new_made new_limit made same new_works looked range new_store =
       let outcome = does.outcome in
-      let is : kernel_with table now left entries ≡ kernel_in table (happen table machine event) =
+      let is : kernel_with table now left entries new_store ≡ kernel_in table (happen table machine event) new_store =
       rw (entered, does.caller, does.call, outcome.roster, outcome.kept, outcome.reply, outcome.notices, kept.objects)
-      (ap₂ (λ (m : Machine) (o : Objects). record { table = table; machine = m; objects = o }) happened_is
+      (ap₂ (λ (m : Machine) (o : Objects). record { table = table; machine = m; objects = o; store = new_store }) happened_is
       (sym (objects_happen table kept.lawful machine sound event))) in
       record {
         is = is;
@@ -125,10 +127,10 @@ module _ (table : Table) (objects : Objects) (roster : Roster) (history : List E
         });
       }
 
-pub kept_opening : (table : Table) → IsLawful table
+pub kept_opening : {S : Type 0} (table : Table) (store : S) → IsLawful table
     → (works : List (Option OpenWork)) → ((core : ℕ) → work_at works core ≡ None)
-    → IsKept (kernel_with table (objects_after table []) (opening_roster table) []) 0 table.limit works
-kept_opening table lawful works none = record {
+    → IsKept (kernel_with table (objects_after table []) (opening_roster table) [] store) 0 table.limit works
+kept_opening table store lawful works none = record {
   lawful = lawful;
   limit = refl;
   init = refl;

@@ -1,18 +1,18 @@
 -- A process moves on before it carries out its step.
 use Rattle.std.proofs.Common.{◌≡◌, ℕ, false, Some, refl}
 use Rattle.apex_dispatch.specs.Deeds.{Asks}
-use Rattle.apex_dispatch.specs.Terms.{Call}
-use Rattle.apex_types.specs.declared.Caller.TheVariants.{Process}
-use Rattle.apex_types.specs.machine.Machine.{chosen_deed, move_on, next_place, step_of}
-use Rattle.apex_types.specs.processes.Periods.{HasNoFutureRelease}
-use Rattle.apex_types.specs.processes.Roster.{Roster, record_at}
-use Rattle.apex_types.specs.processes.Stamps.{HasOrderlyStarts}
-use Rattle.apex_types.specs.services.Calls.{is_work}
-use Rattle.apex_types.specs.services.Callers.{IsReady}
-use Rattle.apex_types.specs.table.Table.{Table, IsKnown, process_config}
-use Rattle.apex_types.proofs.Reaches.{reaches_set_step}
-use Rattle.apex_types.proofs.Replaces.{each_stays, replaces_record}
-use Rattle.apex_types.proofs.Starts.{ready_step}
+use Rattle.apex_laws.specs.Terms.{Call}
+use Rattle.apex_types.specs.declared.entries.Caller.TheVariants.{Process}
+use Rattle.apex_machine.specs.Deeds.{chosen_deed, move_on, next_place, step_of}
+use Rattle.apex_machine.specs.processes.Periods.{HasNoFutureRelease}
+use Rattle.apex_machine.specs.processes.Roster.{Roster, record_at}
+use Rattle.apex_machine.specs.processes.Stamps.{HasOrderlyStarts}
+use Rattle.apex_machine.specs.services.Calls.{is_work}
+use Rattle.apex_machine.specs.services.Callers.{IsReady}
+use Rattle.apex_machine.specs.table.Table.{Table, IsKnown, process_config}
+use Rattle.apex_machine.proofs.Reaches.{reaches_set_step}
+use Rattle.apex_machine.proofs.Replaces.{each_stays, replaces_record}
+use Rattle.apex_machine.proofs.Starts.{ready_step}
 
 -- the service of a step other than work, for which its process moves on
 pub asks_step : (table : Table) (roster : Roster) (p : ℕ) (call : Call) → IsReady roster p

@@ -1,14 +1,15 @@
 -- The results of a deed that was carried out.
 use Rattle.std.specs.Prelude.{◌≡◌, ℕ, ◌&&◌, ◌==◌, if◌then◌else◌, List, length, Option, None}
-use Rattle.apex_dispatch.specs.Terms.{Call, Caller, Notice, Reply}
-use Rattle.apex_types.specs.machine.Machine.{Deed, Objects, served}
-use Rattle.apex_types.specs.processes.Periods.{HasNoFutureRelease}
-use Rattle.apex_types.specs.processes.Roster.{Roster, is_cold_start}
-use Rattle.apex_types.specs.processes.Stamps.{HasOrderlyStarts}
-use Rattle.apex_types.specs.services.Callers.{IsReadyCaller}
-use Rattle.apex_types.specs.services.Premises.{CanServe}
-use Rattle.apex_types.specs.services.Rows.{Leaves}
-use Rattle.apex_types.specs.table.Table.{Table, IsKnown, call_in}
+use Rattle.apex_laws.specs.Terms.{Call, Caller, Notice, Reply}
+use Rattle.apex_machine.specs.Deeds.{Deed, Objects, served}
+use Rattle.apex_machine.specs.processes.Periods.{HasNoFutureRelease}
+use Rattle.apex_types.specs.Modes.{is_cold_start}
+use Rattle.apex_machine.specs.processes.Roster.{Roster}
+use Rattle.apex_machine.specs.processes.Stamps.{HasOrderlyStarts}
+use Rattle.apex_machine.specs.services.Callers.{IsReadyCaller}
+use Rattle.apex_machine.specs.services.Premises.{CanServe}
+use Rattle.apex_machine.specs.services.Rows.{Leaves}
+use Rattle.apex_machine.specs.table.Table.{Table, IsKnown, call_in}
 
 -- the deed was done: its caller, its call, and its outcome
 pub record Does (deed : Deed) (who : Caller) (asked : Option Call) (answer : Reply) (left : Roster)

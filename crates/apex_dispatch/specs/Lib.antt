@@ -1,12 +1,4 @@
-pub mod Terms
-pub mod Premises
-pub mod AskedWaits
 pub mod Deeds
 pub mod Works
 pub mod Kernel
-pub mod Events
-pub mod States
-pub mod Unbroken
-pub mod Laws
-pub mod Worked
 pub mod Sections

@@ -1,17 +1,17 @@
 -- The sections of the status listing, and their order (this profile).
 use Rattle.std.specs.Prelude.{◌≡◌, ◌≤◌, ℕ, List, [], ◌∷◌, length, Option, None, Some}
-use Rattle.apex_types.specs.declared.Queue.TheVariants as queues
-use Rattle.apex_types.specs.values.Limits.{most_cores}
-use Rattle.apex_types.specs.text.Listing.{texts_of, waiters, core_listing, process_listing, semaphore_listing, buffer_listing, blackboard_listing, event_flag_listing, mutex_listing}
-use Rattle.apex_types.specs.machine.Machine.{Objects}
-use Rattle.apex_types.specs.processes.Roster.{Roster}
-use Rattle.apex_types.specs.text.Status.{time_line, mode_line, history_line}
-use Rattle.apex_types.specs.table.Table.{Table, IsLawful}
+use Rattle.apex_machine.specs.declared.records.Queue.TheVariants as queues
+use Rattle.apex_types.specs.declared.limits.TheConstants.{MOST_CORES}
+use Rattle.apex_machine.specs.text.Listing.{texts_of, waiters, core_listing, process_listing, semaphore_listing, buffer_listing, blackboard_listing, event_flag_listing, mutex_listing}
+use Rattle.apex_machine.specs.Deeds.{Objects}
+use Rattle.apex_machine.specs.processes.Roster.{Roster}
+use Rattle.apex_machine.specs.text.Status.{time_line, mode_line, history_line}
+use Rattle.apex_machine.specs.table.Table.{Table, IsLawful}
 use Rattle.apex_history.specs.declared.StatusRow.{StatusRow}
 use Rattle.apex_history.specs.StatusRows.{row_text, IsPrintableRow}
 use Rattle.apex_dispatch.specs.declared.listing.Section.{Section}
 use Rattle.apex_dispatch.specs.declared.listing.Section.TheVariants.{Time, Mode, History, Cores, Processes, Semaphores, Buffers, Blackboards, EventFlags, Mutexes}
-use Rattle.apex_dispatch.specs.Premises.{AreOf}
+use Rattle.apex_laws.specs.Premises.{AreOf}
 
 -- all that is listed: a table, its processes and objects, and the number of entries of the history
 pub record Listed : Type 0 where
@@ -24,7 +24,7 @@ pub record Listed : Type 0 where
 -- object for each entry of the table
 pub record IsListable (listed : Listed) : Type 0 where
   pub lawful : IsLawful listed.table
-  pub cores : listed.roster.cores ≤ most_cores
+  pub cores : listed.roster.cores ≤ MOST_CORES
   pub records : length listed.roster.records ≡ length listed.table.processes
   pub objects : AreOf listed.table listed.objects
 

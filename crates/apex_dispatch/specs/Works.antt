@@ -1,6 +1,6 @@
 -- The work that each core has begun, as the kernel keeps it.
 use Rattle.std.specs.Prelude.{ℕ, false, List, Option, None, slice_index_or}
-use Rattle.apex_dispatch.specs.Terms.{OpenWork}
+use Rattle.apex_laws.specs.Terms.{OpenWork}
 
 -- the work that the core has begun and not ended
 abbrev pub work_at : List (Option OpenWork) → ℕ → Option OpenWork

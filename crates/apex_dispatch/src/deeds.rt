@@ -1,30 +1,27 @@
 //! The effect of a turn: an init step, the step of the chosen process, the end of its work, or
 //! nothing.
 ghost use Rattle.std.specs.Prelude.{◌≡◌, ◌<◌, ◌≤◌, length, None, Some, IfNone, IfSome};
-ghost use Rattle.apex_types.specs.values.Limits.{most_processes, most_steps};
+ghost use Rattle.apex_types.specs.declared.limits.TheConstants.{MOST_STEPS};
 ghost use Rattle.std.specs.Option.{ForSome};
-ghost use Rattle.apex_types.specs.services.Calls.{is_work};
-ghost use Rattle.apex_types.specs.services.Callers.{IsReady, IsReadyCaller};
-ghost use Rattle.apex_types.specs.services.Premises.{CanServe};
-ghost use Rattle.apex_types.specs.processes.Dues.{HasTime};
-ghost use Rattle.apex_types.specs.declared.Caller.TheVariants.{Nobody, Process as ByProcess};
-ghost use Rattle.apex_types.specs.declared.Reply.TheVariants.{Begun, Idle};
-ghost use Rattle.apex_types.specs.machine.Machine.{chosen_deed, move_on, next_place, served, step_deed, turn_deed};
-ghost use Rattle.apex_types.specs.processes.Running.{chosen};
-ghost use Rattle.apex_types.specs.processes.Periods.{HasNoFutureRelease};
-ghost use Rattle.apex_types.specs.processes.Stamps.{HasManyStamps, HasOrderlyStarts};
-ghost use Rattle.apex_types.specs.table.Table.{IsKnown};
-ghost use Rattle.apex_types.specs.machine.Works.{work_begun};
+ghost use Rattle.apex_machine.specs.services.Calls.{is_work};
+ghost use Rattle.apex_machine.specs.services.Callers.{IsReady, IsReadyCaller};
+ghost use Rattle.apex_machine.specs.services.Premises.{CanServe};
+ghost use Rattle.apex_types.specs.declared.entries.Caller.TheVariants.{Nobody, Process as ByProcess};
+ghost use Rattle.apex_types.specs.declared.entries.Reply.TheVariants.{Begun, Idle};
+ghost use Rattle.apex_machine.specs.Deeds.{chosen_deed, move_on, next_place, served, step_deed, turn_deed};
+ghost use Rattle.apex_machine.specs.processes.Running.{chosen};
+ghost use Rattle.apex_machine.specs.processes.Periods.{HasNoFutureRelease};
+ghost use Rattle.apex_machine.specs.processes.Stamps.{HasOrderlyStarts};
+ghost use Rattle.apex_machine.specs.Works.{work_begun};
 ghost use Rattle.apex_dispatch.specs.Deeds.{due_after, Asks, Does};
-ghost use Rattle.apex_dispatch.specs.Premises.{AreOf, IsKnownTo};
+ghost use Rattle.apex_laws.specs.Premises.{AreOf, IsKnownTo};
 
 use crate::objects::Objects;
 use crate::services::serve;
+use apex_machine::{OpenWork, Work};
 use apex_store::Store;
 use apex_table::{ProcessConfig, Table};
-use apex_types::{
-    Call, Caller, CallerCall, CoreId, Mode, Notices, OpenWork, ProcessId, Reply, Work,
-};
+use apex_types::{Call, Caller, CallerCall, CoreId, Mode, Notices, ProcessId, Reply};
 
 /// A call that was carried out, and its reply.
 #[derive(Drop)]
@@ -97,7 +94,7 @@ fn ask<S: Store>(
 /// The place after this one; after its last step a looping script goes to the first one, any other
 /// to its end.
 fn next_place(process: &ProcessConfig, step: u8) -> u8
-    requires { length process.now.script ≤ most_steps }
+    requires { length process.now.script ≤ MOST_STEPS }
     ensures { result ≡ next_place process.now step }
 {
     if usize::from(step) + 1 < process.step_count() {

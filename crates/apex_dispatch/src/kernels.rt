@@ -1,18 +1,19 @@
 //! The kernel of one partition: boot, turn, tick and run.
 ghost use Rattle.std.specs.Prelude.{◌≡◌, ◌<◌, ◌≤◌, ◌↔◌, ◌+◌, ◌^◌, [], ◌∷◌, ◌++◌, length, ◌&&◌, ◌==◌, if◌then◌else◌, None, Some, option_map, slice_get, All, IfOk, IfErr, OnOk, OnErr, IsOk};
 ghost use Rattle.std.specs.Io.KnownBytes.{Appends};
-ghost use Rattle.apex_types.specs.services.BufferServices.{BufferObject};
-ghost use Rattle.apex_types.specs.services.Callers.{is_by_init};
-ghost use Rattle.apex_types.specs.values.Limits.{latest, most_entries, most_ticks};
-ghost use Rattle.apex_types.specs.processes.Roster.{opening_roster, is_cold_start};
+ghost use Rattle.apex_machine.specs.services.BufferServices.{BufferObject};
+ghost use Rattle.apex_machine.specs.services.Callers.{is_by_init};
+ghost use Rattle.apex_types.specs.declared.limits.TheConstants.{MOST_ENTRIES, MOST_TICKS};
+ghost use Rattle.apex_types.specs.Limits.{latest};
+ghost use Rattle.apex_machine.specs.processes.Roster.{opening_roster};
 ghost use Rattle.apex_calls.specs.Lines.{IsPrintable};
-ghost use Rattle.apex_types.specs.text.Listing.{listing, listing_of};
-ghost use Rattle.apex_types.specs.machine.Machine.{opening, accept, turn, tick, run, replay, events_of};
-ghost use Rattle.apex_types.specs.services.SemaphoreServices.{SemaphoreObject};
-ghost use Rattle.apex_types.specs.table.Table.{IsLawful, call_in};
-ghost use Rattle.apex_types.specs.values.Distinct.{HasDistinctStamps};
+ghost use Rattle.apex_machine.specs.text.Listing.{listing, listing_of};
+ghost use Rattle.apex_machine.specs.Machine.{opening, accept, turn, tick, run, replay, events_of};
+ghost use Rattle.apex_machine.specs.services.SemaphoreServices.{SemaphoreObject};
+ghost use Rattle.apex_machine.specs.table.Table.{IsLawful};
+ghost use Rattle.apex_machine.specs.processes.Distinct.{HasDistinctStamps};
 ghost use Rattle.apex_history.specs.Counted.{inner_of, failures_of, CountsFailure, AppendsBeginning};
-ghost use Rattle.apex_dispatch.specs.Events.{IsWithin};
+ghost use Rattle.apex_machine.specs.Events.{IsWithin};
 ghost use Rattle.apex_dispatch.specs.Kernel.{kernel_in};
 
 use crate::deeds::carry_out;
@@ -47,11 +48,12 @@ pub struct Kernel<S: Store> {
 impl<S: Store> Model for Kernel<S> {
     ghost use Rattle.apex_dispatch.specs.Kernel.{KernelState, kernel_with, IsKept};
 
-    ghost Value = { KernelState };
+    ghost Value = { KernelState S };
 
-    ghost view = { λ k. kernel_with k.table k.objects (S.roster k.store) k.log.entries };
+    ghost view = { λ k. kernel_with k.table k.objects (S.roster k.store) k.log.entries k.store };
 
-    ghost invariant = { λ k. IsKept (kernel_with k.table k.objects (S.roster k.store) k.log.entries)
+    ghost invariant = { λ k. IsKept
+        (kernel_with k.table k.objects (S.roster k.store) k.log.entries k.store)
         k.init_made k.log.limit k.works };
 }
 
@@ -92,7 +94,7 @@ fn append<S: Store>(
     notices: &Notices,
 )
     requires room { length log.old.entries < log.old.limit }
-    requires few_entries { log.old.limit ≤ most_entries }
+    requires few_entries { log.old.limit ≤ MOST_ENTRIES }
     ensures entries { log.new.entries ≡ log.old.entries ++ record {
       number = length log.old.entries + 1;
       now = (S.roster store.now).now;
@@ -121,7 +123,7 @@ impl<S: Store> Kernel<S> {
     /// only for want of memory.
     pub fn boot(alloc: Global, table: Table, store: S) -> Result<Kernel<S>, AllocError>
         requires { S.roster store ≡ opening_roster table }
-        ensures { IfOk result (λ kernel. kernel ≡ kernel_in table (opening table)) }
+        ensures { IfOk result (λ kernel. kernel ≡ kernel_in table (opening table) kernel.store) }
     {
         table.lawful();
         let objects = Objects::new(alloc, &table)?;
@@ -143,7 +145,8 @@ impl<S: Store> Kernel<S> {
         requires { core < self.old.table.cores }
         ensures accepted { IsOk result ↔ (length self.old.machine.history < self.old.table.limit) }
         ensures done { OnOk result
-            (self.new ≡ kernel_in self.old.table (turn self.old.table self.old.machine core)) }
+            (self.new ≡ kernel_in self.old.table (turn self.old.table self.old.machine core)
+            self.new.store) }
         ensures refused { OnErr result (self.new ≡ self.old) }
         ensures full { IfErr result (λ e. (e.entries ≡ length self.old.machine.history)
             × (e.entries ≡ self.old.table.limit)) }
@@ -195,10 +198,11 @@ impl<S: Store> Kernel<S> {
     /// ends by itself or a deadline passes. `Full` if the history has no room for its entry, and
     /// then nothing changes.
     pub fn tick(&mut self, n: u32) -> Result<(), Full>
-        requires range { (1 ≤ n) × (n ≤ most_ticks) }
+        requires range { (1 ≤ n) × (n ≤ MOST_TICKS) }
         ensures accepted { IsOk result ↔ (length self.old.machine.history < self.old.table.limit) }
         ensures done { OnOk result
-            (self.new ≡ kernel_in self.old.table (tick self.old.table self.old.machine n)) }
+            (self.new ≡ kernel_in self.old.table (tick self.old.table self.old.machine n)
+            self.new.store) }
         ensures refused { OnErr result (self.new ≡ self.old) }
         ensures full { IfErr result (λ e. (e.entries ≡ length self.old.machine.history)
             × (e.entries ≡ self.old.table.limit)) }
@@ -221,12 +225,13 @@ impl<S: Store> Kernel<S> {
 
     /// The event, if the history has room for it: its turn or its tick. Otherwise it is answered
     /// `Full`, and nothing changes.
-    #[tactic(auto, using(crate::proofs::Runs::accepts))]
+    #[tactic(auto, using(crate::proofs::Accepted::accepts))]
     pub fn accept(&mut self, event: Event) -> Result<(), Full>
         requires { IsWithin self.old.table.cores event }
         ensures accepted { IsOk result ↔ (length self.old.machine.history < self.old.table.limit) }
         ensures done { self.new
-            ≡ kernel_in self.old.table (accept self.old.table self.old.machine event) }
+            ≡ kernel_in self.old.table (accept self.old.table self.old.machine event)
+            self.new.store }
         ensures refused { OnErr result (self.new ≡ self.old) }
         ensures full { IfErr result (λ e. (e.entries ≡ length self.old.machine.history)
             × (e.entries ≡ self.old.table.limit)) }
@@ -245,7 +250,7 @@ impl<S: Store> Kernel<S> {
         requires { All (IsWithin self.old.table.cores) events.now }
         ensures done { self.new ≡ kernel_in self.old.table
             (run self.old.table (opening self.old.table)
-            (events_of self.old.machine.history ++ events.now)) }
+            (events_of self.old.machine.history ++ events.now)) self.new.store }
         ensures accepted { IsOk result ↔ (length self.old.machine.history + length events.now
             ≤ self.old.table.limit) }
         ensures full { IfErr result (λ e. e.entries ≡ self.old.table.limit) }
@@ -263,7 +268,7 @@ impl<S: Store> Kernel<S> {
     /// within the table's limit; its time is at most 2^36 ticks; and the ids that its entries name
     /// are the table's.
     pub fn holds(&self)
-        ensures values { self.now ≡ kernel_in self.now.table self.now.machine }
+        ensures values { self.now ≡ kernel_in self.now.table self.now.machine self.now.store }
         ensures replays { replay self.now.table self.now.machine.history ≡ self.now.machine }
         ensures events { All (IsWithin self.now.table.cores) (events_of self.now.machine.history) }
         ensures records { length self.now.machine.roster.records ≡ length self.now.table.processes }
@@ -352,8 +357,10 @@ impl<S: Store> Kernel<S> {
         }
     }
 
+    /// The store of its processes.
     pub fn store(&self) -> &S
-        ensures { S.roster result.now ≡ self.now.machine.roster }
+        ensures value { result.now ≡ self.now.store }
+        ensures roster { S.roster result.now ≡ self.now.machine.roster }
     {
         &self.store
     }
@@ -362,5 +369,22 @@ impl<S: Store> Kernel<S> {
         ensures { result.now ≡ self.now.table }
     {
         &self.table
+    }
+
+    /// The table, for another kernel of it.
+    pub fn into_table(self) -> Table
+        ensures { result ≡ self.table }
+    {
+        let Kernel { table, .. } = self;
+        table
+    }
+
+    /// The table and the history, whose events another kernel of the table may be asked for.
+    pub fn into_parts(self) -> (Table, Log)
+        ensures table { result.0 ≡ self.table }
+        ensures history { result.1.entries ≡ self.machine.history }
+    {
+        let Kernel { table, log, .. } = self;
+        (table, log)
     }
 }

@@ -1,9 +1,9 @@
 //! The status listing of a partition, section by section.
 ghost use Rattle.std.specs.Prelude.{◌≡◌, ◌<◌, ◌++◌, [], length, OnOk, OnErr};
 ghost use Rattle.std.specs.Io.KnownBytes.{Appends};
-ghost use Rattle.apex_types.specs.declared.Queue.TheVariants as queues;
-ghost use Rattle.apex_types.specs.processes.Owners.{owner};
-ghost use Rattle.apex_types.specs.text.Listing.{listing_of, waiters, owned_depth, core_listing, process_listing, semaphore_listing, buffer_listing, blackboard_listing, event_flag_listing, mutex_listing};
+ghost use Rattle.apex_machine.specs.declared.records.Queue.TheVariants as queues;
+ghost use Rattle.apex_machine.specs.processes.Owners.{owner};
+ghost use Rattle.apex_machine.specs.text.Listing.{listing_of, waiters, owned_depth, core_listing, process_listing, semaphore_listing, buffer_listing, blackboard_listing, event_flag_listing, mutex_listing};
 ghost use Rattle.apex_history.specs.Counted.{inner_of, failures_of, CountsFailure, AppendsBeginning};
 ghost use Rattle.apex_history.specs.Page.{Passes};
 ghost use Rattle.apex_history.specs.StatusRows.{row_text};
@@ -12,10 +12,11 @@ ghost use Rattle.apex_dispatch.specs.Sections.{Tells, thing_count, thing_text, s
 use crate::objects::Objects;
 use crate::waiters::{Waiters, waiters_in};
 use apex_history::{Counted, Page, Sink, StatusRow, gather_row};
+use apex_machine::Queue;
 use apex_store::{Object, Store};
 use apex_table::Table;
 use apex_types::{
-    BlackboardId, BufferId, CoreId, EventId, Message, MutexId, ProcessId, Queue, SemaphoreId,
+    BlackboardId, BufferId, CoreId, EventId, Message, MutexId, ProcessId, SemaphoreId,
 };
 use std::io::Result;
 use std::marker::Model;

@@ -1,6 +1,6 @@
 //! The running values of a partition's objects.
 ghost use Rattle.std.specs.Prelude.{◌≡◌, [], IfOk, false};
-ghost use Rattle.apex_types.specs.machine.Machine.{objects_after};
+ghost use Rattle.apex_machine.specs.Machine.{objects_after};
 
 use crate::services::ProcessObject;
 use apex_buffer::Buffer;
@@ -25,7 +25,7 @@ pub(crate) struct Objects {
 }
 
 impl Model for Objects {
-    ghost use Rattle.apex_types.specs.machine.Machine.{Objects};
+    ghost use Rattle.apex_machine.specs.Deeds.{Objects};
 
     ghost Value = { Objects };
 

@@ -1,15 +1,13 @@
 //! The services, a room for each kind.
 
 ghost use Rattle.std.specs.Prelude.{◌≡◌, ◌≤◌, length};
-ghost use Rattle.apex_types.specs.values.Limits.{most_processes};
-ghost use Rattle.apex_types.specs.services.Callers.{IsReadyCaller};
-ghost use Rattle.apex_types.specs.processes.Dues.{HasTime};
-ghost use Rattle.apex_types.specs.machine.Machine.{service};
-ghost use Rattle.apex_types.specs.processes.Periods.{HasNoFutureRelease};
-ghost use Rattle.apex_types.specs.services.Rows.{Leaves};
-ghost use Rattle.apex_types.specs.services.Premises.{CanServe};
-ghost use Rattle.apex_types.specs.processes.Stamps.{HasManyStamps, HasOrderlyStarts};
-ghost use Rattle.apex_dispatch.specs.Premises.{IsKnownTo};
+ghost use Rattle.apex_machine.specs.services.Callers.{IsReadyCaller};
+ghost use Rattle.apex_machine.specs.Deeds.{service};
+ghost use Rattle.apex_machine.specs.processes.Periods.{HasNoFutureRelease};
+ghost use Rattle.apex_machine.specs.services.Rows.{Leaves};
+ghost use Rattle.apex_machine.specs.services.Premises.{CanServe};
+ghost use Rattle.apex_machine.specs.processes.Stamps.{HasOrderlyStarts};
+ghost use Rattle.apex_laws.specs.Premises.{IsKnownTo};
 
 use crate::objects::Objects;
 use apex_store::{Store, serve_object};

@@ -1,17 +1,19 @@
 //! The effect of a tick: time goes on to the next instant at the latest, and there deadlines are
 //! missed and waits end.
 ghost use Rattle.std.specs.Prelude.{◌≡◌, ◌+◌, ◌-◌, ◌<◌, ◌≤◌, ◌^◌, [], ◌∷◌, ◌++◌, length};
-ghost use Rattle.apex_types.specs.values.Limits.{latest, most_notices, most_owned, most_processes};
-ghost use Rattle.apex_types.specs.declared.Notice.TheVariants.{Missed};
-ghost use Rattle.apex_types.specs.processes.Dues.{HasTime};
-ghost use Rattle.apex_types.specs.services.InTurn.{Makes, behind};
-ghost use Rattle.apex_types.specs.processes.Periods.{AreInTime};
-ghost use Rattle.apex_types.specs.processes.Stamps.{HasManyStamps, HasOrderlyStarts, HasStamps, HasStampsFor};
-ghost use Rattle.apex_types.specs.machine.Ticks as ticks;
-ghost use Rattle.apex_dispatch.specs.Premises.{HasStampsForAll, due_count};
+ghost use Rattle.apex_types.specs.declared.limits.TheConstants.{MOST_NOTICES, MOST_OWNED, MOST_PROCESSES};
+ghost use Rattle.apex_types.specs.Limits.{latest};
+ghost use Rattle.apex_types.specs.declared.entries.Notice.TheVariants.{Missed};
+ghost use Rattle.apex_machine.specs.processes.Dues.{HasTime};
+ghost use Rattle.apex_machine.specs.services.InTurn.{Makes, behind};
+ghost use Rattle.apex_machine.specs.processes.Periods.{AreInTime};
+ghost use Rattle.apex_machine.specs.processes.Stamps.{HasManyStamps, HasOrderlyStarts, HasStamps, HasStampsFor};
+ghost use Rattle.apex_machine.specs.Ticks as ticks;
+ghost use Rattle.apex_laws.specs.Premises.{HasStampsForAll, due_count};
 
+use apex_machine::Wait;
 use apex_store::{Store, halt};
-use apex_types::{DeadlineType, Notice, Notices, ProcessId, ReturnCode, Wait};
+use apex_types::{DeadlineType, Notice, Notices, ProcessId, ReturnCode};
 
 /// The smaller of an instant and the next one, if there is one.
 fn not_beyond(instant: u64, next: Option<u64>) -> u64
@@ -35,9 +37,9 @@ fn tick_goal<S: Store>(store: &S, n: u32) -> u64
 /// once.
 fn miss<S: Store>(store: &mut S, process: ProcessId, deadline: DeadlineType, notices: &mut Notices)
     requires known { process < length (S.roster store.old).records }
-    requires stamps { HasStampsFor most_owned (S.roster store.old) }
+    requires stamps { HasStampsFor MOST_OWNED (S.roster store.old) }
     requires room { length notices.old + 1 + length
-        (ticks.miss (S.roster store.old) process deadline).notices ≤ most_notices }
+        (ticks.miss (S.roster store.old) process deadline).notices ≤ MOST_NOTICES }
     ensures { Makes (behind (Missed process deadline ∷ [])
         (ticks.miss (S.roster store.old) process deadline))
         (S.roster store.new) notices.old notices.new }
@@ -51,7 +53,7 @@ fn miss<S: Store>(store: &mut S, process: ProcessId, deadline: DeadlineType, not
 
 /// The deadlines at now are served, by process number.
 fn serve_deadlines<S: Store>(store: &mut S, notices: &mut Notices)
-    requires few_processes { length (S.roster store.old).records ≤ most_processes }
+    requires few_processes { length (S.roster store.old).records ≤ MOST_PROCESSES }
     requires starts { HasOrderlyStarts (S.roster store.old) }
     requires stamps { HasManyStamps (S.roster store.old) }
     requires room { notices.old ≡ [] }
@@ -75,7 +77,7 @@ fn wait_over<S: Store>(store: &mut S, process: ProcessId, wait: Option<Wait>, no
     requires known { process < length (S.roster store.old).records }
     requires stamps { HasStamps (S.roster store.old) }
     requires time { HasTime (S.roster store.old) }
-    requires room { length notices.old < most_notices }
+    requires room { length notices.old < MOST_NOTICES }
     ensures { Makes (ticks.wait_over (S.roster store.old) process wait)
         (S.roster store.new) notices.old notices.new }
 {
@@ -97,12 +99,12 @@ fn wait_over<S: Store>(store: &mut S, process: ProcessId, wait: Option<Wait>, no
 
 /// The dues at now are served, by process number.
 fn serve_dues<S: Store>(store: &mut S, notices: &mut Notices)
-    requires few_processes { length (S.roster store.old).records ≤ most_processes }
+    requires few_processes { length (S.roster store.old).records ≤ MOST_PROCESSES }
     requires starts { HasOrderlyStarts (S.roster store.old) }
     requires instants { AreInTime (S.roster store.old) }
     requires stamps { HasStampsForAll (S.roster store.old) }
     requires time { HasTime (S.roster store.old) }
-    requires room { length notices.old + due_count (S.roster store.old) ≤ most_notices }
+    requires room { length notices.old + due_count (S.roster store.old) ≤ MOST_NOTICES }
     ensures { Makes (ticks.serve_dues (S.roster store.old))
         (S.roster store.new) notices.old notices.new }
 {
@@ -119,7 +121,7 @@ fn serve_dues<S: Store>(store: &mut S, notices: &mut Notices)
 
 /// The deadlines at now are served first, and then the dues.
 fn serve_instant<S: Store>(store: &mut S, notices: &mut Notices)
-    requires few_processes { length (S.roster store.old).records ≤ most_processes }
+    requires few_processes { length (S.roster store.old).records ≤ MOST_PROCESSES }
     requires starts { HasOrderlyStarts (S.roster store.old) }
     requires instants { AreInTime (S.roster store.old) }
     requires stamps { HasManyStamps (S.roster store.old) }
@@ -134,9 +136,9 @@ fn serve_instant<S: Store>(store: &mut S, notices: &mut Notices)
 
 /// Time goes on by a tick of `n`, and the deadlines and then the dues at that instant are served.
 /// Answers the ticks by which time went on.
-#[tactic(auto, unfolding(apex_types::specs::machine::Ticks::pass_time))]
+#[tactic(auto, unfolding(apex_machine::specs::Ticks::pass_time))]
 pub(crate) fn pass_time<S: Store>(store: &mut S, n: u32, notices: &mut Notices) -> u32
-    requires few_processes { length (S.roster store.old).records ≤ most_processes }
+    requires few_processes { length (S.roster store.old).records ≤ MOST_PROCESSES }
     requires starts { HasOrderlyStarts (S.roster store.old) }
     requires instants { AreInTime (S.roster store.old) }
     requires stamps { HasManyStamps (S.roster store.old) }

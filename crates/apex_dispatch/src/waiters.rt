@@ -1,10 +1,11 @@
 //! The waiters of a queue, in the queue's order.
 ghost use Rattle.std.specs.Prelude.{◌≡◌, ◌<◌, ◌≤◌, [], ◌∷◌, ◌++◌, length};
-ghost use Rattle.apex_types.specs.values.Limits.{most_processes};
-ghost use Rattle.apex_types.specs.text.Listing.{waiters};
+ghost use Rattle.apex_types.specs.declared.limits.TheConstants.{MOST_PROCESSES};
+ghost use Rattle.apex_machine.specs.text.Listing.{waiters};
 
+use apex_machine::Queue;
 use apex_store::Store;
-use apex_types::{MOST_PROCESSES, ProcessId, Queue};
+use apex_types::{MOST_PROCESSES, ProcessId};
 use std::marker::Model;
 
 /// Processes one behind the other, [`MOST_PROCESSES`] at the most.
@@ -16,13 +17,13 @@ pub(crate) struct Waiters {
 
 impl Model for Waiters {
     ghost use Rattle.std.specs.Prelude.{◌≡◌, ◌≤◌, ℕ, List, length, take};
-    ghost use Rattle.apex_types.specs.values.Limits.{most_processes};
+    ghost use Rattle.apex_types.specs.declared.limits.TheConstants.{MOST_PROCESSES};
 
     ghost Value = { List ℕ };
 
     ghost view = { λ w. take w.count w.processes };
 
-    ghost invariant = { λ w. (w.count ≤ most_processes) × (length w.processes ≡ most_processes) };
+    ghost invariant = { λ w. (w.count ≤ MOST_PROCESSES) × (length w.processes ≡ MOST_PROCESSES) };
 }
 
 impl Waiters {
@@ -37,7 +38,7 @@ impl Waiters {
     }
 
     fn push(&mut self, process: ProcessId)
-        requires { length self.old < most_processes }
+        requires { length self.old < MOST_PROCESSES }
         ensures { self.new ≡ self.old ++ process ∷ [] }
     {
         self.processes[self.count] = process;
@@ -46,16 +47,16 @@ impl Waiters {
 
     pub(crate) fn as_slice(&self) -> &[ProcessId]
         ensures value { result.now ≡ self.now }
-        ensures few_waiters { length result.now ≤ most_processes }
+        ensures few_waiters { length result.now ≤ MOST_PROCESSES }
     {
         &self.processes[..self.count]
     }
 }
 
 /// The waiters of the queue, from the first one on.
-#[tactic(auto, unfolding(apex_types::specs::text::Listing::waiters))]
+#[tactic(auto, unfolding(apex_machine::specs::text::Listing::waiters))]
 pub(crate) fn waiters_in<S: Store>(store: &S, queue: &Queue) -> Waiters
-    requires { length (S.roster store.now).records ≤ most_processes }
+    requires { length (S.roster store.now).records ≤ MOST_PROCESSES }
     ensures { result ≡ waiters (S.roster store.now) queue.now }
 {
     let mut waiting = Waiters::new();

@@ -1,11 +1,12 @@
 //! The work that each core has begun and not ended.
 ghost use Rattle.std.specs.Prelude.{◌≡◌, ℕ, ◌==◌, ◌<◌, None, length, option_map, if◌then◌else◌};
-ghost use Rattle.apex_types.specs.values.Limits.{most_cores};
-ghost use Rattle.apex_types.specs.machine.Works.{fresh, watched};
+ghost use Rattle.apex_types.specs.declared.limits.TheConstants.{MOST_CORES};
+ghost use Rattle.apex_machine.specs.Works.{fresh, watched};
 ghost use Rattle.apex_dispatch.specs.Works.{broken, work_at};
 
+use apex_machine::{OpenWork, Work};
 use apex_store::Store;
-use apex_types::{CoreId, MOST_CORES, OpenWork, Work};
+use apex_types::{CoreId, MOST_CORES};
 use std::marker::Model;
 
 const CORES: usize = MOST_CORES as usize;
@@ -20,15 +21,15 @@ pub(crate) struct Works {
 
 impl Model for Works {
     ghost use Rattle.std.specs.Prelude.{◌≡◌, ℕ, List, Option, None, false, length};
-    ghost use Rattle.apex_types.specs.declared.OpenWork.{OpenWork};
-    ghost use Rattle.apex_types.specs.values.Limits.{most_cores};
+    ghost use Rattle.apex_machine.specs.declared.works.OpenWork.{OpenWork};
+    ghost use Rattle.apex_types.specs.declared.limits.TheConstants.{MOST_CORES};
     ghost use Rattle.apex_dispatch.specs.Works.{work_at};
 
     ghost Value = { List (Option OpenWork) };
 
     ghost view = { λ w. w.of_core };
 
-    ghost invariant = { λ w. (length w.of_core ≡ most_cores)
+    ghost invariant = { λ w. (length w.of_core ≡ MOST_CORES)
         × (w.has_begun ≡ false → (core : ℕ) → work_at w.of_core core ≡ None) };
 }
 
@@ -70,7 +71,7 @@ impl Works {
 
     /// There is a place for each core that may be.
     fn places(&self)
-        ensures { length self.now ≡ most_cores }
+        ensures { length self.now ≡ MOST_CORES }
     {
         let _first = self.of_core[0];
     }

@@ -1,18 +1,19 @@
 //! The blackboard as its services see it, and the services that blackboards alone have.
 ghost use Rattle.std.specs.Prelude.{◌≡◌, ◌≤◌, [], length, false, None};
-ghost use Rattle.apex_types.specs.values.Limits.{most_processes};
-ghost use Rattle.apex_types.specs.services.BlackboardServices as services;
-ghost use Rattle.apex_types.specs.services.Callers.{IsReadyCaller};
-ghost use Rattle.apex_types.specs.processes.Dues.{HasTime};
-ghost use Rattle.apex_types.specs.processes.Roster.{Roster};
-ghost use Rattle.apex_types.specs.services.Rows.{Leaves};
-ghost use Rattle.apex_types.specs.services.Premises.{CanServe};
-ghost use Rattle.apex_types.specs.processes.Stamps.{HasManyStamps};
+ghost use Rattle.apex_types.specs.declared.limits.TheConstants.{MOST_PROCESSES};
+ghost use Rattle.apex_machine.specs.services.BlackboardServices as services;
+ghost use Rattle.apex_machine.specs.services.Callers.{IsReadyCaller};
+ghost use Rattle.apex_machine.specs.processes.Dues.{HasTime};
+ghost use Rattle.apex_machine.specs.processes.Roster.{Roster};
+ghost use Rattle.apex_machine.specs.services.Rows.{Leaves};
+ghost use Rattle.apex_machine.specs.services.Premises.{CanServe};
+ghost use Rattle.apex_machine.specs.processes.Stamps.{HasManyStamps};
 
+use apex_machine::{Queue, Wait};
 use apex_store::{Object, Store, grant_all, is_unfit, is_waiting_owner, wait_for};
 use apex_types::{
-    BlackboardId, BlackboardKind, BlackboardService, Caller, Message, Notices, Queue, Reply,
-    ReturnCode, Timeout, Wait,
+    BlackboardId, BlackboardKind, BlackboardService, Caller, Message, Notices, Reply, ReturnCode,
+    Timeout,
 };
 use std::marker::Model;
 
@@ -25,7 +26,7 @@ pub struct Blackboard {
 }
 
 impl Model for Blackboard {
-    ghost use Rattle.apex_types.specs.services.BlackboardServices.{BlackboardObject};
+    ghost use Rattle.apex_machine.specs.services.BlackboardServices.{BlackboardObject};
 
     ghost Value = { BlackboardObject };
 
@@ -64,7 +65,7 @@ impl Blackboard {
         notices: &mut Notices,
     ) -> Reply
         requires stamps { HasManyStamps (S.roster store.old) }
-        requires room { length notices.old ≤ most_processes }
+        requires room { length notices.old ≤ MOST_PROCESSES }
         ensures { Leaves (services.display_blackboard (S.roster store.old) self.old id message)
             (S.roster store.new) self.new result notices.old notices.new }
     {
@@ -131,9 +132,9 @@ impl Object for Blackboard {
 
     type KindService = BlackboardService;
 
-    ghost use Rattle.apex_types.specs.services.BlackboardServices.{blackboard_kind};
-    ghost use Rattle.apex_types.specs.processes.Roster.{Roster};
-    ghost use Rattle.apex_types.specs.table.Table.{BlackboardConfig};
+    ghost use Rattle.apex_machine.specs.services.BlackboardServices.{blackboard_kind};
+    ghost use Rattle.apex_machine.specs.processes.Roster.{Roster};
+    ghost use Rattle.apex_machine.specs.table.Table.{BlackboardConfig};
 
     ghost Config = { BlackboardConfig };
 
@@ -150,7 +151,6 @@ impl Object for Blackboard {
     }
 
     fn status<S: Store>(&self, store: &S, id: BlackboardId) -> Reply
-        requires stands { Unit {0} }
         ensures { result ≡ services.blackboard_status (S.roster store.now) self.now id }
     {
         let waiting = store.waiting(Queue::Blackboard(id));
@@ -165,7 +165,6 @@ impl Object for Blackboard {
         service: &BlackboardService,
         notices: &mut Notices,
     ) -> Reply
-        requires stands { Unit {0} }
         requires caller { IsReadyCaller (S.roster store.old) caller.now }
         requires can { CanServe (S.roster store.old) notices.old }
         ensures { Leaves (services.blackboard_service

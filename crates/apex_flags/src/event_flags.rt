@@ -1,18 +1,18 @@
 //! The event flag as its services see it, and the services that event flags alone have.
 ghost use Rattle.std.specs.Prelude.{◌≡◌, ◌≤◌, [], length, false};
-ghost use Rattle.apex_types.specs.values.Limits.{most_processes};
-ghost use Rattle.apex_types.specs.services.Callers.{IsReadyCaller};
-ghost use Rattle.apex_types.specs.processes.Dues.{HasTime};
-ghost use Rattle.apex_types.specs.services.EventFlagServices as services;
-ghost use Rattle.apex_types.specs.processes.Roster.{Roster};
-ghost use Rattle.apex_types.specs.services.Rows.{Leaves};
-ghost use Rattle.apex_types.specs.services.Premises.{CanServe};
-ghost use Rattle.apex_types.specs.processes.Stamps.{HasManyStamps};
+ghost use Rattle.apex_types.specs.declared.limits.TheConstants.{MOST_PROCESSES};
+ghost use Rattle.apex_machine.specs.services.Callers.{IsReadyCaller};
+ghost use Rattle.apex_machine.specs.processes.Dues.{HasTime};
+ghost use Rattle.apex_machine.specs.services.EventFlagServices as services;
+ghost use Rattle.apex_machine.specs.processes.Roster.{Roster};
+ghost use Rattle.apex_machine.specs.services.Rows.{Leaves};
+ghost use Rattle.apex_machine.specs.services.Premises.{CanServe};
+ghost use Rattle.apex_machine.specs.processes.Stamps.{HasManyStamps};
 
+use apex_machine::{Queue, Wait};
 use apex_store::{Object, Store, grant_all, is_waiting_owner, wait_for};
 use apex_types::{
-    Caller, EventFlagKind, EventFlagService, EventId, Notices, Queue, Reply, ReturnCode, Timeout,
-    Wait,
+    Caller, EventFlagKind, EventFlagService, EventId, Notices, Reply, ReturnCode, Timeout,
 };
 use std::marker::Model;
 
@@ -24,7 +24,7 @@ pub struct EventFlag {
 }
 
 impl Model for EventFlag {
-    ghost use Rattle.apex_types.specs.services.EventFlagServices.{EventFlagObject};
+    ghost use Rattle.apex_machine.specs.services.EventFlagServices.{EventFlagObject};
 
     ghost Value = { EventFlagObject };
 
@@ -54,7 +54,7 @@ impl EventFlag {
     /// waiter first. INVALID_PARAM if the event flag isn't created.
     pub fn set<S: Store>(&mut self, store: &mut S, id: EventId, notices: &mut Notices) -> Reply
         requires stamps { HasManyStamps (S.roster store.old) }
-        requires room { length notices.old ≤ most_processes }
+        requires room { length notices.old ≤ MOST_PROCESSES }
         ensures { Leaves (services.set_event (S.roster store.old) self.old id)
             (S.roster store.new) self.new result notices.old notices.new }
     {
@@ -120,9 +120,9 @@ impl Object for EventFlag {
 
     type KindService = EventFlagService;
 
-    ghost use Rattle.apex_types.specs.services.EventFlagServices.{event_flag_kind};
-    ghost use Rattle.apex_types.specs.processes.Roster.{Roster};
-    ghost use Rattle.apex_types.specs.table.Table.{EventFlagConfig};
+    ghost use Rattle.apex_machine.specs.services.EventFlagServices.{event_flag_kind};
+    ghost use Rattle.apex_machine.specs.processes.Roster.{Roster};
+    ghost use Rattle.apex_machine.specs.table.Table.{EventFlagConfig};
 
     ghost Config = { EventFlagConfig };
 
@@ -139,7 +139,6 @@ impl Object for EventFlag {
     }
 
     fn status<S: Store>(&self, store: &S, id: EventId) -> Reply
-        requires stands { Unit {0} }
         ensures { result ≡ services.event_flag_status (S.roster store.now) self.now id }
     {
         let waiting = store.waiting(Queue::EventFlag(id));
@@ -154,7 +153,6 @@ impl Object for EventFlag {
         service: &EventFlagService,
         notices: &mut Notices,
     ) -> Reply
-        requires stands { Unit {0} }
         requires caller { IsReadyCaller (S.roster store.old) caller.now }
         requires can { CanServe (S.roster store.old) notices.old }
         ensures { Leaves (services.event_flag_service

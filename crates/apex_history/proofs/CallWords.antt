@@ -3,7 +3,7 @@ use Rattle.std.proofs.Common.{◌≡◌, ℕ, List, [], ◌∷◌, ◌++◌, map
 use Rattle.std.specs.Prelude.{flat_map}
 use Rattle.std.specs.List.{All, AllByRecursion}
 use Rattle.std.proofs.lemmas.List.Elements.{All-from_recursion}
-use Rattle.apex_types.specs.table.Table.{Table, IsKnown, literal_text}
+use Rattle.apex_machine.specs.table.Table.{Table, IsKnown, literal_text}
 use Rattle.apex_calls.specs.Catalogue.{Row, row_of}
 use Rattle.apex_calls.specs.Parts.{parts_of}
 use Rattle.apex_calls.specs.CallText.{IsKnownWord, call_text, name_of, row_words, spaced, word_text}

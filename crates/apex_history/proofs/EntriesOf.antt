@@ -4,7 +4,7 @@ use Rattle.std.specs.List.{AllByRecursion, last_or, slice_range}
 use Rattle.std.proofs.lemmas.List.{drop-append-le, take-append-le, take_all}
 use Rattle.std.proofs.lemmas.Option.{slice_get-get_or}
 use Rattle.std.proofs.Math.Seq.{drop-append_seam}
-use Rattle.apex_types.specs.values.Limits.{most_notices}
+use Rattle.apex_types.specs.declared.limits.TheConstants.{MOST_NOTICES}
 use Rattle.apex_history.specs.Terms.{Call, Entry, Notice}
 use Rattle.apex_types.proofs.Places.{length-map_places, get_or-map_places}
 use Rattle.apex_history.specs.declared.rows.Asked.{Asked}
@@ -105,7 +105,7 @@ entries_put calls all notices rows asked entry (more, e, few) caller call number
 -- a log that has room for one more is kept with it
 pub kept_put : (limit row_room call_room notice_room more_room : ℕ) (rows : List RowEntry) (calls all : List Call) (notices : List Notice) (asked : Asked) (entry : Entry)
     → IsKept limit row_room call_room notice_room rows calls notices → GrowsTo calls all → IsAmong (length all) asked
-    → length rows < limit → length entry.notices ≤ most_notices → notice_room ≤ more_room
+    → length rows < limit → length entry.notices ≤ MOST_NOTICES → notice_room ≤ more_room
     → IsKept limit row_room call_room more_room (rows ++ row_of notices asked entry ∷ []) all (notices ++ entry.notices)
 kept_put limit row_room call_room notice_room more_room rows calls all notices asked entry kept (added, e, one_call) among room few more =
     let longer = length-append notices entry.notices in

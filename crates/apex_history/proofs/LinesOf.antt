@@ -4,7 +4,7 @@ use Rattle.std.specs.Prelude.{decimal, flat_map}
 use Rattle.std.proofs.lemmas.Fmt.{length-decimal-le}
 use Rattle.std.proofs.lemmas.Grind.{flat_map-append}
 use Rattle.apex_history.specs.Terms.{Entry}
-use Rattle.apex_types.specs.table.Table.{Table}
+use Rattle.apex_machine.specs.table.Table.{Table}
 use Rattle.apex_calls.specs.Lines.{line_of, lines_of}
 
 -- one entry more

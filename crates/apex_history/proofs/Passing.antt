@@ -3,7 +3,7 @@ use Rattle.std.proofs.Common.{◌≡◌, ℕ, List, [], ◌∷◌, ◌++◌, Opt
 use Rattle.std.proofs.KnownBytes.{Appends-trans}
 use Rattle.std.specs.Io.KnownBytes.{Appends}
 use Rattle.apex_history.specs.Terms.{Entry}
-use Rattle.apex_types.specs.table.Table.{Table}
+use Rattle.apex_machine.specs.table.Table.{Table}
 use Rattle.apex_calls.specs.Lines.{line_of, lines_of}
 use Rattle.apex_history.specs.Counted.{AppendsBeginning}
 use Rattle.apex_history.specs.Page.{Passes}

@@ -52,6 +52,14 @@ abbrev pub Tells : (Result ℕ Error → Type 0) → List ℕ → Result ℕ Err
 Tells answers buf (Ok n) = answers (Ok n)
 Tells answers buf (Err e) = answers (Err e) ⊎ ((0 < length buf) × answers (Ok 0))
 
+-- the error is that of the writer's last call, a write that failed or that took none of one or more
+-- bytes
+pub record IsOfWrite {W : Type 0} (accepts : W → List ℕ → Result ℕ Error → W → Type 0) (after : W)
+    (e : Error) : Type 0 where
+  pub before : W
+  pub text : List ℕ
+  pub told : Tells (λ answer. accepts before text answer after) text (Err e)
+
 -- a text goes to a writer, write by write, to its end or to the first write that counts as a
 -- failure
 pub data Writes {W : Type 0} (accepts : W → List ℕ → Result ℕ Error → W → Type 0) : W → List ℕ

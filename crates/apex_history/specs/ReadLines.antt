@@ -1,9 +1,9 @@
 -- The event that a line of a history names.
 use Rattle.std.specs.Prelude.{ℕ, List, ◌∷◌, Option, Some, None, Result, Ok, Err, length, take, drop, codes, ◌&&◌, nat_lt, if◌then◌else◌, option_map}
 use Rattle.std.specs.Str.{bytes_eq}
-use Rattle.apex_types.specs.values.Limits.{most_line}
-use Rattle.apex_types.specs.declared.Event.{Event}
-use Rattle.apex_types.specs.declared.Event.TheVariants.{Turn, Tick}
+use Rattle.apex_types.specs.declared.limits.TheConstants.{MOST_LINE}
+use Rattle.apex_types.specs.declared.entries.Event.{Event}
+use Rattle.apex_types.specs.declared.entries.Event.TheVariants.{Turn, Tick}
 use Rattle.apex_history.specs.Words.{parts, core_of, ticks_of}
 use Rattle.apex_history.specs.declared.events.LineFault.{LineFault}
 use Rattle.apex_history.specs.declared.events.LineFault.TheVariants.{BadLine, TooLong}
@@ -39,5 +39,5 @@ or_bad_line None = Err BadLine
 -- single spaces (32), and may be empty
 abbrev pub line_result : List ℕ → Result Event LineFault
 line_result line =
-    if nat_lt most_line (length line) then Err TooLong
+    if nat_lt MOST_LINE (length line) then Err TooLong
     else or_bad_line (event_named (parts 32 line))

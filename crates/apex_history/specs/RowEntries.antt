@@ -5,8 +5,8 @@ use Rattle.std.specs.List.{AllByRecursion, slice_range}
 use Rattle.apex_history.specs.Terms.{Call, Caller, Entry, Notice, Reply, Who}
 use Rattle.apex_history.specs.declared.rows.Asked.{Asked}
 use Rattle.apex_history.specs.declared.rows.Asked.TheVariants.{For, Nothing}
-use Rattle.apex_types.specs.values.Limits.{most_entries, most_notices}
-use Rattle.apex_types.specs.values.Places.{map_places}
+use Rattle.apex_types.specs.declared.limits.TheConstants.{MOST_ENTRIES, MOST_NOTICES}
+use Rattle.apex_types.specs.Places.{map_places}
 
 -- the caller
 abbrev pub caller_in : Asked → Caller
@@ -63,16 +63,16 @@ entries_from calls notices place rows = map_places (entry_of calls notices) plac
 pub record IsWithin (calls notices : ℕ) (row : RowEntry) : Type 0 where
   pub call : IsAmong calls row.asked
   pub order : row.start ≤ row.end
-  pub few : row.end ≤ row.start + most_notices
+  pub few : row.end ≤ row.start + MOST_NOTICES
   pub within : row.end ≤ notices
 
 -- the facts that each log keeps: it has no more calls than rows, and the room for its limit of rows,
 -- for a call of each and for the notices of each
 pub record IsKept (limit row_room call_room notice_room : ℕ) (rows : List RowEntry)
     (calls : List Call) (notices : List Notice) : Type 0 where
-  pub limits : (1 ≤ limit) × (limit ≤ most_entries)
+  pub limits : (1 ≤ limit) × (limit ≤ MOST_ENTRIES)
   pub many : length rows ≤ limit
   pub called : length calls ≤ length rows
-  pub noted : length notices ≤ most_notices * length rows
-  pub rooms : (limit ≤ row_room) × (limit ≤ call_room) × (most_notices * limit ≤ notice_room)
+  pub noted : length notices ≤ MOST_NOTICES * length rows
+  pub rooms : (limit ≤ row_room) × (limit ≤ call_room) × (MOST_NOTICES * limit ≤ notice_room)
   pub within : AllByRecursion (IsWithin (length calls) (length notices)) rows

@@ -2,9 +2,9 @@
 use Rattle.std.specs.Prelude.{ℕ, ◌<◌, ◌≤◌, List, length}
 use Rattle.apex_history.specs.declared.status_rows.StatusRow.{StatusRow}
 use Rattle.apex_history.specs.declared.status_rows.StatusRow.TheVariants.{Time, Mode, History, Core, Process, Semaphore, Buffer, Blackboard, EventFlag, Mutex}
-use Rattle.apex_types.specs.values.Limits.{most_messages, most_processes}
-use Rattle.apex_types.specs.text.Status.{time_line, mode_line, history_line, core_line, process_line, semaphore_line, buffer_line, blackboard_line, event_flag_line, mutex_line}
-use Rattle.apex_types.specs.table.Table.{Table}
+use Rattle.apex_types.specs.declared.limits.TheConstants.{MOST_MESSAGES, MOST_PROCESSES}
+use Rattle.apex_machine.specs.text.Status.{time_line, mode_line, history_line, core_line, process_line, semaphore_line, buffer_line, blackboard_line, event_flag_line, mutex_line}
+use Rattle.apex_machine.specs.table.Table.{Table}
 
 -- the line of the row, with its line feed
 abbrev pub row_text : Table → StatusRow → List ℕ
@@ -23,7 +23,7 @@ row_text table (Mutex mutex owner depth waiting) = mutex_line table mutex owner 
 
 -- the thing is one of `many`, and no more processes wait for it than a table may have
 abbrev pub IsListed : ℕ → ℕ → List ℕ → Type 0
-IsListed many i waiting = (i < many) × (length waiting ≤ most_processes)
+IsListed many i waiting = (i < many) × (length waiting ≤ MOST_PROCESSES)
 
 -- a thing of the table that the row is about is there, and the row's lists are within the limits
 abbrev pub IsPrintableRow : Table → StatusRow → Type 0
@@ -35,7 +35,7 @@ IsPrintableRow table (Process process state r) = process < length table.processe
 IsPrintableRow table (Semaphore semaphore value waiting) =
     IsListed (length table.semaphores) semaphore waiting.now
 IsPrintableRow table (Buffer buffer messages waiting) =
-    IsListed (length table.buffers) buffer waiting.now × (length messages.now ≤ most_messages)
+    IsListed (length table.buffers) buffer waiting.now × (length messages.now ≤ MOST_MESSAGES)
 IsPrintableRow table (Blackboard blackboard message waiting) =
     IsListed (length table.blackboards) blackboard waiting.now
 IsPrintableRow table (EventFlag event_flag up waiting) =

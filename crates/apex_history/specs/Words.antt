@@ -1,8 +1,8 @@
 -- The words of a text, and the two of them that name a core and the ticks of a tick.
 use Rattle.std.specs.Prelude.{ℕ, ◌-◌, List, [], ◌∷◌, Option, Some, None, ◌==◌, ◌&&◌, nat_le, if◌then◌else◌}
 use Rattle.std.specs.List.{slice_split}
-use Rattle.apex_types.specs.values.Limits.{most_ticks}
-use Rattle.apex_types.specs.values.Numbers.{number_of, at_least, at_most}
+use Rattle.apex_types.specs.declared.limits.TheConstants.{MOST_TICKS}
+use Rattle.apex_types.specs.Numbers.{number_of, at_least, at_most}
 
 -- the parts of a text between a separator, which may be empty
 abbrev pub parts : ℕ → List ℕ → List (List ℕ)
@@ -19,6 +19,6 @@ core_of [] = None
 core_of (digit ∷ []) = if nat_le 48 digit && nat_le digit 55 then Some (digit - 48) else None
 core_of (digit ∷ next ∷ rest) = None
 
--- the ticks of time of a tick, 1 to 1,048,576
+-- the ticks of time of a tick, 1 to `MOST_TICKS`
 abbrev pub ticks_of : List ℕ → Option ℕ
-ticks_of word = at_least 1 (at_most most_ticks (number_of word))
+ticks_of word = at_least 1 (at_most MOST_TICKS (number_of word))

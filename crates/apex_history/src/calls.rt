@@ -1,6 +1,6 @@
 //! The calls of a log's entries.
 ghost use Rattle.std.specs.Prelude.{◌≡◌, ◌<◌, ◌≤◌, [], length, slice_get, Some, IfOk, IfSome};
-ghost use Rattle.apex_types.specs.values.Limits.{most_entries};
+ghost use Rattle.apex_types.specs.declared.limits.TheConstants.{MOST_ENTRIES};
 ghost use Rattle.apex_history.specs.RowEntries.{GrowsTo};
 
 use crate::steps::is_same;
@@ -71,7 +71,7 @@ impl Model for Calls {
 impl Calls {
     /// No call, and the memory for `limit` of them.
     pub(crate) fn new(alloc: Global, limit: u32) -> Result<Calls, AllocError>
-        requires { limit ≤ most_entries }
+        requires { limit ≤ MOST_ENTRIES }
         ensures calls { IfOk result (λ made. made.calls ≡ []) }
         ensures room { IfOk result (λ made. limit ≤ made.room) }
     {
@@ -141,7 +141,7 @@ impl Calls {
     /// Puts the call behind this one into its ring, or into a ring of its own.
     fn add(&mut self, behind: Option<u32>, call: &Call) -> u32
         requires room { length self.old.calls < self.old.room }
-        requires few { length self.old.calls < most_entries }
+        requires few { length self.old.calls < MOST_ENTRIES }
         ensures place { slice_get self.new.calls result ≡ Some call.now }
         ensures calls { GrowsTo self.old.calls self.new.calls }
         ensures room { self.new.room ≡ self.old.room }
@@ -162,7 +162,7 @@ impl Calls {
     #[inline(never)]
     fn put_in_ring(&mut self, process: ProcessId, call: &Call) -> u32
         requires room { length self.old.calls < self.old.room }
-        requires few { length self.old.calls < most_entries }
+        requires few { length self.old.calls < MOST_ENTRIES }
         ensures place { slice_get self.new.calls result ≡ Some call.now }
         ensures calls { GrowsTo self.old.calls self.new.calls }
         ensures room { self.new.room ≡ self.old.room }
@@ -193,7 +193,7 @@ impl Calls {
     #[inline(always)]
     pub(crate) fn put(&mut self, caller: &Caller, call: Call) -> u32
         requires room { length self.old.calls < self.old.room }
-        requires few { length self.old.calls < most_entries }
+        requires few { length self.old.calls < MOST_ENTRIES }
         ensures place { slice_get self.new.calls result ≡ Some call }
         ensures calls { GrowsTo self.old.calls self.new.calls }
         ensures room { self.new.room ≡ self.old.room }

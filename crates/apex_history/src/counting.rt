@@ -1,8 +1,8 @@
 //! A reader or writer that counts its failures.
-ghost use Rattle.std.specs.Prelude.{◌≡◌, ℕ, ◌-◌, ◌^◌, ◌<◌, List, Option, length, IfOk, IsErr, OnOk, OnErr};
+ghost use Rattle.std.specs.Prelude.{◌≡◌, ℕ, ◌-◌, ◌^◌, ◌<◌, List, Option, length, IfErr, IfOk, IsErr, OnOk, OnErr};
 ghost use Rattle.std.specs.Io.{ReadsAtMost, WritesAtMost};
 ghost use Rattle.std.specs.Io.KnownBytes.{Appends, Keeps, ReadConsumes, WriteAppends};
-ghost use Rattle.apex_history.specs.Counted.{inner_of, failures_of, reads_left_of, one_more, CountsFailure, Tells, Writes, AppendsBeginning};
+ghost use Rattle.apex_history.specs.Counted.{inner_of, failures_of, reads_left_of, one_more, CountsFailure, Tells, Writes, AppendsBeginning, IsOfWrite};
 
 use crate::sources::{Sink, Source};
 use std::io::{Error, ErrorKind, Read, Result, Write};
@@ -140,6 +140,7 @@ impl<W: Sink> Write for Counted<W> {
         ensures counted { CountsFailure result (failures_of self.old) (failures_of self.new) }
         ensures reads { reads_left_of self.new ≡ reads_left_of self.old }
         ensures given { Writes W.accepts (inner_of self.old) buf.now result (inner_of self.new) }
+        ensures failed { IfErr result (IsOfWrite W.accepts (inner_of self.new)) }
     {
         let mut rest = buf;
         while !rest.is_empty() {

@@ -61,7 +61,7 @@ impl FailAt {
         self.bytes.as_slice()
     }
 
-    // Makes one call more, which fails if it is the one that fails.
+    /// Makes one call more, which fails if it is the one that fails.
     fn call(&mut self) -> Result<()>
         ensures fails { FailsAt self.old result }
         ensures after { self.new ≡ called self.old }
@@ -75,7 +75,7 @@ impl FailAt {
     }
 }
 
-// Copies as many bytes as both slices have from the front of the one to the front of the other.
+/// Copies as many bytes as both slices have from the front of the one to the front of the other.
 fn copy_front(to: &mut [u8], from: &[u8]) -> usize
     ensures amount { result ≡ min (length to.old) (length from.now) }
     ensures front { take result to.new ≡ take result from.now }

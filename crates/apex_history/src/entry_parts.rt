@@ -20,8 +20,8 @@ pub(crate) struct EntryParts<'a> {
 
 impl<'a> Model for EntryParts<'a> {
     ghost use Rattle.std.specs.Prelude.{◌≤◌, length, option_map};
-    ghost use Rattle.apex_types.specs.values.Limits.{most_notices};
-    ghost use Rattle.apex_types.specs.declared.Entry.{Entry};
+    ghost use Rattle.apex_types.specs.declared.limits.TheConstants.{MOST_NOTICES};
+    ghost use Rattle.apex_types.specs.declared.entries.Entry.{Entry};
 
     ghost Value = { Entry };
 
@@ -35,7 +35,7 @@ impl<'a> Model for EntryParts<'a> {
       notices = e.notices.now;
     } };
 
-    ghost invariant = { λ e. length e.notices.now ≤ most_notices };
+    ghost invariant = { λ e. length e.notices.now ≤ MOST_NOTICES };
 }
 
 impl<'a> EntryParts<'a> {

@@ -53,7 +53,7 @@ fn event_in(line: &[u8]) -> Option<Event>
 /// The event that a line of a history names; the line is given without its line feed.
 ///
 /// Its third word is `coreC`, C a core from 0 to 7, or its third to sixth words are
-/// `ticker - tick n`, n from 1 to 1,048,576 without a leading zero; nothing else of it counts. A
+/// `ticker - tick n`, n from 1 to `MOST_TICKS` without a leading zero; nothing else of it counts. A
 /// word is the text between two single spaces, and may be empty (this profile).
 ///
 /// # Errors

@@ -1,6 +1,6 @@
 //! The log of a partition's entries.
 ghost use Rattle.std.specs.Prelude.{◌≡◌, ◌+◌, ◌<◌, ◌≤◌, ◌↔◌, [], ◌∷◌, ◌++◌, length, vec_capacity, slice_get, Some, false, IsTrue, IfOk};
-ghost use Rattle.apex_types.specs.values.Limits.{most_entries};
+ghost use Rattle.apex_types.specs.declared.limits.TheConstants.{MOST_ENTRIES};
 ghost use Rattle.apex_history.specs.RowEntries.{caller_in, call_in, GrowsTo, IsAmong};
 
 use crate::calls::Calls;
@@ -53,7 +53,7 @@ fn put_notices(all: &mut Vec<Notice>, notices: &[Notice])
 #[inline(always)]
 fn put_call(calls: &mut Calls, process: &Caller, call: Option<Call>) -> Asked
     requires room { length calls.old.calls < calls.old.room }
-    requires few { length calls.old.calls < most_entries }
+    requires few { length calls.old.calls < MOST_ENTRIES }
     ensures caller { caller_in result ≡ process.now }
     ensures call { call_in calls.new.calls result ≡ call }
     ensures among { IsAmong (length calls.new.calls) result }
@@ -71,7 +71,7 @@ impl Log {
     /// A log with no entry, which takes the memory for `limit` entries, with all their calls and
     /// notices, at once. It fails only for want of memory.
     pub fn new(alloc: Global, limit: u32) -> Result<Log, AllocError>
-        requires { (1 ≤ limit) × (limit ≤ most_entries) }
+        requires { (1 ≤ limit) × (limit ≤ MOST_ENTRIES) }
         ensures entries { IfOk result (λ log. log.entries ≡ []) }
         ensures limit { IfOk result (λ log. log.limit ≡ limit) }
     {
@@ -145,10 +145,10 @@ impl Log {
         self.len() == 0
     }
 
-    /// The most entries that there may be: 1 to 65,536.
+    /// The most entries that there may be: 1 to `MOST_ENTRIES`.
     pub fn limit(&self) -> u32
         ensures value { result ≡ self.now.limit }
-        ensures range { (1 ≤ result) × (result ≤ most_entries) }
+        ensures range { (1 ≤ result) × (result ≤ MOST_ENTRIES) }
     {
         self.limit
     }

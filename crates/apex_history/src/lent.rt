@@ -1,6 +1,6 @@
 //! The entries that a log lends.
 ghost use Rattle.std.specs.Prelude.{◌≡◌, ◌+◌, ◌≤◌, None, length};
-ghost use Rattle.apex_types.specs.values.Limits.{most_entries};
+ghost use Rattle.apex_types.specs.declared.limits.TheConstants.{MOST_ENTRIES};
 ghost use Rattle.std.specs.Iterator.{YieldsFirst, item_count};
 ghost use Rattle.std.specs.List.{AllByRecursion, last_or};
 ghost use Rattle.apex_history.specs.RowEntries.{entries_from, IsWithin};
@@ -24,8 +24,8 @@ pub struct Entries<'a> {
 impl<'a> Model for Entries<'a> {
     ghost use Rattle.std.specs.Prelude.{◌+◌, ◌≤◌, List, length};
     ghost use Rattle.std.specs.List.{AllByRecursion};
-    ghost use Rattle.apex_types.specs.values.Limits.{most_entries};
-    ghost use Rattle.apex_types.specs.declared.Entry.{Entry};
+    ghost use Rattle.apex_types.specs.declared.limits.TheConstants.{MOST_ENTRIES};
+    ghost use Rattle.apex_types.specs.declared.entries.Entry.{Entry};
     ghost use Rattle.apex_history.specs.RowEntries.{entries_from, IsWithin};
 
     ghost Value = { List Entry };
@@ -33,7 +33,7 @@ impl<'a> Model for Entries<'a> {
     ghost view = { λ e. entries_from e.calls.now e.notices.now e.place e.rows.now };
 
     ghost invariant = { λ e. AllByRecursion (IsWithin (length e.calls.now)
-        (length e.notices.now)) e.rows.now × (e.place + length e.rows.now ≤ most_entries) };
+        (length e.notices.now)) e.rows.now × (e.place + length e.rows.now ≤ MOST_ENTRIES) };
 }
 
 /// The entries of a history that are left, the oldest first, each by its parts.
@@ -49,8 +49,8 @@ pub(crate) struct EntriesByParts<'a> {
 impl<'a> Model for EntriesByParts<'a> {
     ghost use Rattle.std.specs.Prelude.{◌+◌, ◌≤◌, List, length};
     ghost use Rattle.std.specs.List.{AllByRecursion};
-    ghost use Rattle.apex_types.specs.values.Limits.{most_entries};
-    ghost use Rattle.apex_types.specs.declared.Entry.{Entry};
+    ghost use Rattle.apex_types.specs.declared.limits.TheConstants.{MOST_ENTRIES};
+    ghost use Rattle.apex_types.specs.declared.entries.Entry.{Entry};
     ghost use Rattle.apex_history.specs.RowEntries.{entries_from, IsWithin};
 
     ghost Value = { List Entry };
@@ -58,7 +58,7 @@ impl<'a> Model for EntriesByParts<'a> {
     ghost view = { λ e. entries_from e.calls.now e.notices.now e.place e.rows.now };
 
     ghost invariant = { λ e. AllByRecursion (IsWithin (length e.calls.now)
-        (length e.notices.now)) e.rows.now × (e.place + length e.rows.now ≤ most_entries) };
+        (length e.notices.now)) e.rows.now × (e.place + length e.rows.now ≤ MOST_ENTRIES) };
 }
 
 #[tactic(auto, using(crate::proofs::EntriesOf::length_entries))]
@@ -95,7 +95,7 @@ impl<'a> Entries<'a> {
     /// The entries of these rows.
     pub(crate) fn new(rows: &'a [Row], calls: &'a [Link], notices: &'a [Notice]) -> Entries<'a>
         requires within { AllByRecursion (IsWithin (length calls.now) (length notices.now)) rows.now }
-        requires many { length rows.now ≤ most_entries }
+        requires many { length rows.now ≤ MOST_ENTRIES }
         ensures { result ≡ entries_from calls.now notices.now 0 rows.now }
     {
         Entries {

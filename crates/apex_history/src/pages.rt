@@ -1,8 +1,8 @@
 //! A page of text, in which lines are gathered before they are written.
-ghost use Rattle.std.specs.Prelude.{◌≡◌, ◌+◌, ◌≤◌, [], ◌++◌, length, IfOk, OnOk, OnErr};
+ghost use Rattle.std.specs.Prelude.{◌≡◌, ◌+◌, ◌≤◌, [], ◌++◌, length, IfErr, IfOk, OnOk, OnErr};
 ghost use Rattle.std.specs.Io.KnownBytes.{Appends};
 ghost use Rattle.apex_history.specs.declared.puts.TheConstants.{LINES_ROOM};
-ghost use Rattle.apex_history.specs.Counted.{inner_of, failures_of, CountsFailure, AppendsBeginning};
+ghost use Rattle.apex_history.specs.Counted.{inner_of, failures_of, CountsFailure, AppendsBeginning, IsOfWrite};
 ghost use Rattle.apex_history.specs.Page.{Passes};
 ghost use Rattle.apex_history.specs.declared.pages.TheConstants.{PAGE_ROOM};
 
@@ -64,6 +64,7 @@ impl Page {
             (AppendsBeginning (W.contents (inner_of writer.old))
             (W.contents (inner_of writer.new)) self.old) }
         ensures counted { CountsFailure result (failures_of writer.old) (failures_of writer.new) }
+        ensures failed { IfErr result (IsOfWrite W.accepts (inner_of writer.new)) }
     {
         if self.text.len() + LINES_ROOM <= PAGE_ROOM {
             return Ok(());
@@ -91,6 +92,7 @@ impl Page {
             (AppendsBeginning (W.contents (inner_of writer.old))
             (W.contents (inner_of writer.new)) self.old) }
         ensures counted { CountsFailure result (failures_of writer.old) (failures_of writer.new) }
+        ensures failed { IfErr result (IsOfWrite W.accepts (inner_of writer.new)) }
     {
         let written = writer.write_all(self.text.as_slice());
         self.clear();

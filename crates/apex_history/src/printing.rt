@@ -1,11 +1,11 @@
 //! The lines of an entry and of a history, written to a writer.
-ghost use Rattle.std.specs.Prelude.{◌≡◌, ◌+◌, ◌≤◌, [], ◌++◌, All, OnOk, OnErr};
+ghost use Rattle.std.specs.Prelude.{◌≡◌, ◌+◌, ◌≤◌, [], ◌++◌, All, IfErr, OnOk, OnErr};
 ghost use Rattle.apex_history.specs.declared.puts.TheConstants.{LINES_ROOM};
 ghost use Rattle.arrayvec.specs.ArrayVec.{array_vec_len};
 ghost use Rattle.std.specs.Io.KnownBytes.{Appends};
-ghost use Rattle.apex_types.specs.values.Limits.{most_line};
+ghost use Rattle.apex_types.specs.declared.limits.TheConstants.{MOST_LINE};
 ghost use Rattle.apex_calls.specs.Lines.{line_of, lines_of, IsPrintable};
-ghost use Rattle.apex_history.specs.Counted.{inner_of, failures_of, CountsFailure, AppendsBeginning};
+ghost use Rattle.apex_history.specs.Counted.{inner_of, failures_of, CountsFailure, AppendsBeginning, IsOfWrite};
 ghost use Rattle.apex_history.specs.Page.{Passes};
 
 use crate::counting::Counted;
@@ -34,6 +34,7 @@ pub fn print_entry<W: Sink>(
         (AppendsBeginning (W.contents (inner_of writer.old)) (W.contents (inner_of writer.new))
         (line_of table.now entry.entry.now)) }
     ensures counted { CountsFailure result (failures_of writer.old) (failures_of writer.new) }
+    ensures failed { IfErr result (IsOfWrite W.accepts (inner_of writer.new)) }
 {
     let mut line = Lines::new();
     put_line(&mut line, table, &mut NextSteps::new(), entry);
@@ -55,6 +56,7 @@ pub(crate) fn pass_on<W: Sink>(
         (AppendsBeginning (W.contents (inner_of writer.old)) (W.contents (inner_of writer.new))
         (page.old ++ lines.old.items)) }
     ensures counted { CountsFailure result (failures_of writer.old) (failures_of writer.new) }
+    ensures failed { IfErr result (IsOfWrite W.accepts (inner_of writer.new)) }
 {
     page.make_room(writer)?;
     page.put(lines.as_slice());
@@ -72,6 +74,7 @@ fn hand_on<W: Sink>(lines: &mut Lines, page: &mut Page, writer: &mut Counted<W>)
         (AppendsBeginning (W.contents (inner_of writer.old)) (W.contents (inner_of writer.new))
         (page.old ++ lines.old.items)) }
     ensures counted { CountsFailure result (failures_of writer.old) (failures_of writer.new) }
+    ensures failed { IfErr result (IsOfWrite W.accepts (inner_of writer.new)) }
 {
     pass_on(lines, page, writer)?;
     page.hand_on(writer)
@@ -97,6 +100,7 @@ pub fn print_history<W: Sink>(
         (lines_of table.now entries.entry)) }
     ensures empty { page.new ≡ [] }
     ensures counted { CountsFailure result (failures_of writer.old) (failures_of writer.new) }
+    ensures failed { IfErr result (IsOfWrite W.accepts (inner_of writer.new)) }
 {
     let mut lines = Lines::new();
     let mut steps = NextSteps::new();

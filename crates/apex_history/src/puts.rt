@@ -1,10 +1,10 @@
 //! The words of a history's line, put one behind the other.
 ghost use Rattle.std.specs.Prelude.{◌≡◌, ◌+◌, ◌/◌, ◌%◌, ◌<◌, ◌≤◌, [], ◌∷◌, ◌++◌, length, flat_map, codes, decimal, IfSome};
 ghost use Rattle.apex_history.specs.declared.puts.TheConstants.{CALL_ROOM, LINES_ROOM, NOTICE_ROOM, NOTICES_ROOM};
-ghost use Rattle.apex_types.specs.values.Limits.{most_line, most_notices};
+ghost use Rattle.apex_types.specs.declared.limits.TheConstants.{MOST_LINE, MOST_NOTICES};
 ghost use Rattle.arrayvec.specs.ArrayVec.{array_vec_len};
-ghost use Rattle.apex_types.specs.table.Table.{IsKnown};
-ghost use Rattle.apex_types.specs.text.Texts.{id_text};
+ghost use Rattle.apex_machine.specs.table.Table.{IsKnown};
+ghost use Rattle.apex_machine.specs.text.Texts.{id_text};
 ghost use Rattle.apex_calls.specs.CallText.{timeout_text};
 ghost use Rattle.apex_calls.specs.Lines.{code_text, deadline_text, no_call_text, asked_text, who_text, caller_text, reply_text, noticed_text, line_of, IsPrintable};
 
@@ -73,7 +73,7 @@ fn put_bytes(line: &mut Lines, text: &[u8])
     prove!(fits);
 }
 
-// A text that is known beforehand. It comes as a value, so that it is a part of the code.
+/// A text that is known beforehand. It comes as a value, so that it is a part of the code.
 #[inline(always)]
 fn put_text<const N: usize>(line: &mut Lines, text: [u8; N])
     requires { array_vec_len line.old + N ≤ LINES_ROOM }
@@ -83,7 +83,7 @@ fn put_text<const N: usize>(line: &mut Lines, text: [u8; N])
     put_bytes(line, &text);
 }
 
-// A single byte, for which there is no test whether it fits.
+/// A single byte, for which there is no test whether it fits.
 #[inline(always)]
 fn put_one(line: &mut Lines, byte: u8)
     requires { array_vec_len line.old < LINES_ROOM }
@@ -93,7 +93,7 @@ fn put_one(line: &mut Lines, byte: u8)
     line.push(byte);
 }
 
-// A number of one digit, as most numbers of a line are.
+/// A number of one digit, as most numbers of a line are.
 #[inline(always)]
 #[tactic(auto, using(std::proofs::lemmas::Fmt::decimal_digit))]
 fn put_digit(line: &mut Lines, digit: u8)
@@ -105,7 +105,7 @@ fn put_digit(line: &mut Lines, digit: u8)
     put_one(line, b'0' + digit);
 }
 
-// The two digits of a number below 100, of which the first one may be a zero.
+/// The two digits of a number below 100, of which the first one may be a zero.
 #[inline(always)]
 #[tactic(auto, using(crate::proofs::Digits::pair_at))]
 fn pair(number: u8) -> (u8, u8)
@@ -116,7 +116,7 @@ fn pair(number: u8) -> (u8, u8)
     (PAIRS[from], PAIRS[from + 1])
 }
 
-// Those two digits.
+/// Those two digits.
 #[inline(always)]
 fn put_pair(line: &mut Lines, number: u8)
     requires digits { number < 100 }
@@ -128,7 +128,7 @@ fn put_pair(line: &mut Lines, number: u8)
     put_bytes(line, &[tens, ones]);
 }
 
-// A number of at most two digits.
+/// A number of at most two digits.
 #[inline(always)]
 #[tactic(auto, using(crate::proofs::Digits::two_digits))]
 fn put_below_hundred(line: &mut Lines, number: u8)
@@ -144,7 +144,7 @@ fn put_below_hundred(line: &mut Lines, number: u8)
     }
 }
 
-// A number of three or four digits.
+/// A number of three or four digits.
 #[tactic(auto, using(crate::proofs::Digits::pair_behind))]
 fn put_hundreds(line: &mut Lines, number: u32)
     requires digits { (100 ≤ number) × (number < 10000) }
@@ -156,7 +156,7 @@ fn put_hundreds(line: &mut Lines, number: u32)
     put_pair(line, (number % 100) as u8);
 }
 
-// A number of five digits, as most entries of a long history have.
+/// A number of five digits, as most entries of a long history have.
 #[inline(always)]
 #[tactic(auto, using(crate::proofs::Digits::five_digits))]
 fn put_five_digits(line: &mut Lines, number: u32)
@@ -172,7 +172,7 @@ fn put_five_digits(line: &mut Lines, number: u32)
     put_bytes(line, &[first, middle.0, middle.1, last.0, last.1]);
 }
 
-// A number of six digits.
+/// A number of six digits.
 #[tactic(auto, using(crate::proofs::Digits::pair_behind))]
 fn put_six_digits(line: &mut Lines, number: u32)
     requires digits { (100000 ≤ number) × (number < 1000000) }
@@ -184,7 +184,7 @@ fn put_six_digits(line: &mut Lines, number: u32)
     put_pair(line, (number % 100) as u8);
 }
 
-// A number of any length, in a function of its own so that the shorter cases are inlined.
+/// A number of any length, in a function of its own so that the shorter cases are inlined.
 #[inline(never)]
 fn put_digits(line: &mut Lines, number: u32)
     requires { array_vec_len line.old + 10 ≤ LINES_ROOM }
@@ -214,7 +214,7 @@ fn put_number(line: &mut Lines, number: u32)
     }
 }
 
-// As `put_digits`.
+/// A number of any length, as `put_digits` puts a shorter one.
 #[inline(never)]
 fn put_long_digits(line: &mut Lines, number: u64)
     requires { array_vec_len line.old + 20 ≤ LINES_ROOM }
@@ -249,7 +249,7 @@ fn put_id<K: Copy>(line: &mut Lines, id: Id<K>)
     put_number(line, id.number());
 }
 
-// A return code, with a space before it.
+/// A return code, with a space before it.
 #[inline(always)]
 fn put_spaced_code(line: &mut Lines, code: &ReturnCode)
     requires { array_vec_len line.old + 15 ≤ LINES_ROOM }
@@ -287,7 +287,7 @@ fn put_name(line: &mut Lines, name: &Name)
     put_bytes(line, name.as_bytes());
 }
 
-// The tick that was asked for.
+/// The tick that was asked for.
 #[inline(never)]
 #[tactic(auto, using(std::proofs::Common::append_assoc))]
 fn put_tick(line: &mut Lines, ticks: u32)
@@ -325,7 +325,7 @@ fn put_asked(line: &mut Lines, table: &Table, steps: &mut NextSteps, entry: &Ent
     }
 }
 
-// The time after a turn, and its core, with a space before each.
+/// The time after a turn, and its core, with a space before each.
 #[inline(always)]
 #[tactic(auto, using(std::proofs::Common::append_assoc, std::proofs::lemmas::Fmt::decimal_digit))]
 fn put_turn(line: &mut Lines, now: u64, core: CoreId)
@@ -345,7 +345,7 @@ fn put_turn(line: &mut Lines, now: u64, core: CoreId)
     }
 }
 
-// The time after an event, and its maker, with a space before each.
+/// The time after an event, and its maker, with a space before each.
 #[inline(always)]
 #[tactic(auto, using(std::proofs::Common::append_assoc))]
 fn put_event(line: &mut Lines, now: u64, who: &Who)
@@ -364,7 +364,7 @@ fn put_event(line: &mut Lines, now: u64, who: &Who)
     }
 }
 
-// An id, with a space before and behind it.
+/// An id, with a space before and behind it.
 #[inline(always)]
 #[tactic(auto, using(std::proofs::Common::append_assoc, std::proofs::lemmas::Fmt::decimal_digit, crate::proofs::Digits::two_digits))]
 fn put_spaced_id<K: Copy>(line: &mut Lines, id: Id<K>)
@@ -386,7 +386,7 @@ fn put_spaced_id<K: Copy>(line: &mut Lines, id: Id<K>)
     }
 }
 
-// The caller, with a space before and behind it.
+/// The caller, with a space before and behind it.
 #[inline(always)]
 fn put_caller(line: &mut Lines, caller: &Caller)
     requires { array_vec_len line.old + 12 ≤ LINES_ROOM }
@@ -401,7 +401,7 @@ fn put_caller(line: &mut Lines, caller: &Caller)
     }
 }
 
-// A return code as a reply, with an arrow before it.
+/// A return code as a reply, with an arrow before it.
 fn put_code_reply(line: &mut Lines, code: &ReturnCode)
     requires { array_vec_len line.old + 18 ≤ LINES_ROOM }
     ensures text { line.new.items ≡ line.old.items ++ codes " -> " ++ code_text code.now }
@@ -418,7 +418,7 @@ fn put_code_reply(line: &mut Lines, code: &ReturnCode)
     }
 }
 
-// Any reply, with an arrow before it.
+/// Any reply, with an arrow before it.
 #[inline(never)]
 #[tactic(auto, using(std::proofs::Common::append_assoc))]
 fn put_any_reply(line: &mut Lines, table: &Table, reply: &Reply)
@@ -456,8 +456,8 @@ fn put_any_reply(line: &mut Lines, table: &Table, reply: &Reply)
     }
 }
 
-// The reply, with an arrow before it: first those that most entries have, each with a test of its
-// own.
+/// The reply, with an arrow before it: first those that most entries have, each with a test of its
+/// own.
 #[inline(always)]
 fn put_reply(line: &mut Lines, table: &Table, reply: &Reply)
     requires { array_vec_len line.old + 148 ≤ LINES_ROOM }
@@ -486,7 +486,7 @@ fn deadline_name(deadline: &DeadlineType) -> &'static str
     }
 }
 
-// The word of a process that was woken, and its id.
+/// The word of a process that was woken, and its id.
 #[inline(always)]
 #[tactic(auto, using(std::proofs::Common::append_assoc, std::proofs::lemmas::Fmt::decimal_digit, crate::proofs::Digits::two_digits))]
 fn put_woken(line: &mut Lines, process: ProcessId)
@@ -543,7 +543,7 @@ fn put_noticed(line: &mut Lines, notice: &Notice)
 
 #[inline(always)]
 fn put_notices(line: &mut Lines, notices: &[Notice])
-    requires few_notices { length notices.now ≤ most_notices }
+    requires few_notices { length notices.now ≤ MOST_NOTICES }
     requires room { array_vec_len line.old + NOTICES_ROOM + 13 ≤ LINES_ROOM }
     ensures text { line.new.items ≡ line.old.items ++ flat_map noticed_text notices.now }
     ensures short { array_vec_len line.new ≤ array_vec_len line.old + NOTICES_ROOM }
@@ -563,9 +563,9 @@ pub(crate) fn put_parts(
     entry: &EntryParts<'_>,
 )
     requires printable { IsPrintable table.now entry.now }
-    requires room { array_vec_len lines.old + most_line ≤ LINES_ROOM }
+    requires room { array_vec_len lines.old + MOST_LINE ≤ LINES_ROOM }
     ensures text { lines.new.items ≡ lines.old.items ++ line_of table.now entry.entry.now }
-    ensures room { array_vec_len lines.new ≤ array_vec_len lines.old + most_line }
+    ensures room { array_vec_len lines.new ≤ array_vec_len lines.old + MOST_LINE }
 {
     put_number(lines, entry.number);
     put_event(lines, entry.now, entry.who);
@@ -584,9 +584,9 @@ pub(crate) fn put_parts(
 #[tactic(auto, using(crate::proofs::LinesOf::length_put))]
 pub fn put_line(lines: &mut Lines, table: &Table, steps: &mut NextSteps, entry: &LentEntry<'_>)
     requires printable { IsPrintable table.now entry.now }
-    requires room { array_vec_len lines.old + most_line ≤ LINES_ROOM }
+    requires room { array_vec_len lines.old + MOST_LINE ≤ LINES_ROOM }
     ensures text { lines.new.items ≡ lines.old.items ++ line_of table.now entry.entry.now }
-    ensures short { length (line_of table.now entry.entry.now) ≤ most_line }
+    ensures short { length (line_of table.now entry.entry.now) ≤ MOST_LINE }
 {
     put_parts(lines, table, steps, &EntryParts::of(entry));
 }

@@ -1,6 +1,6 @@
 //! An entry as a log keeps it.
 ghost use Rattle.std.specs.Prelude.{◌≡◌, ◌<◌, length, option_map};
-ghost use Rattle.apex_types.specs.values.Limits.{most_entries};
+ghost use Rattle.apex_types.specs.declared.limits.TheConstants.{MOST_ENTRIES};
 ghost use Rattle.apex_history.specs.RowEntries.{caller_in, call_in, entry_of, IsAmong, IsWithin};
 
 use crate::calls::Link;
@@ -95,7 +95,7 @@ impl Row {
         notices: &'a [Notice],
     ) -> LentEntry<'a>
         requires within { IsWithin (length calls.now) (length notices.now) self.now }
-        requires place { place < most_entries }
+        requires place { place < MOST_ENTRIES }
         ensures { result ≡ entry_of calls.now notices.now place self.entry.now }
     {
         let start = self.start as usize;
@@ -119,7 +119,7 @@ impl Row {
         notices: &'a [Notice],
     ) -> EntryParts<'a>
         requires within { IsWithin (length calls.now) (length notices.now) self.now }
-        requires place { place < most_entries }
+        requires place { place < MOST_ENTRIES }
         ensures { result ≡ entry_of calls.now notices.now place self.entry.now }
     {
         let start = self.start as usize;

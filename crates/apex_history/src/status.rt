@@ -1,7 +1,7 @@
 //! The lines of the status listing: their values, and how they are printed.
-ghost use Rattle.std.specs.Prelude.{◌≡◌, ◌++◌, [], OnOk, OnErr};
+ghost use Rattle.std.specs.Prelude.{◌≡◌, ◌++◌, [], IfErr, OnOk, OnErr};
 ghost use Rattle.std.specs.Io.KnownBytes.{Appends};
-ghost use Rattle.apex_history.specs.Counted.{inner_of, failures_of, CountsFailure, AppendsBeginning};
+ghost use Rattle.apex_history.specs.Counted.{inner_of, failures_of, CountsFailure, AppendsBeginning, IsOfWrite};
 ghost use Rattle.apex_history.specs.Page.{Passes};
 ghost use Rattle.apex_history.specs.StatusRows.{row_text, IsPrintableRow};
 
@@ -26,6 +26,7 @@ pub fn print_row<W: Sink>(table: &Table, row: &StatusRow<'_>, writer: &mut Count
         (AppendsBeginning (W.contents (inner_of writer.old)) (W.contents (inner_of writer.new))
         (row_text table.now row.now)) }
     ensures counted { CountsFailure result (failures_of writer.old) (failures_of writer.new) }
+    ensures failed { IfErr result (IsOfWrite W.accepts (inner_of writer.new)) }
 {
     let mut line = Lines::new();
     put_row(&mut line, table, row);
@@ -51,6 +52,7 @@ pub fn gather_row<W: Sink>(
         (AppendsBeginning (W.contents (inner_of writer.old)) (W.contents (inner_of writer.new))
         (page.old ++ row_text table.now row.now)) }
     ensures counted { CountsFailure result (failures_of writer.old) (failures_of writer.new) }
+    ensures failed { IfErr result (IsOfWrite W.accepts (inner_of writer.new)) }
 {
     let mut line = Lines::new();
     put_row(&mut line, table, row);

@@ -1,12 +1,12 @@
 //! A line of the status listing, by its values.
 
+use apex_machine::Record;
 use apex_types::{
-    BlackboardId, BufferId, CoreId, EventId, Message, Mode, MutexId, ProcessId, Record,
-    SemaphoreId, State,
+    BlackboardId, BufferId, CoreId, EventId, Message, Mode, MutexId, ProcessId, SemaphoreId, State,
 };
 
-/// One line of the status listing (this profile). Waiters are in the order of their queue, 32 at
-/// the most.
+/// One line of the status listing (this profile). Waiters are in the order of their queue,
+/// `MOST_PROCESSES` at most.
 #[derive(Clone, Copy, Drop)]
 pub enum StatusRow<'a> {
     /// The time in ticks.
@@ -31,7 +31,7 @@ pub enum StatusRow<'a> {
     },
     Buffer {
         buffer: BufferId,
-        /// From the first on, 16 at the most.
+        /// From the first on, `MOST_MESSAGES` at most.
         messages: &'a [Message],
         waiting: &'a [ProcessId],
     },

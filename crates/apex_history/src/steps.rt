@@ -1,6 +1,6 @@
 //! The texts of calls, by the steps that ask for them.
 ghost use Rattle.std.specs.Prelude.{◌≡◌, true, Some, IfSome};
-ghost use Rattle.apex_types.specs.table.Table.{call_in, process_config};
+ghost use Rattle.apex_machine.specs.table.Table.{call_in, process_config};
 ghost use Rattle.apex_calls.specs.CallText.{call_text};
 
 use apex_table::Table;

@@ -1,13 +1,13 @@
 //! The words of a text: cut apart at a separator, and read as a core and as ticks of time.
 ghost use Rattle.std.specs.Prelude.{◌≡◌, ◌<◌, ◌≤◌, ◌∷◌, length, option_map, IfSome, ◌==◌};
 ghost use Rattle.std.specs.List.{position};
-ghost use Rattle.apex_types.specs.values.Limits.{most_ticks};
+ghost use Rattle.apex_types.specs.declared.limits.TheConstants.{MOST_TICKS};
 ghost use Rattle.apex_history.specs.Words.{parts, parts_after, core_of, ticks_of};
 
 use apex_types::{CoreId, MOST_TICKS, number_at_most};
 use std::marker::Model;
 
-/// A number of ticks of time, 1 to 1,048,576.
+/// A number of ticks of time, 1 to [`MOST_TICKS`].
 #[derive(Clone, Copy, PartialEq, Eq)]
 pub struct Ticks {
     count: u32,
@@ -15,22 +15,22 @@ pub struct Ticks {
 
 impl Model for Ticks {
     ghost use Rattle.std.specs.Prelude.{ℕ, ◌≤◌};
-    ghost use Rattle.apex_types.specs.values.Limits.{most_ticks};
+    ghost use Rattle.apex_types.specs.declared.limits.TheConstants.{MOST_TICKS};
 
     ghost Value = { ℕ };
 
     ghost view = { λ t. t.count };
 
-    ghost invariant = { λ t. (1 ≤ t.count) × (t.count ≤ most_ticks) };
+    ghost invariant = { λ t. (1 ≤ t.count) × (t.count ≤ MOST_TICKS) };
 
     ghost inverse = { λ n. record { count = n } };
 }
 
 impl Ticks {
-    /// The number of ticks, 1 to 1,048,576.
+    /// The number of ticks, 1 to [`MOST_TICKS`].
     pub fn count(self) -> u32
         ensures value { result ≡ self }
-        ensures range { (1 ≤ result) × (result ≤ most_ticks) }
+        ensures range { (1 ≤ result) × (result ≤ MOST_TICKS) }
     {
         self.count
     }
@@ -66,8 +66,8 @@ pub fn read_core(word: &[u8]) -> Option<CoreId>
     }
 }
 
-/// The ticks of time that a word writes, if it is a number from 1 to 1,048,576 without a leading
-/// zero.
+/// The ticks of time that a word writes, if it is a number from 1 to [`MOST_TICKS`] without a
+/// leading zero.
 pub fn read_ticks(word: &[u8]) -> Option<Ticks>
     ensures { result ≡ ticks_of word.now }
 {

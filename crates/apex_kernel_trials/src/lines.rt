@@ -1,7 +1,7 @@
 //! The lines of the widest numbers, and the longest line.
 ghost use Rattle.std.specs.Prelude.{◌≡◌, None, Some};
-ghost use Rattle.apex_types.specs.declared.Call.TheVariants.{Buffer};
-ghost use Rattle.apex_types.specs.declared.ObjectCall.TheVariants.{KindService};
+ghost use Rattle.apex_types.specs.declared.calls.Call.TheVariants.{Buffer};
+ghost use Rattle.apex_types.specs.declared.calls.ObjectCall.TheVariants.{KindService};
 ghost use Rattle.apex_calls.specs.Lines.{IsPrintable};
 
 use crate::papers::paper;

@@ -1,13 +1,15 @@
 //! Nothing is scanned, however many processes wait.
 ghost use Rattle.std.specs.Prelude.{◌≡◌};
-ghost use Rattle.apex_types.specs.machine.Machine.{opening};
+ghost use Rattle.apex_machine.specs.Machine.{opening};
 ghost use Rattle.apex_dispatch.specs.Kernel.{kernel_in};
 
 use apex_dispatch::Kernel;
+use apex_links::Visits;
+use apex_machine::Queue;
 use apex_process::QueueStore;
 use apex_store::Store;
 use apex_table::{Table, read_table};
-use apex_types::{CoreId, Queue, SemaphoreId};
+use apex_types::{CoreId, SemaphoreId};
 use std::alloc::Global;
 use std::mem::drop;
 use std::process::Abort;
@@ -64,7 +66,7 @@ fn waiting(kernel: &Kernel<QueueStore>) -> u32 {
 
 /// A kernel of this table before any event.
 pub(crate) fn booted<R: Abort>(rt: &R, alloc: Global, table: Table) -> Kernel<QueueStore>
-    ensures { result ≡ kernel_in table (opening table) }
+    ensures { result ≡ kernel_in table (opening table) result.store }
 {
     let store = QueueStore::new(alloc, &table).expect(rt, "memory");
     Kernel::boot(alloc, table, store).expect(rt, "memory")
@@ -103,4 +105,12 @@ fn a_queue_is_not_scanned(rt: HostRuntime) {
             "{few} and {many} visits of {step}"
         );
     }
+}
+
+#[test]
+fn a_count_of_visits_stays_at_the_greatest(rt: HostRuntime) {
+    let visits = Visits::new();
+    visits.note_all(usize::MAX);
+    visits.note();
+    assert!(rt; visits.count() == u64::MAX);
 }

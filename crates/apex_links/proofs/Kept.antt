@@ -2,7 +2,7 @@
 use Rattle.std.proofs.Common.{◌≡◌, ◌≢◌, ℕ, ◌<◌, true, false, ◌||◌, List, [], ◌∷◌, ◌++◌, length, Option, None, Some, IfSome, inl, inr, refl, arith}
 use Rattle.std.specs.Prelude.{if◌then◌else◌}
 use Rattle.std.proofs.lemmas.Bool.{cases_eq, cases_Bool}
-use Rattle.apex_types.specs.processes.Running.{is_process}
+use Rattle.apex_machine.specs.processes.Running.{is_process}
 use Rattle.apex_links.specs.declared.chains.Node.{Node}
 use Rattle.apex_links.specs.declared.chains.Ends.{Ends}
 use Rattle.apex_links.specs.Neighbours.{stands_in, IsDistinct, first_of, last_of, after_in, before_in}

@@ -2,7 +2,7 @@
 use Rattle.std.proofs.Common.{◌≡◌, ◌≢◌, ℕ, true, false, ◌||◌, List, [], ◌∷◌, ◌++◌, Option, None, Some, is_none, inl, inr, refl, arith}
 use Rattle.std.specs.Prelude.{if◌then◌else◌}
 use Rattle.std.proofs.lemmas.Bool.{cases_Bool}
-use Rattle.apex_types.specs.processes.Running.{is_process}
+use Rattle.apex_machine.specs.processes.Running.{is_process}
 use Rattle.apex_links.specs.Neighbours.{stands_in, IsDistinct, first_of, last_behind, last_of, after_in, before_behind, before_in}
 
 -- a process is in two lists together if it is in one of them

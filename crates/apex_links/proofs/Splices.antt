@@ -4,7 +4,7 @@ use Rattle.std.specs.Prelude.{if◌then◌else◌}
 use Rattle.std.specs.Option.{IfSome}
 use Rattle.std.proofs.lemmas.Grind.{common_steps, get_or-set_at}
 use Rattle.std.proofs.lemmas.List.{length-set, get_or-set_other, set-set}
-use Rattle.apex_types.specs.processes.Running.{is_process}
+use Rattle.apex_machine.specs.processes.Running.{is_process}
 use Rattle.apex_links.specs.declared.chains.Node.{Node}
 use Rattle.apex_links.specs.declared.chains.Ends.{Ends}
 use Rattle.apex_links.specs.Chains.{no_ends, node_at, ends_at, followed, led, preceded, spliced, respliced, trailed}

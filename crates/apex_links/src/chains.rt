@@ -146,6 +146,7 @@ impl Chains {
         ensures ends { self.new.ends.items
             ≡ ends_without self.old.ends.items list (node_at self.old.nodes.items process) }
     {
+        self.visits.note();
         let place = self.nodes[process.place()];
         self.follow(list, place.before, place.after);
         self.precede(list, place.after, place.before);

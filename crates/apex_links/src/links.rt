@@ -44,11 +44,12 @@ impl LinkSet {
     pub fn holds(&self)
         ensures { IsSound self.now }
     {
+        // A look at a field gives the proof the invariant of the type.
         let _ = &self.chains;
     }
 
     /// The number of nodes that the calls, reading ones too, have read or written since the set was
-    /// made, modulo 2^64.
+    /// made; it stays at the greatest `u64`.
     pub fn visits(&self) -> u64 {
         self.chains.visits()
     }

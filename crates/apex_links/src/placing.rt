@@ -28,6 +28,7 @@ impl LinkSet {
         ensures value { result ≡ first_such (T.passes test.now) (list_at self.now list) }
         ensures there { IfSome result (λ q. stands_in q (list_at self.now list) ≡ true) }
     {
+        // For the proof: a walk of as many rounds as there are processes ends.
         self.holds();
         let mut at = self.front(list);
         for _round in 0..self.process_count() {
@@ -53,6 +54,7 @@ impl LinkSet {
         requires known { self.old.processes ≤ T.known test.now }
         ensures { self.new ≡ placed_in (T.passes test.now) self.old list process }
     {
+        // For the proof: the processes of the list are known to the test.
         self.holds();
         match self.first_such(list, test) {
             Some(other) => self.insert_before(other, process),
@@ -71,6 +73,7 @@ impl LinkSet {
         requires rising { IsRising (T.passes test.now) (list_at self.old list) }
         ensures { self.new ≡ placed_in (T.passes test.now) self.old list process }
     {
+        // For the proof: the last process is known to the test.
         self.holds();
         match self.back(list) {
             Some(last) if test.passes(last) => self.place(list, process, test),

@@ -1,19 +1,20 @@
 //! The mutex as its services see it, and the services that mutexes alone have.
 ghost use Rattle.std.specs.Prelude.{◌≡◌, ◌<◌, ◌≤◌, [], length, false};
-ghost use Rattle.apex_types.specs.values.Limits.{most_owned, most_processes};
-ghost use Rattle.apex_types.specs.services.Callers.{IsReady, IsReadyCaller};
-ghost use Rattle.apex_types.specs.processes.Dues.{HasTime};
-ghost use Rattle.apex_types.specs.services.MutexServices as services;
-ghost use Rattle.apex_types.specs.processes.Owners.{is_deepest, may_not_wait, owns, owns_most, record_of};
-ghost use Rattle.apex_types.specs.processes.Roster.{Roster, record_at};
-ghost use Rattle.apex_types.specs.services.Rows.{Leaves};
-ghost use Rattle.apex_types.specs.services.Premises.{CanServe};
-ghost use Rattle.apex_types.specs.processes.Stamps.{HasManyStamps};
+ghost use Rattle.apex_types.specs.declared.limits.TheConstants.{MOST_OWNED, MOST_PROCESSES};
+ghost use Rattle.apex_machine.specs.services.Callers.{IsReady, IsReadyCaller};
+ghost use Rattle.apex_machine.specs.processes.Dues.{HasTime};
+ghost use Rattle.apex_machine.specs.services.MutexServices as services;
+ghost use Rattle.apex_machine.specs.processes.Owners.{is_deepest, may_not_wait, owns, owns_most};
+ghost use Rattle.apex_machine.specs.processes.Roster.{record_at};
+ghost use Rattle.apex_machine.specs.services.Rows.{Leaves};
+ghost use Rattle.apex_machine.specs.services.Premises.{CanServe};
+ghost use Rattle.apex_machine.specs.processes.Stamps.{HasManyStamps};
 
+use apex_machine::{Holding, Record, Wait};
 use apex_store::{Object, Store, hand_over, wait_for};
 use apex_types::{
-    Caller, Holding, MOST_DEPTH, MutexId, MutexKind, MutexService, Notices, ProcessId, Record,
-    Reply, ReturnCode, Timeout, Wait,
+    Caller, MOST_DEPTH, MutexId, MutexKind, MutexService, Notices, ProcessId, Reply, ReturnCode,
+    Timeout,
 };
 use std::marker::Model;
 
@@ -24,7 +25,7 @@ pub struct Mutex {
 }
 
 impl Model for Mutex {
-    ghost use Rattle.apex_types.specs.services.MutexServices.{MutexObject};
+    ghost use Rattle.apex_machine.specs.services.MutexServices.{MutexObject};
 
     ghost Value = { MutexObject };
 
@@ -43,7 +44,7 @@ fn may_not_wait(row: &Record, mutex: MutexId, timeout: Timeout) -> bool
 /// The process owns as many mutexes as it may, and not this one.
 fn owns_most<S: Store>(store: &S, row: &Record, mutex: MutexId) -> bool
     ensures value { result ≡ owns_most (S.roster store.now) mutex row.now }
-    ensures room { result ≡ false → owns mutex row.now ≡ false → length row.now.owned < most_owned }
+    ensures room { result ≡ false → owns mutex row.now ≡ false → length row.now.owned < MOST_OWNED }
 {
     !row.owns(mutex) && row.owned.len() >= store.most_owned()
 }
@@ -75,7 +76,7 @@ impl Mutex {
         process: ProcessId,
         timeout: Timeout,
     ) -> Reply
-        requires few_owned { length (record_at (S.roster store.old) process).owned < most_owned }
+        requires few_owned { length (record_at (S.roster store.old) process).owned < MOST_OWNED }
         requires ready { IsReady (S.roster store.old) process }
         requires stamps { HasManyStamps (S.roster store.old) }
         requires time { HasTime (S.roster store.old) }
@@ -101,7 +102,7 @@ impl Mutex {
     /// INVALID_MODE if the caller owns another one and not this one and would wait, owns as many as
     /// it may, its base priority is above the ceiling, it owns this one [`MOST_DEPTH`] deep, or no
     /// process calls; NOT_AVAILABLE in place of a wait if the timeout is 0.
-    #[tactic(auto, using(apex_types::proofs::Held::none_held))]
+    #[tactic(auto, using(apex_machine::proofs::Held::none_held))]
     pub fn acquire<S: Store>(
         &self,
         store: &mut S,
@@ -143,7 +144,7 @@ impl Mutex {
     /// RELEASE_MUTEX: the owner goes one less deep; with the last release it gives the mutex up,
     /// which goes to the first waiter. INVALID_PARAM if the mutex isn't created, INVALID_MODE if
     /// the caller doesn't own it.
-    #[tactic(auto, using(apex_types::proofs::Handovers::few_handed_over))]
+    #[tactic(auto, using(apex_machine::proofs::Handovers::few_handed_over))]
     pub fn release<S: Store>(
         &self,
         store: &mut S,
@@ -153,7 +154,7 @@ impl Mutex {
     ) -> Reply
         requires caller { IsReadyCaller (S.roster store.old) caller.now }
         requires stamps { HasManyStamps (S.roster store.old) }
-        requires room { length notices.old ≤ most_processes }
+        requires room { length notices.old ≤ MOST_PROCESSES }
         ensures { Leaves (services.release_mutex (S.roster store.old) self.now id caller.now)
             (S.roster store.new) self.now result notices.old notices.new }
     {
@@ -189,9 +190,9 @@ impl Object for Mutex {
 
     type KindService = MutexService;
 
-    ghost use Rattle.apex_types.specs.services.MutexServices.{mutex_kind};
-    ghost use Rattle.apex_types.specs.processes.Roster.{Roster};
-    ghost use Rattle.apex_types.specs.table.Table.{MutexConfig};
+    ghost use Rattle.apex_machine.specs.services.MutexServices.{mutex_kind};
+    ghost use Rattle.apex_machine.specs.processes.Roster.{Roster};
+    ghost use Rattle.apex_machine.specs.table.Table.{MutexConfig};
 
     ghost Config = { MutexConfig };
 
@@ -208,7 +209,6 @@ impl Object for Mutex {
     }
 
     fn status<S: Store>(&self, store: &S, id: MutexId) -> Reply
-        requires stands { Unit {0} }
         ensures { result ≡ services.mutex_status (S.roster store.now) self.now id }
     {
         match store.owner(id) {
@@ -231,7 +231,6 @@ impl Object for Mutex {
         service: &MutexService,
         notices: &mut Notices,
     ) -> Reply
-        requires stands { Unit {0} }
         requires caller { IsReadyCaller (S.roster store.old) caller.now }
         requires can { CanServe (S.roster store.old) notices.old }
         ensures { Leaves (services.mutex_service

@@ -3,9 +3,9 @@ use Rattle.std.proofs.Common.{◌≡◌, ◌+◌, List, ◌++◌, length, ap, sy
 use Rattle.std.proofs.lemmas.List.{map-append}
 use Rattle.apex_types.specs.declared.entries.Entry.{Entry}
 use Rattle.apex_types.specs.declared.entries.Event.{Event}
-use Rattle.apex_types.specs.machine.Machine.{Machine, event_of, events_of, opening, run}
-use Rattle.apex_types.specs.table.Table.{Table}
-use Rattle.apex_dispatch.specs.Laws.{HistoriesReplay, TimeGoesForward}
+use Rattle.apex_machine.specs.Machine.{Machine, event_of, events_of, opening, run}
+use Rattle.apex_machine.specs.table.Table.{Table}
+use Rattle.apex_laws.specs.Laws.{HistoriesReplay, TimeGoesForward}
 use Rattle.apex_board.specs.Fronts.{Front}
 use Rattle.apex_partition.specs.Forward.{FrontsGoForward}
 

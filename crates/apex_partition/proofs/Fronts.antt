@@ -1,8 +1,8 @@
 -- The front that a partition shows.
 use Rattle.std.proofs.Common.{◌≡◌, ℕ, zero, suc, ◌<◌, ◌≤◌, All, List, [], ◌∷◌, ◌++◌, Option, None, Some, IfSome, MatchOption, ap, subst, sym, ◌∙◌, arith}
-use Rattle.apex_types.specs.values.Limits.{most_processes}
-use Rattle.apex_types.specs.machine.Machine.{Machine, events_of, replay}
-use Rattle.apex_types.specs.table.Table.{Table}
+use Rattle.apex_types.specs.declared.limits.TheConstants.{MOST_PROCESSES}
+use Rattle.apex_machine.specs.Machine.{Machine, events_of, replay}
+use Rattle.apex_machine.specs.table.Table.{Table}
 use Rattle.apex_board.specs.Fronts.{Front, IsFrontAfter, IsSmallId, front_of}
 
 pub all_more : {A : Type 0} (Q : A → Type 0) (xs : List A) (x : A) → All Q xs → Q x → All Q (xs ++ x ∷ [])
@@ -13,7 +13,7 @@ all_more Q (y ∷ ys) x all here (suc k) d below =
     all_more Q ys x (λ j e b. all (suc j) e (omega (arith, b))) here k d (omega (arith, below))
 
 -- the number of a process of a table fits into a byte
-pub small_choice : (processes : ℕ) (running : Option ℕ) → IfSome running (λ p. p < processes) → processes ≤ most_processes → IfSome running IsSmallId
+pub small_choice : (processes : ℕ) (running : Option ℕ) → IfSome running (λ p. p < processes) → processes ≤ MOST_PROCESSES → IfSome running IsSmallId
 small_choice processes None known few = tt
 small_choice processes (Some p) known few = omega (arith, known, few)
 

@@ -6,8 +6,9 @@ use Rattle.std.specs.Prelude.{Option}
 use Rattle.apex_types.specs.declared.entries.Entry.{Entry}
 use Rattle.apex_types.specs.declared.entries.Who.{Who}
 use Rattle.apex_types.specs.declared.entries.Who.TheVariants.{Core, Ticker}
-use Rattle.apex_types.specs.machine.Machine.{Machine, deed_of, entry_of, objects_after, tick, tick_deed, turn}
-use Rattle.apex_types.specs.table.Table.{Table}
+use Rattle.apex_machine.specs.Deeds.{tick_deed}
+use Rattle.apex_machine.specs.Machine.{Machine, deed_of, entry_of, objects_after, tick, turn}
+use Rattle.apex_machine.specs.table.Table.{Table}
 use Rattle.apex_partition.specs.Seats.{IsLatest, asked_ticks, ticks_asked}
 
 -- the last of a list and one more

@@ -2,13 +2,13 @@
 use Rattle.std.proofs.Common.{◌≡◌, ℕ, zero, suc, ◌+◌, ◌<◌, List, [], ◌∷◌, ◌++◌, refl, ap, ◌∙◌, subst, length, map, slice_index_or, arith}
 use Rattle.std.specs.Prelude.{All}
 use Rattle.std.specs.List.{AllByRecursion, range_with_len}
-use Rattle.apex_types.specs.table.Table.{Table}
+use Rattle.apex_machine.specs.table.Table.{Table}
 use Rattle.apex_types.specs.declared.entries.Entry.{Entry}
 use Rattle.apex_types.specs.declared.entries.Reply.{Reply}
 use Rattle.apex_types.specs.declared.entries.Who.{Who}
 use Rattle.apex_types.specs.declared.entries.Who.TheVariants.{Core, Ticker}
-use Rattle.apex_types.specs.machine.Machine.{event_by, event_of, events_of}
-use Rattle.apex_dispatch.specs.Events.{IsWithin}
+use Rattle.apex_machine.specs.Machine.{event_by, event_of, events_of}
+use Rattle.apex_machine.specs.Events.{IsWithin}
 use Rattle.apex_receipts.specs.Receipts.{Spoken, unspoken}
 use Rattle.apex_partition.specs.Seats.{AreSeatsFrom, IsOneOf, IsSeated, IsSettled}
 

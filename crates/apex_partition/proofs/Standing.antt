@@ -3,20 +3,20 @@
 use Rattle.std.proofs.Common.{◌≡◌, ℕ, zero, suc, ◌<◌, ◌≤◌, Bool, true, false, Option, Some, None, inl, inr, refl, sym, subst, ◌∙◌, arith}
 use Rattle.std.proofs.lemmas.Bool.{and_parts, and_from, both_ways, cases_Bool, cases_eq, eq-eqb}
 use Rattle.std.proofs.lemmas.Option.{none-some}
-use Rattle.apex_types.specs.values.Limits.{most_cores}
-use Rattle.apex_types.specs.values.Distinct.{HasDistinctStamps}
-use Rattle.apex_types.specs.processes.Roster.{Roster, record_at}
-use Rattle.apex_types.specs.processes.Running.{chosen, current_priority, is_eligible, is_process, process_state}
-use Rattle.apex_types.specs.processes.Waiters.{queue_in, waits_in}
-use Rattle.apex_types.specs.declared.records.Queue.{Queue}
-use Rattle.apex_types.proofs.Orders.{before_strict}
-use Rattle.apex_types.proofs.Starts.{stands_in as queue_is}
+use Rattle.apex_types.specs.declared.limits.TheConstants.{MOST_CORES}
+use Rattle.apex_machine.specs.processes.Distinct.{HasDistinctStamps}
+use Rattle.apex_machine.specs.processes.Roster.{Roster, record_at}
+use Rattle.apex_machine.specs.processes.Running.{chosen, current_priority, is_eligible, is_process, process_state}
+use Rattle.apex_machine.specs.processes.Waiters.{queue_in, waits_in}
+use Rattle.apex_machine.specs.declared.records.Queue.{Queue}
+use Rattle.apex_machine.proofs.Orders.{before_strict}
+use Rattle.apex_machine.proofs.Starts.{stands_in as queue_is}
 use Rattle.apex_links.specs.Neighbours.{first_of, stands_in}
 use Rattle.apex_links.specs.Links.{Links, list_at}
 use Rattle.apex_ready.specs.ReadyOrders.{ready_list}
 use Rattle.apex_waitq.specs.WaitQueues.{IsNumbered}
 use Rattle.apex_store.specs.Laws.{RunsMostUrgent}
-use Rattle.apex_store.proofs.States.{state_by, eligible_started}
+use Rattle.apex_machine.proofs.States.{state_by, eligible_started}
 use Rattle.apex_store.proofs.TheLeast.{the_least, before_on}
 use Rattle.apex_store.proofs.Urgency.{most_urgent}
 use Rattle.apex_process.specs.Lists.{HavePlaces}
@@ -50,7 +50,7 @@ find_run links core (suc n) few empty =
 
 module _ (roster : Roster) (links : Links) (are : AreReadyLists roster links) (places : HavePlaces roster) where
   -- the chosen process runs by the lists
-  pub chosen_runs : (core : ℕ) → core < most_cores → RunsByLists links core (chosen roster core)
+  pub chosen_runs : (core : ℕ) → core < MOST_CORES → RunsByLists links core (chosen roster core)
   chosen_runs core inside =
       let run = find_run links core 256 (omega arith) (λ q above within. absurd (omega (arith, above, within))) in
       subst (λ (o : Option ℕ). RunsByLists links core o) (found_chosen roster links core are places inside run.0 run.1) run.1

@@ -2,7 +2,7 @@
 use Rattle.std.specs.Prelude.{◌≤◌, List}
 use mathlib.Core.List.{IsPrefix}
 use Rattle.apex_types.specs.declared.entries.Entry.{Entry}
-use Rattle.apex_types.specs.table.Table.{Table}
+use Rattle.apex_machine.specs.table.Table.{Table}
 use Rattle.apex_board.specs.Fronts.{Front, IsFrontAfter}
 
 -- the later front has no fewer entries and no earlier time

@@ -4,8 +4,8 @@ use Rattle.apex_types.specs.declared.entries.Entry.{Entry}
 use Rattle.apex_types.specs.declared.entries.Event.{Event}
 use Rattle.apex_types.specs.declared.entries.Who.{Who}
 use Rattle.apex_types.specs.declared.entries.Who.TheVariants.{Core, Ticker}
-use Rattle.apex_types.specs.machine.Machine.{asked_ticks as asked_in, opening, run}
-use Rattle.apex_types.specs.table.Table.{Table}
+use Rattle.apex_machine.specs.Machine.{asked_ticks as asked_in, opening, run}
+use Rattle.apex_machine.specs.table.Table.{Table}
 use Rattle.apex_receipts.specs.Receipts.{Confirmed, Spoken, own_entries, with_entry}
 
 -- the history is that of a run of the table from its opening, for some list of events

@@ -2,13 +2,13 @@
 -- stores.
 use Rattle.std.specs.Prelude.{◌≡◌, ℕ, ◌<◌, true, false, Option}
 use Rattle.std.specs.Option.{MatchOption}
-use Rattle.apex_types.specs.values.Limits.{most_cores}
-use Rattle.apex_types.specs.declared.records.Queue.{Queue}
-use Rattle.apex_types.specs.declared.records.Record.{Record}
-use Rattle.apex_types.specs.declared.records.State.{State}
-use Rattle.apex_types.specs.declared.records.State.TheVariants.{Dormant, Ready, Running, Waiting}
-use Rattle.apex_types.specs.processes.Running.{current_priority}
-use Rattle.apex_types.specs.processes.Waiters.{waits_in}
+use Rattle.apex_types.specs.declared.limits.TheConstants.{MOST_CORES}
+use Rattle.apex_machine.specs.declared.records.Queue.{Queue}
+use Rattle.apex_machine.specs.declared.records.Record.{Record}
+use Rattle.apex_types.specs.declared.modes.State.{State}
+use Rattle.apex_types.specs.declared.modes.State.TheVariants.{Dormant, Ready, Running, Waiting}
+use Rattle.apex_machine.specs.processes.Running.{current_priority}
+use Rattle.apex_machine.specs.processes.Waiters.{waits_in}
 use Rattle.apex_links.specs.Neighbours.{stands_in}
 use Rattle.apex_links.specs.Links.{Links, list_at, IsFree}
 use Rattle.apex_ready.specs.ReadyOrders.{ready_list, IsIdle, IsTop}
@@ -26,7 +26,7 @@ IsInItsReadyList links p r =
 
 -- process p is in no ready list
 abbrev pub IsInNoReadyList : Links → ℕ → Type 0
-IsInNoReadyList links p = (core priority : ℕ) → core < most_cores → priority < 256
+IsInNoReadyList links p = (core priority : ℕ) → core < MOST_CORES → priority < 256
     → stands_in p (list_at links (ready_list core priority)) ≡ false
 
 -- process p, which has this record, is in the lists of this state: dormant in no list, ready and

@@ -1,7 +1,7 @@
 //! Laws of the fronts of a partition. Each law is the contract of a function that changes nothing.
 ghost use Rattle.apex_partition.specs.Forward.{FrontsGoForward};
 
-use apex_dispatch::{histories_replay, time_goes_forward};
+use apex_laws::{histories_replay, time_goes_forward};
 use apex_table::Table;
 
 /// A front after a longer history has no fewer entries and no earlier time. So a reader's later
@@ -9,6 +9,7 @@ use apex_table::Table;
 pub fn fronts_go_forward(table: &Table)
     ensures { FrontsGoForward table.now }
 {
-    histories_replay(table);
-    time_goes_forward(table);
+    table.lawful();
+    histories_replay();
+    time_goes_forward();
 }

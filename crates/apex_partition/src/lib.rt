@@ -15,5 +15,6 @@ pub use closed::Closed;
 pub use laws::fronts_go_forward;
 pub use opening::{open, open_read};
 pub use partitions::Partition;
+pub use published::Published;
 pub use seats::{Seat, Ticker};
 pub use shared::Shared;

@@ -1,6 +1,6 @@
 //! The opening of a partition that threads will share.
 ghost use Rattle.std.specs.Prelude.{◌≡◌, ◌≤◌, IfOk, None, length, vec_len};
-ghost use Rattle.apex_types.specs.values.Limits.{most_cores};
+ghost use Rattle.apex_types.specs.declared.limits.TheConstants.{MOST_CORES};
 ghost use Rattle.apex_types.specs.declared.entries.Who.TheVariants.{Ticker as ToTicker};
 ghost use Rattle.apex_receipts.specs.Receipts.{unspoken, unspoken_cores, IsNamedAfter};
 ghost use Rattle.apex_partition.specs.Seats.{IsSeated};
@@ -18,7 +18,7 @@ use std::alloc::{AllocError, Global};
 /// The seats that speak with these voices.
 fn seated<P: Naming>(alloc: Global, voices: Vec<Voice<P>>) -> Result<Vec<Seat<P>>, AllocError>
     requires voices { voices.items ≡ unspoken_cores P.table.cores }
-    requires few_cores { P.table.cores ≤ most_cores }
+    requires few_cores { P.table.cores ≤ MOST_CORES }
     ensures { IfOk result (λ seats. seats.items ≡ unspoken_cores P.table.cores) }
 {
     let mut seats = Vec::new(alloc);

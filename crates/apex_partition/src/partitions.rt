@@ -1,16 +1,15 @@
 //! The value under the lock.
 ghost use Rattle.std.specs.Prelude.{◌≡◌, ◌<◌, ◌≤◌, ◌↔◌, length, All, IfOk, IfErr, IfSome, OnOk, OnErr, IsOk, None, Some, slice_get};
 ghost use Rattle.std.specs.List.{last_or};
-ghost use Rattle.apex_types.specs.values.Limits.{most_entries, most_ticks};
+ghost use Rattle.apex_types.specs.declared.limits.TheConstants.{MOST_ENTRIES, MOST_TICKS};
 ghost use Rattle.apex_calls.specs.Lines.{IsPrintable};
-ghost use Rattle.apex_types.specs.machine.Machine.{events_of, opening};
-ghost use Rattle.apex_types.specs.processes.Running.{chosen, process_state};
-ghost use Rattle.apex_dispatch.specs.Events.{IsWithin};
-ghost use Rattle.apex_dispatch.specs.Kernel.{kernel_in};
+ghost use Rattle.apex_machine.specs.Machine.{events_of};
+ghost use Rattle.apex_machine.specs.processes.Running.{chosen, process_state};
+ghost use Rattle.apex_machine.specs.Events.{IsWithin};
 ghost use Rattle.apex_store.specs.Laws.{RunsMostUrgent};
 ghost use Rattle.apex_board.specs.Fronts.{FitsWords, IsFrontAfter, front_of};
-ghost use Rattle.apex_partition.specs.Headline.{HasHeadline, Headline};
-ghost use Rattle.apex_partition.specs.Steps.{IsFullAt, after_tick, after_turn};
+ghost use Rattle.apex_partition.specs.Headline.{Headline};
+ghost use Rattle.apex_partition.specs.Steps.{IsFullAt, after_tick, after_turn, opened};
 
 use apex_board::Front;
 use apex_dispatch::{Kernel, values_and_dues_are_in_range};
@@ -23,48 +22,38 @@ use arrayvec::ArrayVec;
 use std::alloc::{AllocError, Global};
 use std::marker::Model;
 
-/// A partition over linked lists. The headline holds of every value of this type, so of the value
-/// that each holder of the lock gets, and of the one that it leaves.
+/// A partition over linked lists. Contracts see it as the state of its kernel and all that its store
+/// keeps. The headline holds of every value of this type and of the lists that this very value
+/// stores: so of the value that each holder of the lock gets, and of the one that it leaves.
 #[derive(Drop)]
 pub struct Partition {
     kernel: Kernel<QueueStore>,
 }
 
 impl Model for Partition {
-    ghost use Rattle.apex_dispatch.specs.Kernel.{KernelState};
-    ghost use Rattle.apex_board.specs.Fronts.{FitsWords, IsFrontAfter, front_of};
-    ghost use Rattle.apex_partition.specs.Headline.{HasHeadline};
+    ghost use Rattle.apex_partition.specs.Headline.{Headline, PartitionState};
 
-    ghost Value = { KernelState };
+    ghost Value = { PartitionState };
 
     ghost view = { λ p. p.kernel };
 
-    ghost invariant = { λ p. HasHeadline p.kernel };
+    ghost invariant = { λ p. Headline p.kernel };
 }
 
-/// The store of the kernel. The headline holds of every kernel over linked lists, and of its store.
-fn store_of(kernel: &Kernel<QueueStore>) -> &QueueStore
-    ensures { Headline kernel.now result.now }
+/// The headline holds of every kernel over linked lists, with the lists that its store keeps.
+fn stands(kernel: &Kernel<QueueStore>)
+    ensures { Headline kernel.now }
 {
     kernel.holds();
     values_and_dues_are_in_range(kernel);
-    let store = kernel.store();
-    store.holds();
-    store
-}
-
-/// The headline holds of every kernel over linked lists.
-fn stands(kernel: &Kernel<QueueStore>)
-    ensures { HasHeadline kernel.now }
-{
-    let _store = store_of(kernel);
+    kernel.store().holds();
 }
 
 impl Partition {
     /// The partition before any event, which takes all the memory that events will fill. It fails
     /// only for want of memory.
     pub fn boot(alloc: Global, table: Table) -> Result<Partition, AllocError>
-        ensures { IfOk result (λ partition. partition ≡ kernel_in table (opening table)) }
+        ensures { IfOk result (λ partition. partition ≡ opened table partition.store) }
     {
         let store = QueueStore::new(alloc, &table)?;
         let kernel = Kernel::boot(alloc, table, store)?;
@@ -77,7 +66,7 @@ impl Partition {
     pub fn turn(&mut self, core: CoreId) -> Result<(), Full>
         requires { core < self.old.table.cores }
         ensures accepted { IsOk result ↔ (length self.old.machine.history < self.old.table.limit) }
-        ensures done { OnOk result (self.new ≡ after_turn self.old core) }
+        ensures done { OnOk result (self.new ≡ after_turn self.old core self.new.store) }
         ensures refused { OnErr result (self.new ≡ self.old) }
         ensures full { IfErr result (λ e. IsFullAt self.old e.entries) }
     {
@@ -90,9 +79,9 @@ impl Partition {
     /// ends by itself or a deadline passes. `Full` if the history has no room for its entry, and
     /// then nothing changes.
     pub fn tick(&mut self, n: u32) -> Result<(), Full>
-        requires range { (1 ≤ n) × (n ≤ most_ticks) }
+        requires range { (1 ≤ n) × (n ≤ MOST_TICKS) }
         ensures accepted { IsOk result ↔ (length self.old.machine.history < self.old.table.limit) }
-        ensures done { OnOk result (self.new ≡ after_tick self.old n) }
+        ensures done { OnOk result (self.new ≡ after_tick self.old n self.new.store) }
         ensures refused { OnErr result (self.new ≡ self.old) }
         ensures full { IfErr result (λ e. IsFullAt self.old e.entries) }
     {
@@ -138,13 +127,14 @@ impl Partition {
         }
     }
 
-    /// The store in which the partition keeps its processes. The headline holds of the partition
-    /// and of this store.
+    /// The store in which the partition keeps its processes. The headline holds of the partition,
+    /// with the lists of this store.
     pub fn store(&self) -> &QueueStore
+        ensures stored { result.now ≡ self.now.store }
         ensures roster { result.now.roster ≡ self.now.machine.roster }
-        ensures headline { Headline self.now result.now }
+        ensures headline { Headline self.now }
     {
-        store_of(&self.kernel)
+        self.kernel.store()
     }
 
     /// The history so far, the oldest entry first.
@@ -177,7 +167,7 @@ impl Partition {
     /// table's cores and of the ticker; and it can be printed.
     pub(crate) fn stays_within(&self)
         ensures room { length self.now.machine.history ≤ self.now.table.limit }
-        ensures few_entries { self.now.table.limit ≤ most_entries }
+        ensures few_entries { self.now.table.limit ≤ MOST_ENTRIES }
         ensures events { All (IsWithin self.now.table.cores) (events_of self.now.machine.history) }
         ensures printable { All (IsPrintable self.now.table) self.now.machine.history }
     {
@@ -202,10 +192,10 @@ impl Partition {
     /// highest-priority, longest-ready one bound to it, every process is in exactly one state and
     /// at most one queue, each semaphore's value is its start plus accepted signals less satisfied
     /// waits, and the stored history replays on the one-thread machine with the same return codes
-    /// and releases. It speaks of the lists that the partition keeps in its store, which
-    /// [`Partition::store`] lends.
+    /// and releases. It speaks of the lists that this partition stores; [`Partition::store`] lends
+    /// them.
     pub fn holds(&self)
-        ensures { HasHeadline self.now }
+        ensures { Headline self.now }
     {
         let _entries = self.kernel.entries();
     }

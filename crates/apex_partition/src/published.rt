@@ -3,14 +3,12 @@
 ghost use Rattle.std.specs.Prelude.{◌≡◌, ℕ, ◌+◌, ◌<◌, ◌≤◌, ◌++◌, ◌∷◌, [], None, All, IfErr, IfOk, IfSome, IsOk, MatchOption, OnErr, OnOk, ◌↔◌, length, slice_index_or, vec_len};
 ghost use Rattle.apex_types.specs.declared.entries.Entry.{Entry};
 ghost use Rattle.apex_types.specs.declared.entries.Who.TheVariants.{Core, Ticker as ToTicker};
-ghost use Rattle.apex_types.specs.values.Limits.{most_ticks};
-ghost use Rattle.apex_types.specs.machine.Machine.{opening};
-ghost use Rattle.apex_dispatch.specs.Kernel.{kernel_in};
+ghost use Rattle.apex_types.specs.declared.limits.TheConstants.{MOST_TICKS};
 ghost use Rattle.apex_receipts.specs.Receipts.{Spoken, Stands, told_full, with_entry};
 ghost use Rattle.apex_board.specs.Boards.{HasPublished};
-ghost use Rattle.apex_partition.specs.Headline.{HasHeadline};
+ghost use Rattle.apex_partition.specs.Headline.{Headline};
 ghost use Rattle.apex_partition.specs.Seats.{IsLatest, IsOneOf, IsReceiptOf, IsRun, IsSeated, IsSettled, asked_ticks};
-ghost use Rattle.apex_partition.specs.Steps.{after_tick, after_turn};
+ghost use Rattle.apex_partition.specs.Steps.{after_tick, after_turn, opened};
 
 use crate::closed::Closed;
 use crate::partitions::Partition;
@@ -21,10 +19,10 @@ use apex_types::{Entry as KeptEntry, Full};
 use std::marker::Model;
 use std::sync::Wait;
 
-/// The partition with the scribe that writes its history down and, if it has readers, the publisher
-/// of its fronts. Contracts see it as the partition.
+/// The value that the lock guards: the partition with the scribe that writes its history down and,
+/// if it has readers, the publisher of its fronts. Contracts see it as the partition.
 ///
-/// Whenever the lock is free, the front after the whole history is published.
+/// Before and after each call the front after the whole history is published.
 #[derive(Drop)]
 pub struct Published<P: Naming> {
     partition: Partition,
@@ -34,10 +32,10 @@ pub struct Published<P: Naming> {
 
 impl<P: Naming> Model for Published<P> {
     ghost use Rattle.std.specs.Prelude.{◌≡◌};
-    ghost use Rattle.apex_dispatch.specs.Kernel.{KernelState};
     ghost use Rattle.apex_board.specs.Boards.{HasPublished};
+    ghost use Rattle.apex_partition.specs.Headline.{PartitionState};
 
-    ghost Value = { KernelState };
+    ghost Value = { PartitionState };
 
     ghost view = { λ l. l.partition };
 
@@ -109,7 +107,7 @@ impl<P: Naming> Published<P> {
         scribe: Scribe<P>,
         publisher: Option<Publisher<P>>,
     ) -> Published<P>
-        requires partition { partition ≡ kernel_in P.table (opening P.table) }
+        requires partition { partition ≡ opened P.table partition.store }
         requires scribe { scribe ≡ [] }
         requires publisher { HasPublished P.cell [] publisher }
         ensures { result ≡ partition }
@@ -122,11 +120,12 @@ impl<P: Naming> Published<P> {
     }
 
     /// One turn of the seat's core, whole, and the receipt of its entry. If it is accepted, the
-    /// front after it is published.
+    /// front after it is published once. A full history answers [`Full`], and nothing changes. It
+    /// promises only if it returns.
     pub fn turn<R: Wait>(&mut self, rt: &R, seat: &mut Seat<P>) -> Result<Receipt<P>, Full>
         ensures accepted { IsOk result ↔ (length self.old.machine.history < self.old.table.limit) }
         ensures done { IfOk result (λ r. (core : ℕ) × (seat.old.who ≡ Core core)
-            × (self.new ≡ after_turn self.old core)
+            × (self.new ≡ after_turn self.old core self.new.store)
             × (self.new.machine.history ≡ self.old.machine.history ++ r.entry ∷ [])) }
         ensures ok { IfOk result (λ r. IsReceiptOf seat.old r seat.new) }
         ensures refused { OnErr result (self.new ≡ self.old) }
@@ -142,8 +141,8 @@ impl<P: Naming> Published<P> {
         Ok(receipt)
     }
 
-    /// One turn as `turn` makes it. If it is accepted, the receipt of its entry takes the place of
-    /// this one, so that no whole entry is copied.
+    /// One turn as [`Published::turn`] makes it. If it is accepted, the receipt of its entry takes
+    /// the place of this one, so that no whole entry is copied. It promises only if it returns.
     pub fn turn_into<R: Wait>(
         &mut self,
         rt: &R,
@@ -152,7 +151,7 @@ impl<P: Naming> Published<P> {
     ) -> Result<(), Full>
         ensures accepted { IsOk result ↔ (length self.old.machine.history < self.old.table.limit) }
         ensures done { OnOk result ((core : ℕ) × (seat.old.who ≡ Core core)
-            × (self.new ≡ after_turn self.old core)
+            × (self.new ≡ after_turn self.old core self.new.store)
             × (self.new.machine.history
             ≡ self.old.machine.history ++ receipt.new.entry ∷ [])) }
         ensures ok { OnOk result (IsReceiptOf seat.old receipt.new seat.new) }
@@ -174,17 +173,19 @@ impl<P: Naming> Published<P> {
         }
     }
 
-    /// One tick of `n`, whole, and the receipt of its entry. If it is accepted, the front after it
-    /// is published.
+    /// One tick, whole: time goes on by `n` ticks, but not past the next instant at which a wait
+    /// ends by itself or a deadline passes. It gives the receipt of its entry. If it is accepted,
+    /// the front after it is published once. A full history answers [`Full`], and nothing changes.
+    /// It promises only if it returns.
     pub fn tick<R: Wait>(
         &mut self,
         rt: &R,
         ticker: &mut Ticker<P>,
         n: u32,
     ) -> Result<Receipt<P>, Full>
-        requires range { (1 ≤ n) × (n ≤ most_ticks) }
+        requires range { (1 ≤ n) × (n ≤ MOST_TICKS) }
         ensures accepted { IsOk result ↔ (length self.old.machine.history < self.old.table.limit) }
-        ensures done { IfOk result (λ r. (self.new ≡ after_tick self.old n)
+        ensures done { IfOk result (λ r. (self.new ≡ after_tick self.old n self.new.store)
             × (self.new.machine.history ≡ self.old.machine.history ++ r.entry ∷ [])) }
         ensures ok { IfOk result (λ r. IsReceiptOf ticker.old r ticker.new) }
         ensures asks { IfOk result (λ r. asked_ticks r.entry ≡ n) }
@@ -203,10 +204,10 @@ impl<P: Naming> Published<P> {
     }
 
     /// The partition. If a receipt is given, its entry is in the partition's history.
-    pub fn shown(&mut self, seen: Option<&Receipt<P>>) -> &Partition
+    pub(crate) fn shown(&mut self, seen: Option<&Receipt<P>>) -> &Partition
         ensures partition { result.now ≡ self.old }
         ensures table { result.now.table ≡ P.table }
-        ensures headline { HasHeadline result.now }
+        ensures headline { Headline result.now }
         ensures stands { IfSome seen.entry
             (λ r. Stands result.now.machine.history r.now.entry r.now.place) }
     {
@@ -227,7 +228,7 @@ impl<P: Naming> Published<P> {
     }
 
     /// The entries of each core are those that its seat made.
-    pub fn settle_seats(&mut self, seats: Vec<Seat<P>>)
+    pub(crate) fn settle_seats(&mut self, seats: Vec<Seat<P>>)
         requires { IsSeated seats.items }
         ensures same { self.new ≡ self.old }
         ensures settled { (core : ℕ) (seat : Spoken) → core < vec_len seats
@@ -240,7 +241,7 @@ impl<P: Naming> Published<P> {
     }
 
     /// The ticker's entries are those that it made.
-    pub fn settle_ticker(&mut self, ticker: Ticker<P>)
+    pub(crate) fn settle_ticker(&mut self, ticker: Ticker<P>)
         ensures same { self.new ≡ self.old }
         ensures settled { IsSettled P.table self.old.machine.history ToTicker ticker }
     {
@@ -248,7 +249,7 @@ impl<P: Naming> Published<P> {
     }
 
     /// Ends the partition.
-    pub fn close(self) -> Closed<P>
+    pub(crate) fn close(self) -> Closed<P>
         ensures history { result ≡ self.machine.history }
         ensures run { IsRun P.table result }
         ensures others { All (λ (e : Entry). IsOneOf P.table.cores e.who) result }

@@ -72,7 +72,7 @@ pub struct Ticker<P: Naming> {
 impl<P: Naming> Model for Ticker<P> {
     ghost use Rattle.std.specs.Prelude.{◌≡◌, ◌*◌, ◌≤◌, length};
     ghost use Rattle.apex_types.specs.declared.entries.Who.TheVariants.{Ticker};
-    ghost use Rattle.apex_types.specs.values.Limits.{most_ticks};
+    ghost use Rattle.apex_types.specs.declared.limits.TheConstants.{MOST_TICKS};
     ghost use Rattle.apex_receipts.specs.Receipts.{Spoken};
     ghost use Rattle.apex_partition.specs.Seats.{ticks_asked};
 
@@ -81,7 +81,7 @@ impl<P: Naming> Model for Ticker<P> {
     ghost view = { λ t. t.voice };
 
     ghost invariant = { λ t. (t.voice.who ≡ Ticker) × (t.sum ≡ ticks_asked t.voice.own)
-        × (t.sum ≤ most_ticks * length t.voice.own) };
+        × (t.sum ≤ MOST_TICKS * length t.voice.own) };
 }
 
 impl<P: Naming> Ticker<P> {

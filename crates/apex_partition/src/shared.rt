@@ -3,10 +3,9 @@ ghost use Rattle.std.specs.Prelude.{◌≡◌, ℕ, ◌<◌, ◌≤◌, All, IfE
 ghost use Rattle.std.specs.Fn.{FnOnceReturnsAt};
 ghost use Rattle.apex_types.specs.declared.entries.Entry.{Entry};
 ghost use Rattle.apex_types.specs.declared.entries.Who.TheVariants.{Core, Ticker as ToTicker};
-ghost use Rattle.apex_types.specs.values.Limits.{most_ticks};
-ghost use Rattle.apex_dispatch.specs.Kernel.{KernelState};
+ghost use Rattle.apex_types.specs.declared.limits.TheConstants.{MOST_TICKS};
 ghost use Rattle.apex_receipts.specs.Receipts.{Spoken, Stands, told_full};
-ghost use Rattle.apex_partition.specs.Headline.{HasHeadline};
+ghost use Rattle.apex_partition.specs.Headline.{Headline, PartitionState};
 ghost use Rattle.apex_partition.specs.Seats.{IsOneOf, IsReceiptOf, IsRun, IsSeated, IsSettled, asked_ticks};
 
 use crate::closed::Closed;
@@ -58,7 +57,7 @@ impl<P: Naming> Shared<P> {
     /// One tick, whole: time goes on by `n` ticks, but not past the next instant at which a wait
     /// ends by itself or a deadline passes. A full history answers [`Full`], and stays as it is.
     pub fn tick<R: Wait>(&self, rt: &R, ticker: &mut Ticker<P>, n: u32) -> Result<Receipt<P>, Full>
-        requires range { (1 ≤ n) × (n ≤ most_ticks) }
+        requires range { (1 ≤ n) × (n ≤ MOST_TICKS) }
         ensures ok { IfOk result (λ r. IsReceiptOf ticker.old r ticker.new) }
         ensures asks { IfOk result (λ r. asked_ticks r.entry ≡ n) }
         ensures learns { OnErr result (ticker.new ≡ told_full ticker.old) }
@@ -76,7 +75,7 @@ impl<P: Naming> Shared<P> {
         f: F,
     ) -> T
         requires { F.IsAlwaysCallable f }
-        ensures { (partition : KernelState) × (partition.table ≡ P.table) × HasHeadline partition
+        ensures { (partition : PartitionState) × (partition.table ≡ P.table) × Headline partition
             × IfSome seen.entry (λ r. Stands partition.machine.history r.now.entry r.now.place)
             × FnOnceReturnsAt F.FnOnce f partition result }
     {

@@ -1,10 +1,10 @@
 -- Each column says what holds after its entry.
 use Rattle.std.proofs.Common.{◌≡◌, ◌∙◌, ℕ, zero, suc, List, [], ◌∷◌, ◌++◌, None, Some, refl, sym, ap, arith, length, take, add-one, append-nil, append_assoc}
 use Rattle.std.specs.Prelude.{slice_get, slice_index_or}
-use Rattle.apex_types.specs.machine.Machine.{Machine, objects_after, opening, run}
-use Rattle.apex_types.specs.processes.Roster.{Roster, opening_roster}
-use Rattle.apex_types.specs.processes.Running.{chosen}
-use Rattle.apex_types.specs.table.Table.{Table}
+use Rattle.apex_machine.specs.Machine.{Machine, objects_after, opening, run}
+use Rattle.apex_machine.specs.processes.Roster.{Roster, opening_roster}
+use Rattle.apex_machine.specs.processes.Running.{chosen}
+use Rattle.apex_machine.specs.table.Table.{Table}
 use Rattle.apex_pictures.specs.Counts.{Counts, content_of, counts_after, counts_of, value_of}
 use Rattle.apex_pictures.specs.Laws.{ArePictures, CountsAll, Says}
 use Rattle.apex_pictures.specs.Moments.{Column, Shown, cell_of, column_of, columns_from, moment_of, no_cell, picture}

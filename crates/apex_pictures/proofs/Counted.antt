@@ -1,9 +1,9 @@
 -- A count that changes.
 use Rattle.std.proofs.Common.{◌≡◌, ◌∙◌, ℕ, ◌<◌, false, List, ◌++◌, Option, ap, append_assoc, codes, decimal, length, refl}
 use Rattle.std.specs.Prelude.{slice_get}
-use Rattle.apex_types.specs.machine.Machine.{Objects}
-use Rattle.apex_types.specs.table.Table.{Table}
-use Rattle.apex_types.specs.text.Listing.{texts_of}
+use Rattle.apex_machine.specs.Deeds.{Objects}
+use Rattle.apex_machine.specs.table.Table.{Table}
+use Rattle.apex_machine.specs.text.Listing.{texts_of}
 use Rattle.apex_pictures.specs.Counters.{change_text, changed_text, content_at, count_text, counter_text, counters_text, same_count, value_at}
 use Rattle.apex_pictures.specs.Counts.{Counts, HasCounts, content_of, counts_of, value_of, with_contents, with_values}
 use Rattle.apex_pictures.specs.Places.{of_places}

@@ -6,9 +6,9 @@ use Rattle.std.proofs.lemmas.Bool.{both_ways, cases_lt}
 use Rattle.std.proofs.lemmas.List.{drop_all}
 use Rattle.std.proofs.lemmas.Grind.{flat_map-append}
 use Rattle.std.specs.Prelude.{flat_map}
-use Rattle.apex_types.specs.machine.Machine.{Machine, accept, opening, run}
-use Rattle.apex_types.specs.table.Table.{Table}
-use Rattle.apex_dispatch.proofs.Runs.{accept-full}
+use Rattle.apex_machine.specs.Machine.{Machine, accept, opening, run}
+use Rattle.apex_machine.specs.table.Table.{Table}
+use Rattle.apex_laws.proofs.Runs.{accept-full}
 use Rattle.apex_history.specs.Counted.{AppendsBeginning}
 use Rattle.apex_history.specs.Page.{Passes}
 use Rattle.apex_history.proofs.Passing.{beginning_longer, passes_with}

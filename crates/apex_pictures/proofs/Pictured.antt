@@ -3,11 +3,11 @@ use Rattle.std.proofs.Common.{◌≡◌, ◌∙◌, ◌<◌, List, [], ◌∷◌
 use Rattle.std.specs.List.{All, last_or}
 use Rattle.std.proofs.Math.Seq.{get_or-append_seam}
 use Rattle.std.proofs.lemmas.Bool.{cases_lt}
-use Rattle.apex_types.specs.declared.Event.TheVariants.{Turn, Tick}
-use Rattle.apex_types.specs.machine.Machine.{Machine, accept, events_of, happen, opening, replay, run, tick, turn}
-use Rattle.apex_types.specs.processes.Roster.{Roster, opening_roster}
-use Rattle.apex_types.specs.table.Table.{Table}
-use Rattle.apex_dispatch.proofs.Runs.{accept-full, accept-room}
+use Rattle.apex_types.specs.declared.entries.Event.TheVariants.{Turn, Tick}
+use Rattle.apex_machine.specs.Machine.{Machine, accept, events_of, happen, opening, replay, run, tick, turn}
+use Rattle.apex_machine.specs.processes.Roster.{Roster, opening_roster}
+use Rattle.apex_machine.specs.table.Table.{Table}
+use Rattle.apex_laws.proofs.Runs.{accept-full, accept-room}
 use Rattle.apex_pictures.specs.Moments.{Column, Shown, column_of, columns_from, moment_in, picture}
 use Rattle.apex_pictures.specs.Drawing.{IsPictured, last_roster}
 use Rattle.apex_pictures.specs.Terms.{Entry, Event}

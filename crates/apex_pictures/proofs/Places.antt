@@ -6,7 +6,7 @@ use Rattle.std.proofs.lemmas.Bool.{cases_lt}
 use Rattle.std.proofs.lemmas.List.{drop_more, get_or_append_left}
 use Rattle.std.proofs.lemmas.Option.{slice_get-get_or}
 use Rattle.std.specs.Prelude.{Some, option_map, slice_get, unwrap_or}
-use Rattle.apex_types.specs.text.Listing.{texts_of}
+use Rattle.apex_machine.specs.text.Listing.{texts_of}
 use Rattle.apex_pictures.specs.Places.{of_places}
 
 -- there are as many

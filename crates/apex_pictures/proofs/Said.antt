@@ -2,7 +2,7 @@
 use Rattle.std.proofs.Common.{◌≡◌, ◌∙◌, ℕ, ◌≤◌, List, [], ◌++◌, ap, arith, length, drop, append-nil, append_assoc, codes, decimal}
 use Rattle.std.proofs.lemmas.Fmt.{decimal_digit}
 use Rattle.apex_calls.specs.Lines.{asked_text, line_of, reply_text}
-use Rattle.apex_types.specs.table.Table.{Table}
+use Rattle.apex_machine.specs.table.Table.{Table}
 use Rattle.apex_pictures.specs.Svg.{bare, said_line}
 use Rattle.apex_pictures.specs.Terms.{Entry}
 

@@ -2,11 +2,11 @@
 use Rattle.std.proofs.Common.{◌≡◌, ◌∙◌, ℕ, zero, suc, ◌<◌, List, [], ◌∷◌, ◌++◌, Option, refl, sym, ap, append_assoc, subst}
 use Rattle.std.proofs.lemmas.List.{length-map, map-append}
 use Rattle.std.specs.Prelude.{map, flat_map, length, slice_index_or, codes}
-use Rattle.apex_types.specs.text.Listing.{texts_of}
-use Rattle.apex_types.specs.processes.Roster.{Roster}
-use Rattle.apex_types.specs.processes.Running.{process_state}
-use Rattle.apex_types.specs.table.Table.{Table}
-use Rattle.apex_types.specs.values.Limits.{most_cores}
+use Rattle.apex_machine.specs.text.Listing.{texts_of}
+use Rattle.apex_machine.specs.processes.Roster.{Roster}
+use Rattle.apex_machine.specs.processes.Running.{process_state}
+use Rattle.apex_machine.specs.table.Table.{Table}
+use Rattle.apex_types.specs.declared.limits.TheConstants.{MOST_CORES}
 use Rattle.apex_pictures.specs.Counters.{counters_text}
 use Rattle.apex_pictures.specs.Counts.{Counts, HasCounts}
 use Rattle.apex_pictures.specs.Moments.{Shown, cell_of, moment_of, no_cell, none_shown, running_in}
@@ -121,7 +121,7 @@ follow_many Trace tracks shown n follows many =
 
 -- tracks that follow a moment have the moment's counts and cores
 pub follow_fits : (style : Style) (tracks shown : Shown) (table : Table) → Follows style tracks shown → HasCounts shown.counts table
-    → length shown.running ≡ most_cores → Fits style tracks table
+    → length shown.running ≡ MOST_CORES → Fits style tracks table
 follow_fits (Svg frame) tracks shown table follows counts cores = tt
 follow_fits Trace tracks shown table follows counts cores =
     (subst (λ (s : Shown). HasCounts s.counts table) (sym follows) counts, ap (λ (s : Shown). length s.running) follows ∙ cores)

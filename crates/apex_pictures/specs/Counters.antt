@@ -2,9 +2,9 @@
 -- They are in a group of their own (3). An argument of a counter is a series, so the partition's time
 -- is none.
 use Rattle.std.specs.Prelude.{ℕ, Bool, false, List, [], ◌∷◌, ◌++◌, ◌==◌, Option, None, Some, codes, decimal, if◌then◌else◌, length, slice_get}
-use Rattle.apex_types.specs.text.Listing.{texts_of}
-use Rattle.apex_types.specs.table.Table.{Table}
-use Rattle.apex_types.specs.text.Texts.{buffer_name, semaphore_name}
+use Rattle.apex_machine.specs.text.Listing.{texts_of}
+use Rattle.apex_machine.specs.table.Table.{Table}
+use Rattle.apex_machine.specs.text.Texts.{buffer_name, semaphore_name}
 use Rattle.apex_pictures.specs.Counts.{Counts}
 use Rattle.apex_pictures.specs.Svg.{texts}
 use Rattle.apex_pictures.specs.Texts.{json_text}

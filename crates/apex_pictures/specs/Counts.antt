@@ -1,10 +1,11 @@
 -- What the objects of a partition hold: the value of each semaphore, and the number of messages in each buffer.
 use Rattle.std.specs.Prelude.{◌≡◌, ℕ, List, [], length}
-use Rattle.apex_types.specs.services.BufferServices.{buffer_kind}
-use Rattle.apex_types.specs.text.Listing.{object_in}
-use Rattle.apex_types.specs.machine.Machine.{Objects, objects_after}
-use Rattle.apex_types.specs.services.SemaphoreServices.{semaphore_kind}
-use Rattle.apex_types.specs.table.Table.{Table}
+use Rattle.apex_machine.specs.services.BufferServices.{buffer_kind}
+use Rattle.apex_machine.specs.text.Listing.{object_in}
+use Rattle.apex_machine.specs.Deeds.{Objects}
+use Rattle.apex_machine.specs.Machine.{objects_after}
+use Rattle.apex_machine.specs.services.SemaphoreServices.{semaphore_kind}
+use Rattle.apex_machine.specs.table.Table.{Table}
 use Rattle.apex_pictures.specs.Places.{of_places}
 use Rattle.apex_pictures.specs.Terms.{Entry}
 

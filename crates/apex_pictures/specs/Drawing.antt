@@ -1,8 +1,8 @@
 -- The text of a picture, as it grows, and the ends of its drawing.
 use Rattle.std.specs.Prelude.{◌≡◌, ℕ, List, [], ◌∷◌, ◌++◌, length, Result, MatchResult, flat_map}
-use Rattle.apex_types.specs.machine.Machine.{Machine}
-use Rattle.apex_types.specs.processes.Roster.{Roster, opening_roster}
-use Rattle.apex_types.specs.table.Table.{Table}
+use Rattle.apex_machine.specs.Machine.{Machine}
+use Rattle.apex_machine.specs.processes.Roster.{Roster, opening_roster}
+use Rattle.apex_machine.specs.table.Table.{Table}
 use Rattle.apex_history.specs.Counted.{one_more}
 use Rattle.apex_pictures.specs.Moments.{Column, picture}
 use Rattle.apex_pictures.specs.Pictures.{column_text}

@@ -1,10 +1,10 @@
 -- What the columns of a picture say.
 use Rattle.std.specs.Prelude.{◌≡◌, ◌+◌, ◌<◌, ℕ, List, Some, None, length, slice_get, slice_index_or, take}
-use Rattle.apex_types.specs.values.Limits.{most_cores}
-use Rattle.apex_types.specs.machine.Machine.{Machine, objects_after, opening, run}
-use Rattle.apex_types.specs.processes.Roster.{Roster, record_at}
-use Rattle.apex_types.specs.processes.Running.{chosen, process_state}
-use Rattle.apex_types.specs.table.Table.{Table}
+use Rattle.apex_types.specs.declared.limits.TheConstants.{MOST_CORES}
+use Rattle.apex_machine.specs.Machine.{Machine, objects_after, opening, run}
+use Rattle.apex_machine.specs.processes.Roster.{Roster, record_at}
+use Rattle.apex_machine.specs.processes.Running.{chosen, process_state}
+use Rattle.apex_machine.specs.table.Table.{Table}
 use Rattle.apex_pictures.specs.Counts.{Counts, content_of, value_of}
 use Rattle.apex_pictures.specs.Moments.{Column, no_cell, picture}
 use Rattle.apex_pictures.specs.Terms.{Cell, Entry, Event}
@@ -34,7 +34,7 @@ pub record Says (table : Table) (machine : Machine) (k : ℕ) (column : Column) 
       → (cell_in column p).wait ≡ (record_at roster p).wait
   pub owned : (p : ℕ) → p < length roster.records
       → (cell_in column p).owned ≡ (record_at roster p).owned
-  pub running : (core : ℕ) → core < most_cores
+  pub running : (core : ℕ) → core < MOST_CORES
       → slice_index_or column.after.running core None ≡ chosen roster core
   pub counts_after : CountsAll table (take (k + 1) machine.history) column.after.counts
   pub counts_before : CountsAll table (take k machine.history) column.before.counts

@@ -3,12 +3,12 @@ use Rattle.std.specs.Prelude.{ℕ, List, [], ◌∷◌, ◌++◌, length, Option
 use Rattle.apex_pictures.specs.Counts.{Counts, counts_after, no_counts}
 use Rattle.apex_pictures.specs.Places.{of_places}
 use Rattle.apex_pictures.specs.Terms.{Cell, Entry}
-use Rattle.apex_types.specs.declared.State.TheVariants.{Dormant}
-use Rattle.apex_types.specs.values.Limits.{most_cores}
-use Rattle.apex_types.specs.machine.Machine.{Machine}
-use Rattle.apex_types.specs.processes.Roster.{Roster, record_at, opening_roster}
-use Rattle.apex_types.specs.processes.Running.{chosen, process_state}
-use Rattle.apex_types.specs.table.Table.{Table}
+use Rattle.apex_types.specs.declared.modes.State.TheVariants.{Dormant}
+use Rattle.apex_types.specs.declared.limits.TheConstants.{MOST_CORES}
+use Rattle.apex_machine.specs.Machine.{Machine}
+use Rattle.apex_machine.specs.processes.Roster.{Roster, record_at, opening_roster}
+use Rattle.apex_machine.specs.processes.Running.{chosen, process_state}
+use Rattle.apex_machine.specs.table.Table.{Table}
 
 -- the cell of process p: its state, what it waits for and the mutexes that it owns
 abbrev pub cell_of : Roster → ℕ → Cell
@@ -24,7 +24,7 @@ no_cell = record { state = Dormant; wait = None; owned = [] }
 
 -- the process that each core runs: its chosen one
 abbrev pub running_in : Roster → List (Option ℕ)
-running_in roster = of_places (chosen roster) most_cores
+running_in roster = of_places (chosen roster) MOST_CORES
 
 -- a cell for each process, the process that each core runs, and the counts of the objects
 pub record Shown : Type 0 where

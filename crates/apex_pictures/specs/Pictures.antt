@@ -1,7 +1,7 @@
 -- The text of a picture of a machine.
 use Rattle.std.specs.Prelude.{ℕ, ◌+◌, List, ◌++◌, flat_map, length}
-use Rattle.apex_types.specs.machine.Machine.{Machine, opening}
-use Rattle.apex_types.specs.table.Table.{Table}
+use Rattle.apex_machine.specs.Machine.{Machine, opening}
+use Rattle.apex_machine.specs.table.Table.{Table}
 use Rattle.apex_pictures.specs.Moments.{Column, moment_in, picture}
 use Rattle.apex_pictures.specs.Svg as svg
 use Rattle.apex_pictures.specs.Trace as trace

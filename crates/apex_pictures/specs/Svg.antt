@@ -1,16 +1,16 @@
 -- A picture as SVG. The places of rows and columns are the frame's; their contents are the
 -- columns'.
 use Rattle.std.specs.Prelude.{ℕ, ◌+◌, ◌-◌, ◌*◌, Bool, false, List, [], ◌∷◌, ◌++◌, ◌==◌, ◌&&◌, ◌||◌, nat_le, nat_lt, length, Option, None, Some, codes, decimal, flat_map, slice_index_or, if◌then◌else◌}
-use Rattle.apex_types.specs.text.Texts.{id_text, process_name}
+use Rattle.apex_machine.specs.text.Texts.{id_text, process_name}
 use Rattle.apex_calls.specs.Lines.{asked_text, line_of, reply_text}
-use Rattle.apex_types.specs.text.Listing.{texts_of}
-use Rattle.apex_types.specs.text.Status.{state_text, wait_text}
-use Rattle.apex_types.specs.table.Table.{Table}
-use Rattle.apex_types.specs.declared.Caller.TheVariants.{Process, Init, Nobody}
-use Rattle.apex_types.specs.declared.Who.TheVariants.{Ticker}
-use Rattle.apex_types.specs.declared.Holding.{Holding}
-use Rattle.apex_types.specs.declared.Notice.TheVariants.{Woken, Released, Missed}
-use Rattle.apex_types.specs.declared.Reply.TheVariants.{Advanced}
+use Rattle.apex_machine.specs.text.Listing.{texts_of}
+use Rattle.apex_machine.specs.text.Status.{state_text, wait_text}
+use Rattle.apex_machine.specs.table.Table.{Table}
+use Rattle.apex_types.specs.declared.entries.Caller.TheVariants.{Process, Init, Nobody}
+use Rattle.apex_types.specs.declared.entries.Who.TheVariants.{Ticker}
+use Rattle.apex_machine.specs.declared.holdings.Holding.{Holding}
+use Rattle.apex_types.specs.declared.entries.Notice.TheVariants.{Woken, Released, Missed}
+use Rattle.apex_types.specs.declared.entries.Reply.TheVariants.{Advanced}
 use Rattle.apex_pictures.specs.Moments.{Shown, no_cell}
 use Rattle.apex_pictures.specs.Terms.{Caller, Cell, Entry, Notice, Reply, Wait}
 use Rattle.apex_pictures.specs.Texts.{xml_text}

@@ -1,18 +1,18 @@
 -- A picture as a trace in the Trace Event Format, which is JSON. The groups of tracks are the cores (1), the
 -- processes (2) and the objects (3); an entry's number is its time, and the partition's time is an argument.
 use Rattle.std.specs.Prelude.{ℕ, ◌+◌, Bool, true, false, List, [], ◌∷◌, ◌++◌, Option, None, Some, is_some, codes, decimal, flat_map, length, slice_index_or, if◌then◌else◌, ◌==◌}
-use Rattle.apex_types.specs.text.Texts.{id_text, process_name}
+use Rattle.apex_machine.specs.text.Texts.{id_text, process_name}
 use Rattle.apex_calls.specs.Lines.{deadline_text}
-use Rattle.apex_types.specs.text.Listing.{texts_of}
-use Rattle.apex_types.specs.text.Status.{state_text}
-use Rattle.apex_types.specs.table.Table.{Table}
-use Rattle.apex_types.specs.declared.Notice.TheVariants.{Woken, Released, Missed}
-use Rattle.apex_types.specs.declared.State.TheVariants.{Dormant, Ready, Running, Waiting}
+use Rattle.apex_machine.specs.text.Listing.{texts_of}
+use Rattle.apex_machine.specs.text.Status.{state_text}
+use Rattle.apex_machine.specs.table.Table.{Table}
+use Rattle.apex_types.specs.declared.entries.Notice.TheVariants.{Woken, Released, Missed}
+use Rattle.apex_types.specs.declared.modes.State.TheVariants.{Dormant, Ready, Running, Waiting}
 use Rattle.apex_pictures.specs.Counters.{counters_text}
 use Rattle.apex_pictures.specs.Counts.{no_counts}
 use Rattle.apex_pictures.specs.Moments.{Shown, no_cell, none_shown}
 use Rattle.apex_pictures.specs.Svg.{texts}
-use Rattle.apex_types.specs.declared.DeadlineType.{DeadlineType}
+use Rattle.apex_types.specs.declared.modes.DeadlineType.{DeadlineType}
 use Rattle.apex_pictures.specs.Terms.{Entry, Notice, State}
 use Rattle.apex_pictures.specs.Texts.{json_text}
 use Rattle.apex_pictures.specs.declared.trace.Spot.{Spot}

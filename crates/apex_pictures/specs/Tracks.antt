@@ -7,11 +7,11 @@ use Rattle.apex_pictures.specs.Terms.{Cell, State}
 use Rattle.apex_pictures.specs.declared.styles.Style.{Style}
 use Rattle.apex_pictures.specs.declared.styles.Style.TheVariants.{Svg, Trace}
 use Rattle.apex_pictures.specs.declared.tracks.Track.{Track}
-use Rattle.apex_types.specs.table.Table.{Table}
-use Rattle.apex_types.specs.values.Limits.{most_cores}
-use Rattle.apex_types.specs.processes.Roster.{Roster}
-use Rattle.apex_types.specs.processes.Running.{process_state}
-use Rattle.apex_types.specs.declared.State.TheVariants.{Dormant}
+use Rattle.apex_machine.specs.table.Table.{Table}
+use Rattle.apex_types.specs.declared.limits.TheConstants.{MOST_CORES}
+use Rattle.apex_machine.specs.processes.Roster.{Roster}
+use Rattle.apex_machine.specs.processes.Running.{process_state}
+use Rattle.apex_types.specs.declared.modes.State.TheVariants.{Dormant}
 
 -- the track of no process
 abbrev pub no_track : Track
@@ -55,4 +55,4 @@ HasTracks Trace tracks n = length tracks.cells ≡ n
 -- there are counts of all objects of a table, and a place for each core that may be, if a trace is drawn
 abbrev pub Fits : Style → Shown → Table → Type 0
 Fits (Svg frame) tracks table = Unit {0}
-Fits Trace tracks table = HasCounts tracks.counts table × (length tracks.running ≡ most_cores)
+Fits Trace tracks table = HasCounts tracks.counts table × (length tracks.running ≡ MOST_CORES)

@@ -1,8 +1,8 @@
 //! The counters of a trace: the value of each semaphore and the content of each buffer, as they
 //! change.
 ghost use Rattle.std.specs.Prelude.{◌≡◌, ◌<◌, ◌++◌, OnOk, codes, length};
-ghost use Rattle.apex_types.specs.text.Listing.{texts_of};
-ghost use Rattle.apex_types.specs.text.Texts.{buffer_name, semaphore_name};
+ghost use Rattle.apex_machine.specs.text.Listing.{texts_of};
+ghost use Rattle.apex_machine.specs.text.Texts.{buffer_name, semaphore_name};
 ghost use Rattle.apex_pictures.specs.Counters.{change_text, content_at, counter_text, counters_text, same_count, value_at};
 ghost use Rattle.apex_pictures.specs.Counts.{content_of, no_counts, value_of, with_contents, with_values};
 ghost use Rattle.apex_pictures.specs.Places.{of_places};

@@ -2,8 +2,8 @@
 ghost use Rattle.std.specs.Prelude.{◌≡◌, ◌++◌, ◌↔◌, ◌+◌, ◌<◌, [], All, IsOk, length, OnErr, OnOk};
 ghost use Rattle.std.specs.Io.KnownBytes.{Appends};
 ghost use Rattle.apex_calls.specs.Lines.{IsPrintable};
-ghost use Rattle.apex_types.specs.machine.Machine.{accept, opening, run};
-ghost use Rattle.apex_dispatch.specs.Events.{IsWithin};
+ghost use Rattle.apex_machine.specs.Machine.{accept, opening, run};
+ghost use Rattle.apex_machine.specs.Events.{IsWithin};
 ghost use Rattle.apex_dispatch.specs.Kernel.{kernel_in};
 ghost use Rattle.apex_history.specs.Counted.{inner_of, failures_of, AppendsBeginning};
 ghost use Rattle.apex_history.specs.Page.{Passes};
@@ -159,7 +159,7 @@ fn draw_event<S: Store>(
     requires within { IsWithin kernel.old.table.cores event }
     requires shown { Follows style.now shown.old (moment_in kernel.old.table kernel.old.machine) }
     ensures done { kernel.new ≡ kernel_in kernel.old.table
-        (accept kernel.old.table kernel.old.machine event) }
+        (accept kernel.old.table kernel.old.machine event) kernel.new.store }
     ensures shown { OnOk result (Follows style.now shown.new
         (moment_in kernel.old.table kernel.new.machine)) }
     ensures drawn { OnOk result (Grows style.now kernel.old.table kernel.old.machine

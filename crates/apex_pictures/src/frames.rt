@@ -1,6 +1,6 @@
 //! The places of the columns and of the rows of a picture.
 ghost use Rattle.std.specs.Prelude.{◌≡◌, ◌+◌, ◌<◌, ◌≤◌, ◌^◌, length, min};
-ghost use Rattle.apex_types.specs.values.Limits.{most_cores, most_entries, most_processes};
+ghost use Rattle.apex_types.specs.declared.limits.TheConstants.{MOST_CORES, MOST_ENTRIES, MOST_PROCESSES};
 ghost use Rattle.arrayvec.specs.ArrayVec.{array_vec_len};
 ghost use Rattle.apex_pictures.specs.Svg.{heading_of, row_of, shows};
 
@@ -85,7 +85,7 @@ fn core_of(table: &Table, process: ProcessId) -> u8 {
 
 /// The cores to which the init list binds the processes.
 fn cores_of(table: &Table) -> ArrayVec<u8, MOST_PROCESSES>
-    ensures { array_vec_len result ≤ most_processes }
+    ensures { array_vec_len result ≤ MOST_PROCESSES }
 {
     let mut cores = ArrayVec::new();
     for place in 0..table.process_count() {
@@ -96,16 +96,16 @@ fn cores_of(table: &Table) -> ArrayVec<u8, MOST_PROCESSES>
 
 /// The number of these that are below a core.
 fn count_below(cores: &[u8], core: u8) -> u32
-    requires { length cores.now ≤ most_processes }
-    ensures { result ≤ most_processes }
+    requires { length cores.now ≤ MOST_PROCESSES }
+    ensures { result ≤ MOST_PROCESSES }
 {
     cores.iter().filter(|other| **other < core).count() as u32
 }
 
 /// The number of these that are this core.
 fn count_of(cores: &[u8], core: u8) -> u32
-    requires { length cores.now ≤ most_processes }
-    ensures { result ≤ most_processes }
+    requires { length cores.now ≤ MOST_PROCESSES }
+    ensures { result ≤ MOST_PROCESSES }
 {
     cores.iter().filter(|other| **other == core).count() as u32
 }
@@ -113,7 +113,7 @@ fn count_of(cores: &[u8], core: u8) -> u32
 /// The places of the rows of processes that are bound to these cores: below the headings of their
 /// cores, in the order of their numbers.
 fn rows_of(cores: &[u8], top: u32) -> ArrayVec<u32, MOST_PROCESSES>
-    requires few_cores { length cores.now ≤ most_processes }
+    requires few_cores { length cores.now ≤ MOST_PROCESSES }
     requires range { top ≤ 30000 }
 {
     let mut rows = ArrayVec::new();
@@ -127,8 +127,8 @@ fn rows_of(cores: &[u8], top: u32) -> ArrayVec<u32, MOST_PROCESSES>
 
 /// The places of the headings of `count` cores.
 fn headings_of(cores: &[u8], count: u8, top: u32) -> ArrayVec<u32, CORES>
-    requires few_cores { length cores.now ≤ most_processes }
-    requires cores { count ≤ most_cores }
+    requires few_cores { length cores.now ≤ MOST_PROCESSES }
+    requires cores { count ≤ MOST_CORES }
     requires range { top ≤ 30000 }
 {
     let mut headings = ArrayVec::new();
@@ -182,7 +182,7 @@ fn instant_letters(now: u64) -> u32
 impl Frame {
     /// The frame for the entries of a kernel's history with these numbers, 2,000 at the most.
     pub fn new<S: Store>(kernel: &Kernel<S>, first: u32, last: u32) -> Frame
-        requires { (1 ≤ first) × (first ≤ most_entries) }
+        requires { (1 ≤ first) × (first ≤ MOST_ENTRIES) }
         ensures first { result.first ≡ first }
         ensures last { result.last ≡ min last (first + 1999) }
     {

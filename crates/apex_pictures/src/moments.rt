@@ -1,15 +1,14 @@
 //! The processes and the counts after an entry, as a picture shows them.
 ghost use Rattle.std.specs.Prelude.{◌≡◌, ◌<◌, ◌≤◌, length, not, if◌then◌else◌, slice_index_or, None};
-ghost use Rattle.apex_types.specs.values.Limits.{most_cores, most_processes};
-ghost use Rattle.apex_types.specs.processes.Running.{chosen, is_eligible, is_process};
-ghost use Rattle.apex_types.specs.declared.State.TheVariants.{Dormant, Ready, Running, Waiting};
+ghost use Rattle.apex_types.specs.declared.limits.TheConstants.{MOST_CORES, MOST_PROCESSES};
+ghost use Rattle.apex_machine.specs.processes.Running.{chosen, is_eligible, is_process};
+ghost use Rattle.apex_types.specs.declared.modes.State.TheVariants.{Dormant, Ready, Running, Waiting};
 ghost use Rattle.apex_pictures.specs.Moments.{cell_of, moment_of, no_cell, running_in};
 
 use crate::counts::Counts;
+use apex_machine::{Holdings, Record, Wait};
 use apex_store::Store;
-use apex_types::{
-    CoreId, Holdings, MOST_CORES, MOST_PROCESSES, Mode, ProcessId, Record, State, Wait,
-};
+use apex_types::{CoreId, MOST_CORES, MOST_PROCESSES, Mode, ProcessId, State};
 use arrayvec::ArrayVec;
 use std::marker::Model;
 
@@ -107,7 +106,7 @@ pub(crate) fn running_of<S: Store>(store: &S) -> ArrayVec<Option<ProcessId>, COR
 /// The process that a core runs, out of those of all cores.
 pub(crate) fn running_at(running: &[Option<ProcessId>], core: CoreId) -> Option<ProcessId>
     ensures value { result ≡ slice_index_or running.now core None }
-    ensures range { core < most_cores }
+    ensures range { core < MOST_CORES }
 {
     match running.get(usize::from(core.number())) {
         Some(running) => *running,
@@ -132,7 +131,7 @@ fn cell_of<S: Store>(store: &S, process: ProcessId, running: &[Option<ProcessId>
 
 /// The moment of the processes of a store, and of these counts.
 pub(crate) fn moment_of<S: Store>(store: &S, counts: Counts) -> Moment
-    requires { length (S.roster store.now).records ≤ most_processes }
+    requires { length (S.roster store.now).records ≤ MOST_PROCESSES }
     ensures { result ≡ moment_of (S.roster store.now) counts }
 {
     let running = running_of(store);

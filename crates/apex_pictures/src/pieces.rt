@@ -2,7 +2,7 @@
 //! room, and goes to the trace's text at once.
 ghost use Rattle.std.specs.Prelude.{◌≡◌, ◌+◌, ◌*◌, ◌/◌, ◌%◌, ◌<◌, ◌≤◌, [], ◌∷◌, ◌++◌, decimal, length};
 ghost use Rattle.arrayvec.specs.ArrayVec.{array_vec_len};
-ghost use Rattle.apex_types.specs.values.Limits.{most_name};
+ghost use Rattle.apex_types.specs.declared.limits.TheConstants.{MOST_NAME};
 ghost use Rattle.apex_pictures.specs.Texts.{json_byte, json_text};
 ghost use Rattle.apex_pictures.specs.declared.pieces.TheConstants.{PIECE_ROOM};
 
@@ -112,10 +112,10 @@ fn add_json_byte(piece: &mut Piece, byte: u8)
 /// Adds the bytes so that JSON reads them back as they are, between the quotes of a string.
 #[inline(always)]
 pub(crate) fn add_json(piece: &mut Piece, bytes: &[u8])
-    requires few { length bytes.now ≤ most_name }
-    requires room { array_vec_len piece.old + 2 * most_name ≤ PIECE_ROOM }
+    requires few { length bytes.now ≤ MOST_NAME }
+    requires room { array_vec_len piece.old + 2 * MOST_NAME ≤ PIECE_ROOM }
     ensures text { piece.new.items ≡ piece.old.items ++ json_text bytes.now }
-    ensures short { array_vec_len piece.new ≤ array_vec_len piece.old + 2 * most_name }
+    ensures short { array_vec_len piece.new ≤ array_vec_len piece.old + 2 * MOST_NAME }
 {
     for byte in bytes {
         add_json_byte(piece, *byte);

@@ -1,6 +1,6 @@
 //! The texts of a slice's end and of its beginning, before the number of its track and behind it.
 ghost use Rattle.std.specs.Prelude.{◌≡◌, ◌≤◌, length};
-ghost use Rattle.apex_pictures.specs.Stamps.{IsGroup, IsStamp, begin_back, begin_front, end_back, end_front};
+ghost use Rattle.apex_pictures.specs.Stamps.{IsGroup, IsStamp, begin_front, end_front};
 ghost use Rattle.apex_pictures.specs.declared.stamps.TheConstants.{BEGIN_ROOM, END_ROOM, FRONT};
 
 use arrayvec::ArrayString;

@@ -1,7 +1,7 @@
 //! A picture as SVG: its head, its columns and its key.
 ghost use Rattle.std.specs.Prelude.{◌≡◌, ◌≤◌, ◌++◌, drop, flat_map, length, OnOk};
 ghost use Rattle.apex_calls.specs.Lines.{IsPrintable, line_of};
-ghost use Rattle.apex_types.specs.text.Listing.{texts_of};
+ghost use Rattle.apex_machine.specs.text.Listing.{texts_of};
 ghost use Rattle.apex_pictures.specs.Svg.{bare, bar_text, call_end, call_text, cell_at, cell_end, cell_part, cell_text, circle_text, column_end, column_text, dash_text, dash_to, heading_text, head_text, instant_text, is_timed, key_text, label_text, marks_text, mutex_text, notice_process, opening_text, owns_part, ring_text, said_text, start_text, time_text, title_text, waits_part, wedge_text};
 
 use crate::frames::Frame;
@@ -9,8 +9,9 @@ use crate::moments::{Cell, Moment};
 use crate::texts::{Part, put, put_all, put_xml};
 use crate::words::{id_part, name_of, notice_word, put_object, put_wait, state_word};
 use apex_history::{Lines, NextSteps, put_line};
+use apex_machine::Holding;
 use apex_table::Table;
-use apex_types::{Caller, CoreId, Holding, LentEntry, Notice, ProcessId, Reply, Who};
+use apex_types::{Caller, CoreId, LentEntry, Notice, ProcessId, Reply, Who};
 use std::alloc::AllocError;
 
 /// Puts the heading of a core.

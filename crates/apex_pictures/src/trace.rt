@@ -3,8 +3,8 @@
 //! partition's time is an argument.
 ghost use Rattle.std.specs.Prelude.{◌≡◌, ◌+◌, ◌≤◌, ◌++◌, flat_map, is_some, length, map, OnOk};
 ghost use Rattle.arrayvec.specs.ArrayVec.{array_vec_len};
-ghost use Rattle.apex_types.specs.text.Listing.{texts_of};
-ghost use Rattle.apex_types.specs.values.Limits.{most_cores};
+ghost use Rattle.apex_machine.specs.text.Listing.{texts_of};
+ghost use Rattle.apex_types.specs.declared.limits.TheConstants.{MOST_CORES};
 ghost use Rattle.apex_pictures.specs.Counts.{HasCounts};
 ghost use Rattle.apex_pictures.specs.Moments.{moment_in, none_shown, running_in, with_cells, with_running};
 ghost use Rattle.apex_pictures.specs.Places.{of_places};
@@ -385,7 +385,7 @@ pub(crate) fn put_runs<S: Store>(
     running: &mut [Option<ProcessId>],
 ) -> Result<(), AllocError>
     requires stamp { IsStamp stamp.now time }
-    requires many { length running.old ≡ most_cores }
+    requires many { length running.old ≡ MOST_CORES }
     ensures text { OnOk result (text.new.items ≡ text.old.items
         ++ texts_of (trace.core_at table.now time stamp.now.ticks (with_running running.old)
         (with_running (running_in (S.roster store.now)))) table.now.cores) }
@@ -512,7 +512,7 @@ pub(crate) fn put_column<S: Store>(
 ) -> Result<(), AllocError>
     requires many { length shown.old.cells ≡ length kernel.now.machine.roster.records }
     requires counts { HasCounts shown.old.counts kernel.now.table }
-    requires cores { length shown.old.running ≡ most_cores }
+    requires cores { length shown.old.running ≡ MOST_CORES }
     ensures text { OnOk result (text.new.items ≡ text.old.items
         ++ trace.column_text kernel.now.table shown.old entry.entry.now
         (bare (moment_in kernel.now.table kernel.now.machine))) }

@@ -1,6 +1,6 @@
 //! The processes and the counts after an entry, as a trace shows them.
 ghost use Rattle.std.specs.Prelude.{◌≡◌, ◌<◌, ◌≤◌, ◌++◌, length, map, slice_index_or, OnOk};
-ghost use Rattle.apex_types.specs.values.Limits.{most_cores, most_processes};
+ghost use Rattle.apex_types.specs.declared.limits.TheConstants.{MOST_CORES, MOST_PROCESSES};
 ghost use Rattle.apex_pictures.specs.Counters.{counters_text};
 ghost use Rattle.apex_pictures.specs.Counts.{HasCounts, counts_of};
 ghost use Rattle.apex_pictures.specs.Moments.{moment_of, running_in};
@@ -81,7 +81,7 @@ pub(crate) fn track_of<S: Store>(
 
 /// The tracks of the processes of a store, and these counts.
 pub(crate) fn tracks_of<S: Store>(store: &S, counts: Counts) -> Tracks
-    requires { length (S.roster store.now).records ≤ most_processes }
+    requires { length (S.roster store.now).records ≤ MOST_PROCESSES }
     ensures { result ≡ bare (moment_of (S.roster store.now) counts) }
 {
     let running = running_of(store);
@@ -118,7 +118,7 @@ impl Tracks {
         stamp: &Stamp,
     ) -> Result<(), AllocError>
         requires stamp { IsStamp stamp.now time }
-        requires cores { length self.old.running ≡ most_cores }
+        requires cores { length self.old.running ≡ MOST_CORES }
         requires tracks { length self.old.cells ≡ length (S.roster store.now).records }
         requires table { length table.now.processes ≡ length (S.roster store.now).records }
         ensures text { OnOk result (text.new.items ≡ text.old.items

@@ -1,15 +1,16 @@
 //! The words for states, waits and notices.
 ghost use Rattle.std.specs.Prelude.{◌≡◌, ◌≤◌, ◌++◌, length, OnOk};
-ghost use Rattle.apex_types.specs.values.Limits.{most_name};
-ghost use Rattle.apex_types.specs.text.Texts.{id_text, process_name};
+ghost use Rattle.apex_types.specs.declared.limits.TheConstants.{MOST_NAME};
+ghost use Rattle.apex_machine.specs.text.Texts.{id_text, process_name};
 ghost use Rattle.apex_pictures.specs.Texts.{part_text};
 ghost use Rattle.apex_calls.specs.Lines.{deadline_text};
-ghost use Rattle.apex_types.specs.text.Status.{state_text, wait_text};
+ghost use Rattle.apex_machine.specs.text.Status.{state_text, wait_text};
 ghost use Rattle.apex_pictures.specs.Svg.{notice_word};
 
 use crate::texts::{Part, put, put_number};
+use apex_machine::Wait;
 use apex_table::Table;
-use apex_types::{DeadlineType, Id, Notice, ProcessId, State, Wait};
+use apex_types::{DeadlineType, Id, Notice, ProcessId, State};
 use std::alloc::AllocError;
 
 pub(crate) fn state_word(state: State) -> &'static str
@@ -46,7 +47,7 @@ pub(crate) fn notice_word(notice: &Notice) -> &'static str
 /// The name of a process; no byte if there is no such process.
 pub(crate) fn name_of(table: &Table, process: ProcessId) -> &[u8]
     ensures value { result.now ≡ process_name table.now process }
-    ensures short { length result.now ≤ most_name }
+    ensures short { length result.now ≤ MOST_NAME }
 {
     if process.place() < table.process_count() {
         table.process(process).name().as_bytes()

@@ -1,9 +1,9 @@
 -- The first process of a line is the first that is due, and the sooner first of the two lines has
 -- the next instant.
 use Rattle.std.proofs.Common.{◌≡◌, ◌≢◌, ℕ, ◌<◌, ◌≤◌, length, Option, None, Some, inl, inr, min, refl, ap, sym, ◌∙◌, arith}
-use Rattle.apex_types.specs.processes.Dues.{earliest, first_due, first_missed, sooner}
-use Rattle.apex_types.specs.processes.Roster.{Roster, record_at}
-use Rattle.apex_types.proofs.Dues.{earliest_among, earliest_below, earliest_none, first_due_now, first_due_lowest, first_due_none, first_missed_now, first_missed_lowest, first_missed_none}
+use Rattle.apex_machine.specs.processes.Dues.{earliest, first_due, first_missed, sooner}
+use Rattle.apex_machine.specs.processes.Roster.{Roster, record_at}
+use Rattle.apex_machine.proofs.Dues.{earliest_among, earliest_below, earliest_none, first_due_now, first_due_lowest, first_due_none, first_missed_now, first_missed_lowest, first_missed_none}
 use Rattle.apex_timeouts.specs.Timeline.{Times, due_at, instant_on, next_of, without_due_at, IsReset, IsTimed}
 use Rattle.apex_timeouts.proofs.Fronts.{next_among, next_least, next_none, due_among, due_lowest, due_none}
 use Rattle.apex_timeouts.proofs.Instants.{reset_none}

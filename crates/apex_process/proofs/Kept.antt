@@ -6,15 +6,16 @@ use Rattle.std.proofs.lemmas.Bool.Decides.{nat_tests}
 use Rattle.std.proofs.lemmas.Int.{ints}
 use Rattle.std.proofs.lemmas.Option.{none-some}
 use Rattle.std.proofs.lemmas.List.{get_or-set_other, get_or-set_same, length-set}
-use Rattle.apex_types.specs.values.Limits.{most_cores}
-use Rattle.apex_types.specs.declared.records.Discipline.{Discipline}
-use Rattle.apex_types.specs.declared.Mode.{Mode}
-use Rattle.apex_types.specs.declared.records.Queue.{Queue}
-use Rattle.apex_types.specs.declared.Record.{Record}
-use Rattle.apex_types.specs.declared.records.Discipline.TheVariants.{Fifo, Priority}
-use Rattle.apex_types.specs.processes.Roster.{Roster, record_at}
-use Rattle.apex_types.specs.processes.Running.{current_priority, is_before, is_eligible, is_older}
-use Rattle.apex_types.specs.processes.Waiters.{discipline_of, goes_by_priority, is_by_priority, queue_in, waits_before}
+use Rattle.apex_types.specs.declared.limits.TheConstants.{MOST_CORES}
+use Rattle.apex_types.specs.declared.modes.Discipline.{Discipline}
+use Rattle.apex_types.specs.declared.modes.Mode.{Mode}
+use Rattle.apex_machine.specs.declared.records.Queue.{Queue}
+use Rattle.apex_machine.specs.declared.records.Record.{Record}
+use Rattle.apex_types.specs.declared.modes.Discipline.TheVariants.{Fifo, Priority}
+use Rattle.apex_machine.specs.processes.Roster.{Roster, record_at}
+use Rattle.apex_machine.specs.processes.Running.{current_priority, is_before, is_eligible, is_older}
+use Rattle.apex_machine.specs.processes.Waiters.{discipline_of, goes_by_priority, is_by_priority, queue_in, waits_before}
+use Rattle.apex_links.specs.declared.numbers.TheConstants.{PRIORITIES}
 use Rattle.apex_links.specs.Neighbours.{stands_in}
 use Rattle.apex_links.specs.Links.{Links, list_at, with_list, removed}
 use Rattle.apex_links.specs.Placing.{placed}
@@ -244,7 +245,7 @@ left_by old new target s t p was is renews none links priorities = left old new 
 -- process p, which is eligible, goes before all others of its ready list
 pub aged : (old new : Roster) (s t : Standings) (p : ℕ) → IsQueued old s → Ages old new p
     → t.links ≡ placed_oldest (removed s.links p) p (record_at new p) → t.priorities ≡ s.priorities
-    → (record_at new p).core < most_cores → current_priority (record_at new p) < 256 → IsQueued new t
+    → (record_at new p).core < MOST_CORES → current_priority (record_at new p) < PRIORITIES → IsQueued new t
 aged old new s t p was ages links priorities core priority = record {
   lists = rw links (enter_keeps (list_of new) (goes_before new) (removed s.links p) p outside own _ here
       (omega (arith, core, priority, as_many_removed s.links p, was.room))
@@ -338,6 +339,6 @@ renewed_row old new target s t p row known was is renews read links priorities p
 
 pub aged_row : (old new target : Roster) (s t : Standings) (p : ℕ) (row : Record) → IsQueued old s → new ≡ target → Ages old target p
     → row ≡ record_at new p → t.links ≡ placed_oldest (removed s.links p) p row → t.priorities ≡ s.priorities
-    → row.core < most_cores → current_priority row < 256 → IsQueued new t
+    → row.core < MOST_CORES → current_priority row < PRIORITIES → IsQueued new t
 aged_row old new target s t p row was is ages read links priorities core priority =
     aged old new s t p was (rw is ages) (rw read at links) priorities (rw read at core) (rw read at priority)

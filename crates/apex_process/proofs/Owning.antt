@@ -10,17 +10,18 @@ use Rattle.std.proofs.lemmas.List.Sums.{position_or_len_is}
 use Rattle.std.proofs.lemmas.Nat.{leading_top}
 use Rattle.std.proofs.Math.Nat.{div-eq_of_lt-le, pow-suc}
 use Rattle.std.proofs.lemmas.Nat.Bits.{bit_at-zero, bit_at_above, bit_at_set_same, bit_at_set_other, bit_at_clear_same, bit_at_clear_other}
-use Rattle.apex_types.specs.values.Limits.{most_processes}
-use Rattle.apex_types.specs.declared.Holding.{Holding}
-use Rattle.apex_types.specs.declared.Record.{Record}
-use Rattle.apex_types.specs.declared.records.Wait.TheVariants.{Normal, Start}
-use Rattle.apex_types.specs.processes.Held.{holds, is_of}
-use Rattle.apex_types.specs.processes.Owners.{owner, owns}
-use Rattle.apex_types.specs.processes.Roster.{Roster, nobody, record_at}
-use Rattle.apex_types.specs.processes.Stamps as stamps
-use Rattle.apex_types.proofs.Held.{holds_more, or_false}
-use Rattle.apex_types.proofs.Replaces.{Replaces, each_stays, replaces_newest, replaces_readied, replaces_record}
-use Rattle.apex_process.specs.Owners.{is_among, is_owner, most_mutexes, most_owners, AreOwners, IsFirstAmong, IsFirstOwner, IsUnowned}
+use Rattle.apex_types.specs.declared.limits.TheConstants.{MOST_PROCESSES}
+use Rattle.apex_machine.specs.declared.holdings.Holding.{Holding}
+use Rattle.apex_machine.specs.declared.records.Record.{Record}
+use Rattle.apex_machine.specs.declared.records.Wait.TheVariants.{Normal, Start}
+use Rattle.apex_machine.specs.processes.Held.{holds, is_of}
+use Rattle.apex_machine.specs.processes.Owners.{owner, owns}
+use Rattle.apex_machine.specs.processes.Roster.{Roster, nobody, record_at}
+use Rattle.apex_machine.specs.processes.Stamps as stamps
+use Rattle.apex_machine.proofs.Held.{holds_more, or_false}
+use Rattle.apex_machine.proofs.Replaces.{Replaces, each_stays, replaces_newest, replaces_readied, replaces_record}
+use Rattle.apex_links.specs.declared.numbers.TheConstants.{ID_PLACES}
+use Rattle.apex_process.specs.Owners.{is_among, is_owner, most_owners, AreOwners, IsFirstAmong, IsFirstOwner, IsUnowned}
 use Rattle.apex_process.proofs.Starting.{start_cases}
 
 -- a bit of a word is set, or cleared
@@ -91,10 +92,10 @@ none_among words m none p low = rw (none, bit_at-zero (63 - p)) refl
 
 -- process p, which owns none but these, no longer owns the first of them
 pub leaves_one : (olds news : List ℕ) (p : ℕ) (holding : Holding) (rest : List Holding) → p < most_owners
-    → ((m : ℕ) → m < most_mutexes → is_owner olds m p ≡ true → holds m (holding ∷ rest) ≡ true)
+    → ((m : ℕ) → m < ID_PLACES → is_owner olds m p ≡ true → holds m (holding ∷ rest) ≡ true)
     → ((q : ℕ) → q < most_owners → is_owner news holding.mutex q ≡ (if q == p then false else is_owner olds holding.mutex q))
     → ((m q : ℕ) → m ≢ holding.mutex → is_owner news m q ≡ is_owner olds m q)
-    → (m : ℕ) → m < most_mutexes → is_owner news m p ≡ true → holds m rest ≡ true
+    → (m : ℕ) → m < ID_PLACES → is_owner news m p ≡ true → holds m rest ≡ true
 leaves_one olds news p holding rest low before same others m known e = elim (cases_eq m holding.mutex) [
   | inl it ↦ absurd (false≢true (sym (gone it) ∙ e))
   | inr apart ↦
@@ -106,17 +107,17 @@ leaves_one olds news p holding rest low before same others m known e = elim (cas
 
 -- process p, which owns none but those that are left, owns none if none are left
 pub none_left : (words : List ℕ) (p i : ℕ) (held : List Holding) → length held ≤ i
-    → ((m : ℕ) → m < most_mutexes → is_owner words m p ≡ true → holds m (drop i held) ≡ true)
-    → (m : ℕ) → m < most_mutexes → is_owner words m p ≡ false
+    → ((m : ℕ) → m < ID_PLACES → is_owner words m p ≡ true → holds m (drop i held) ≡ true)
+    → (m : ℕ) → m < ID_PLACES → is_owner words m p ≡ false
 none_left words p i held past owned m known =
     false_from_ne_true (is_owner words m p) (λ is. false≢true (ap (holds m) (sym (drop_all i held past)) ∙ owned m known is))
 
 -- process p, which owns these, owns another one too
 pub enters_one : (olds news : List ℕ) (p : ℕ) (held : List Holding) (holding : Holding) → p < most_owners
-    → ((m : ℕ) → m < most_mutexes → is_owner olds m p ≡ holds m held)
+    → ((m : ℕ) → m < ID_PLACES → is_owner olds m p ≡ holds m held)
     → ((q : ℕ) → q < most_owners → is_owner news holding.mutex q ≡ (if q == p then true else is_owner olds holding.mutex q))
     → ((m q : ℕ) → m ≢ holding.mutex → is_owner news m q ≡ is_owner olds m q)
-    → (m : ℕ) → m < most_mutexes → is_owner news m p ≡ holds m (held ++ holding ∷ [])
+    → (m : ℕ) → m < ID_PLACES → is_owner news m p ≡ holds m (held ++ holding ∷ [])
 enters_one olds news p held holding low before same others m known = elim (cases_eq m holding.mutex) [
   | inl it ↦
       owned it
@@ -140,7 +141,7 @@ owns_as olds news p n q value apart same others low m = elim (cases_eq m n) [
   owned it = rw (it, same q low) (grind (arith, apart))
 
 -- the owner of a mutex
-module _ (roster : Roster) (words : List ℕ) (are : AreOwners roster words) (few : length roster.records ≤ most_processes) (m : ℕ) (known : m < most_mutexes) where
+module _ (roster : Roster) (words : List ℕ) (are : AreOwners roster words) (few : length roster.records ≤ MOST_PROCESSES) (m : ℕ) (known : m < ID_PLACES) where
   owning_known : (p : ℕ) → owns m (record_at roster p) ≡ true → p < length roster.records
   owning_known p e = elim (cases_lt p (length roster.records)) [
     | inl within ↦ within
@@ -197,8 +198,8 @@ pub record Disowns (old new : Roster) (p : ℕ) (held : List Holding) : Type 0 w
   pub others : (q : ℕ) → q ≢ p → record_at new q ≡ record_at old q
 
 pub owners_changed : (old new target : Roster) (words news : List ℕ) (p : ℕ) (held : List Holding) → AreOwners old words → new ≡ target → Disowns old target p held
-    → ((m : ℕ) → m < most_mutexes → is_owner news m p ≡ holds m held)
-    → ((m q : ℕ) → m < most_mutexes → q < most_owners → q ≢ p → is_owner news m q ≡ is_owner words m q) → AreOwners new news
+    → ((m : ℕ) → m < ID_PLACES → is_owner news m p ≡ holds m held)
+    → ((m q : ℕ) → m < ID_PLACES → q < most_owners → q ≢ p → is_owner news m q ≡ is_owner words m q) → AreOwners new news
 owners_changed old new target words news p held are is disowns here others m q known low = rw is (elim (cases_eq q p) as (λ _. is_owner news m q ≡ owns m (record_at target q)) [
   | inl e ↦ rw e (here m known ∙ sym (ap (holds m) disowns.here))
   | inr apart ↦ others m q known low apart ∙ are m q known low ∙ sym (ap (λ (r : Record). owns m r) (disowns.others q apart))
@@ -209,7 +210,7 @@ disowns_by has = record { here = ap (λ (s : Record). s.owned) has.here; others 
 
 -- process p, which owned this or nothing, owns the mutex that it holds
 pub owners_inherited : (old new target : Roster) (words mids news : List ℕ) (p : ℕ) (holding : Holding) → AreOwners old words → new ≡ target → Disowns old target p (holding ∷ [])
-    → ((m : ℕ) → m < most_mutexes → is_owner mids m p ≡ false)
+    → ((m : ℕ) → m < ID_PLACES → is_owner mids m p ≡ false)
     → ((m q : ℕ) → q < most_owners → q ≢ p → is_owner mids m q ≡ is_owner words m q)
     → ((q : ℕ) → q < most_owners → is_owner news holding.mutex q ≡ (if q == p then true else is_owner mids holding.mutex q))
     → ((m q : ℕ) → m ≢ holding.mutex → is_owner news m q ≡ is_owner mids m q) → p < most_owners → AreOwners new news
@@ -218,7 +219,7 @@ owners_inherited old new target words mids news p holding are is disowns gone st
       owner_now : (m : ℕ) → m ≡ holding.mutex → is_owner news m p ≡ true
       owner_now m e = rw (e, same p low) (grind arith)
 
-      here : (m : ℕ) → m < most_mutexes → is_owner news m p ≡ holds m (holding ∷ [])
+      here : (m : ℕ) → m < ID_PLACES → is_owner news m p ≡ holds m (holding ∷ [])
       here m known = elim (cases_eq m holding.mutex) as (λ _. is_owner news m p ≡ holds m (holding ∷ [])) [
         | inl e ↦ owner_now m e ∙ sym (or_left (is_of m holding) false (eq-eqb holding.mutex m (sym e)))
         | inr apart ↦
@@ -226,7 +227,7 @@ owners_inherited old new target words mids news p holding are is disowns gone st
             ∙ sym (or_from (is_of m holding) false (ne_eqb holding.mutex m (λ same. apart (sym same))) refl)
       ]
 
-      elsewhere : (m q : ℕ) → m < most_mutexes → q < most_owners → q ≢ p → is_owner news m q ≡ is_owner words m q
+      elsewhere : (m q : ℕ) → m < ID_PLACES → q < most_owners → q ≢ p → is_owner news m q ≡ is_owner words m q
       elsewhere m q known low' apart = elim (cases_eq m holding.mutex) as (λ _. is_owner news m q ≡ is_owner words m q) [
         | inl e ↦ rw (e, same q low', stay holding.mutex q low' apart) (grind (arith, apart))
         | inr other ↦ others m q other ∙ stay m q low' apart

@@ -1,23 +1,25 @@
 -- Each list is that of one core and priority, or of one queue.
-use Rattle.std.proofs.Common.{◌≡◌, ◌≢◌, ℕ, ◌+◌, ◌<◌, ◌≤◌, true, false, ◌&&◌, length, Option, None, Some, inl, inr, refl, ap, sym, ◌∙◌, arith}
+use Rattle.std.proofs.Common.{◌≡◌, ◌≢◌, ℕ, ◌+◌, ◌*◌, ◌<◌, ◌≤◌, true, false, ◌&&◌, length, Option, None, Some, inl, inr, refl, ap, sym, ◌∙◌, arith}
 use Rattle.std.specs.Prelude.{◌==◌}
 use Rattle.std.specs.Option.{option_and_then}
 use Rattle.std.proofs.lemmas.Bool.{cases_eq, cases_Bool, cases_lt, and_parts, false≢true}
 use Rattle.std.proofs.lemmas.List.{get_or_past}
 use Rattle.std.proofs.lemmas.Option.{none-some, same_Some}
-use Rattle.apex_types.specs.values.Limits.{most_cores}
-use Rattle.apex_types.specs.declared.Mode.{Mode}
-use Rattle.apex_types.specs.declared.records.Queue.{Queue}
-use Rattle.apex_types.specs.declared.Record.{Record}
-use Rattle.apex_types.specs.declared.Wait.{Wait}
-use Rattle.apex_types.specs.declared.records.Queue.TheVariants as queues
-use Rattle.apex_types.specs.processes.Queues.{queue_of, is_queue, is_same_queue}
-use Rattle.apex_types.specs.processes.Roster.{Roster, nobody, is_normal}
-use Rattle.apex_types.specs.processes.Running.{current_priority, is_eligible, IsEligible}
-use Rattle.apex_types.specs.processes.Waiters.{queue_in, waits_in}
-use Rattle.apex_types.proofs.Starts.{runnable, same_queue}
-use Rattle.apex_ready.specs.ReadyOrders.{ready_list, ready_lists}
-use Rattle.apex_waitq.specs.WaitQueues.{most_queues, queue_place, wait_list, IsNumbered}
+use Rattle.apex_types.specs.declared.limits.TheConstants.{MOST_CORES}
+use Rattle.apex_types.specs.declared.modes.Mode.{Mode}
+use Rattle.apex_machine.specs.declared.records.Queue.{Queue}
+use Rattle.apex_machine.specs.declared.records.Record.{Record}
+use Rattle.apex_machine.specs.declared.records.Wait.{Wait}
+use Rattle.apex_machine.specs.declared.records.Queue.TheVariants as queues
+use Rattle.apex_machine.specs.processes.Queues.{queue_of, is_queue, is_same_queue}
+use Rattle.apex_types.specs.Modes.{is_normal}
+use Rattle.apex_machine.specs.processes.Roster.{Roster, nobody}
+use Rattle.apex_machine.specs.processes.Running.{current_priority, is_eligible, IsEligible}
+use Rattle.apex_machine.specs.processes.Waiters.{queue_in, waits_in}
+use Rattle.apex_machine.proofs.Starts.{runnable, same_queue}
+use Rattle.apex_links.specs.declared.numbers.TheConstants.{ID_PLACES, PRIORITIES, QUEUE_LISTS, READY_LISTS}
+use Rattle.apex_ready.specs.ReadyOrders.{ready_list}
+use Rattle.apex_waitq.specs.WaitQueues.{queue_place, wait_list, IsNumbered}
 use Rattle.apex_process.specs.Lists.{discipline_in, is_list, list_for, list_of, queue_list, HasPlace}
 
 differ : (x y : ℕ) → x ≢ y → (x == y) ≡ false
@@ -32,14 +34,14 @@ shifted k s t = elim (cases_eq s t) as (λ _. (k + s == k + t) ≡ (s == t)) [
 -- two queues have one list exactly if they are the same
 pub same_wait_list : (a b : Queue) → IsNumbered a → IsNumbered b → (wait_list a == wait_list b) ≡ is_same_queue a b
 same_wait_list queues.Normal queues.Normal i j = refl
-same_wait_list (queues.Semaphore s) (queues.Semaphore t) i j = shifted 2048 (256 + s) (256 + t) ∙ shifted 256 s t
-same_wait_list (queues.Buffer s) (queues.Buffer t) i j = shifted 2048 (512 + s) (512 + t) ∙ shifted 512 s t
-same_wait_list (queues.Blackboard s) (queues.Blackboard t) i j = shifted 2048 (768 + s) (768 + t) ∙ shifted 768 s t
-same_wait_list (queues.EventFlag s) (queues.EventFlag t) i j = shifted 2048 (1024 + s) (1024 + t) ∙ shifted 1024 s t
-same_wait_list (queues.Mutex s) (queues.Mutex t) i j = shifted 2048 (1280 + s) (1280 + t) ∙ shifted 1280 s t
+same_wait_list (queues.Semaphore s) (queues.Semaphore t) i j = shifted READY_LISTS (ID_PLACES + s) (ID_PLACES + t) ∙ shifted ID_PLACES s t
+same_wait_list (queues.Buffer s) (queues.Buffer t) i j = shifted READY_LISTS (2 * ID_PLACES + s) (2 * ID_PLACES + t) ∙ shifted (2 * ID_PLACES) s t
+same_wait_list (queues.Blackboard s) (queues.Blackboard t) i j = shifted READY_LISTS (3 * ID_PLACES + s) (3 * ID_PLACES + t) ∙ shifted (3 * ID_PLACES) s t
+same_wait_list (queues.EventFlag s) (queues.EventFlag t) i j = shifted READY_LISTS (4 * ID_PLACES + s) (4 * ID_PLACES + t) ∙ shifted (4 * ID_PLACES) s t
+same_wait_list (queues.Mutex s) (queues.Mutex t) i j = shifted READY_LISTS (5 * ID_PLACES + s) (5 * ID_PLACES + t) ∙ shifted (5 * ID_PLACES) s t
 same_wait_list _ _ i j = differ _ _ (λ e. omega (arith, e, i, j))
 
-pub place_below : (q : Queue) → IsNumbered q → queue_place q < most_queues
+pub place_below : (q : Queue) → IsNumbered q → queue_place q < QUEUE_LISTS
 place_below queues.Normal i = omega arith
 place_below _ i = omega (arith, i)
 
@@ -79,14 +81,14 @@ listed_known roster p l e = elim (cases_lt p (length roster.records)) [
 ]
 
 -- a list of a queue is no ready list
-above_ready : (o : Option Queue) (l : ℕ) → queue_list o ≡ Some l → ready_lists ≤ l
+above_ready : (o : Option Queue) (l : ℕ) → queue_list o ≡ Some l → READY_LISTS ≤ l
 above_ready None l e = absurd (none-some l e)
 above_ready (Some q) l e = let is = same_Some (wait_list q) l e in omega (arith, is)
 
-pub waiting_above : (mode : Mode) (r : Record) (l : ℕ) → is_eligible mode r ≡ false → list_for mode r ≡ Some l → ready_lists ≤ l
+pub waiting_above : (mode : Mode) (r : Record) (l : ℕ) → is_eligible mode r ≡ false → list_for mode r ≡ Some l → READY_LISTS ≤ l
 waiting_above mode r l out e = above_ready (queue_in r) l (sym (listed_waiting mode r out) ∙ e)
 
-pub ready_below : (mode : Mode) (r : Record) (l : ℕ) → HasPlace mode r → is_eligible mode r ≡ true → list_for mode r ≡ Some l → l < ready_lists
+pub ready_below : (mode : Mode) (r : Record) (l : ℕ) → HasPlace mode r → is_eligible mode r ≡ true → list_for mode r ≡ Some l → l < READY_LISTS
 ready_below mode r l place e is =
     let same = same_Some _ _ (sym (listed_ready mode r e) ∙ is) in
     omega (arith, same, place.core e, place.priority e)
@@ -115,7 +117,7 @@ one_queue mode r s l place place' e f = elim (cases_Bool (is_eligible mode r)) [
 ]
 
 -- the processes of the ready list of a core and a priority
-two_numbers : (core priority c k : ℕ) → priority < 256 → k < 256 → (ready_list core priority == ready_list c k) ≡ (c == core && k == priority)
+two_numbers : (core priority c k : ℕ) → priority < PRIORITIES → k < PRIORITIES → (ready_list core priority == ready_list c k) ≡ (c == core && k == priority)
 two_numbers core priority c k low low' = elim (cases_eq c core) as (λ _. (ready_list core priority == ready_list c k) ≡ (c == core && k == priority)) [
   | inl e ↦ elim (cases_eq k priority) as (λ _. (ready_list core priority == ready_list c k) ≡ (c == core && k == priority)) [
     | inl f ↦ rw (e, f) (grind arith)
@@ -124,11 +126,11 @@ two_numbers core priority c k low low' = elim (cases_eq c core) as (λ _. (ready
   | inr other ↦ differ _ _ (λ g. other (omega (arith, g, low, low'))) ∙ sym (rw (differ c core other) refl)
 ]
 
-pub in_no_ready : (o : Option Queue) (l : ℕ) → l < ready_lists → is_list l (queue_list o) ≡ false
+pub in_no_ready : (o : Option Queue) (l : ℕ) → l < READY_LISTS → is_list l (queue_list o) ≡ false
 in_no_ready None l low = refl
 in_no_ready (Some q) l low = differ l (wait_list q) (λ e. omega (arith, e, low))
 
-pub in_ready_list : (mode : Mode) (r : Record) (core priority : ℕ) → HasPlace mode r → core < most_cores → priority < 256
+pub in_ready_list : (mode : Mode) (r : Record) (core priority : ℕ) → HasPlace mode r → core < MOST_CORES → priority < PRIORITIES
     → is_list (ready_list core priority) (list_for mode r) ≡ (is_eligible mode r && (r.core == core && current_priority r == priority))
 in_ready_list mode r core priority place c k = elim (cases_Bool (is_eligible mode r)) as (λ _. is_list (ready_list core priority) (list_for mode r) ≡ (is_eligible mode r && (r.core == core && current_priority r == priority))) [
   | inl e ↦ rw e (two_numbers core priority r.core (current_priority r) k (place.priority e))

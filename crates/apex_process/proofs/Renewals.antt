@@ -3,22 +3,23 @@
 use Rattle.std.proofs.Common.{◌≡◌, ◌≢◌, ℕ, ◌+◌, ◌<◌, Bool, true, false, not, is_some, is_none, ◌&&◌, ◌||◌, List, [], ◌∷◌, Option, None, Some, length, inl, inr, refl, ap, sym, ◌∙◌, arith}
 use Rattle.std.proofs.lemmas.Bool.{and_parts, cases_Bool, cond_both, eqb-true, false≢true}
 use Rattle.std.proofs.lemmas.Option.{none-some}
-use Rattle.apex_types.specs.declared.Holding.{Holding}
-use Rattle.apex_types.specs.declared.Message.{Message}
-use Rattle.apex_types.specs.declared.Mode.{Mode}
-use Rattle.apex_types.specs.declared.Record.{Record}
-use Rattle.apex_types.specs.declared.Wait.{Wait}
-use Rattle.apex_types.specs.declared.records.Suspender.TheVariants.{Other}
-use Rattle.apex_types.specs.declared.records.Wait.TheVariants.{Normal, Start}
-use Rattle.apex_types.specs.values.Distinct.{IsStamped}
-use Rattle.apex_types.specs.processes.Owners.{owns_some}
-use Rattle.apex_types.specs.processes.Roster.{Roster, record_at, with_record, is_normal}
-use Rattle.apex_types.specs.processes.Running.{current_priority, is_eligible, IsEligible, IsIneligible}
-use Rattle.apex_types.specs.processes.Stamps as stamps
-use Rattle.apex_types.specs.processes.Waiters.{goes_by_priority, queue_in}
-use Rattle.apex_types.proofs.Replaces.{Replaces, each_stays, replaces_newest, replaces_oldest, replaces_readied, replaces_record}
-use Rattle.apex_types.proofs.Rosters.{at_record, at_newest}
-use Rattle.apex_types.proofs.DistinctStamps.{stamped_advance_to, stamped_set_mode}
+use Rattle.apex_machine.specs.declared.holdings.Holding.{Holding}
+use Rattle.apex_types.specs.declared.calls.Message.{Message}
+use Rattle.apex_types.specs.declared.modes.Mode.{Mode}
+use Rattle.apex_machine.specs.declared.records.Record.{Record}
+use Rattle.apex_machine.specs.declared.records.Wait.{Wait}
+use Rattle.apex_machine.specs.declared.records.Suspender.TheVariants.{Other}
+use Rattle.apex_machine.specs.declared.records.Wait.TheVariants.{Normal, Start}
+use Rattle.apex_machine.specs.processes.Distinct.{IsStamped}
+use Rattle.apex_machine.specs.processes.Owners.{owns_some}
+use Rattle.apex_types.specs.Modes.{is_normal}
+use Rattle.apex_machine.specs.processes.Roster.{Roster, record_at, with_record}
+use Rattle.apex_machine.specs.processes.Running.{current_priority, is_eligible, IsEligible, IsIneligible}
+use Rattle.apex_machine.specs.processes.Stamps as stamps
+use Rattle.apex_machine.specs.processes.Waiters.{goes_by_priority, queue_in}
+use Rattle.apex_machine.proofs.Replaces.{Replaces, each_stays, replaces_newest, replaces_oldest, replaces_readied, replaces_record}
+use Rattle.apex_machine.proofs.Rosters.{at_record, at_newest}
+use Rattle.apex_machine.proofs.DistinctStamps.{stamped_advance_to, stamped_set_mode}
 use Rattle.apex_process.specs.Lists.{list_for, list_of}
 use Rattle.apex_process.proofs.Places.{listed_waiting, no_queue}
 use Rattle.apex_process.proofs.Starting.{start_cases}

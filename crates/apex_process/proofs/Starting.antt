@@ -2,12 +2,13 @@
 use Rattle.std.proofs.Common.{◌≡◌, ℕ, ◌+◌, ◌<◌, ◌==◌, true, length, Option, None, Some, sym, ◌∙◌, ap, subst}
 use Rattle.std.proofs.lemmas.Bool.{cond_both}
 use Rattle.std.proofs.lemmas.List.{set-set}
-use Rattle.apex_types.specs.declared.Record.{Record}
-use Rattle.apex_types.specs.declared.Wait.{Wait}
-use Rattle.apex_types.specs.declared.records.Wait.TheVariants.{Normal, Start}
-use Rattle.apex_types.specs.processes.Roster.{Roster, is_normal, record_at, with_record}
-use Rattle.apex_types.specs.processes.Stamps.{begin, block, newest, readied, release, released_at, reset, start, waiting}
-use Rattle.apex_types.proofs.Rosters.{at_record}
+use Rattle.apex_machine.specs.declared.records.Record.{Record}
+use Rattle.apex_machine.specs.declared.records.Wait.{Wait}
+use Rattle.apex_machine.specs.declared.records.Wait.TheVariants.{Normal, Start}
+use Rattle.apex_types.specs.Modes.{is_normal}
+use Rattle.apex_machine.specs.processes.Roster.{Roster, record_at, with_record}
+use Rattle.apex_machine.specs.processes.Stamps.{begin, block, newest, readied, release, released_at, reset, start, waiting}
+use Rattle.apex_machine.proofs.Rosters.{at_record}
 
 -- a start resets the process first, and of two changes of one record the later one counts
 module _ (roster : Roster) (p : ℕ) (known : p < length roster.records) where

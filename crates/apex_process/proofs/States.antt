@@ -3,12 +3,13 @@ use Rattle.std.proofs.Common.{◌≡◌, ℕ, ◌<◌, true, ◌&&◌, None, Som
 use Rattle.std.specs.Prelude.{◌==◌}
 use Rattle.std.proofs.lemmas.Bool.{and_parts}
 use Rattle.std.proofs.lemmas.Option.{same_Some}
-use Rattle.apex_types.specs.values.Limits.{most_cores}
-use Rattle.apex_types.specs.declared.records.Queue.{Queue}
-use Rattle.apex_types.specs.processes.Roster.{Roster, record_at}
-use Rattle.apex_types.specs.processes.Running.{current_priority, is_eligible, is_older, IsEligible, IsIneligible}
-use Rattle.apex_types.specs.processes.Waiters.{discipline_of, queue_in, waits_before, waits_in}
-use Rattle.apex_types.proofs.Starts.{stands_in as queue_is}
+use Rattle.apex_types.specs.declared.limits.TheConstants.{MOST_CORES}
+use Rattle.apex_machine.specs.declared.records.Queue.{Queue}
+use Rattle.apex_machine.specs.processes.Roster.{Roster, record_at}
+use Rattle.apex_machine.specs.processes.Running.{current_priority, is_eligible, is_older, IsEligible, IsIneligible}
+use Rattle.apex_machine.specs.processes.Waiters.{discipline_of, queue_in, waits_before, waits_in}
+use Rattle.apex_machine.proofs.Starts.{stands_in as queue_is}
+use Rattle.apex_links.specs.declared.numbers.TheConstants.{PRIORITIES}
 use Rattle.apex_links.specs.Neighbours.{stands_in}
 use Rattle.apex_links.specs.Links.{list_at, IsFree}
 use Rattle.apex_links.proofs.Sorted.{sorted_same}
@@ -24,7 +25,7 @@ use Rattle.apex_process.proofs.Places.{in_ready_list, in_wait_list, listed_waiti
 use Rattle.apex_process.proofs.Standing.{place_of}
 
 module _ (roster : Roster) (s : Standings) (is : IsQueued roster s) where
-  ready_members : (core priority p : ℕ) → core < most_cores → priority < 256
+  ready_members : (core priority p : ℕ) → core < MOST_CORES → priority < PRIORITIES
       → stands_in p (list_at s.links (ready_list core priority)) ≡ (is_eligible roster.mode (record_at roster p) && ((record_at roster p).core == core && current_priority (record_at roster p) == priority))
   ready_members core priority p c k = is.lists.members p (ready_list core priority) ∙ in_ready_list roster.mode (record_at roster p) core priority (is.places p) c k
 

@@ -3,20 +3,19 @@ use Rattle.std.proofs.Common.{◌≡◌, ◌≢◌, ℕ, zero, suc, ◌+◌, ◌
 use Rattle.std.proofs.lemmas.Bool.{cases_eq, cond_both, false≢true}
 use Rattle.std.proofs.lemmas.List.{length-replicate}
 use Rattle.std.proofs.lemmas.Option.{none-some}
-use Rattle.apex_types.specs.declared.Holding.{Holding}
-use Rattle.apex_types.specs.declared.Mode.{Mode}
-use Rattle.apex_types.specs.declared.Record.{Record}
-use Rattle.apex_types.specs.declared.Wait.{Wait}
-use Rattle.apex_types.specs.declared.records.Wait.TheVariants.{Normal, Start}
-use Rattle.apex_types.specs.processes.Dues.{IsFrom, HasNoDeadlineBelow, HasNoDueBelow}
-use Rattle.apex_types.specs.values.Places.{map_places}
-use Rattle.apex_types.specs.processes.Roster.{Roster, nobody, opening_record, opening_roster, record_at}
-use Rattle.apex_types.specs.table.Table.{ProcessConfig, Table}
-use Rattle.apex_types.specs.processes.Stamps as stamps
-use Rattle.apex_types.proofs.Dues.{deadline_later, from_now}
+use Rattle.apex_machine.specs.declared.holdings.Holding.{Holding}
+use Rattle.apex_types.specs.declared.modes.Mode.{Mode}
+use Rattle.apex_machine.specs.declared.records.Record.{Record}
+use Rattle.apex_machine.specs.declared.records.Wait.{Wait}
+use Rattle.apex_machine.specs.declared.records.Wait.TheVariants.{Normal, Start}
+use Rattle.apex_machine.specs.processes.Dues.{IsFrom, HasNoDeadlineBelow, HasNoDueBelow}
+use Rattle.apex_types.specs.Places.{map_places}
+use Rattle.apex_machine.specs.processes.Roster.{Roster, nobody, opening_record, opening_roster, record_at}
+use Rattle.apex_machine.specs.table.Table.{ProcessConfig, Table}
+use Rattle.apex_machine.specs.processes.Stamps as stamps
+use Rattle.apex_machine.proofs.Dues.{deadline_later, from_now}
 use Rattle.apex_types.proofs.Places.{length-map_places}
-use Rattle.apex_types.proofs.Rosters.{at_record}
-use Rattle.apex_types.proofs.Replaces.{Replaces, each_stays, replaces_levelled, replaces_newest, replaces_readied, replaces_record}
+use Rattle.apex_machine.proofs.Replaces.{Replaces, each_stays, replaces_levelled, replaces_newest, replaces_readied, replaces_record}
 use Rattle.apex_timeouts.specs.Timeline.{empty_line as bare_line, Times, IsReset}
 use Rattle.apex_timeouts.proofs.Instants.{same_reset}
 use Rattle.apex_process.specs.Timed.{due_of, deadline_of, AreTimers, IsLineOf}

@@ -5,12 +5,12 @@ use Rattle.std.proofs.lemmas.Bool.{cases_lt, cases_Bool, and_parts, and_from, eq
 use Rattle.std.proofs.lemmas.Bool.Decides.{nat_tests}
 use Rattle.std.proofs.lemmas.Int.{ints}
 use Rattle.std.proofs.lemmas.Option.{get_or_from_slice_get, slice_get-get_or}
-use Rattle.apex_types.specs.values.Limits.{most_cores}
-use Rattle.apex_types.specs.declared.Record.{Record}
-use Rattle.apex_types.specs.processes.Roster.{Roster, nobody, record_at}
-use Rattle.apex_types.specs.processes.Running.{chosen, current_priority, is_before, is_eligible, is_older, runs_on, IsEligible}
-use Rattle.apex_types.proofs.Choice.{place_is, place_found}
-use Rattle.apex_types.proofs.Orders.{before_strict}
+use Rattle.apex_types.specs.declared.limits.TheConstants.{MOST_CORES}
+use Rattle.apex_machine.specs.declared.records.Record.{Record}
+use Rattle.apex_machine.specs.processes.Roster.{Roster, nobody, record_at}
+use Rattle.apex_machine.specs.processes.Running.{chosen, current_priority, is_before, is_eligible, is_older, runs_on, IsEligible}
+use Rattle.apex_machine.proofs.Choice.{place_is, place_found}
+use Rattle.apex_machine.proofs.Orders.{before_strict}
 use Rattle.apex_links.specs.Neighbours.{stands_in}
 use Rattle.apex_links.specs.Links.{Links, list_at}
 use Rattle.apex_ready.specs.ReadyOrders.{ready_list, IsIdle, IsTop}
@@ -21,7 +21,7 @@ use Rattle.apex_process.specs.State.{is_ready_at, AreReadyLists}
 use Rattle.apex_process.proofs.Places.{eligible_known}
 use Rattle.apex_store.proofs.Urgency.{runs_parts, runs_from}
 
-module _ (roster : Roster) (links : Links) (core : ℕ) (are : AreReadyLists roster links) (places : HavePlaces roster) (inside : core < most_cores) where
+module _ (roster : Roster) (links : Links) (core : ℕ) (are : AreReadyLists roster links) (places : HavePlaces roster) (inside : core < MOST_CORES) where
   -- a process that may run on the core is in the list of its priority
   in_its_list : (q : ℕ) → IsEligible roster q → (record_at roster q).core ≡ core
       → stands_in q (list_at links (ready_list core (current_priority (record_at roster q)))) ≡ true

@@ -3,13 +3,13 @@
 use Rattle.std.proofs.Common.{◌≡◌, ℕ, ◌<◌, Bool, true, false, List, length, Option, None, Some, IfSome, inl, inr, refl, sym, subst, ◌∙◌}
 use Rattle.std.proofs.lemmas.Bool.{and_from, and_parts, cases_Bool, false≢true}
 use Rattle.std.proofs.lemmas.Option.{get_or_from_slice_get, none-some, slice_get-get_or}
-use Rattle.apex_types.specs.declared.records.Discipline.{Discipline}
-use Rattle.apex_types.specs.declared.records.Queue.{Queue}
-use Rattle.apex_types.specs.declared.Record.{Record}
-use Rattle.apex_types.specs.processes.Roster.{Roster, nobody, record_at}
-use Rattle.apex_types.specs.processes.Waiters.{discipline_of, first_waiter, next_waiter, waiter_count, waits_before, waits_behind, waits_in}
-use Rattle.apex_types.proofs.Choice.{place_found, place_is}
-use Rattle.apex_types.proofs.Orders.{waits_strict}
+use Rattle.apex_types.specs.declared.modes.Discipline.{Discipline}
+use Rattle.apex_machine.specs.declared.records.Queue.{Queue}
+use Rattle.apex_machine.specs.declared.records.Record.{Record}
+use Rattle.apex_machine.specs.processes.Roster.{Roster, nobody, record_at}
+use Rattle.apex_machine.specs.processes.Waiters.{discipline_of, first_waiter, next_waiter, waiter_count, waits_before, waits_behind, waits_in}
+use Rattle.apex_machine.proofs.Choice.{place_found, place_is}
+use Rattle.apex_machine.proofs.Orders.{waits_strict}
 use Rattle.apex_links.specs.Neighbours.{stands_in, after_in, first_of, IsDistinct}
 use Rattle.apex_links.specs.Links.{list_at}
 use Rattle.apex_links.proofs.Counting.{count_places}
@@ -20,8 +20,8 @@ use Rattle.apex_waitq.specs.WaitQueues.{wait_list, IsNumbered}
 use Rattle.apex_process.specs.Lists.{list_of}
 use Rattle.apex_process.specs.Queued.{IsQueued, Standings}
 use Rattle.apex_process.proofs.Places.{listed_known, no_queue}
-use Rattle.apex_types.specs.processes.Running.{is_eligible}
-use Rattle.apex_types.proofs.Starts.{stands_in as queue_is}
+use Rattle.apex_machine.specs.processes.Running.{is_eligible}
+use Rattle.apex_machine.proofs.Starts.{stands_in as queue_is}
 use Rattle.apex_process.proofs.Standing.{place_of}
 use Rattle.apex_process.proofs.States.{wait_lists_are, wait_members}
 

@@ -1,14 +1,15 @@
 -- The list of each process, and its place there: the ready lists, and the lists of the wait queues.
 use Rattle.std.specs.Prelude.{◌≡◌, ℕ, ◌<◌, Bool, true, false, ◌==◌, if◌then◌else◌, List, slice_set, Option, None, Some}
-use Rattle.apex_types.specs.values.Limits.{most_cores}
-use Rattle.apex_types.specs.declared.records.Discipline.{Discipline}
-use Rattle.apex_types.specs.declared.records.Mode.{Mode}
-use Rattle.apex_types.specs.declared.records.Queue.{Queue}
-use Rattle.apex_types.specs.declared.records.Record.{Record}
-use Rattle.apex_types.specs.declared.records.Discipline.TheVariants.{Fifo}
-use Rattle.apex_types.specs.processes.Roster.{Roster, record_at}
-use Rattle.apex_types.specs.processes.Running.{current_priority, is_eligible}
-use Rattle.apex_types.specs.processes.Waiters.{discipline_of, queue_in, waits_before}
+use Rattle.apex_types.specs.declared.limits.TheConstants.{MOST_CORES}
+use Rattle.apex_types.specs.declared.modes.Discipline.{Discipline}
+use Rattle.apex_types.specs.declared.modes.Mode.{Mode}
+use Rattle.apex_machine.specs.declared.records.Queue.{Queue}
+use Rattle.apex_machine.specs.declared.records.Record.{Record}
+use Rattle.apex_types.specs.declared.modes.Discipline.TheVariants.{Fifo}
+use Rattle.apex_machine.specs.processes.Roster.{Roster, record_at}
+use Rattle.apex_machine.specs.processes.Running.{current_priority, is_eligible}
+use Rattle.apex_machine.specs.processes.Waiters.{discipline_of, queue_in, waits_before}
+use Rattle.apex_links.specs.declared.numbers.TheConstants.{PRIORITIES}
 use Rattle.apex_links.specs.Neighbours.{stands_in}
 use Rattle.apex_links.specs.Links.{Links, list_at, pushed_back, pushed_front}
 use Rattle.apex_ready.specs.ReadyOrders.{ready_list}
@@ -56,8 +57,8 @@ pub record AreLists (place : ℕ → Option ℕ) (before : ℕ → ℕ → Bool)
 -- there is a list for the record: one for its core and current priority if it is eligible, else one
 -- for the queue in which it waits
 pub record HasPlace (mode : Mode) (r : Record) : Type 0 where
-  pub core : is_eligible mode r ≡ true → r.core < most_cores
-  pub priority : is_eligible mode r ≡ true → current_priority r < 256
+  pub core : is_eligible mode r ≡ true → r.core < MOST_CORES
+  pub priority : is_eligible mode r ≡ true → current_priority r < PRIORITIES
   pub queue : is_eligible mode r ≡ false → (queue : Queue) → queue_in r ≡ Some queue
       → IsNumbered queue
 

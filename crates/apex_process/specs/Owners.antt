@@ -1,12 +1,9 @@
 -- The owner of each mutex, as a word of bits for each: bit 63 - p is that of process p.
 use Rattle.std.specs.Prelude.{◌≡◌, ℕ, ◌-◌, ◌<◌, Bool, true, false, ◌==◌, List, slice_index_or}
 use Rattle.std.specs.Int.{bit_at}
-use Rattle.apex_types.specs.processes.Owners.{owns}
-use Rattle.apex_types.specs.processes.Roster.{Roster, record_at}
-
--- the most mutexes
-abbrev pub most_mutexes : ℕ
-most_mutexes = 256
+use Rattle.apex_links.specs.declared.numbers.TheConstants.{ID_PLACES}
+use Rattle.apex_machine.specs.processes.Owners.{owns}
+use Rattle.apex_machine.specs.processes.Roster.{Roster, record_at}
 
 -- the most processes that may own one
 abbrev pub most_owners : ℕ
@@ -23,7 +20,7 @@ is_owner words m p = is_among (slice_index_or words m 0) p
 -- the words say of each process which mutex it owns
 abbrev pub AreOwners : Roster → List ℕ → Type 0
 AreOwners roster words =
-    (m p : ℕ) → m < most_mutexes → p < most_owners
+    (m p : ℕ) → m < ID_PLACES → p < most_owners
     → is_owner words m p ≡ owns m (record_at roster p)
 
 -- no process owns mutex m

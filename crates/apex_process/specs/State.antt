@@ -1,11 +1,12 @@
 -- The lists of a state: the processes of each list that a store keeps, their order, and the counts
 -- of them.
 use Rattle.std.specs.Prelude.{◌≡◌, ℕ, ◌<◌, Bool, true, ◌==◌, ◌&&◌, None}
-use Rattle.apex_types.specs.values.Limits.{most_cores}
-use Rattle.apex_types.specs.declared.records.Queue.{Queue}
-use Rattle.apex_types.specs.processes.Roster.{Roster, record_at}
-use Rattle.apex_types.specs.processes.Running.{current_priority, is_eligible, is_older, IsIneligible}
-use Rattle.apex_types.specs.processes.Waiters.{discipline_of, queue_in, waits_before, waits_in}
+use Rattle.apex_types.specs.declared.limits.TheConstants.{MOST_CORES}
+use Rattle.apex_machine.specs.declared.records.Queue.{Queue}
+use Rattle.apex_machine.specs.processes.Roster.{Roster, record_at}
+use Rattle.apex_machine.specs.processes.Running.{current_priority, is_eligible, is_older, IsIneligible}
+use Rattle.apex_machine.specs.processes.Waiters.{discipline_of, queue_in, waits_before, waits_in}
+use Rattle.apex_links.specs.declared.numbers.TheConstants.{PRIORITIES}
 use Rattle.apex_links.specs.Neighbours.{stands_in}
 use Rattle.apex_links.specs.Links.{Links, list_at, IsFree}
 use Rattle.apex_ready.specs.ReadyOrders.{ready_list, AreMarked}
@@ -25,9 +26,9 @@ is_ready_at roster core priority p =
 
 -- the ready list of each core and priority: its eligible processes, the longest ready first
 pub record AreReadyLists (roster : Roster) (links : Links) : Type 0 where
-  pub members : (core priority p : ℕ) → core < most_cores → priority < 256
+  pub members : (core priority p : ℕ) → core < MOST_CORES → priority < PRIORITIES
       → stands_in p (list_at links (ready_list core priority)) ≡ is_ready_at roster core priority p
-  pub sorted : (core priority : ℕ) → core < most_cores → priority < 256
+  pub sorted : (core priority : ℕ) → core < MOST_CORES → priority < PRIORITIES
       → IsSorted (λ p q. is_older (record_at roster p) (record_at roster q))
       (list_at links (ready_list core priority))
 

@@ -1,8 +1,8 @@
 -- The timers of a state: the instant at which each process's wait ends by itself, and the one at
 -- which its deadline passes.
 use Rattle.std.specs.Prelude.{◌≡◌, ℕ, Option, length}
-use Rattle.apex_types.specs.processes.Dues.{IsFrom}
-use Rattle.apex_types.specs.processes.Roster.{Roster, record_at}
+use Rattle.apex_machine.specs.processes.Dues.{IsFrom}
+use Rattle.apex_machine.specs.processes.Roster.{Roster, record_at}
 use Rattle.apex_timeouts.specs.Timeline.{Times, instant_on}
 
 -- the line has these instants, for `many` processes, and none of them is past

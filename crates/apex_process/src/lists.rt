@@ -1,27 +1,23 @@
 //! The ready lists and the wait queues of a partition, in one set of linked lists.
 ghost use Rattle.std.specs.Prelude.{◌≡◌, ◌+◌, ◌<◌, ◌≤◌, ℕ, [], true, length, replicate, slice_get, IfOk, MatchOption};
-ghost use Rattle.apex_types.specs.values.Limits.{most_cores, most_processes};
-ghost use Rattle.apex_types.specs.processes.Running.{current_priority};
+ghost use Rattle.apex_types.specs.declared.limits.TheConstants.{MOST_CORES, MOST_PROCESSES};
+ghost use Rattle.apex_machine.specs.processes.Running.{current_priority};
+ghost use Rattle.apex_links.specs.declared.numbers.TheConstants.{ALL_LISTS, PRIORITIES};
 ghost use Rattle.apex_links.specs.Neighbours.{after_in, first_of, stands_in};
-ghost use Rattle.apex_links.specs.Links.{list_at, pushed_back, pushed_front, removed, IsFree, IsSound};
-ghost use Rattle.apex_ready.specs.ReadyOrders.{ready_list, IsIdle, IsTop};
-ghost use Rattle.apex_waitq.specs.WaitQueues.{joined, wait_list, IsNumbered};
+ghost use Rattle.apex_links.specs.Links.{list_at, removed, IsFree, IsSound};
+ghost use Rattle.apex_ready.specs.ReadyOrders.{IsIdle, IsTop};
+ghost use Rattle.apex_waitq.specs.WaitQueues.{wait_list, IsNumbered};
 ghost use Rattle.apex_process.specs.Lists.{noted_newest, placed_newest, placed_oldest, HasPlace};
-ghost use Rattle.apex_process.specs.Queued.{all_lists, AreEmptied, AreKept, IsUnreadied, StandsReady};
+ghost use Rattle.apex_process.specs.Queued.{AreEmptied, AreKept, IsUnreadied, StandsReady};
 
-use apex_links::LinkSet;
+use apex_links::{ALL_LISTS, LinkSet, READY_LISTS};
+use apex_machine::{Queue, Record};
 use apex_ready::ReadyOrders;
 use apex_store::{PlainStore, Store};
-use apex_types::{CoreId, ProcessId, Queue, Record};
+use apex_types::{CoreId, ProcessId};
 use apex_waitq::WaitQueues;
 use std::alloc::{AllocError, Global};
 use std::marker::Model;
-
-/// The number of ready lists, which are the first of the link set.
-const READY_LISTS: usize = 2048;
-
-/// The number of lists: the ready lists, and one for each queue.
-const ALL_LISTS: u16 = 3584;
 
 /// The ready lists and the lists of the wait queues, with the processes in them.
 #[derive(Drop)]
@@ -55,13 +51,13 @@ impl Model for Lists {
 impl Lists {
     /// The lists of n processes, none of which is ready or waits. Fails only for want of memory.
     pub(crate) fn new(alloc: Global, processes: u16) -> Result<Lists, AllocError>
-        requires { processes ≤ most_processes }
+        requires { processes ≤ MOST_PROCESSES }
         ensures links { IfOk result (λ lists. lists.links
-            ≡ record { processes = processes; lists = replicate all_lists [] }) }
+            ≡ record { processes = processes; lists = replicate ALL_LISTS [] }) }
         ensures rows { IfOk result (λ lists. length lists.priorities ≡ processes) }
     {
         Ok(Lists {
-            links: LinkSet::new(alloc, processes, ALL_LISTS)?,
+            links: LinkSet::new(alloc, processes, ALL_LISTS as u16)?,
             orders: ReadyOrders::new(),
             queues: WaitQueues::new(alloc, processes)?,
         })
@@ -72,6 +68,7 @@ impl Lists {
         ensures sound { IsSound self.now.links }
         ensures kept { AreKept self.now }
     {
+        // The invariant of the type says the rest.
         self.links.holds();
     }
 
@@ -111,21 +108,21 @@ impl Lists {
     /// The process, which has this record, leaves its list and goes to that of the record, as the
     /// newest there.
     #[inline(always)]
-    pub(crate) fn put_newest(&mut self, records: &PlainStore, process: ProcessId, row: &Record)
+    pub(crate) fn put_newest(&mut self, records: &PlainStore, process: ProcessId, given: &Record)
         requires known { process < self.old.links.processes }
         ensures links { self.new.links
             ≡ placed_newest records.now self.old.priorities
-            (removed self.old.links process) process row.now }
+            (removed self.old.links process) process given.now }
         ensures priorities { self.new.priorities
-            ≡ noted_newest records.now self.old.priorities process row.now }
-        ensures place { HasPlace records.now.mode row.now }
+            ≡ noted_newest records.now self.old.priorities process given.now }
+        ensures place { HasPlace records.now.mode given.now }
     {
         self.leave(process);
-        let priority = row.current_priority();
-        if row.is_eligible(records.mode()) {
+        let priority = given.current_priority();
+        if given.is_eligible(records.mode()) {
             self.orders
-                .enter_newest(&mut self.links, row.core, priority, process);
-        } else if let Some(queue) = row.queue() {
+                .enter_newest(&mut self.links, given.core, priority, process);
+        } else if let Some(queue) = given.queue() {
             let discipline = records.discipline(&queue);
             self.queues
                 .join(&mut self.links, queue, discipline, process, priority);
@@ -134,17 +131,18 @@ impl Lists {
 
     /// The process, which is eligible and has this record, leaves its list and goes to that of the
     /// record, as the oldest there.
-    pub(crate) fn put_oldest(&mut self, process: ProcessId, row: &Record)
+    pub(crate) fn put_oldest(&mut self, process: ProcessId, given: &Record)
         requires known { process < self.old.links.processes }
         ensures links { self.new.links
-            ≡ placed_oldest (removed self.old.links process) process row.now }
+            ≡ placed_oldest (removed self.old.links process) process given.now }
         ensures priorities { self.new.priorities ≡ self.old.priorities }
-        ensures core { row.now.core < most_cores }
-        ensures priority { current_priority row.now < 256 }
+        ensures core { given.now.core < MOST_CORES }
+        ensures priority { current_priority given.now < PRIORITIES }
     {
         self.leave(process);
+        let priority = given.current_priority();
         self.orders
-            .enter_oldest(&mut self.links, row.core, row.current_priority(), process);
+            .enter_oldest(&mut self.links, given.core, priority, process);
     }
 
     /// The process is no longer ready. One that waits in a queue stays there.
@@ -167,6 +165,7 @@ impl Lists {
         for place in 0..processes {
             self.unready(ProcessId::at(place));
         }
+        // For the proof: no other process is in a list.
         self.links.holds();
     }
 
@@ -174,7 +173,7 @@ impl Lists {
     pub(crate) fn top(&self, core: CoreId) -> Option<ProcessId>
         ensures value { MatchOption result (IsIdle self.now.links core)
             (λ p. IsTop self.now.links core p) }
-        ensures known { core < most_cores }
+        ensures known { core < MOST_CORES }
     {
         self.orders.top(&self.links, core)
     }
@@ -202,6 +201,7 @@ impl Lists {
         ensures sound { IsSound self.now.links }
         ensures numbered { IsNumbered queue }
     {
+        // For the clause `sound`.
         self.links.holds();
         self.queues.count(&self.links, queue)
     }

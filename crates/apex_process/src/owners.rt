@@ -1,14 +1,14 @@
 //! The owner of each mutex.
 ghost use Rattle.std.specs.Prelude.{◌≡◌, ◌≢◌, ◌<◌, ℕ, true, false, ◌==◌, if◌then◌else◌, IfOk, MatchOption};
-ghost use Rattle.apex_types.specs.processes.Held.{holds};
-ghost use Rattle.apex_process.specs.Owners.{is_owner, most_mutexes, most_owners, IsFirstAmong, IsFirstOwner, IsUnowned};
+ghost use Rattle.apex_machine.specs.processes.Held.{holds};
+ghost use Rattle.apex_links.specs.declared.numbers.TheConstants.{ID_PLACES};
+ghost use Rattle.apex_process.specs.Owners.{is_owner, most_owners, IsFirstAmong, IsFirstOwner, IsUnowned};
 
-use apex_types::{Holding, MutexId, ProcessId};
+use apex_links::ID_PLACES;
+use apex_machine::Holding;
+use apex_types::{MutexId, ProcessId};
 use std::alloc::{AllocError, Global};
 use std::marker::Model;
-
-/// The most mutexes.
-const MOST_MUTEXES: usize = 256;
 
 /// The owner of each mutex, as a word of bits: bit 63 - p is that of process p, so that the first
 /// owner is at the end of the word's zeros.
@@ -19,13 +19,13 @@ pub(crate) struct Owners {
 
 impl Model for Owners {
     ghost use Rattle.std.specs.Prelude.{◌≡◌, ℕ, List, length};
-    ghost use Rattle.apex_process.specs.Owners.{most_mutexes};
+    ghost use Rattle.apex_links.specs.declared.numbers.TheConstants.{ID_PLACES};
 
     ghost Value = { List ℕ };
 
     ghost view = { λ o. o.words.items };
 
-    ghost invariant = { λ o. length o.words.items ≡ most_mutexes };
+    ghost invariant = { λ o. length o.words.items ≡ ID_PLACES };
 }
 
 /// The process of the lowest number whose bit is set.
@@ -42,7 +42,7 @@ impl Owners {
         ensures { IfOk result (λ owners. (m p : ℕ) → is_owner owners m p ≡ false) }
     {
         Ok(Owners {
-            words: vec![in alloc; 0; MOST_MUTEXES]?,
+            words: vec![in alloc; 0; ID_PLACES]?,
         })
     }
 
@@ -71,9 +71,9 @@ impl Owners {
     /// The process, which holds these, owns no mutex from now on.
     pub(crate) fn leave(&mut self, process: ProcessId, held: &[Holding])
         requires process { process < most_owners }
-        requires held { (m : ℕ) → m < most_mutexes
+        requires held { (m : ℕ) → m < ID_PLACES
             → is_owner self.old m process ≡ holds m held.now }
-        ensures here { (m : ℕ) → m < most_mutexes → is_owner self.new m process ≡ false }
+        ensures here { (m : ℕ) → m < ID_PLACES → is_owner self.new m process ≡ false }
         ensures others { (m p : ℕ) → p < most_owners → p ≢ process
             → is_owner self.new m p ≡ is_owner self.old m p }
     {
@@ -85,8 +85,8 @@ impl Owners {
     /// The process, which owns no mutex, holds these from now on.
     fn enter(&mut self, process: ProcessId, held: &[Holding])
         requires process { process < most_owners }
-        requires none { (m : ℕ) → m < most_mutexes → is_owner self.old m process ≡ false }
-        ensures here { (m : ℕ) → m < most_mutexes → is_owner self.new m process ≡ holds m held.now }
+        requires none { (m : ℕ) → m < ID_PLACES → is_owner self.old m process ≡ false }
+        ensures here { (m : ℕ) → m < ID_PLACES → is_owner self.new m process ≡ holds m held.now }
         ensures others { (m p : ℕ) → p < most_owners → p ≢ process
             → is_owner self.new m p ≡ is_owner self.old m p }
     {
@@ -98,9 +98,9 @@ impl Owners {
     /// The process, which holds the first of these, holds the other from now on.
     pub(crate) fn change(&mut self, process: ProcessId, before: &[Holding], after: &[Holding])
         requires process { process < most_owners }
-        requires held { (m : ℕ) → m < most_mutexes
+        requires held { (m : ℕ) → m < ID_PLACES
             → is_owner self.old m process ≡ holds m before.now }
-        ensures here { (m : ℕ) → m < most_mutexes
+        ensures here { (m : ℕ) → m < ID_PLACES
             → is_owner self.new m process ≡ holds m after.now }
         ensures others { (m p : ℕ) → p < most_owners → p ≢ process
             → is_owner self.new m p ≡ is_owner self.old m p }
@@ -113,7 +113,7 @@ impl Owners {
     pub(crate) fn first(&self, mutex: MutexId) -> Option<ProcessId>
         ensures value { MatchOption result (IsUnowned self.now mutex)
             (λ p. IsFirstOwner self.now mutex p) }
-        ensures known { mutex < most_mutexes }
+        ensures known { mutex < ID_PLACES }
     {
         let word = self.words[mutex.place()];
         if word != 0 {

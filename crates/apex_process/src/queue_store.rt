@@ -1,21 +1,19 @@
 //! A store that keeps the ready processes, the waiters and the timers in linked lists.
 ghost use Rattle.std.specs.Prelude.{◌≡◌, ◌<◌, ◌&&◌, ◌||◌, not, length, IfOk};
-ghost use Rattle.apex_types.specs.processes.Owners.{owns_some};
-ghost use Rattle.apex_types.specs.processes.Roster.{opening_roster, record_at};
-ghost use Rattle.apex_types.specs.processes.Running.{is_eligible};
-ghost use Rattle.apex_types.specs.processes.Stamps.{is_level};
-ghost use Rattle.apex_types.specs.processes.Waiters.{goes_by_priority, queue_in};
+ghost use Rattle.apex_machine.specs.processes.Owners.{owns_some};
+ghost use Rattle.apex_machine.specs.processes.Roster.{opening_roster};
+ghost use Rattle.apex_machine.specs.processes.Running.{is_eligible};
+ghost use Rattle.apex_machine.specs.processes.Stamps.{is_level};
+ghost use Rattle.apex_machine.specs.processes.Waiters.{goes_by_priority, queue_in};
 ghost use Rattle.apex_process.specs.State.{AreListsOfState};
 
 use crate::lists::Lists;
 use crate::owners::Owners;
-use apex_links::Visits;
-use apex_store::{PlainStore, Store};
+use apex_machine::{Holding, Holdings, Queue, Record, Wait};
+use apex_store::{PlainStore, Store, stays_level};
 use apex_table::Table;
 use apex_timeouts::Timers;
-use apex_types::{
-    CoreId, Discipline, Holding, Holdings, Message, Mode, MutexId, ProcessId, Queue, Record, Wait,
-};
+use apex_types::{CoreId, Discipline, Message, Mode, MutexId, ProcessId};
 use std::alloc::{AllocError, Global};
 use std::marker::Model;
 
@@ -33,7 +31,6 @@ pub struct QueueStore {
     lists: Lists,
     timers: Timers,
     owners: Owners,
-    reads: Visits,
 }
 
 impl Model for QueueStore {
@@ -55,27 +52,12 @@ impl Model for QueueStore {
         × AreTimers s.records s.timers.dues s.timers.deadlines × AreOwners s.records s.owners };
 }
 
-/// The record of the process, at which the store looks.
-fn read<'a>(records: &'a PlainStore, reads: &Visits, process: ProcessId) -> &'a Record
-    requires { process < length records.now.records }
-    ensures { result.now ≡ record_at records.now process }
-{
-    reads.note();
-    records.record(process)
-}
-
 /// The process of this record owns a mutex, and its current priority stays with this base priority.
-fn stays_at(row: &Record, base: u8) -> bool
-    ensures { result ≡ (owns_some row.now && is_level (record row.now { base = base }) row.now) }
+fn stays_at(given: &Record, base: u8) -> bool
+    ensures { result ≡
+        (owns_some given.now && is_level (record given.now { base = base }) given.now) }
 {
-    row.owns_some() && row.owned.raised(base) == row.current_priority()
-}
-
-/// The current priority of this record stays with these mutexes.
-fn is_level_with(row: &Record, owned: &Holdings) -> bool
-    ensures { result ≡ is_level (record row.now { owned = owned.now }) row.now }
-{
-    owned.raised(row.base) == row.current_priority()
+    given.owns_some() && stays_level(given, base, &given.owned)
 }
 
 /// The process of this record is ready.
@@ -86,23 +68,23 @@ fn is_ready(records: &PlainStore, given: &Record) -> bool
 }
 
 /// The process of this record waits in a queue in which the more urgent comes first.
-fn goes_by_priority(records: &PlainStore, row: &Record) -> bool
-    ensures { result ≡ goes_by_priority records.now (queue_in row.now) }
+fn goes_by_priority(records: &PlainStore, given: &Record) -> bool
+    ensures { result ≡ goes_by_priority records.now (queue_in given.now) }
 {
-    match row.queue() {
+    match given.queue() {
         Some(queue) => records.discipline(&queue) == Discipline::Priority,
         None => false,
     }
 }
 
 /// The process of this record goes to another place as it gets this base priority.
-fn moves_at(records: &PlainStore, row: &Record, base: u8) -> bool
+fn moves_at(records: &PlainStore, given: &Record, base: u8) -> bool
     ensures { result ≡
-        ((is_eligible records.now.mode row.now
-        && not (owns_some row.now && is_level (record row.now { base = base }) row.now))
-        || goes_by_priority records.now (queue_in row.now)) }
+        ((is_eligible records.now.mode given.now
+        && not (owns_some given.now && is_level (record given.now { base = base }) given.now))
+        || goes_by_priority records.now (queue_in given.now)) }
 {
-    row.is_eligible(records.mode()) && !stays_at(row, base) || goes_by_priority(records, row)
+    is_ready(records, given) && !stays_at(given, base) || goes_by_priority(records, given)
 }
 
 impl QueueStore {
@@ -120,7 +102,6 @@ impl QueueStore {
             lists,
             timers,
             owners,
-            reads: Visits::new(),
         })
     }
 
@@ -133,12 +114,12 @@ impl QueueStore {
     }
 
     /// The number of records, and of nodes of lists, at which the calls, reading ones too, have
-    /// looked since the store was made, modulo 2^64.
+    /// looked since the store was made; it stays at the greatest `u64`.
     pub fn visits(&self) -> u64 {
-        self.reads
-            .count()
-            .wrapping_add(self.lists.visits())
-            .wrapping_add(self.timers.visits())
+        self.records
+            .visits()
+            .saturating_add(self.lists.visits())
+            .saturating_add(self.timers.visits())
     }
 }
 
@@ -162,7 +143,7 @@ impl Store for QueueStore {
     }
 
     fn record(&self, process: ProcessId) -> &Record {
-        read(&self.records, &self.reads, process)
+        self.records.record(process)
     }
 
     fn chosen(&self, core: CoreId) -> Option<ProcessId> {
@@ -194,20 +175,21 @@ impl Store for QueueStore {
     }
 
     fn next_instant(&self) -> Option<u64> {
+        // For the proof: each line is in the order of its instants.
         self.timers.holds();
         self.timers.next_instant()
     }
 
     fn start(&mut self, process: ProcessId, delay: u32) {
         self.records.start(process, delay);
-        let row = read(&self.records, &self.reads, process);
-        self.lists.put_newest(&self.records, process, row);
-        self.timers.set_due(process, row.due);
-        self.timers.set_deadline(process, row.deadline);
+        let record = self.records.record(process);
+        self.lists.put_newest(&self.records, process, record);
+        self.timers.set_due(process, record.due);
+        self.timers.set_deadline(process, record.deadline);
     }
 
     fn stop(&mut self, process: ProcessId) {
-        let held = read(&self.records, &self.reads, process).owned;
+        let held = self.records.record(process).owned;
         self.records.stop(process);
         self.lists.leave(process);
         self.timers.set_due(process, None);
@@ -217,29 +199,29 @@ impl Store for QueueStore {
 
     fn block(&mut self, process: ProcessId, wait: Wait, due: Option<u64>) {
         self.records.block(process, wait, due);
-        let row = read(&self.records, &self.reads, process);
-        self.lists.put_newest(&self.records, process, row);
-        self.timers.set_due(process, row.due);
+        let record = self.records.record(process);
+        self.lists.put_newest(&self.records, process, record);
+        self.timers.set_due(process, record.due);
     }
 
     fn unblock(&mut self, process: ProcessId) {
         self.records.unblock(process);
-        let woken = read(&self.records, &self.reads, process);
+        let woken = self.records.record(process);
         self.lists.put_newest(&self.records, process, woken);
         self.timers.set_due(process, woken.due);
     }
 
     fn release(&mut self, process: ProcessId) {
         self.records.release(process);
-        let row = read(&self.records, &self.reads, process);
-        self.lists.put_newest(&self.records, process, row);
-        self.timers.set_due(process, row.due);
-        self.timers.set_deadline(process, row.deadline);
+        let record = self.records.record(process);
+        self.lists.put_newest(&self.records, process, record);
+        self.timers.set_due(process, record.due);
+        self.timers.set_deadline(process, record.deadline);
     }
 
     fn suspend(&mut self, process: ProcessId) {
-        let row = read(&self.records, &self.reads, process);
-        let is_ready = is_ready(&self.records, row);
+        let record = self.records.record(process);
+        let is_ready = is_ready(&self.records, record);
         self.records.suspend(process);
         if is_ready {
             self.lists.leave(process);
@@ -247,7 +229,6 @@ impl Store for QueueStore {
     }
 
     fn suspend_self(&mut self, process: ProcessId, due: Option<u64>) {
-        self.reads.note();
         self.records.suspend_self(process, due);
         self.lists.leave(process);
         self.timers.set_due(process, due);
@@ -255,50 +236,50 @@ impl Store for QueueStore {
 
     fn resume(&mut self, process: ProcessId) {
         self.records.resume(process);
-        let row = read(&self.records, &self.reads, process);
-        if row.wait.is_none() {
-            self.lists.put_newest(&self.records, process, row);
-            self.timers.set_due(process, row.due);
+        let record = self.records.record(process);
+        if record.wait.is_none() {
+            self.lists.put_newest(&self.records, process, record);
+            self.timers.set_due(process, record.due);
         }
     }
 
     fn set_priority(&mut self, process: ProcessId, base: u8) {
-        let row = read(&self.records, &self.reads, process);
-        let moves = moves_at(&self.records, row, base);
+        let record = self.records.record(process);
+        let moves = moves_at(&self.records, record, base);
         self.records.set_priority(process, base);
         if moves {
-            let row = read(&self.records, &self.reads, process);
-            self.lists.put_newest(&self.records, process, row);
+            let moved = self.records.record(process);
+            self.lists.put_newest(&self.records, process, moved);
         }
     }
 
     fn own(&mut self, process: ProcessId, owned: Holdings) {
-        let row = read(&self.records, &self.reads, process);
-        let is_level = is_level_with(row, &owned);
+        let record = self.records.record(process);
+        let is_level = stays_level(record, record.base, &owned);
         self.owners
-            .change(process, row.owned.as_slice(), owned.as_slice());
+            .change(process, record.owned.as_slice(), owned.as_slice());
         self.records.own(process, owned);
         if !is_level {
-            let row = read(&self.records, &self.reads, process);
-            self.lists.put_oldest(process, row);
+            let moved = self.records.record(process);
+            self.lists.put_oldest(process, moved);
         }
     }
 
     fn inherit(&mut self, process: ProcessId, holding: Holding) {
-        let owned = read(&self.records, &self.reads, process).owned;
+        let owned = self.records.record(process).owned;
         let mutex = holding.mutex;
         self.records.inherit(process, holding);
         self.owners.leave(process, owned.as_slice());
         self.owners.add(mutex, process);
-        let row = read(&self.records, &self.reads, process);
-        self.lists.put_newest(&self.records, process, row);
-        self.timers.set_due(process, row.due);
+        let record = self.records.record(process);
+        self.lists.put_newest(&self.records, process, record);
+        self.timers.set_due(process, record.due);
     }
 
     fn place_newest(&mut self, process: ProcessId) {
         self.records.place_newest(process);
-        let row = read(&self.records, &self.reads, process);
-        self.lists.put_newest(&self.records, process, row);
+        let record = self.records.record(process);
+        self.lists.put_newest(&self.records, process, record);
     }
 
     fn advance_to(&mut self, instant: u64) {
@@ -306,23 +287,22 @@ impl Store for QueueStore {
     }
 
     fn set_deadline(&mut self, process: ProcessId, deadline: Option<u64>) {
-        self.reads.note();
         self.records.set_deadline(process, deadline);
         self.timers.set_deadline(process, deadline);
     }
 
     fn take_missed(&mut self) -> Option<ProcessId> {
+        // For the proof: the line is in the order of its instants.
         self.timers.holds();
         let process = self.timers.pop_deadline_at(self.records.now())?;
-        self.reads.note();
         self.records.set_deadline(process, None);
         Some(process)
     }
 
     fn take_due(&mut self) -> Option<ProcessId> {
+        // For the proof: the line is in the order of its instants.
         self.timers.holds();
         let process = self.timers.pop_due_at(self.records.now())?;
-        self.reads.note();
         self.records.clear_due(process);
         Some(process)
     }
@@ -335,17 +315,14 @@ impl Store for QueueStore {
     }
 
     fn set_core(&mut self, process: ProcessId, core: CoreId) {
-        self.reads.note();
         self.records.set_core(process, core);
     }
 
     fn receive(&mut self, process: ProcessId, message: Message) {
-        self.reads.note();
         self.records.receive(process, message);
     }
 
     fn set_step(&mut self, process: ProcessId, step: u8) {
-        self.reads.note();
         self.records.set_step(process, step);
     }
 }

@@ -9,17 +9,18 @@ use Rattle.std.proofs.lemmas.List.{get_or-set_other}
 use Rattle.std.proofs.lemmas.Nat.{leading_top}
 use Rattle.std.proofs.Math.Nat.{div-eq_of_lt-le, pow-suc}
 use Rattle.std.proofs.lemmas.Nat.Bits.{bit_at-zero, bit_at_above, bit_at_set_same, bit_at_set_other, bit_at_clear_same, bit_at_clear_other}
-use Rattle.apex_ready.specs.ReadyOrders.{is_marked, ready_list, ready_lists, IsHighest, IsHighestBit}
+use Rattle.apex_links.specs.declared.numbers.TheConstants.{PRIORITIES, READY_LISTS}
+use Rattle.apex_ready.specs.ReadyOrders.{is_marked, ready_list, IsHighest, IsHighestBit}
 
 -- the word of a list has another value from now on
 abbrev with_word : List ℕ → ℕ → ℕ → List ℕ
 with_word words n word = set words (n / 64) word
 
 -- a word in which one bit differs changes one mark
-module _ (words : List ℕ) (n word : ℕ) (value : Bool) (long : length words ≡ 32) (known : n < ready_lists)
+module _ (words : List ℕ) (n word : ℕ) (value : Bool) (long : length words ≡ 32) (known : n < READY_LISTS)
     (here : (bit_at word (n % 64) == 1) ≡ value)
     (others : (i : ℕ) → i < 64 → i ≢ n % 64 → bit_at word i ≡ bit_at (get_or words (n / 64) 0) i) where
-  pub marks_change : (l : ℕ) → l < ready_lists → is_marked (with_word words n word) l ≡ (if l == n then value else is_marked words l)
+  pub marks_change : (l : ℕ) → l < READY_LISTS → is_marked (with_word words n word) l ≡ (if l == n then value else is_marked words l)
   marks_change l inside = elim (cases_eq l n) as (λ _. is_marked (with_word words n word) l ≡ (if l == n then value else is_marked words l)) [
     | inl e ↦
         let got : get_or (set words (n / 64) word) (l / 64) 0 ≡ word = get_or-set_at words (n / 64) (l / 64) word 0 (ap (λ (m : ℕ). m / 64) e) (omega (arith, long, known)) in
@@ -36,7 +37,7 @@ module _ (words : List ℕ) (n word : ℕ) (value : Bool) (long : length words �
   ]
 
 -- setting a bit marks its list, and clearing it takes the mark away
-pub marked : (words : List ℕ) (n : ℕ) → length words ≡ 32 → n < ready_lists → (l : ℕ) → l < ready_lists
+pub marked : (words : List ℕ) (n : ℕ) → length words ≡ 32 → n < READY_LISTS → (l : ℕ) → l < READY_LISTS
     → is_marked (set words (n / 64) (bit_or (get_or words (n / 64) 0) (1 * 2 ^ (n % 64) % 2 ^ 64))) l ≡ (if l == n then true else is_marked words l)
 marked words n long known =
     let w = get_or words (n / 64) 0 in
@@ -44,7 +45,7 @@ marked words n long known =
     let here : (bit_at (bit_or w (1 * 2 ^ (n % 64) % 2 ^ 64)) (n % 64) == 1) ≡ true = rw (bit_at_set_same w64 w (n % 64) small) refl in
     marks_change words n _ true long known here (λ i _ apart. bit_at_set_other w64 w (n % 64) small i apart)
 
-pub cleared : (words : List ℕ) (n : ℕ) → length words ≡ 32 → n < ready_lists → (l : ℕ) → l < ready_lists
+pub cleared : (words : List ℕ) (n : ℕ) → length words ≡ 32 → n < READY_LISTS → (l : ℕ) → l < READY_LISTS
     → is_marked (set words (n / 64) (bit_and (get_or words (n / 64) 0) (bit_not w64 (1 * 2 ^ (n % 64) % 2 ^ 64)))) l ≡ (if l == n then false else is_marked words l)
 cleared words n long known =
     let w = get_or words (n / 64) 0 in
@@ -79,32 +80,32 @@ highest_bit word some fits =
 -- the highest list of a core that is marked: its bit is the highest of its word, and no bit of a
 -- higher word is set
 pub highest_list : (words : List ℕ) (core round j : ℕ) → round < 4 → IsHighestBit (get_or words (4 * core + (3 - round)) 0) j
-    → ((p : ℕ) → p < 256 → 256 ≤ p + 64 * round → is_marked words (ready_list core p) ≡ false)
+    → ((p : ℕ) → p < PRIORITIES → PRIORITIES ≤ p + 64 * round → is_marked words (ready_list core p) ≡ false)
     → IsHighest words core (64 * (3 - round) + j)
 highest_list words core round j inside top higher =
     let small = top.place in
     record {
       known = omega (arith, small, inside);
       marked =
-          let word : (256 * core + (64 * (3 - round) + j)) / 64 ≡ 4 * core + (3 - round) = omega (arith, inside, small) in
-          let bit : (256 * core + (64 * (3 - round) + j)) % 64 ≡ j = omega (arith, small) in
+          let word : (PRIORITIES * core + (64 * (3 - round) + j)) / 64 ≡ 4 * core + (3 - round) = omega (arith, inside, small) in
+          let bit : (PRIORITIES * core + (64 * (3 - round) + j)) % 64 ≡ j = omega (arith, small) in
           rw (word, bit, top.set) refl;
-      highest = λ q above known. elim (cases_lt (q + 64 * round) 256) [
+      highest = λ q above known. elim (cases_lt (q + 64 * round) PRIORITIES) [
         | inr over ↦ higher q known over
         | inl under ↦
-            let word : (256 * core + q) / 64 ≡ 4 * core + (3 - round) = omega (arith, inside, above, under) in
-            let bit : j < (256 * core + q) % 64 = omega (arith, inside, small, above, under) in
-            rw (word, top.above ((256 * core + q) % 64) bit) refl
+            let word : (PRIORITIES * core + q) / 64 ≡ 4 * core + (3 - round) = omega (arith, inside, above, under) in
+            let bit : j < (PRIORITIES * core + q) % 64 = omega (arith, inside, small, above, under) in
+            rw (word, top.above ((PRIORITIES * core + q) % 64) bit) refl
       ];
     }
 
 -- a word of zeros has no mark
 pub word_unmarked : (words : List ℕ) (core round : ℕ) → round < 4 → get_or words (4 * core + (3 - round)) 0 ≡ 0
-    → ((p : ℕ) → p < 256 → 256 ≤ p + 64 * round → is_marked words (ready_list core p) ≡ false)
-    → (p : ℕ) → p < 256 → 256 ≤ p + 64 * (round + 1) → is_marked words (ready_list core p) ≡ false
-word_unmarked words core round inside none higher p known here = elim (cases_lt (p + 64 * round) 256) [
+    → ((p : ℕ) → p < PRIORITIES → PRIORITIES ≤ p + 64 * round → is_marked words (ready_list core p) ≡ false)
+    → (p : ℕ) → p < PRIORITIES → PRIORITIES ≤ p + 64 * (round + 1) → is_marked words (ready_list core p) ≡ false
+word_unmarked words core round inside none higher p known here = elim (cases_lt (p + 64 * round) PRIORITIES) [
   | inr above ↦ higher p known above
   | inl below ↦
-      let word : (256 * core + p) / 64 ≡ 4 * core + (3 - round) = omega (arith, inside) in
-      rw (word, none, bit_at-zero ((256 * core + p) % 64)) refl
+      let word : (PRIORITIES * core + p) / 64 ≡ 4 * core + (3 - round) = omega (arith, inside) in
+      rw (word, none, bit_at-zero ((PRIORITIES * core + p) % 64)) refl
 ]

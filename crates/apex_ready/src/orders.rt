@@ -1,17 +1,14 @@
 //! Which priorities of each core have a process that is ready.
 ghost use Rattle.std.specs.Prelude.{◌≡◌, ◌+◌, ◌-◌, ◌*◌, ◌<◌, ◌≤◌, ℕ, Bool, true, false, ◌==◌, if◌then◌else◌, length, Some, None, MatchOption};
-ghost use Rattle.apex_types.specs.values.Limits.{most_cores};
-ghost use Rattle.apex_links.specs.Links.{list_at, pushed_back, pushed_front, removed, IsFree};
-ghost use Rattle.apex_ready.specs.ReadyOrders.{is_marked, ready_list, ready_lists, AreMarked, IsHighest, IsHighestBit, IsIdle, IsTop, IsUnmarked};
+ghost use Rattle.apex_types.specs.declared.limits.TheConstants.{MOST_CORES};
+ghost use Rattle.apex_links.specs.declared.numbers.TheConstants.{READY_LISTS};
+ghost use Rattle.apex_links.specs.Links.{pushed_back, pushed_front, removed, IsFree};
+ghost use Rattle.apex_ready.specs.ReadyOrders.{is_marked, ready_list, AreMarked, IsHighest, IsHighestBit, IsIdle, IsTop, IsUnmarked};
 
 use crate::lists::ready_list;
-use apex_links::{LinkSet, ListId};
+use apex_links::{LinkSet, ListId, READY_LISTS};
 use apex_types::{CoreId, ProcessId};
 use std::marker::Model;
-
-/// The number of ready lists: one for each of eight cores and of 256 priorities. They are the first
-/// of a link set.
-const READY_LISTS: usize = 2048;
 
 /// The marks of the ready lists that are not empty, four words for each core: bit b of a core's
 /// word w is that of priority 64 * w + b.
@@ -48,8 +45,8 @@ impl ReadyOrders {
 
     /// Marks the list, which has a process from now on.
     fn mark(&mut self, list: ListId)
-        requires { list < ready_lists }
-        ensures { (l : ℕ) → l < ready_lists
+        requires { list < READY_LISTS }
+        ensures { (l : ℕ) → l < READY_LISTS
             → is_marked self.new l ≡ (if l == list then true else is_marked self.old l) }
     {
         let place = list.place();
@@ -58,8 +55,8 @@ impl ReadyOrders {
 
     /// Takes the mark from the list, which has no process from now on.
     fn clear(&mut self, list: ListId)
-        requires { list < ready_lists }
-        ensures { (l : ℕ) → l < ready_lists
+        requires { list < READY_LISTS }
+        ensures { (l : ℕ) → l < READY_LISTS
             → is_marked self.new l ≡ (if l == list then false else is_marked self.old l) }
     {
         let place = list.place();
@@ -75,13 +72,13 @@ impl ReadyOrders {
         priority: u8,
         process: ProcessId,
     )
-        requires lists { ready_lists ≤ length links.old.lists }
+        requires lists { READY_LISTS ≤ length links.old.lists }
         requires process { process < links.old.processes }
         requires free { IsFree links.old process }
         requires marked { AreMarked self.old links.old }
         ensures links { links.new ≡ pushed_back links.old (ready_list core priority) process }
         ensures marked { AreMarked self.new links.new }
-        ensures known { core < most_cores }
+        ensures known { core < MOST_CORES }
     {
         let list = ready_list(core, priority);
         links.push_back(list, process);
@@ -97,13 +94,13 @@ impl ReadyOrders {
         priority: u8,
         process: ProcessId,
     )
-        requires lists { ready_lists ≤ length links.old.lists }
+        requires lists { READY_LISTS ≤ length links.old.lists }
         requires process { process < links.old.processes }
         requires free { IsFree links.old process }
         requires marked { AreMarked self.old links.old }
         ensures links { links.new ≡ pushed_front links.old (ready_list core priority) process }
         ensures marked { AreMarked self.new links.new }
-        ensures known { core < most_cores }
+        ensures known { core < MOST_CORES }
     {
         let list = ready_list(core, priority);
         links.push_front(list, process);
@@ -129,7 +126,7 @@ impl ReadyOrders {
     fn highest(&self, core: CoreId) -> Option<u8>
         ensures value { MatchOption result (IsUnmarked self.now core)
             (λ p. IsHighest self.now core p) }
-        ensures known { core < most_cores }
+        ensures known { core < MOST_CORES }
     {
         let number = usize::from(core.number());
         for round in 0..4 {
@@ -144,10 +141,10 @@ impl ReadyOrders {
 
     /// The first process of the highest priority that has a ready process on the core.
     pub fn top(&self, links: &LinkSet, core: CoreId) -> Option<ProcessId>
-        requires lists { ready_lists ≤ length links.now.lists }
+        requires lists { READY_LISTS ≤ length links.now.lists }
         requires marked { AreMarked self.now links.now }
         ensures value { MatchOption result (IsIdle links.now core) (λ p. IsTop links.now core p) }
-        ensures known { core < most_cores }
+        ensures known { core < MOST_CORES }
     {
         match self.highest(core) {
             Some(priority) => links.front(ready_list(core, priority)),

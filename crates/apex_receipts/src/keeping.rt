@@ -1,12 +1,12 @@
 //! An entry that is kept in the place of another one.
 ghost use Rattle.std.specs.Prelude.{◌≡◌, ◌≤◌, length};
-ghost use Rattle.apex_types.specs.values.Limits.{most_notices};
+ghost use Rattle.apex_types.specs.declared.limits.TheConstants.{MOST_NOTICES};
 
 use apex_types::{Entry, LentEntry, Notice, Notices};
 
 /// Keeps these notices in the place of those that were kept. It writes no more than there are.
 fn keep_notices(kept: &mut Notices, notices: &[Notice])
-    requires { length notices.now ≤ most_notices }
+    requires { length notices.now ≤ MOST_NOTICES }
     ensures { kept.new ≡ notices.now }
 {
     kept.clear();

@@ -9,7 +9,7 @@ pub trait Naming {
     ghost use Rattle.atomic_table.specs.Seated.{TableId};
     ghost use Rattle.logbook.specs.Pages.{Book};
     ghost use Rattle.apex_types.specs.declared.entries.Who.{Who};
-    ghost use Rattle.apex_types.specs.table.Table.{Table};
+    ghost use Rattle.apex_machine.specs.table.Table.{Table};
 
     ghost book: { Book };
 
@@ -24,7 +24,7 @@ pub trait Naming {
 
 impl Naming for Brand {
     ghost use Rattle.std.specs.Prelude.{[], None};
-    ghost use Rattle.apex_types.specs.declared.profiles.Profile.TheVariants as profiles;
+    ghost use Rattle.apex_machine.specs.declared.profiles.Profile.TheVariants as profiles;
 
     ghost book = { record { number = 0; log_name = 0; cells_name = 0 } };
 

@@ -1,6 +1,6 @@
 //! A book without a note, and its speakers.
 ghost use Rattle.std.specs.Prelude.{◌≡◌, ◌≤◌, ◌<◌, ◌∷◌, [], ℕ, length, slice_index_or, All, IfOk};
-ghost use Rattle.apex_types.specs.values.Limits.{most_cores};
+ghost use Rattle.apex_types.specs.declared.limits.TheConstants.{MOST_CORES};
 ghost use Rattle.apex_types.specs.declared.entries.Who.TheVariants.{Core, Ticker};
 ghost use Rattle.apex_receipts.specs.Receipts.{IsNamedAfter, IsSilent, speaker_ids, unspoken, unspoken_cores};
 ghost use Rattle.apex_receipts.specs.Rules.{head_of};
@@ -28,7 +28,7 @@ pub struct Opened {
 
 impl Model for Opened {
     ghost use Rattle.std.specs.Prelude.{◌≡◌, ◌≤◌, [], length, All};
-    ghost use Rattle.apex_types.specs.values.Limits.{most_cores};
+    ghost use Rattle.apex_types.specs.declared.limits.TheConstants.{MOST_CORES};
     ghost use Rattle.apex_receipts.specs.Receipts.{IsSilent, Opening, speaker_ids};
     ghost use Rattle.apex_receipts.specs.Rules.{head_of};
 
@@ -42,7 +42,7 @@ impl Model for Opened {
     } };
 
     ghost invariant = { λ o. (o.head ≡ head_of o.seen.book) × (o.seen.log ≡ [])
-        × (length o.cores.items ≤ most_cores)
+        × (length o.cores.items ≤ MOST_CORES)
         × IsSilent o.seen.book o.scribe × IsSilent o.seen.book o.ticker
         × All (IsSilent o.seen.book) o.cores.items };
 }
@@ -84,7 +84,7 @@ fn voices<P: Naming>(
 ) -> Result<Vec<Voice<P>>, AllocError>
     requires book { seen.now.book ≡ P.book }
     requires empty { seen.now.log ≡ [] }
-    requires few_speakers { length speakers.items ≤ most_cores }
+    requires few_speakers { length speakers.items ≤ MOST_CORES }
     requires silent { All (IsSilent P.book) speakers.items }
     requires voice { (core : ℕ) → core < length speakers.items
         → P.voice (Core core) ≡ slice_index_or (speaker_ids speakers.items) core 0 }
@@ -102,7 +102,7 @@ fn voices<P: Naming>(
 impl Opened {
     /// A new book with speakers for `cores` cores, 8 at the most. It fails only for want of memory.
     pub fn new(alloc: Global, cores: u32) -> Result<Opened, AllocError>
-        requires { cores ≤ most_cores }
+        requires { cores ≤ MOST_CORES }
         ensures { IfOk result (λ opened. length opened.cores ≡ cores) }
     {
         let (seen, mut first, _second) = Seen::open(Start::alone(), 0, 0);

@@ -1,18 +1,18 @@
 //! The semaphore as its services see it, and the services that semaphores alone have.
 ghost use Rattle.std.specs.Prelude.{◌≡◌, ◌≤◌, [], length, false};
-ghost use Rattle.apex_types.specs.values.Limits.{most_processes};
-ghost use Rattle.apex_types.specs.services.Callers.{IsReadyCaller};
-ghost use Rattle.apex_types.specs.processes.Dues.{HasTime};
-ghost use Rattle.apex_types.specs.processes.Roster.{Roster};
-ghost use Rattle.apex_types.specs.services.Rows.{Leaves};
-ghost use Rattle.apex_types.specs.services.Premises.{CanServe};
-ghost use Rattle.apex_types.specs.services.SemaphoreServices as services;
-ghost use Rattle.apex_types.specs.processes.Stamps.{HasManyStamps};
+ghost use Rattle.apex_types.specs.declared.limits.TheConstants.{MOST_PROCESSES};
+ghost use Rattle.apex_machine.specs.services.Callers.{IsReadyCaller};
+ghost use Rattle.apex_machine.specs.processes.Dues.{HasTime};
+ghost use Rattle.apex_machine.specs.processes.Roster.{Roster};
+ghost use Rattle.apex_machine.specs.services.Rows.{Leaves};
+ghost use Rattle.apex_machine.specs.services.Premises.{CanServe};
+ghost use Rattle.apex_machine.specs.services.SemaphoreServices as services;
+ghost use Rattle.apex_machine.specs.processes.Stamps.{HasManyStamps};
 
+use apex_machine::{Queue, Wait};
 use apex_store::{Object, Store, grant, is_waiting_owner, wait_for};
 use apex_types::{
-    Caller, Notices, Queue, Reply, ReturnCode, SemaphoreId, SemaphoreKind, SemaphoreService,
-    Timeout, Wait,
+    Caller, Notices, Reply, ReturnCode, SemaphoreId, SemaphoreKind, SemaphoreService, Timeout,
 };
 use std::marker::Model;
 
@@ -25,7 +25,7 @@ pub struct Semaphore {
 }
 
 impl Model for Semaphore {
-    ghost use Rattle.apex_types.specs.services.SemaphoreServices.{SemaphoreObject};
+    ghost use Rattle.apex_machine.specs.services.SemaphoreServices.{SemaphoreObject};
 
     ghost Value = { SemaphoreObject };
 
@@ -98,7 +98,7 @@ impl Semaphore {
         notices: &mut Notices,
     ) -> Reply
         requires stamps { HasManyStamps (S.roster store.old) }
-        requires room { length notices.old ≤ most_processes }
+        requires room { length notices.old ≤ MOST_PROCESSES }
         ensures { Leaves (services.signal_semaphore (S.roster store.old) self.old id)
             (S.roster store.new) self.new result notices.old notices.new }
     {
@@ -124,9 +124,9 @@ impl Object for Semaphore {
 
     type KindService = SemaphoreService;
 
-    ghost use Rattle.apex_types.specs.processes.Roster.{Roster};
-    ghost use Rattle.apex_types.specs.services.SemaphoreServices.{semaphore_kind};
-    ghost use Rattle.apex_types.specs.table.Table.{SemaphoreConfig};
+    ghost use Rattle.apex_machine.specs.processes.Roster.{Roster};
+    ghost use Rattle.apex_machine.specs.services.SemaphoreServices.{semaphore_kind};
+    ghost use Rattle.apex_machine.specs.table.Table.{SemaphoreConfig};
 
     ghost Config = { SemaphoreConfig };
 
@@ -143,7 +143,6 @@ impl Object for Semaphore {
     }
 
     fn status<S: Store>(&self, store: &S, id: SemaphoreId) -> Reply
-        requires stands { Unit {0} }
         ensures { result ≡ services.semaphore_status (S.roster store.now) self.now id }
     {
         let waiting = store.waiting(Queue::Semaphore(id));
@@ -158,7 +157,6 @@ impl Object for Semaphore {
         service: &SemaphoreService,
         notices: &mut Notices,
     ) -> Reply
-        requires stands { Unit {0} }
         requires caller { IsReadyCaller (S.roster store.old) caller.now }
         requires can { CanServe (S.roster store.old) notices.old }
         ensures { Leaves (services.semaphore_service

@@ -1,13 +1,13 @@
 -- The first record that passes, from which a scan begins to compare.
-use Rattle.std.proofs.Common.{◌≡◌, ℕ, ◌+◌, ◌<◌, Bool, List, Option, None, Some, get_or, position, true, false, inl, inr, arith}
+use Rattle.std.proofs.Common.{◌≡◌, ℕ, ◌+◌, Bool, List, None, Some, get_or, position, false, inl, inr, arith}
 use Rattle.std.specs.Cmp.{IsStrictWeakOrder}
 use Rattle.std.proofs.lemmas.Bool.{cases_Bool}
 use Rattle.std.proofs.lemmas.List.Quantifiers.{position-Some}
 use Rattle.apex_store.specs.Terms.{Record}
-use Rattle.apex_types.specs.processes.Choice.{place_of_least}
-use Rattle.apex_types.specs.processes.Roster.{nobody}
-use Rattle.apex_types.proofs.Choice.{IsFirst, place_found}
-use Rattle.apex_types.proofs.Dues.{position_none}
+use Rattle.apex_machine.specs.processes.Choice.{place_of_least}
+use Rattle.apex_machine.specs.processes.Roster.{nobody}
+use Rattle.apex_machine.proofs.Choice.{IsFirst, place_found}
+use Rattle.apex_machine.proofs.Dues.{position_none}
 
 -- if no record passes, there is no least
 pub none_is_least : (passes : Record → Bool) (before : Record → Record → Bool) (rs : List Record)

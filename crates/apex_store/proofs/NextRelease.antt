@@ -1,9 +1,9 @@
 -- The next release of a periodic process, as its law says it and as the code computes it.
 use Rattle.std.proofs.Common.{◌≡◌, ℕ, ◌≤◌, subst}
 use Rattle.std.proofs.lemmas.Option.{same_Some}
-use Rattle.apex_types.specs.processes.Periods.{next_release}
-use Rattle.apex_types.specs.processes.Roster.{Roster, record_at}
-use Rattle.apex_types.proofs.Periods.{next_later, next_least, next_once}
+use Rattle.apex_machine.specs.processes.Periods.{next_release}
+use Rattle.apex_machine.specs.processes.Roster.{Roster, record_at}
+use Rattle.apex_machine.proofs.Periods.{next_later, next_least, next_once}
 use Rattle.apex_store.specs.Laws.{IsNextRelease, NextReleaseIsLeast}
 
 is_next : (now release period : ℕ) → 1 ≤ period → IsNextRelease now release period (next_release now release period)

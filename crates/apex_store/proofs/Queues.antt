@@ -3,7 +3,7 @@
 use Rattle.std.proofs.Common.{◌≤◌, Bool, List, count_by, length}
 use Rattle.std.proofs.lemmas.List.Sums.{count_by-le-length}
 use Rattle.apex_store.specs.Terms.{Record}
-use Rattle.apex_types.proofs.Starts.{stands_in, waits_there}
+use Rattle.apex_machine.proofs.Starts.{stands_in, waits_there}
 use Rattle.apex_store.specs.Laws.{WaitsInOneQueue}
 
 pub one_queue : (r : Record) → WaitsInOneQueue r

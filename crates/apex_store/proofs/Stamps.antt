@@ -1,11 +1,11 @@
 -- No call of a store gives two of its processes the same stamp.
 use Rattle.std.proofs.Common.{[], ◌∷◌, refl}
-use Rattle.apex_types.specs.processes.Roster.{Roster, record_at}
-use Rattle.apex_types.proofs.Handovers.{moves_own}
-use Rattle.apex_types.specs.values.Distinct.{IsStamped}
-use Rattle.apex_types.specs.processes.Stamps.{awake, released_at, waiting, self_suspended}
-use Rattle.apex_types.proofs.DistinctStamps.{stamped_newest, stamped_record, stamped_readied, stamped_resume, stamped_set_mode, stamped_advance_to, stamped_take_due, stamped_take_missed}
-use Rattle.apex_types.proofs.Reaches.{moves_stop, starts, reaches_suspend, reaches_set_priority, reaches_place_newest, moves_set_core, reaches_set_step, reaches_receive}
+use Rattle.apex_machine.specs.processes.Roster.{Roster, record_at}
+use Rattle.apex_machine.proofs.Handovers.{moves_own}
+use Rattle.apex_machine.specs.processes.Distinct.{IsStamped}
+use Rattle.apex_machine.specs.processes.Stamps.{awake, released_at, waiting, self_suspended}
+use Rattle.apex_machine.proofs.DistinctStamps.{stamped_newest, stamped_record, stamped_readied, stamped_resume, stamped_set_mode, stamped_advance_to, stamped_take_due, stamped_take_missed}
+use Rattle.apex_machine.proofs.Reaches.{moves_stop, starts, reaches_suspend, reaches_set_priority, reaches_place_newest, moves_set_core, reaches_set_step, reaches_receive}
 use Rattle.apex_store.specs.Laws.{StampsStayDistinct}
 
 pub stay_distinct : (roster : Roster) → IsStamped roster → StampsStayDistinct roster

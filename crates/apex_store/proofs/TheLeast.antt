@@ -3,14 +3,14 @@ use Rattle.std.proofs.Common.{◌≡◌, ℕ, Bool, List, Some, slice_get}
 use Rattle.std.specs.Cmp.{IsStrictWeakOrder}
 use Rattle.std.proofs.lemmas.Option.{get_or_from_slice_get, slice_get_within}
 use Rattle.apex_store.specs.Terms.{Discipline, Record}
-use Rattle.apex_types.specs.processes.Roster.{Roster, nobody}
-use Rattle.apex_types.specs.values.Distinct.{HasDistinctStamps}
-use Rattle.apex_types.specs.processes.Choice.{place_of_least}
-use Rattle.apex_types.specs.declared.records.Discipline.TheVariants.{Fifo, Priority}
-use Rattle.apex_types.specs.processes.Waiters.{waits_before}
-use Rattle.apex_types.specs.processes.Running.{is_before, is_older}
-use Rattle.apex_types.proofs.Choice.{IsTotalOn, place_is, place_least, place_none}
-use Rattle.apex_types.proofs.Orders.{older_total, before_total}
+use Rattle.apex_machine.specs.processes.Roster.{Roster, nobody}
+use Rattle.apex_machine.specs.processes.Distinct.{HasDistinctStamps}
+use Rattle.apex_machine.specs.processes.Choice.{place_of_least}
+use Rattle.apex_types.specs.declared.modes.Discipline.TheVariants.{Fifo, Priority}
+use Rattle.apex_machine.specs.processes.Waiters.{waits_before}
+use Rattle.apex_machine.specs.processes.Running.{is_before, is_older}
+use Rattle.apex_machine.proofs.Choice.{IsTotalOn, place_is, place_least, place_none}
+use Rattle.apex_machine.proofs.Orders.{older_total, before_total}
 use Rattle.apex_store.specs.Laws.{IsTheLeast}
 
 pub the_least : (passes : Record → Bool) (before : Record → Record → Bool) → IsStrictWeakOrder before

@@ -4,8 +4,8 @@ use Rattle.std.proofs.lemmas.Bool.{eqb-true, eq-eqb, ltb-true, and_parts, and_fr
 use Rattle.std.proofs.lemmas.Int.{ints}
 use Rattle.std.proofs.lemmas.Option.{get_or_from_slice_get, slice_get-get_or, slice_get_within}
 use Rattle.apex_store.specs.Terms.{Mode, Record}
-use Rattle.apex_types.specs.processes.Roster.{Roster, nobody, record_at}
-use Rattle.apex_types.specs.processes.Running.{chosen, is_before, is_eligible, runs_on}
+use Rattle.apex_machine.specs.processes.Roster.{Roster, nobody, record_at}
+use Rattle.apex_machine.specs.processes.Running.{chosen, is_before, is_eligible, runs_on}
 use Rattle.apex_store.specs.Laws.{IsMoreUrgent, IsTheLeast, MayRun, RunsMostUrgent}
 
 pub runs_parts : (mode : Mode) (core : ℕ) (r : Record) → runs_on mode core r ≡ true → (is_eligible mode r ≡ true) × (r.core ≡ core)

@@ -1,15 +1,15 @@
 -- The choices of a store, in the standard's own words.
 use Rattle.std.specs.Prelude.{◌≡◌, ◌≢◌, ℕ, ◌+◌, ◌*◌, ◌<◌, ◌≤◌, ◌<ℤ◌, ◌⊎◌, Bool, true, false, List, length, Option, None, Some, slice_get}
 use Rattle.apex_store.specs.Terms.{Holding, Message, Mode, Queue, Record, Wait}
-use Rattle.apex_types.specs.declared.records.State.TheVariants.{Running}
-use Rattle.apex_types.specs.processes.Roster.{Roster, record_at}
-use Rattle.apex_types.specs.processes.Choice.{IsLeast}
-use Rattle.apex_types.specs.values.Distinct.{IsStamped}
-use Rattle.apex_types.specs.processes.Dues.{IsAwaited, first_due, first_missed, next_instant}
-use Rattle.apex_types.specs.processes.Periods.{release_after}
-use Rattle.apex_types.specs.processes.Running.{chosen, current_priority, is_before, is_eligible, process_state, runs_on}
-use Rattle.apex_types.specs.processes.Stamps as stamps
-use Rattle.apex_types.specs.processes.Waiters.{discipline_of, first_waiter, next_waiter, queue_in, waits_before, waits_behind, waits_in}
+use Rattle.apex_types.specs.declared.modes.State.TheVariants.{Running}
+use Rattle.apex_machine.specs.processes.Roster.{Roster, record_at}
+use Rattle.apex_machine.specs.processes.Choice.{IsLeast}
+use Rattle.apex_machine.specs.processes.Distinct.{IsStamped}
+use Rattle.apex_machine.specs.processes.Dues.{IsAwaited, first_due, first_missed, next_instant}
+use Rattle.apex_machine.specs.processes.Periods.{release_after}
+use Rattle.apex_machine.specs.processes.Running.{chosen, current_priority, is_before, is_eligible, process_state, runs_on}
+use Rattle.apex_machine.specs.processes.Stamps as stamps
+use Rattle.apex_machine.specs.processes.Waiters.{discipline_of, first_waiter, next_waiter, queue_in, waits_before, waits_behind, waits_in}
 
 -- the record that is found passes and is before every other one that passes, and no other record is
 -- so; if none is found, none passes

@@ -1,9 +1,9 @@
 -- The terms in which the definitions and proofs of this crate speak: the values of a partition.
-pub use Rattle.apex_types.specs.declared.Discipline.{Discipline}
-pub use Rattle.apex_types.specs.declared.Holding.{Holding}
-pub use Rattle.apex_types.specs.declared.Message.{Message}
-pub use Rattle.apex_types.specs.declared.Mode.{Mode}
-pub use Rattle.apex_types.specs.declared.Queue.{Queue}
-pub use Rattle.apex_types.specs.declared.Record.{Record}
-pub use Rattle.apex_types.specs.declared.State.{State}
-pub use Rattle.apex_types.specs.declared.Wait.{Wait}
+pub use Rattle.apex_types.specs.declared.modes.Discipline.{Discipline}
+pub use Rattle.apex_machine.specs.declared.holdings.Holding.{Holding}
+pub use Rattle.apex_types.specs.declared.calls.Message.{Message}
+pub use Rattle.apex_types.specs.declared.modes.Mode.{Mode}
+pub use Rattle.apex_machine.specs.declared.records.Queue.{Queue}
+pub use Rattle.apex_machine.specs.declared.records.Record.{Record}
+pub use Rattle.apex_types.specs.declared.modes.State.{State}
+pub use Rattle.apex_machine.specs.declared.records.Wait.{Wait}

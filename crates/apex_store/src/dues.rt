@@ -1,11 +1,12 @@
 //! When waits end by themselves and deadlines pass.
 ghost use Rattle.std.specs.Prelude.{◌≡◌, ◌<◌, ◌≤◌, length, position, IfSome};
-ghost use Rattle.apex_types.specs.values.Limits.{most_processes};
-ghost use Rattle.apex_types.specs.processes.Dues.{HasTime, IsFrom, due_after, earliest, is_due_at, is_missed_at, sooner};
+ghost use Rattle.apex_types.specs.declared.limits.TheConstants.{MOST_PROCESSES};
+ghost use Rattle.apex_machine.specs.processes.Dues.{HasTime, IsFrom, due_after, earliest, is_due_at, is_missed_at, sooner};
 
 use crate::orders::{is_due_at, is_missed_at};
 use crate::store::Store;
-use apex_types::{ProcessId, Record, Timeout};
+use apex_machine::Record;
+use apex_types::{ProcessId, Timeout};
 
 /// The sooner of two instants.
 fn sooner(one: Option<u64>, other: Option<u64>) -> Option<u64>
@@ -39,7 +40,7 @@ fn place_due(instant: u64, records: &[Record]) -> Option<usize>
 
 /// The process of the lowest number whose due is this instant.
 pub fn first_due(instant: u64, records: &[Record]) -> Option<ProcessId>
-    requires { length records.now ≤ most_processes }
+    requires { length records.now ≤ MOST_PROCESSES }
     ensures value { result ≡ position (is_due_at instant) records.now }
     ensures known { IfSome result (λ p. p < length records.now) }
 {
@@ -58,7 +59,7 @@ fn place_missed(instant: u64, records: &[Record]) -> Option<usize>
 
 /// The process of the lowest number whose deadline is this instant.
 pub fn first_missed(instant: u64, records: &[Record]) -> Option<ProcessId>
-    requires { length records.now ≤ most_processes }
+    requires { length records.now ≤ MOST_PROCESSES }
     ensures value { result ≡ position (is_missed_at instant) records.now }
     ensures known { IfSome result (λ p. p < length records.now) }
 {
@@ -69,7 +70,7 @@ pub fn first_missed(instant: u64, records: &[Record]) -> Option<ProcessId>
 }
 
 /// The instant in ticks at which a wait that begins now ends by itself, if it does.
-#[tactic(auto, using(apex_types::proofs::Dues::due_later))]
+#[tactic(auto, using(apex_machine::proofs::Dues::due_later))]
 pub fn due_after<S: Store>(store: &S, timeout: Timeout) -> Option<u64>
     requires time { HasTime (S.roster store.now) }
     ensures value { result ≡ due_after (S.roster store.now) timeout }

@@ -1,11 +1,12 @@
 //! The meaning of the choices of every store.
-ghost use Rattle.apex_types.specs.values.Distinct.{HasDistinctStamps, IsStamped};
-ghost use Rattle.apex_types.specs.processes.Roster.{opening_roster, record_at};
+ghost use Rattle.apex_machine.specs.processes.Distinct.{HasDistinctStamps, IsStamped};
+ghost use Rattle.apex_machine.specs.processes.Roster.{opening_roster, record_at};
 ghost use Rattle.apex_store.specs.Laws as laws;
 
 use crate::store::Store;
+use apex_machine::Queue;
 use apex_table::Table;
-use apex_types::{CoreId, ProcessId, Queue};
+use apex_types::{CoreId, ProcessId};
 
 /// If no two stamps are the same, the chosen process of a core is eligible, bound to the core and
 /// before every other such process (ARINC 653 Part 1, process management).

@@ -1,17 +1,14 @@
 //! Objects of any kind: the three services that each kind has, and how a call finds its object.
 
 ghost use Rattle.std.specs.Prelude.{◌≡◌, ℕ, ◌<◌, ◌≤◌, [], length};
-ghost use Rattle.apex_types.specs.values.Limits.{most_processes};
 ghost use Rattle.apex_types.specs.declared.calls.ObjectCall.{ObjectCall};
-ghost use Rattle.apex_types.specs.services.Callers.{IsReadyCaller};
-ghost use Rattle.apex_types.specs.processes.Dues.{HasTime};
-ghost use Rattle.apex_types.specs.services.Objects as objects;
-ghost use Rattle.apex_types.specs.services.Objects.{ObjectKind};
-ghost use Rattle.apex_types.specs.processes.Roster.{Roster};
-ghost use Rattle.apex_types.specs.services.Rows.{Leaves};
-ghost use Rattle.apex_types.specs.services.Premises.{CanServe};
-ghost use Rattle.apex_types.specs.processes.Stamps.{HasManyStamps};
-ghost use Rattle.apex_types.specs.table.Table.{IsKnownObject};
+ghost use Rattle.apex_machine.specs.services.Callers.{IsReadyCaller};
+ghost use Rattle.apex_machine.specs.services.Objects as objects;
+ghost use Rattle.apex_machine.specs.services.Objects.{ObjectKind};
+ghost use Rattle.apex_machine.specs.processes.Roster.{Roster};
+ghost use Rattle.apex_machine.specs.services.Rows.{Leaves};
+ghost use Rattle.apex_machine.specs.services.Premises.{CanServe};
+ghost use Rattle.apex_machine.specs.table.Table.{IsKnownObject};
 
 use crate::store::Store;
 use apex_types::{Caller, Id, Notices, ObjectCall, Reply, ReturnCode};

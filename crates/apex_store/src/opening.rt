@@ -1,17 +1,18 @@
 //! The records of a table's processes before any event.
 ghost use Rattle.std.specs.Prelude.{◌≡◌, ◌+◌, ◌<◌, ◌≤◌, [], ◌∷◌, ◌++◌, length, map, vec_capacity, vec_len, IfOk};
-ghost use Rattle.apex_types.specs.values.Limits.{most_processes};
-ghost use Rattle.apex_types.specs.values.Places.{map_places};
-ghost use Rattle.apex_types.specs.processes.Roster.{ceilings_of, opening_record};
-ghost use Rattle.apex_types.specs.table.Table.{BufferConfig, MutexConfig, SemaphoreConfig};
+ghost use Rattle.apex_types.specs.declared.limits.TheConstants.{MOST_PROCESSES};
+ghost use Rattle.apex_types.specs.Places.{map_places};
+ghost use Rattle.apex_machine.specs.processes.Roster.{ceilings_of, opening_record};
+ghost use Rattle.apex_machine.specs.table.Table.{BufferConfig, MutexConfig, SemaphoreConfig};
 
+use apex_machine::{Holdings, Record};
 use apex_table::{ProcessConfig, Table};
-use apex_types::{BufferId, CoreId, Discipline, Holdings, MutexId, ProcessId, Record, SemaphoreId};
+use apex_types::{BufferId, CoreId, Discipline, MutexId, ProcessId, SemaphoreId};
 use std::alloc::{AllocError, Global};
 
 /// Adds the record of a process before any event: dormant on core 0, with the stamp of its place.
 fn push_opening(records: &mut Vec<Record>, place: usize, process: &ProcessConfig)
-    requires few_processes { place < most_processes }
+    requires few_processes { place < MOST_PROCESSES }
     requires room { vec_len records.old < vec_capacity records.old }
     ensures records { records.new.items ≡ records.old.items ++ opening_record place process.now
         ∷ [] }
@@ -49,7 +50,7 @@ pub fn opening_records(alloc: Global, table: &Table) -> Result<Vec<Record>, Allo
     ensures records { IfOk result (λ records. records.items
         ≡ map_places opening_record 0 table.now.processes) }
     ensures many { IfOk result (λ records. vec_len records ≡ length table.now.processes) }
-    ensures few_processes { IfOk result (λ records. vec_len records ≤ most_processes) }
+    ensures few_processes { IfOk result (λ records. vec_len records ≤ MOST_PROCESSES) }
 {
     let count = table.process_count();
     let mut records = Vec::with_capacity(alloc, count)?;

@@ -1,14 +1,14 @@
 //! Which of two processes comes first, and which processes are looked at.
 ghost use Rattle.std.specs.Prelude.{◌≡◌};
-ghost use Rattle.apex_types.specs.processes.Running.{is_before, is_older, is_process, runs_on};
-ghost use Rattle.apex_types.specs.processes.Dues.{is_due_at, is_missed_at};
-ghost use Rattle.apex_types.specs.processes.Queues.{is_queue};
-ghost use Rattle.apex_types.specs.processes.Waiters.{waits_before, waits_behind, waits_in};
+ghost use Rattle.apex_machine.specs.processes.Running.{is_before, is_older, is_process, runs_on};
+ghost use Rattle.apex_machine.specs.processes.Dues.{is_due_at, is_missed_at};
+ghost use Rattle.apex_machine.specs.processes.Waiters.{waits_before, waits_behind, waits_in};
 
-use apex_types::{CoreId, Discipline, Mode, ProcessId, Queue, Record, Wait};
+use apex_machine::{Queue, Record, Wait};
+use apex_types::{CoreId, Discipline, Mode, ProcessId};
 
 /// The process is eligible and bound to the core.
-#[tactic(auto, unfolding(apex_types::specs::processes::Running::runs_on))]
+#[tactic(auto, unfolding(apex_machine::specs::processes::Running::runs_on))]
 pub fn runs_on(mode: Mode, core: CoreId, row: &Record) -> bool
     ensures { result ≡ runs_on mode core row.now }
 {
@@ -55,7 +55,7 @@ pub fn is_before(first: &Record, second: &Record) -> bool
 }
 
 /// The process waits in the queue.
-#[tactic(auto, unfolding(apex_types::specs::processes::Waiters::waits_in))]
+#[tactic(auto, unfolding(apex_machine::specs::processes::Waiters::waits_in))]
 pub fn waits_in(queue: Queue, row: &Record) -> bool
     ensures { result ≡ waits_in queue row.now }
 {
@@ -86,7 +86,7 @@ pub fn waits_before(discipline: Discipline, first: &Record, second: &Record) -> 
 }
 
 /// The process waits in the queue of this discipline, behind that one.
-#[tactic(auto, unfolding(apex_types::specs::processes::Waiters::waits_behind))]
+#[tactic(auto, unfolding(apex_machine::specs::processes::Waiters::waits_behind))]
 pub fn waits_behind(discipline: Discipline, queue: Queue, ahead: &Record, row: &Record) -> bool
     ensures { result ≡ waits_behind discipline queue ahead.now row.now }
 {
@@ -94,7 +94,7 @@ pub fn waits_behind(discipline: Discipline, queue: Queue, ahead: &Record, row: &
 }
 
 /// The process's due is this instant, in ticks.
-#[tactic(auto, unfolding(apex_types::specs::processes::Dues::is_due_at))]
+#[tactic(auto, unfolding(apex_machine::specs::processes::Dues::is_due_at))]
 pub fn is_due_at(instant: u64, row: &Record) -> bool
     ensures { result ≡ is_due_at instant row.now }
 {
@@ -105,7 +105,7 @@ pub fn is_due_at(instant: u64, row: &Record) -> bool
 }
 
 /// The process's deadline is this instant, in ticks.
-#[tactic(auto, unfolding(apex_types::specs::processes::Dues::is_missed_at))]
+#[tactic(auto, unfolding(apex_machine::specs::processes::Dues::is_missed_at))]
 pub fn is_missed_at(instant: u64, row: &Record) -> bool
     ensures { result ≡ is_missed_at instant row.now }
 {

@@ -1,12 +1,13 @@
 //! The owner of a mutex.
 
 ghost use Rattle.std.specs.Prelude.{◌≡◌, ◌<◌, ◌≤◌, length, position, IfSome};
-ghost use Rattle.apex_types.specs.services.Callers.{IsReadyCaller};
-ghost use Rattle.apex_types.specs.values.Limits.{most_processes};
-ghost use Rattle.apex_types.specs.processes.Owners.{is_owner, is_waiting_owner, owns};
+ghost use Rattle.apex_machine.specs.services.Callers.{IsReadyCaller};
+ghost use Rattle.apex_types.specs.declared.limits.TheConstants.{MOST_PROCESSES};
+ghost use Rattle.apex_machine.specs.processes.Owners.{is_owner, is_waiting_owner, owns};
 
 use crate::store::Store;
-use apex_types::{Caller, MutexId, ProcessId, Record, Timeout};
+use apex_machine::Record;
+use apex_types::{Caller, MutexId, ProcessId, Timeout};
 
 /// The place of the first record that owns the mutex.
 fn place_owning(mutex: MutexId, records: &[Record]) -> Option<usize>
@@ -17,7 +18,7 @@ fn place_owning(mutex: MutexId, records: &[Record]) -> Option<usize>
 
 /// The process of the lowest number that owns the mutex.
 pub fn first_owner(mutex: MutexId, records: &[Record]) -> Option<ProcessId>
-    requires { length records.now ≤ most_processes }
+    requires { length records.now ≤ MOST_PROCESSES }
     ensures value { result ≡ position (owns mutex) records.now }
     ensures known { IfSome result (λ p. p < length records.now) }
 {

@@ -1,9 +1,9 @@
 //! The releases of periodic processes.
 
 ghost use Rattle.std.specs.Prelude.{◌≡◌, ◌<◌, length};
-ghost use Rattle.apex_types.specs.processes.Dues.{HasTime, IsFrom};
-ghost use Rattle.apex_types.specs.processes.Periods.{HasNoFutureRelease, release_after};
-ghost use Rattle.apex_types.specs.processes.Roster.{record_at};
+ghost use Rattle.apex_machine.specs.processes.Dues.{HasTime, IsFrom};
+ghost use Rattle.apex_machine.specs.processes.Periods.{HasNoFutureRelease, release_after};
+ghost use Rattle.apex_machine.specs.processes.Roster.{record_at};
 
 use crate::store::Store;
 use apex_types::ProcessId;

@@ -1,12 +1,13 @@
 //! A store of one list of records, which answers each question by a scan.
 ghost use Rattle.std.specs.Prelude.{◌≡◌, ◌<◌, ◌≤◌, count_by, length, slice_index_or, IfOk};
-ghost use Rattle.apex_types.specs.values.Limits.{latest, most_processes};
-ghost use Rattle.apex_types.specs.processes.Roster.{opening_roster, record_at, with_record};
-ghost use Rattle.apex_types.specs.processes.Dues.{HasTime};
-ghost use Rattle.apex_types.specs.processes.Periods.{deadline_from};
-ghost use Rattle.apex_types.specs.declared.records.Discipline.TheVariants.{Fifo};
-ghost use Rattle.apex_types.specs.processes.Stamps as stamps;
-ghost use Rattle.apex_types.specs.processes.Waiters.{discipline_of, goes_by_priority, waits_in};
+ghost use Rattle.apex_types.specs.declared.limits.TheConstants.{MOST_PROCESSES};
+ghost use Rattle.apex_types.specs.Limits.{latest};
+ghost use Rattle.apex_machine.specs.processes.Roster.{opening_roster, with_record};
+ghost use Rattle.apex_machine.specs.processes.Dues.{HasTime};
+ghost use Rattle.apex_machine.specs.processes.Periods.{deadline_from};
+ghost use Rattle.apex_types.specs.declared.modes.Discipline.TheVariants.{Fifo};
+ghost use Rattle.apex_machine.specs.processes.Stamps as stamps;
+ghost use Rattle.apex_machine.specs.processes.Waiters.{discipline_of, goes_by_priority, waits_in};
 
 use crate::dues::{earliest, first_due, first_missed};
 use crate::opening::{
@@ -16,15 +17,16 @@ use crate::orders::waits_in;
 use crate::owners::first_owner;
 use crate::scan::{Behind, Runnable, Waiting, first_of};
 use crate::store::Store;
+use apex_links::Visits;
+use apex_machine::{Holding, Holdings, Queue, Record, Suspender, Wait};
 use apex_table::Table;
-use apex_types::{
-    CoreId, Discipline, Holding, Holdings, Message, Mode, MutexId, ProcessId, Queue, Record,
-    Suspender, Wait,
-};
+use apex_types::{CoreId, Discipline, Message, Mode, MutexId, ProcessId};
 use std::alloc::{AllocError, Global};
 use std::marker::Model;
 
 /// A store that keeps one list of records, and answers each question by a scan of it.
+///
+/// It counts each record at which a call looks, and each one once for each look.
 #[derive(Drop)]
 pub struct PlainStore {
     cores: u8,
@@ -40,12 +42,13 @@ pub struct PlainStore {
     ceilings: Vec<u8>,
     /// How many mutexes a process may own at once.
     may_own: usize,
+    visits: Visits,
 }
 
 impl Model for PlainStore {
     ghost use Rattle.std.specs.Prelude.{◌≤◌, length};
-    ghost use Rattle.apex_types.specs.values.Limits.{most_cores, most_owned, most_processes};
-    ghost use Rattle.apex_types.specs.processes.Roster.{Roster};
+    ghost use Rattle.apex_types.specs.declared.limits.TheConstants.{MOST_CORES, MOST_OWNED, MOST_PROCESSES};
+    ghost use Rattle.apex_machine.specs.processes.Roster.{Roster};
 
     ghost Value = { Roster };
 
@@ -64,8 +67,8 @@ impl Model for PlainStore {
       rules = record { ceilings = a.ceilings.items; most_owned = a.may_own };
     } };
 
-    ghost invariant = { λ a. (a.cores ≤ most_cores) × (length a.records.items ≤ most_processes)
-        × (a.may_own ≤ most_owned) };
+    ghost invariant = { λ a. (a.cores ≤ MOST_CORES) × (length a.records.items ≤ MOST_PROCESSES)
+        × (a.may_own ≤ MOST_OWNED) };
 }
 
 /// A suspension by another process stays when the process wakes, and one by itself ends.
@@ -131,11 +134,11 @@ fn reset(row: Record) -> Record
     }
 }
 
-/// The two records have one current priority.
-fn is_level(row: &Record, other: &Record) -> bool
-    ensures { result ≡ stamps.is_level row.now other.now }
+/// The current priority of this record stays with this base priority and these mutexes.
+pub fn stays_level(row: &Record, base: u8, owned: &Holdings) -> bool
+    ensures { result ≡ stamps.is_level (record row.now { base = base; owned = owned.now }) row.now }
 {
-    row.current_priority() == other.current_priority()
+    owned.raised(base) == row.current_priority()
 }
 
 /// The discipline at this place, and FIFO past the end.
@@ -151,7 +154,7 @@ fn discipline_at(disciplines: &[Discipline], place: usize) -> Discipline
 /// The number of records that wait in the queue.
 #[tactic(auto, using(crate::proofs::Queues::few_wait))]
 fn waiter_count(queue: Queue, records: &[Record]) -> u32
-    requires { length records.now ≤ most_processes }
+    requires { length records.now ≤ MOST_PROCESSES }
     ensures { result ≡ count_by (waits_in queue) records.now }
 {
     records.iter().filter(|row| waits_in(queue, row)).count() as u32
@@ -180,7 +183,32 @@ impl PlainStore {
             mutexes,
             ceilings,
             may_own: table.profile().owned(),
+            visits: Visits::new(),
         })
+    }
+
+    /// The number of records at which the calls, reading ones too, have looked since the store was
+    /// made; it stays at the greatest `u64`.
+    pub fn visits(&self) -> u64 {
+        self.visits.count()
+    }
+
+    /// The place of the process's record, at which the caller looks.
+    fn look(&self, process: ProcessId) -> usize
+        requires { process < length self.now.records }
+        ensures { result ≡ process }
+    {
+        self.visits.note();
+        process.place()
+    }
+
+    /// All records, at each of which the caller looks.
+    fn scanned(&self) -> &[Record]
+        ensures value { result.now ≡ self.now.records }
+        ensures few_processes { length result.now ≤ MOST_PROCESSES }
+    {
+        self.visits.note_all(self.records.len());
+        &self.records
     }
 
     /// The discipline of the queue: a semaphore's, a buffer's and a mutex's is the table's, and all
@@ -201,7 +229,8 @@ impl PlainStore {
         requires { process < length self.old.records }
         ensures { self.new ≡ stamps.without_due self.old process }
     {
-        self.records[process.place()].due = None;
+        let place = self.look(process);
+        self.records[place].due = None;
     }
 
     /// There is a queue, and the more urgent comes first in it.
@@ -219,7 +248,8 @@ impl PlainStore {
         requires { process < length self.old.records }
         ensures { self.new ≡ with_record self.old process row }
     {
-        self.records[process.place()] = row;
+        let place = self.look(process);
+        self.records[place] = row;
     }
 
     /// The process has this record with the next stamp upwards.
@@ -230,7 +260,8 @@ impl PlainStore {
     {
         let stamp = self.next_young;
         self.next_young += 1;
-        self.records[process.place()] = Record {
+        let place = self.look(process);
+        self.records[place] = Record {
             since: stamp,
             ..row
         };
@@ -259,7 +290,8 @@ impl PlainStore {
     {
         let stamp = self.next_young;
         self.next_young += 1;
-        let row = &mut self.records[process.place()];
+        let place = self.look(process);
+        let row = &mut self.records[place];
         row.suspended = suspension_awake(row.suspended);
         row.wait = Some(wait);
         row.due = due;
@@ -302,7 +334,7 @@ impl Store for PlainStore {
     }
 
     fn record(&self, process: ProcessId) -> &Record {
-        &self.records[process.place()]
+        &self.records[self.look(process)]
     }
 
     // Inlined, since each turn asks for it in one place.
@@ -312,7 +344,7 @@ impl Store for PlainStore {
             mode: self.mode,
             core,
         };
-        first_of(&order, &self.records)
+        first_of(&order, self.scanned())
     }
 
     // Inlined, so that the scan for a caller looks for the one kind of wait that it names.
@@ -322,7 +354,7 @@ impl Store for PlainStore {
             discipline: self.discipline(&queue),
             queue,
         };
-        first_of(&order, &self.records)
+        first_of(&order, self.scanned())
     }
 
     fn next_after(&self, queue: Queue, process: ProcessId) -> Option<ProcessId> {
@@ -331,7 +363,7 @@ impl Store for PlainStore {
             queue,
             ahead: *self.record(process),
         };
-        first_of(&order, &self.records)
+        first_of(&order, self.scanned())
     }
 
     fn ceiling(&self, mutex: MutexId) -> u8 {
@@ -346,15 +378,15 @@ impl Store for PlainStore {
     }
 
     fn owner(&self, mutex: MutexId) -> Option<ProcessId> {
-        first_owner(mutex, &self.records)
+        first_owner(mutex, self.scanned())
     }
 
     fn next_instant(&self) -> Option<u64> {
-        earliest(&self.records)
+        earliest(self.scanned())
     }
 
     fn waiting(&self, queue: Queue) -> u32 {
-        waiter_count(queue, &self.records)
+        waiter_count(queue, self.scanned())
     }
 
     fn start(&mut self, process: ProcessId, delay: u32) {
@@ -388,7 +420,8 @@ impl Store for PlainStore {
     }
 
     fn unblock(&mut self, process: ProcessId) {
-        let row = &mut self.records[process.place()];
+        let place = self.look(process);
+        let row = &mut self.records[place];
         row.suspended = suspension_awake(row.suspended);
         row.wait = None;
         row.due = None;
@@ -440,7 +473,7 @@ impl Store for PlainStore {
     fn set_priority(&mut self, process: ProcessId, base: u8) {
         let row = *self.record(process);
         let changed = Record { base, ..row };
-        let stays = row.owns_some() && is_level(&changed, &row);
+        let stays = row.owns_some() && stays_level(&row, base, &row.owned);
         if (row.is_eligible(self.mode) && !stays) || self.goes_by_priority(row.queue()) {
             self.put_newest(process, changed);
         } else {
@@ -449,7 +482,8 @@ impl Store for PlainStore {
     }
 
     fn own(&mut self, process: ProcessId, owned: Holdings) {
-        let row = &mut self.records[process.place()];
+        let place = self.look(process);
+        let row = &mut self.records[place];
         let before = row.current_priority();
         row.owned = owned;
         if row.current_priority() != before {
@@ -477,17 +511,19 @@ impl Store for PlainStore {
     }
 
     fn set_deadline(&mut self, process: ProcessId, deadline: Option<u64>) {
-        self.records[process.place()].deadline = deadline;
+        let place = self.look(process);
+        self.records[place].deadline = deadline;
     }
 
     fn take_missed(&mut self) -> Option<ProcessId> {
-        let process = first_missed(self.time, &self.records)?;
-        self.records[process.place()].deadline = None;
+        let process = first_missed(self.time, self.scanned())?;
+        let place = self.look(process);
+        self.records[place].deadline = None;
         Some(process)
     }
 
     fn take_due(&mut self) -> Option<ProcessId> {
-        let process = first_due(self.time, &self.records)?;
+        let process = first_due(self.time, self.scanned())?;
         self.clear_due(process);
         Some(process)
     }
@@ -497,14 +533,17 @@ impl Store for PlainStore {
     }
 
     fn set_core(&mut self, process: ProcessId, core: CoreId) {
-        self.records[process.place()].core = core;
+        let place = self.look(process);
+        self.records[place].core = core;
     }
 
     fn receive(&mut self, process: ProcessId, message: Message) {
-        self.records[process.place()].inbox = Some(message);
+        let place = self.look(process);
+        self.records[place].inbox = Some(message);
     }
 
     fn set_step(&mut self, process: ProcessId, step: u8) {
-        self.records[process.place()].step = step;
+        let place = self.look(process);
+        self.records[place].step = step;
     }
 }

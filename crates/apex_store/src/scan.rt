@@ -1,15 +1,16 @@
 //! The one search for the process that comes first.
 ghost use Rattle.std.specs.Prelude.{◌≡◌, ◌<◌, ◌≤◌, Bool, length, position, IfSome};
-ghost use Rattle.apex_types.specs.values.Limits.{most_processes};
+ghost use Rattle.apex_types.specs.declared.limits.TheConstants.{MOST_PROCESSES};
 ghost use Rattle.std.specs.Cmp.{IsStrictWeakOrder};
-ghost use Rattle.apex_types.specs.declared.records.Record.{Record};
-ghost use Rattle.apex_types.specs.processes.Choice.{place_of_least};
-ghost use Rattle.apex_types.specs.processes.Running.{is_before, runs_on};
-ghost use Rattle.apex_types.specs.processes.Waiters.{waits_before, waits_behind, waits_in};
-ghost use Rattle.apex_types.proofs.Orders.{before_strict, waits_strict};
+ghost use Rattle.apex_machine.specs.declared.records.Record.{Record};
+ghost use Rattle.apex_machine.specs.processes.Choice.{place_of_least};
+ghost use Rattle.apex_machine.specs.processes.Running.{is_before, runs_on};
+ghost use Rattle.apex_machine.specs.processes.Waiters.{waits_before, waits_behind, waits_in};
+ghost use Rattle.apex_machine.proofs.Orders.{before_strict, waits_strict};
 
 use crate::orders;
-use apex_types::{CoreId, Discipline, Mode, ProcessId, Queue, Record};
+use apex_machine::{Queue, Record};
+use apex_types::{CoreId, Discipline, Mode, ProcessId};
 
 /// The processes that a scan looks at, and the order of any two of them.
 pub trait Order {
@@ -109,7 +110,7 @@ fn place_passing<O: Order>(order: &O, records: &[Record]) -> Option<usize>
 #[inline(always)]
 #[tactic(auto, using(crate::proofs::FirstPassing::none_is_least))]
 pub fn first_of<O: Order>(order: &O, records: &[Record]) -> Option<ProcessId>
-    requires { length records.now ≤ most_processes }
+    requires { length records.now ≤ MOST_PROCESSES }
     ensures value { result ≡ place_of_least (O.passes order.now)
         (O.precedes order.now) records.now }
     ensures known { IfSome result (λ p. p < length records.now) }

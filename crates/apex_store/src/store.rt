@@ -1,18 +1,18 @@
 //! The trait `Store`: the processes of a partition, their mode and their time.
 ghost use Rattle.std.specs.Prelude.{◌≡◌, ◌<◌, ◌≤◌, ◌^◌, true, length, IfSome};
-ghost use Rattle.apex_types.specs.values.Limits.{latest, most_cores, most_owned, most_processes};
-ghost use Rattle.apex_types.specs.processes.Roster.{Roster, record_at};
-ghost use Rattle.apex_types.specs.processes.Running.{chosen, process_state, IsEligible, IsIneligible};
-ghost use Rattle.apex_types.specs.processes.Waiters.{first_waiter, next_waiter, waiter_count, waits_in};
-ghost use Rattle.apex_types.specs.processes.Owners.{ceiling_of, owner};
-ghost use Rattle.apex_types.specs.processes.Dues.{next_instant, first_due, first_missed, HasNoDeadlineBelow, HasNoDueBelow, HasTime, IsFrom};
-ghost use Rattle.apex_types.specs.processes.Stamps as stamps;
-ghost use Rattle.apex_types.specs.declared.records.Queue.TheVariants as queues;
+ghost use Rattle.apex_types.specs.declared.limits.TheConstants.{MOST_CORES, MOST_OWNED, MOST_PROCESSES};
+ghost use Rattle.apex_types.specs.Limits.{latest};
+ghost use Rattle.apex_machine.specs.processes.Roster.{Roster, record_at};
+ghost use Rattle.apex_machine.specs.processes.Running.{chosen, process_state, IsEligible, IsIneligible};
+ghost use Rattle.apex_machine.specs.processes.Waiters.{first_waiter, next_waiter, waiter_count, waits_in};
+ghost use Rattle.apex_machine.specs.processes.Owners.{ceiling_of, owner};
+ghost use Rattle.apex_machine.specs.processes.Dues.{next_instant, first_due, first_missed, HasNoDeadlineBelow, HasNoDueBelow, HasTime, IsFrom};
+ghost use Rattle.apex_machine.specs.processes.Stamps as stamps;
+ghost use Rattle.apex_machine.specs.declared.records.Queue.TheVariants as queues;
 
 use crate::orders::is_process;
-use apex_types::{
-    CoreId, Holding, Holdings, Message, Mode, MutexId, ProcessId, Queue, Record, State, Wait,
-};
+use apex_machine::{Holding, Holdings, Queue, Record, Wait};
+use apex_types::{CoreId, Message, Mode, MutexId, ProcessId, State};
 
 /// The processes of a partition: their records, the mode and the time.
 ///
@@ -26,7 +26,7 @@ pub trait Store: Drop {
     /// The number of cores that the partition has.
     fn cores(&self) -> u8
         ensures value { result ≡ (roster self.now).cores }
-        ensures range { result ≤ most_cores };
+        ensures range { result ≤ MOST_CORES };
 
     fn mode(&self) -> Mode
         ensures { result ≡ (roster self.now).mode };
@@ -37,7 +37,7 @@ pub trait Store: Drop {
 
     fn process_count(&self) -> usize
         ensures value { result ≡ length (roster self.now).records }
-        ensures range { result ≤ most_processes };
+        ensures range { result ≤ MOST_PROCESSES };
 
     fn record(&self, process: ProcessId) -> &Record
         requires known { process < length (roster self.now).records }
@@ -87,7 +87,7 @@ pub trait Store: Drop {
     /// How many mutexes a process may own at once.
     fn most_owned(&self) -> usize
         ensures value { result ≡ (roster self.now).rules.most_owned }
-        ensures range { result ≤ most_owned };
+        ensures range { result ≤ MOST_OWNED };
 
     /// The process that owns the mutex.
     fn owner(&self, mutex: MutexId) -> Option<ProcessId>

@@ -1,18 +1,19 @@
 //! The beginning of a wait of the calling process.
 ghost use Rattle.std.specs.Prelude.{◌≡◌, [], length};
-ghost use Rattle.apex_types.specs.services.Callers.{IsReady};
-ghost use Rattle.apex_types.specs.processes.Dues.{HasTime};
-ghost use Rattle.apex_types.specs.services.Rows.{Leaves};
-ghost use Rattle.apex_types.specs.processes.Stamps.{HasManyStamps};
-ghost use Rattle.apex_types.specs.services.Waiting.{wait_for};
+ghost use Rattle.apex_machine.specs.services.Callers.{IsReady};
+ghost use Rattle.apex_machine.specs.processes.Dues.{HasTime};
+ghost use Rattle.apex_machine.specs.services.Rows.{Leaves};
+ghost use Rattle.apex_machine.specs.processes.Stamps.{HasManyStamps};
+ghost use Rattle.apex_machine.specs.services.Waiting.{wait_for};
 
 use crate::dues::due_after;
 use crate::store::Store;
-use apex_types::{ProcessId, Reply, ReturnCode, Timeout, Wait};
+use apex_machine::Wait;
+use apex_types::{ProcessId, Reply, ReturnCode, Timeout};
 
 /// The process, which calls, waits for the object until the timeout, in ticks, is over.
 /// NOT_AVAILABLE if the timeout is 0.
-#[tactic(auto, using(apex_types::proofs::Starts::eligible_may_wait))]
+#[tactic(auto, using(apex_machine::proofs::Starts::eligible_may_wait))]
 pub fn wait_for<S: Store, O>(
     store: &mut S,
     object: &O,

@@ -1,14 +1,15 @@
 //! The end of a wait whose condition holds.
 
 ghost use Rattle.std.specs.Prelude.{◌≡◌, ◌<◌, ◌≤◌, length};
-ghost use Rattle.apex_types.specs.values.Limits.{most_notices, most_processes};
-ghost use Rattle.apex_types.specs.services.InTurn.{Makes};
-ghost use Rattle.apex_types.specs.values.Messages.{is_unfit};
-ghost use Rattle.apex_types.specs.processes.Stamps.{HasManyStamps, HasStamps};
-ghost use Rattle.apex_types.specs.services.Waking.{granted, grant_all};
+ghost use Rattle.apex_types.specs.declared.limits.TheConstants.{MOST_NOTICES, MOST_PROCESSES};
+ghost use Rattle.apex_machine.specs.services.InTurn.{Makes};
+ghost use Rattle.apex_types.specs.Messages.{is_unfit};
+ghost use Rattle.apex_machine.specs.processes.Stamps.{HasManyStamps, HasStamps};
+ghost use Rattle.apex_machine.specs.services.Waking.{granted, grant_all};
 
 use crate::store::Store;
-use apex_types::{Message, Notice, Notices, ProcessId, Queue, ReturnCode};
+use apex_machine::Queue;
+use apex_types::{Message, Notice, Notices, ProcessId, ReturnCode};
 
 /// The message is empty, or longer than this in bytes.
 pub fn is_unfit(longest: u8, message: &Message) -> bool
@@ -27,7 +28,7 @@ pub fn grant<S: Store>(
 )
     requires known { process < length (S.roster store.old).records }
     requires stamps { HasStamps (S.roster store.old) }
-    requires room { length notices.old < most_notices }
+    requires room { length notices.old < MOST_NOTICES }
     ensures { Makes (granted message.now (S.roster store.old) process)
         (S.roster store.new) notices.old notices.new }
 {
@@ -39,7 +40,7 @@ pub fn grant<S: Store>(
 }
 
 /// All processes that wait in the queue have what they waited for, in the queue's order.
-#[tactic(auto, unfolding(apex_types::specs::services::Waking::grant_all))]
+#[tactic(auto, unfolding(apex_machine::specs::services::Waking::grant_all))]
 pub fn grant_all<S: Store>(
     store: &mut S,
     queue: &Queue,
@@ -47,7 +48,7 @@ pub fn grant_all<S: Store>(
     notices: &mut Notices,
 )
     requires stamps { HasManyStamps (S.roster store.old) }
-    requires room { length notices.old ≤ most_processes }
+    requires room { length notices.old ≤ MOST_PROCESSES }
     ensures { Makes (grant_all queue.now message.now (S.roster store.old))
         (S.roster store.new) notices.old notices.new }
 {

@@ -1,8 +1,8 @@
 -- The default init list names entries of the table, and is short enough.
 use Rattle.std.proofs.Common.{◌≡◌, ℕ, ◌+◌, ◌*◌, ◌<◌, ◌≤◌, suc, Bool, true, false, cond, List, [], ◌∷◌, ◌++◌, length, refl, arith, length-append}
 use Rattle.std.specs.List.{AllByRecursion}
-use Rattle.apex_types.specs.values.Places.{map_places}
-use Rattle.apex_types.specs.table.Table.{ProcessConfig, Step, Table, IsLawfulStep}
+use Rattle.apex_types.specs.Places.{map_places}
+use Rattle.apex_machine.specs.table.Table.{ProcessConfig, Step, Table, IsLawfulStep}
 use Rattle.apex_types.specs.declared.calls.Call.TheVariants as calls
 use Rattle.apex_types.specs.declared.calls.ObjectCall.TheVariants.{KindService}
 use Rattle.apex_types.specs.declared.calls.Origin.TheVariants.{Init}

@@ -1,6 +1,6 @@
 -- Each event flag that is read has a name.
 use Rattle.std.proofs.Common.{refl}
-use Rattle.apex_types.specs.table.Table.{IsLawfulEventFlag}
+use Rattle.apex_machine.specs.table.Table.{IsLawfulEventFlag}
 use Rattle.apex_table.specs.EventFlags.{event_flags}
 use Rattle.apex_table.proofs.SectionLaws.{ReadsSound}
 

@@ -2,8 +2,8 @@
 use Rattle.std.proofs.Common.{ℕ, ◌+◌, ◌≤◌, List, [], length, Option, Some, None, IfSome, IfOk, arith}
 use Rattle.std.proofs.lemmas.Result.{IfOk-at_ok, IfOk-weaker}
 use Rattle.toml.specs.Data.{Data}
-use Rattle.apex_types.specs.values.Limits.{most_init_steps, most_objects, most_processes}
-use Rattle.apex_types.specs.table.Table.{ProcessConfig, Step, Table, IsLawfulStep}
+use Rattle.apex_types.specs.declared.limits.TheConstants.{MOST_INIT_STEPS, MOST_OBJECTS, MOST_PROCESSES}
+use Rattle.apex_machine.specs.table.Table.{ProcessConfig, Step, Table, IsLawfulStep}
 use Rattle.apex_types.specs.declared.calls.Origin.TheVariants as origin
 use Rattle.apex_table.specs.declared.fault.Section.TheVariants.{Init}
 use Rattle.apex_table.specs.Terms.{Place, Profile}
@@ -23,24 +23,24 @@ use Rattle.apex_table.proofs.ObjectLaws.{AreLawful}
 
 -- an init list that is given has at most 512 texts
 abbrev pub AreFew : Option (List (List ℕ)) → Type 0
-AreFew o = IfSome o (λ ts. length ts ≤ most_init_steps)
+AreFew o = IfSome o (λ ts. length ts ≤ MOST_INIT_STEPS)
 
-given_texts_law : (d : Data) → IfOk (given_texts d) (λ ts. length ts ≤ most_init_steps)
+given_texts_law : (d : Data) → IfOk (given_texts d) (λ ts. length ts ≤ MOST_INIT_STEPS)
 unfolding given_texts
 given_texts_law d =
-    ok_then (array (place Init 0) d) _ (λ ts. length ts ≤ most_init_steps) (λ ds _.
-    ok_then (at_most (place Init 0) most_init_steps ds) _ (λ ts. length ts ≤ most_init_steps) (λ few e.
-    let bound : length few ≤ most_init_steps = IfOk-at_ok (λ xs. length xs ≤ most_init_steps) e (at_most_law (place Init 0) most_init_steps ds) in
+    ok_then (array (place Init 0) d) _ (λ ts. length ts ≤ MOST_INIT_STEPS) (λ ds _.
+    ok_then (at_most (place Init 0) MOST_INIT_STEPS ds) _ (λ ts. length ts ≤ MOST_INIT_STEPS) (λ few e.
+    let bound : length few ≤ MOST_INIT_STEPS = IfOk-at_ok (λ xs. length xs ≤ MOST_INIT_STEPS) e (at_most_law (place Init 0) MOST_INIT_STEPS ds) in
     IfOk-weaker (texts few) _ _ (λ ts h. omega arith) (each_length next_text [] few)))
 
 pub init_texts_law : (o : Option Data) → IfOk (init_texts o) AreFew
 init_texts_law None = tt
 init_texts_law (Some d) =
-    ok_then (given_texts d) _ AreFew (λ ts e. IfOk-at_ok (λ ts. length ts ≤ most_init_steps) e (given_texts_law d))
+    ok_then (given_texts d) _ AreFew (λ ts e. IfOk-at_ok (λ ts. length ts ≤ MOST_INIT_STEPS) e (given_texts_law d))
 
 -- the facts about an init list of the table
 pub record IsInitList (table : Table) (steps : List Step) : Type 0 where
-  pub few : length steps ≤ most_init_steps
+  pub few : length steps ≤ MOST_INIT_STEPS
   pub lawful : AllFrom (λ k step. IsLawfulStep table (origin.Init k) step) 0 steps
 
 module _ (table : Table) (names : Names) (same : AreNamesOf table names) where
@@ -58,20 +58,20 @@ module _ (table : Table) (names : Names) (same : AreNamesOf table names) where
       each_from (next_init_step names) Lawful (λ t. Unit {0})
       (λ done t _. init_step_law (place Init (length done + 1)) (length done) t) [] ts tt (all_any ts)
 
-  steps_length : (ts : List (List ℕ)) → length ts ≤ most_init_steps → IfOk (init_steps names ts) (λ steps. length steps ≤ most_init_steps)
+  steps_length : (ts : List (List ℕ)) → length ts ≤ MOST_INIT_STEPS → IfOk (init_steps names ts) (λ steps. length steps ≤ MOST_INIT_STEPS)
   steps_length ts few =
       IfOk-weaker (init_steps names ts) _ _ (λ steps h. omega arith) (each_length (next_init_step names) [] ts)
 
-  init_steps_law : (ts : List (List ℕ)) → length ts ≤ most_init_steps → IfOk (init_steps names ts) (IsInitList table)
+  init_steps_law : (ts : List (List ℕ)) → length ts ≤ MOST_INIT_STEPS → IfOk (init_steps names ts) (IsInitList table)
   init_steps_law ts few = both_ok (init_steps names ts) _ _ (λ steps short lawful. record { few = short; lawful = lawful }) (steps_length ts few) (steps_lawful ts)
 
-pub init_list_law : (profile : Profile) (cores limit : ℕ) (procs : List ProcessConfig) (objects : Objects) (init : List Step) (names : Names) → AreNamesOf (table_with profile cores limit procs objects init) names → length procs ≤ most_processes → AreLawful objects → (o : Option (List (List ℕ))) → AreFew o → IfOk (init_list names procs objects o) (IsInitList (table_with profile cores limit procs objects init))
+pub init_list_law : (profile : Profile) (cores limit : ℕ) (procs : List ProcessConfig) (objects : Objects) (init : List Step) (names : Names) → AreNamesOf (table_with profile cores limit procs objects init) names → length procs ≤ MOST_PROCESSES → AreLawful objects → (o : Option (List (List ℕ))) → AreFew o → IfOk (init_list names procs objects o) (IsInitList (table_with profile cores limit procs objects init))
 init_list_law profile cores limit procs objects init names same some lawful (Some ts) few =
     init_steps_law (table_with profile cores limit procs objects init) names same ts few
 init_list_law profile cores limit procs objects init names same some lawful None few =
-    let semaphores : length objects.semaphores ≤ most_objects = lawful.semaphores.few in
-    let buffers : length objects.buffers ≤ most_objects = lawful.buffers.few in
-    let blackboards : length objects.blackboards ≤ most_objects = lawful.blackboards.few in
-    let event_flags : length objects.event_flags ≤ most_objects = lawful.event_flags.few in
-    let mutexes : length objects.mutexes ≤ most_objects = lawful.mutexes.few in
+    let semaphores : length objects.semaphores ≤ MOST_OBJECTS = lawful.semaphores.few in
+    let buffers : length objects.buffers ≤ MOST_OBJECTS = lawful.buffers.few in
+    let blackboards : length objects.blackboards ≤ MOST_OBJECTS = lawful.blackboards.few in
+    let event_flags : length objects.event_flags ≤ MOST_OBJECTS = lawful.event_flags.few in
+    let mutexes : length objects.mutexes ≤ MOST_OBJECTS = lawful.mutexes.few in
     record { few = omega (arith, default_init_length procs objects); lawful = default_init_law profile cores limit procs objects init }

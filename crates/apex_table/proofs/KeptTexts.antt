@@ -4,7 +4,7 @@ use Rattle.std.specs.List.{slice_get}
 use Rattle.std.proofs.lemmas.List.{map-id}
 use Rattle.std.proofs.lemmas.Option.{slice_get-map}
 use Rattle.std.proofs.lemmas.Result.{IfOk-at_ok, IfOk-weaker}
-use Rattle.apex_types.specs.table.Table.{Table, ProcessConfig, Step, no_process, no_step, process_config, step_at, IsLawful}
+use Rattle.apex_machine.specs.table.Table.{Table, ProcessConfig, Step, no_process, no_step, process_config, step_at, IsLawful}
 use Rattle.apex_types.specs.declared.calls.Origin.TheVariants as origin
 use Rattle.apex_calls.specs.CallText.{call_text, call_words, spaced}
 use Rattle.apex_table.specs.declared.fault.Section.TheVariants as sections

@@ -7,9 +7,9 @@ use Rattle.std.specs.Str.{bytes_eq}
 use Rattle.std.proofs.lemmas.Option.{none-some, same_Some}
 use Rattle.std.proofs.lemmas.Result.{IfOk-at_ok}
 use Rattle.toml.specs.Data.{Data, Members, get_member, as_integer, as_str}
-use Rattle.apex_types.specs.values.Limits.{most_span}
-use Rattle.apex_types.specs.values.Name.{is_name}
-use Rattle.apex_types.specs.table.Table.{IsSpan}
+use Rattle.apex_types.specs.declared.limits.TheConstants.{MOST_SPAN}
+use Rattle.apex_types.specs.Name.{is_name}
+use Rattle.apex_machine.specs.table.Table.{IsSpan}
 use Rattle.apex_table.specs.Terms.{Place, TableFault}
 use Rattle.apex_table.specs.declared.fault.TableFault.TheVariants.{WrongType, OutOfRange, BadName, DoubleName, TooMany}
 use Rattle.apex_table.specs.Outcome.{some_or}
@@ -42,18 +42,18 @@ number_or_law at default low high key ms here =
 no_span : IsSpan None
 no_span ticks e = absurd (none-some ticks e)
 
-some_span : (n : ℕ) → (1 ≤ n) × (n ≤ most_span) → IsSpan (Some n)
+some_span : (n : ℕ) → (1 ≤ n) × (n ≤ MOST_SPAN) → IsSpan (Some n)
 some_span n bounds ticks e =
     let same : n ≡ ticks = same_Some n ticks e in
     let low : 1 ≤ n = bounds.0 in
-    let high : n ≤ most_span = bounds.1 in
+    let high : n ≤ MOST_SPAN = bounds.1 in
     (omega arith, omega arith)
 
 span_of_law : (at : Place) (d : Data) (o : Option (List ℕ)) → IfOk (span_of at d o) IsSpan
 span_of_law at d (Some t) = ok_if (bytes_eq t (codes "infinite")) (OutOfRange at) None IsSpan (λ _. no_span)
 span_of_law at d None =
-    ok_then (number at 1 most_span d) _ IsSpan (λ n e.
-    some_span n (IfOk-at_ok (λ n. (1 ≤ n) × (n ≤ most_span)) e (number_law at 1 most_span d)))
+    ok_then (number at 1 MOST_SPAN d) _ IsSpan (λ n e.
+    some_span n (IfOk-at_ok (λ n. (1 ≤ n) × (n ≤ MOST_SPAN)) e (number_law at 1 MOST_SPAN d)))
 
 pub span_or_infinite_law : (at : Place) (key : List ℕ) (ms : Members) → IfOk (span_or_infinite at key ms) IsSpan
 span_or_infinite_law at key ms = optional_law None _ IsSpan no_span (λ d. span_of_law at d (as_str d)) (get_member key ms)

@@ -7,10 +7,10 @@ use Rattle.std.proofs.lemmas.List.{length-map}
 use Rattle.std.proofs.lemmas.List.Elements.{All-from_recursion}
 use Rattle.std.proofs.lemmas.Result.{IfOk-at_ok}
 use Rattle.toml.specs.Data.{Members, get_member}
-use Rattle.apex_types.specs.table.Profiles.{processes_of, profile_of}
-use Rattle.apex_types.proofs.BothProfiles.{few_processes}
-use Rattle.apex_types.specs.values.Limits.{most_cores, most_entries, most_profile, usual_entries}
-use Rattle.apex_types.specs.table.Table.{Table, ProcessConfig, SemaphoreConfig, BufferConfig, BlackboardConfig, EventFlagConfig, MutexConfig, no_process, no_semaphore, no_buffer, no_blackboard, no_event_flag, no_mutex, Step, no_step, IsLawfulStep, IsLawfulProcess, IsLawfulSemaphore, IsLawfulBuffer, IsLawfulBlackboard, IsLawfulEventFlag, IsLawfulMutex, IsLawful}
+use Rattle.apex_machine.specs.table.Profiles.{processes_of, profile_of}
+use Rattle.apex_machine.proofs.BothProfiles.{few_processes}
+use Rattle.apex_types.specs.declared.limits.TheConstants.{MOST_CORES, MOST_ENTRIES, MOST_PROFILE, USUAL_ENTRIES}
+use Rattle.apex_machine.specs.table.Table.{Table, ProcessConfig, SemaphoreConfig, BufferConfig, BlackboardConfig, EventFlagConfig, MutexConfig, no_process, no_semaphore, no_buffer, no_blackboard, no_event_flag, no_mutex, Step, no_step, IsLawfulStep, IsLawfulProcess, IsLawfulSemaphore, IsLawfulBuffer, IsLawfulBlackboard, IsLawfulEventFlag, IsLawfulMutex, IsLawful}
 use Rattle.apex_types.specs.declared.calls.Origin.TheVariants.{Init}
 use Rattle.apex_table.specs.Terms.{Profile}
 use Rattle.apex_table.specs.declared.fault.Section.TheVariants.{Top}
@@ -50,7 +50,7 @@ module _ (profile : Profile) (cores limit : ℕ) (drafts : List ProcessDraft) (p
         mutexes = length-map things.mutexes (λ (m : MutexConfig). m.name);
       }
 
-  lawful : (1 ≤ cores) × (cores ≤ most_cores) → (1 ≤ limit) × (limit ≤ most_entries) → (1 ≤ length procs) × (length procs ≤ processes_of profile) → IsDistinct bytes_eq (entry_names procs) → AllFrom (IsLawfulProcess Whole) 0 procs → AreLawful things → IsInitList Whole steps → IsLawful Whole
+  lawful : (1 ≤ cores) × (cores ≤ MOST_CORES) → (1 ≤ limit) × (limit ≤ MOST_ENTRIES) → (1 ≤ length procs) × (length procs ≤ processes_of profile) → IsDistinct bytes_eq (entry_names procs) → AllFrom (IsLawfulProcess Whole) 0 procs → AreLawful things → IsInitList Whole steps → IsLawful Whole
   lawful in_cores in_limit count distinct each sound init = record {
     cores = in_cores;
     limit = in_limit;
@@ -80,9 +80,9 @@ pub reading_law : (tree : Members) → IfOk (reading tree) IsLawful
 unfolding reading
 reading_law tree =
     ok_then (known (place Top 0) top_keys tree) _ IsLawful (λ ms _.
-    ok_then (number_or (place Top 0) 1 1 most_profile (codes "profile") ms) _ IsLawful (λ number _.
-    ok_then (number_at (place Top 0) 1 most_cores (codes "cores") ms) _ IsLawful (λ cores ec.
-    ok_then (number_or (place Top 0) usual_entries 1 most_entries (codes "history") ms) _ IsLawful (λ limit el.
+    ok_then (number_or (place Top 0) 1 1 MOST_PROFILE (codes "profile") ms) _ IsLawful (λ number _.
+    ok_then (number_at (place Top 0) 1 MOST_CORES (codes "cores") ms) _ IsLawful (λ cores ec.
+    ok_then (number_or (place Top 0) USUAL_ENTRIES 1 MOST_ENTRIES (codes "history") ms) _ IsLawful (λ limit el.
     ok_then (section (processes (profile_of number) cores) ms) _ IsLawful (λ read ep.
     ok_then (some_process read) _ IsLawful (λ drafts es.
     ok_then (objects ms) _ IsLawful (λ things eo.
@@ -91,8 +91,8 @@ reading_law tree =
     ok_then (init_list (names_of drafts things) procs things texts) _ IsLawful (λ steps ei.
     let profile = profile_of number in
     let whole : Table = table_with profile cores limit procs things steps in
-    let in_cores : (1 ≤ cores) × (cores ≤ most_cores) = IfOk-at_ok (λ n. (1 ≤ n) × (n ≤ most_cores)) ec (number_at_law (place Top 0) 1 most_cores (codes "cores") ms) in
-    let in_limit : (1 ≤ limit) × (limit ≤ most_entries) = IfOk-at_ok (λ n. (1 ≤ n) × (n ≤ most_entries)) el (number_or_law (place Top 0) usual_entries 1 most_entries (codes "history") ms (omega arith, omega arith)) in
+    let in_cores : (1 ≤ cores) × (cores ≤ MOST_CORES) = IfOk-at_ok (λ n. (1 ≤ n) × (n ≤ MOST_CORES)) ec (number_at_law (place Top 0) 1 MOST_CORES (codes "cores") ms) in
+    let in_limit : (1 ≤ limit) × (limit ≤ MOST_ENTRIES) = IfOk-at_ok (λ n. (1 ≤ n) × (n ≤ MOST_ENTRIES)) el (number_or_law (place Top 0) USUAL_ENTRIES 1 MOST_ENTRIES (codes "history") ms (omega arith, omega arith)) in
     let some : (read ≡ drafts) × (1 ≤ length drafts) = IfOk-at_ok (λ (xs : List ProcessDraft). (read ≡ xs) × (1 ≤ length xs)) es (some_process_law read) in
     let sound : IsSection (processes profile cores) (IsSoundDraft cores) drafts =
     subst (IsSection (processes profile cores) (IsSoundDraft cores)) some.0

@@ -2,7 +2,7 @@
 use Rattle.std.proofs.Common.{IfOk}
 use Rattle.std.proofs.lemmas.Result.{IfOk-at_ok}
 use Rattle.toml.specs.Data.{Members}
-use Rattle.apex_types.specs.table.Table.{IsLawfulSemaphore, IsLawfulBuffer, IsLawfulBlackboard, IsLawfulEventFlag, IsLawfulMutex}
+use Rattle.apex_machine.specs.table.Table.{IsLawfulSemaphore, IsLawfulBuffer, IsLawfulBlackboard, IsLawfulEventFlag, IsLawfulMutex}
 use Rattle.apex_table.specs.Sections.{section}
 use Rattle.apex_table.specs.Semaphores.{semaphores}
 use Rattle.apex_table.specs.Buffers.{buffers}

@@ -3,9 +3,9 @@ use Rattle.std.proofs.Common.{◌≡◌, ℕ, ◌-◌, ◌<◌, ◌≤◌, Bool,
 use Rattle.std.specs.Prelude.{codes}
 use Rattle.std.proofs.lemmas.Result.{IfOk-at_ok, IfOk-weaker}
 use Rattle.toml.specs.Data.{Data, Members}
-use Rattle.apex_types.specs.values.Limits.{most_priority, most_steps}
-use Rattle.apex_types.specs.values.Name.{is_name}
-use Rattle.apex_types.specs.table.Table.{IsSpan}
+use Rattle.apex_types.specs.declared.limits.TheConstants.{MOST_PRIORITY, MOST_STEPS}
+use Rattle.apex_types.specs.Name.{is_name}
+use Rattle.apex_machine.specs.table.Table.{IsSpan}
 use Rattle.apex_table.specs.Terms.{Place, Profile}
 use Rattle.apex_table.specs.Keys.{text, array_at, at_most, number_at, number_or, span_or_infinite, truth_or, deadline_or_soft}
 use Rattle.apex_table.specs.Processes.{ProcessDraft, some_process, texts, some_step, script_at, process, processes}
@@ -19,15 +19,15 @@ some_process_law (p ∷ ps) = (refl, omega arith)
 
 -- a script of at most 64 steps, and of at least one if it begins anew
 pub record IsScript {A : Type 0} (loops : Bool) (steps : List A) : Type 0 where
-  pub few : length steps ≤ most_steps
+  pub few : length steps ≤ MOST_STEPS
   pub some : loops ≡ true → 1 ≤ length steps
 
 pub same_script : {A B : Type 0} (loops : Bool) (steps : List A) (calls : List B) → length calls ≡ length steps → IsScript loops steps → IsScript loops calls
 same_script loops steps calls same h =
-    let few : length steps ≤ most_steps = h.few in
+    let few : length steps ≤ MOST_STEPS = h.few in
     record { few = omega arith; some = λ e. let some : 1 ≤ length steps = h.some e in omega arith }
 
-some_step_law : (at : Place) (loops : Bool) (ds : List Data) → length ds ≤ most_steps → IfOk (some_step at loops ds) (IsScript loops)
+some_step_law : (at : Place) (loops : Bool) (ds : List Data) → length ds ≤ MOST_STEPS → IfOk (some_step at loops ds) (IsScript loops)
 some_step_law at true [] few = tt
 some_step_law at true (d ∷ ds) few = record { few = few; some = λ _. omega arith }
 some_step_law at false ds few = record { few = few; some = λ e. cc }
@@ -36,16 +36,16 @@ script_at_law : (at : Place) (loops : Bool) (ms : Members) → IfOk (script_at a
 unfolding script_at
 script_at_law at loops ms =
     ok_then (array_at at (codes "script") ms) _ (IsScript loops) (λ ds _.
-    ok_then (at_most at most_steps ds) _ (IsScript loops) (λ few e.
+    ok_then (at_most at MOST_STEPS ds) _ (IsScript loops) (λ few e.
     ok_then (some_step at loops few) _ (IsScript loops) (λ some es.
-    let bound : length few ≤ most_steps = IfOk-at_ok (λ xs. length xs ≤ most_steps) e (at_most_law at most_steps ds) in
+    let bound : length few ≤ MOST_STEPS = IfOk-at_ok (λ xs. length xs ≤ MOST_STEPS) e (at_most_law at MOST_STEPS ds) in
     let steps : IsScript loops some = IfOk-at_ok (IsScript loops) es (some_step_law at loops few bound) in
     IfOk-weaker (texts at some) _ _ (λ ts h. same_script loops some ts (omega arith) steps) (each_length (λ _ d. text at d) [] some))))
 
 -- the facts about a process whose script is still text
 pub record IsSoundDraft (cores : ℕ) (draft : ProcessDraft) : Type 0 where
   pub name : IsTrue (is_name draft.name)
-  pub priority : (1 ≤ draft.attributes.priority) × (draft.attributes.priority ≤ most_priority)
+  pub priority : (1 ≤ draft.attributes.priority) × (draft.attributes.priority ≤ MOST_PRIORITY)
   pub core : draft.core < cores
   pub period : IsSpan draft.attributes.period
   pub capacity : IsSpan draft.attributes.capacity
@@ -55,7 +55,7 @@ pub process_law : (profile : Profile) (cores : ℕ) → 1 ≤ cores → ReadsSou
 unfolding process
 process_law profile cores some at name ms good =
     let Read : ProcessDraft → Type 0 = IsRead (processes profile cores) (IsSoundDraft cores) name in
-    ok_then (number_at at 1 most_priority (codes "priority") ms) _ Read (λ priority ep.
+    ok_then (number_at at 1 MOST_PRIORITY (codes "priority") ms) _ Read (λ priority ep.
     ok_then (number_or at 0 0 (cores - 1) (codes "core") ms) _ Read (λ core ec.
     ok_then (span_or_infinite at (codes "period") ms) _ Read (λ period et.
     ok_then (span_or_infinite at (codes "capacity") ms) _ Read (λ capacity eb.
@@ -67,7 +67,7 @@ process_law profile cores some at name ms good =
     record {
       sound = record {
         name = good;
-        priority = IfOk-at_ok (λ n. (1 ≤ n) × (n ≤ most_priority)) ep (number_at_law at 1 most_priority (codes "priority") ms);
+        priority = IfOk-at_ok (λ n. (1 ≤ n) × (n ≤ MOST_PRIORITY)) ep (number_at_law at 1 MOST_PRIORITY (codes "priority") ms);
         core = omega arith;
         period = IfOk-at_ok IsSpan et (span_or_infinite_law at (codes "period") ms);
         capacity = IfOk-at_ok IsSpan eb (span_or_infinite_law at (codes "capacity") ms);

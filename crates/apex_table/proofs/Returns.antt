@@ -10,9 +10,9 @@ use Rattle.std.proofs.lemmas.Fmt.{decimal_digit, digits_decimal, digits_value-de
 use Rattle.std.proofs.lemmas.List.Elements.{All-from_recursion}
 use Rattle.std.proofs.lemmas.List.Splits.{slice_split_at, slice_split_none}
 use Rattle.std.proofs.lemmas.Slice.Eq.{bytes_eq-Decides}
-use Rattle.apex_types.specs.values.Name.{is_name, is_visible}
-use Rattle.apex_types.specs.values.Numbers.{digits_value, has_leading_zero, number_of}
-use Rattle.apex_types.specs.table.Table.{Step}
+use Rattle.apex_types.specs.Name.{is_name, is_visible}
+use Rattle.apex_types.specs.Numbers.{digits_value, has_leading_zero, number_of}
+use Rattle.apex_machine.specs.table.Table.{Step}
 use Rattle.apex_types.specs.declared.calls.Call.TheVariants as calls
 use Rattle.apex_types.specs.declared.calls.ObjectCall.TheVariants.{KindService}
 use Rattle.apex_types.specs.declared.calls.PartitionCall.TheVariants.{SetPartitionMode}

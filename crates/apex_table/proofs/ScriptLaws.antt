@@ -2,7 +2,7 @@
 use Rattle.std.proofs.Common.{◌≡◌, ℕ, ◌+◌, List, [], length, map, IfOk, refl}
 use Rattle.std.specs.List.{AllByRecursion}
 use Rattle.std.proofs.lemmas.Result.{IfOk-at_ok}
-use Rattle.apex_types.specs.table.Table.{ProcessConfig, Table, IsLawfulProcess, IsLawfulStep, no_step}
+use Rattle.apex_machine.specs.table.Table.{ProcessConfig, Table, IsLawfulProcess, IsLawfulStep, no_step}
 use Rattle.apex_types.specs.declared.calls.Origin.TheVariants.{Script}
 use Rattle.apex_table.specs.declared.fault.Section.TheVariants.{Process}
 use Rattle.apex_table.specs.Outcome.{place}

@@ -7,7 +7,7 @@ use Rattle.std.proofs.lemmas.List.{map-append}
 use Rattle.std.proofs.lemmas.Map.Keys.{IsDistinct-push}
 use Rattle.std.proofs.lemmas.Result.{IfOk-at_ok, IfOk-weaker}
 use Rattle.toml.specs.Data.{Data, Members, get_member}
-use Rattle.apex_types.specs.values.Name.{is_name}
+use Rattle.apex_types.specs.Name.{is_name}
 use Rattle.apex_table.specs.Terms.{Place}
 use Rattle.apex_table.specs.Fault.{section_word}
 use Rattle.apex_table.specs.Outcome.{each, place}

@@ -4,10 +4,10 @@ use Rattle.std.proofs.Common.{◌≡◌, ℕ, ◌&&◌, ◌||◌, nat_le, if◌t
 use Rattle.std.specs.Prelude.{not}
 use Rattle.std.specs.List.{list_all, list_any, position_from}
 use Rattle.std.specs.Str.{bytes_eq}
-use Rattle.apex_types.specs.values.Name.{is_name}
-use Rattle.apex_types.specs.table.Table.{IsKnownName, IsLiteral, IsMessageOf}
-use Rattle.apex_types.specs.services.Calls.{unknown}
-use Rattle.apex_types.specs.text.Texts.{bytes_text}
+use Rattle.apex_types.specs.Name.{is_name}
+use Rattle.apex_machine.specs.table.Table.{IsKnownName, IsLiteral, IsMessageOf}
+use Rattle.apex_types.specs.Calls.{unknown}
+use Rattle.apex_machine.specs.text.Texts.{bytes_text}
 use Rattle.apex_calls.specs.Catalogue.{row_of}
 use Rattle.apex_calls.specs.CallText.{timeout_text, mode_text, named_text}
 use Rattle.apex_calls.specs.declared.catalogue.Service.TheVariants.{SetPartitionMode}

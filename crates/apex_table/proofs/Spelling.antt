@@ -10,9 +10,9 @@ use Rattle.std.proofs.lemmas.Fmt.{decimal-digits_value}
 use Rattle.std.proofs.lemmas.Option.{none-some, same_Some}
 use Rattle.std.proofs.lemmas.Slice.Eq.{bytes_eq-Decides}
 use Rattle.std.proofs.lemmas.Str.Parse.{IsNumeralModel, numerals_by_weight, tells_all_ascii_digits}
-use Rattle.apex_types.specs.values.Limits.{most_message, most_span}
-use Rattle.apex_types.specs.values.Numbers.{digits_value, has_leading_zero, number_of, at_most, at_least}
-use Rattle.apex_types.specs.text.Texts.{byte_text, bytes_text}
+use Rattle.apex_types.specs.declared.limits.TheConstants.{MOST_MESSAGE, MOST_SPAN}
+use Rattle.apex_types.specs.Numbers.{digits_value, has_leading_zero, number_of, at_most, at_least}
+use Rattle.apex_machine.specs.text.Texts.{byte_text, bytes_text}
 use Rattle.apex_types.specs.declared.calls.RequestedMode.TheVariants.{Idle, Normal}
 use Rattle.apex_types.specs.declared.calls.Timeout.TheVariants.{Poll, Ticks, Infinite}
 use Rattle.apex_calls.specs.CallText.{timeout_text, mode_text}
@@ -90,15 +90,15 @@ number_law at low high narrow w n e =
 
 -- timeouts
 
-infinite_text : (at : Place) (w : List ℕ) (b : Bool) (t : Timeout) → bytes_eq w (codes "infinite") ≡ b → (if b then Ok Infinite else made Ticks (number at 1 most_span w)) ≡ Ok t → timeout_text t ≡ w
+infinite_text : (at : Place) (w : List ℕ) (b : Bool) (t : Timeout) → bytes_eq w (codes "infinite") ≡ b → (if b then Ok Infinite else made Ticks (number at 1 MOST_SPAN w)) ≡ Ok t → timeout_text t ≡ w
 infinite_text at w true t same e =
     let is : Infinite ≡ t = cc e in
     subst (λ t. timeout_text t ≡ w) is (sym (bytes_same w (codes "infinite") same))
 infinite_text at w false t same e =
-    let m = made_ok Ticks (number at 1 most_span w) t e in
-    subst (λ t. timeout_text t ≡ w) m.2 (number_law at 1 most_span (omega arith) w m.0 m.1).text
+    let m = made_ok Ticks (number at 1 MOST_SPAN w) t e in
+    subst (λ t. timeout_text t ≡ w) m.2 (number_law at 1 MOST_SPAN (omega arith) w m.0 m.1).text
 
-poll_text : (at : Place) (w : List ℕ) (b : Bool) (t : Timeout) → bytes_eq w (codes "0") ≡ b → (if b then Ok Poll else if bytes_eq w (codes "infinite") then Ok Infinite else made Ticks (number at 1 most_span w)) ≡ Ok t → timeout_text t ≡ w
+poll_text : (at : Place) (w : List ℕ) (b : Bool) (t : Timeout) → bytes_eq w (codes "0") ≡ b → (if b then Ok Poll else if bytes_eq w (codes "infinite") then Ok Infinite else made Ticks (number at 1 MOST_SPAN w)) ≡ Ok t → timeout_text t ≡ w
 poll_text at w true t same e =
     let is : Poll ≡ t = cc e in
     subst (λ t. timeout_text t ≡ w) is (sym (bytes_same w (codes "0") same))
@@ -162,15 +162,15 @@ by_mark : (w bytes : List ℕ) (b : Bool) → bytes_eq w (codes "-") ≡ b → (
 by_mark w bytes true mark e some = subst (λ bs. bytes_text bs ≡ w) (same_Some _ _ e) (sym (bytes_same w (codes "-") mark))
 by_mark w bytes false mark e some = by_pairs w bytes (length w % 2 == 0 && list_all is_digit w) refl e some
 
-few_bytes_some : (o : Option (List ℕ)) (bytes : List ℕ) → option_and_then few_bytes o ≡ Some bytes → (o ≡ Some bytes) × (length bytes ≤ most_message)
+few_bytes_some : (o : Option (List ℕ)) (bytes : List ℕ) → option_and_then few_bytes o ≡ Some bytes → (o ≡ Some bytes) × (length bytes ≤ MOST_MESSAGE)
 few_bytes_some None bytes e = absurd (none-some bytes e)
 few_bytes_some (Some bs) bytes e =
-    let h = within_bool (nat_le (length bs) most_message) bs bytes e in
-    (ap Some h.1, subst (λ (bs : List ℕ). length bs ≤ most_message) h.1 (grind (arith, nat_tests, h.0)))
+    let h = within_bool (nat_le (length bs) MOST_MESSAGE) bs bytes e in
+    (ap Some h.1, subst (λ (bs : List ℕ). length bs ≤ MOST_MESSAGE) h.1 (grind (arith, nat_tests, h.0)))
 
 -- the bytes of a message, 64 at the most
 pub record AreBytes (w bytes : List ℕ) : Type 0 where
-  pub few : length bytes ≤ most_message
+  pub few : length bytes ≤ MOST_MESSAGE
   pub text : bytes_text bytes ≡ w
 
 pub message_law : (at : Place) (w bytes : List ℕ) → message_bytes at w ≡ Ok bytes → is_empty w ≡ false → AreBytes w bytes

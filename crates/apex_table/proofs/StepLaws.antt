@@ -7,9 +7,10 @@ use Rattle.std.proofs.lemmas.List.Splits.{join_with_byte-slice_split}
 use Rattle.std.proofs.lemmas.Option.{none-some, same_Some}
 use Rattle.std.proofs.lemmas.Result.{IfOk-weaker}
 use Rattle.std.proofs.lemmas.Slice.Eq.{bytes_eq-Decides}
-use Rattle.apex_types.specs.services.Calls.{origin_of, message_in, unknown}
-use Rattle.apex_types.specs.table.Table.{IsKnown, IsLawfulStep, IsLiteral, IsMessageOf, Step, Table}
-use Rattle.apex_types.specs.text.Texts.{bytes_text}
+use Rattle.apex_types.specs.Calls.{unknown}
+use Rattle.apex_machine.specs.services.Calls.{origin_of, message_in}
+use Rattle.apex_machine.specs.table.Table.{IsKnown, IsLawfulStep, IsLiteral, IsMessageOf, Step, Table}
+use Rattle.apex_machine.specs.text.Texts.{bytes_text}
 use Rattle.apex_types.specs.declared.calls.Named.TheVariants.{Known, Unknown}
 use Rattle.apex_types.specs.declared.calls.Origin.TheVariants.{Script}
 use Rattle.apex_calls.specs.Catalogue.{Row, IsRow, rows, row_in, row_of}

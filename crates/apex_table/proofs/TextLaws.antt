@@ -6,10 +6,10 @@ use Rattle.std.specs.Str.{bytes_eq}
 use Rattle.std.proofs.lemmas.List.{length-map}
 use Rattle.std.proofs.lemmas.Result.{IfOk-at_ok}
 use Rattle.toml.specs.Data.{Members, get_member}
-use Rattle.apex_types.specs.values.Limits.{most_cores, most_entries, most_profile, usual_entries}
-use Rattle.apex_types.specs.values.Name.{is_name}
-use Rattle.apex_types.specs.table.Profiles.{profile_of}
-use Rattle.apex_types.specs.table.Table.{Table, ProcessConfig, SemaphoreConfig, BufferConfig, BlackboardConfig, EventFlagConfig, MutexConfig, no_process, no_semaphore, no_buffer, no_blackboard, no_event_flag, no_mutex, process_config, Step, step_at, no_step, literal_text, IsLawful}
+use Rattle.apex_types.specs.declared.limits.TheConstants.{MOST_CORES, MOST_ENTRIES, MOST_PROFILE, USUAL_ENTRIES}
+use Rattle.apex_types.specs.Name.{is_name}
+use Rattle.apex_machine.specs.table.Profiles.{profile_of}
+use Rattle.apex_machine.specs.table.Table.{Table, ProcessConfig, SemaphoreConfig, BufferConfig, BlackboardConfig, EventFlagConfig, MutexConfig, no_process, no_semaphore, no_buffer, no_blackboard, no_event_flag, no_mutex, process_config, Step, step_at, no_step, literal_text, IsLawful}
 use Rattle.apex_types.specs.declared.calls.Origin.TheVariants as origin
 use Rattle.apex_calls.specs.CallText.{call_text, call_words, count_of, name_of, spaced}
 use Rattle.apex_calls.specs.declared.catalogue.Kind.TheVariants.{Process, Semaphore, Buffer, Blackboard, EventFlag, Mutex}
@@ -184,7 +184,7 @@ module _ (profile : Profile) (cores limit : ℕ) (drafts : List ProcessDraft) (p
       })
       (all_by_place (λ (entry : ProcessConfig). entry.core < 256) no_process procs (λ p below.
       let core : (process_config Whole p).core < cores = (lawful.processes p below).core in
-      let few : cores ≤ most_cores = lawful.cores.1 in
+      let few : cores ≤ MOST_CORES = lawful.cores.1 in
       omega arith)))
 
   have_texts : Written (table_names Whole) procs → InitWritten (table_names Whole) steps → HaveTexts Whole
@@ -210,9 +210,9 @@ reading_texts : (tree : Members) → IfOk (reading tree) (λ t. IsLawful t → H
 unfolding reading
 reading_texts tree =
     ok_then (known (place sections.Top 0) top_keys tree) _ (λ t. IsLawful t → HaveTexts t) (λ ms _.
-    ok_then (number_or (place sections.Top 0) 1 1 most_profile (codes "profile") ms) _ (λ t. IsLawful t → HaveTexts t) (λ number _.
-    ok_then (number_at (place sections.Top 0) 1 most_cores (codes "cores") ms) _ (λ t. IsLawful t → HaveTexts t) (λ cores _.
-    ok_then (number_or (place sections.Top 0) usual_entries 1 most_entries (codes "history") ms) _ (λ t. IsLawful t → HaveTexts t) (λ limit _.
+    ok_then (number_or (place sections.Top 0) 1 1 MOST_PROFILE (codes "profile") ms) _ (λ t. IsLawful t → HaveTexts t) (λ number _.
+    ok_then (number_at (place sections.Top 0) 1 MOST_CORES (codes "cores") ms) _ (λ t. IsLawful t → HaveTexts t) (λ cores _.
+    ok_then (number_or (place sections.Top 0) USUAL_ENTRIES 1 MOST_ENTRIES (codes "history") ms) _ (λ t. IsLawful t → HaveTexts t) (λ limit _.
     ok_then (section (processes (profile_of number) cores) ms) _ (λ t. IsLawful t → HaveTexts t) (λ read _.
     ok_then (some_process read) _ (λ t. IsLawful t → HaveTexts t) (λ drafts _.
     ok_then (objects ms) _ (λ t. IsLawful t → HaveTexts t) (λ things _.

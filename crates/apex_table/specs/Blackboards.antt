@@ -1,8 +1,8 @@
 -- The kind of blackboards.
 use Rattle.std.specs.Prelude.{codes, ℕ, List, [], ◌∷◌, map, Result, Ok}
 use Rattle.toml.specs.Data.{Members}
-use Rattle.apex_types.specs.values.Limits.{most_message, most_objects}
-use Rattle.apex_types.specs.table.Table.{BlackboardConfig}
+use Rattle.apex_types.specs.declared.limits.TheConstants.{MOST_MESSAGE, MOST_OBJECTS}
+use Rattle.apex_machine.specs.table.Table.{BlackboardConfig}
 use Rattle.apex_table.specs.Terms.{Place, TableFault}
 use Rattle.apex_table.specs.declared.fault.Section.TheVariants.{Blackboard}
 use Rattle.apex_table.specs.Outcome.{◌>>=◌}
@@ -16,7 +16,7 @@ blackboard_names blackboards = map (λ (b : BlackboardConfig). b.name) blackboar
 -- a blackboard of a name
 unfoldable pub blackboard : Place → List ℕ → Members → Result BlackboardConfig TableFault
 blackboard at name ms = do
-  length ← number_at at 1 most_message (codes "length") ms
+  length ← number_at at 1 MOST_MESSAGE (codes "length") ms
   Ok (record { name = name; length = length })
 
 -- the kind of blackboards
@@ -25,7 +25,7 @@ blackboards = record {
   head =
       record {
         section = Blackboard;
-        most = most_objects;
+        most = MOST_OBJECTS;
         keys = codes "name" ∷ codes "length" ∷ [];
       };
   name_of = λ b. b.name;

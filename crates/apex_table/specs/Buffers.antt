@@ -1,8 +1,8 @@
 -- The kind of buffers.
 use Rattle.std.specs.Prelude.{codes, ℕ, List, [], ◌∷◌, map, Result, Ok}
 use Rattle.toml.specs.Data.{Members}
-use Rattle.apex_types.specs.values.Limits.{most_message, most_messages, most_objects}
-use Rattle.apex_types.specs.table.Table.{BufferConfig}
+use Rattle.apex_types.specs.declared.limits.TheConstants.{MOST_MESSAGE, MOST_MESSAGES, MOST_OBJECTS}
+use Rattle.apex_machine.specs.table.Table.{BufferConfig}
 use Rattle.apex_table.specs.Terms.{Place, TableFault}
 use Rattle.apex_table.specs.declared.fault.Section.TheVariants.{Buffer}
 use Rattle.apex_table.specs.Outcome.{◌>>=◌}
@@ -16,8 +16,8 @@ buffer_names buffers = map (λ (b : BufferConfig). b.name) buffers
 -- a buffer of a name
 unfoldable pub buffer : Place → List ℕ → Members → Result BufferConfig TableFault
 buffer at name ms = do
-  length ← number_at at 1 most_message (codes "length") ms
-  capacity ← number_at at 1 most_messages (codes "capacity") ms
+  length ← number_at at 1 MOST_MESSAGE (codes "length") ms
+  capacity ← number_at at 1 MOST_MESSAGES (codes "capacity") ms
   discipline ← discipline_at at ms
   Ok (record { name = name; length = length; capacity = capacity; discipline = discipline })
 
@@ -27,7 +27,7 @@ buffers = record {
   head =
       record {
         section = Buffer;
-        most = most_objects;
+        most = MOST_OBJECTS;
         keys = codes "name" ∷ codes "length" ∷ codes "capacity" ∷ codes "discipline" ∷ [];
       };
   name_of = λ b. b.name;

@@ -1,8 +1,8 @@
 -- The init list of a table that gives none.
 use Rattle.std.specs.Prelude.{ℕ, if◌then◌else◌, List, [], ◌∷◌, ◌++◌}
 use Rattle.std.specs.List.{flat_map}
-use Rattle.apex_types.specs.values.Places.{map_places}
-use Rattle.apex_types.specs.table.Table.{ProcessConfig, Step}
+use Rattle.apex_types.specs.Places.{map_places}
+use Rattle.apex_machine.specs.table.Table.{ProcessConfig, Step}
 use Rattle.apex_calls.specs.declared.catalogue.Kind.TheVariants as kinds
 use Rattle.apex_table.specs.Terms.{Call, Kind}
 use Rattle.apex_table.specs.Objects.{Objects}

@@ -1,8 +1,8 @@
 -- The init list that a table gives: its texts, and their steps.
 use Rattle.std.specs.Prelude.{ℕ, ◌+◌, Bool, if◌then◌else◌, List, [], length, Option, Some, None, Result, Ok, Err}
 use Rattle.toml.specs.Data.{Data}
-use Rattle.apex_types.specs.values.Limits.{most_init_steps}
-use Rattle.apex_types.specs.table.Table.{ProcessConfig, Step}
+use Rattle.apex_types.specs.declared.limits.TheConstants.{MOST_INIT_STEPS}
+use Rattle.apex_machine.specs.table.Table.{ProcessConfig, Step}
 use Rattle.apex_table.specs.Terms.{Call, Origin, Place, TableFault}
 use Rattle.apex_types.specs.declared.calls.Origin.TheVariants as origin
 use Rattle.apex_calls.specs.Catalogue.{row_of}
@@ -28,7 +28,7 @@ texts ds = each next_text [] ds
 unfoldable pub given_texts : Data → Result (List (List ℕ)) TableFault
 given_texts d = do
   ds ← array (place Init 0) d
-  few ← at_most (place Init 0) most_init_steps ds
+  few ← at_most (place Init 0) MOST_INIT_STEPS ds
   texts few
 
 -- the texts of the init list, if the table gives one
@@ -38,7 +38,7 @@ init_texts (Some d) = given_texts d >>= λ ts. Ok (Some ts)
 
 -- an init list may have the call
 abbrev pub is_init_call : Call → Bool
-is_init_call call = (row_of (parts_of call).0).init
+is_init_call call = (row_of (parts_of call).0).may_init
 
 -- a step that an init list may have
 abbrev pub init_call : Place → Step → Result Step TableFault

@@ -4,11 +4,11 @@ use Rattle.std.specs.Prelude.{codes, ℕ, ℤ, pos, negsuc, Bool, true, ◌&&◌
 use Rattle.std.specs.List.{list_any}
 use Rattle.std.specs.Str.{bytes_eq}
 use Rattle.toml.specs.Data.{Data, Items, no_items, item, Members, no_members, member, get_member, as_str, as_integer, as_bool, as_array, as_table}
-use Rattle.apex_types.specs.values.Limits.{most_span}
-use Rattle.apex_types.specs.values.Name.{is_name}
+use Rattle.apex_types.specs.declared.limits.TheConstants.{MOST_SPAN}
+use Rattle.apex_types.specs.Name.{is_name}
 use Rattle.apex_table.specs.Terms.{DeadlineType, Discipline, Place, TableFault}
-use Rattle.apex_types.specs.declared.records.DeadlineType.TheVariants.{Soft, Hard}
-use Rattle.apex_types.specs.declared.records.Discipline.TheVariants.{Fifo, Priority}
+use Rattle.apex_types.specs.declared.modes.DeadlineType.TheVariants.{Soft, Hard}
+use Rattle.apex_types.specs.declared.modes.Discipline.TheVariants.{Fifo, Priority}
 use Rattle.apex_table.specs.declared.fault.TableFault.TheVariants.{MissingKey, WrongType, OutOfRange, BadName, DoubleName, UnknownKey, TooMany}
 use Rattle.apex_table.specs.Outcome.{◌>>=◌, some_or}
 
@@ -84,7 +84,7 @@ infinite at t = if bytes_eq t (codes "infinite") then Ok None else Err (OutOfRan
 -- a span of time by the text that the value is, or else by its number of ticks
 abbrev pub span_of : Place → Data → Option (List ℕ) → Result (Option ℕ) TableFault
 span_of at d (Some t) = infinite at t
-span_of at d None = number at 1 most_span d >>= λ ticks. Ok (Some ticks)
+span_of at d None = number at 1 MOST_SPAN d >>= λ ticks. Ok (Some ticks)
 
 -- a value that is a span of time, which may be infinite
 abbrev pub span : Place → Data → Result (Option ℕ) TableFault

@@ -1,8 +1,8 @@
 -- The kind of mutexes.
 use Rattle.std.specs.Prelude.{codes, ℕ, List, [], ◌∷◌, map, Result, Ok}
 use Rattle.toml.specs.Data.{Members}
-use Rattle.apex_types.specs.values.Limits.{most_objects, most_priority}
-use Rattle.apex_types.specs.table.Table.{MutexConfig}
+use Rattle.apex_types.specs.declared.limits.TheConstants.{MOST_OBJECTS, MOST_PRIORITY}
+use Rattle.apex_machine.specs.table.Table.{MutexConfig}
 use Rattle.apex_table.specs.Terms.{Place, TableFault}
 use Rattle.apex_table.specs.declared.fault.Section.TheVariants.{Mutex}
 use Rattle.apex_table.specs.Outcome.{◌>>=◌}
@@ -16,7 +16,7 @@ mutex_names mutexes = map (λ (m : MutexConfig). m.name) mutexes
 -- a mutex of a name
 unfoldable pub mutex : Place → List ℕ → Members → Result MutexConfig TableFault
 mutex at name ms = do
-  ceiling ← number_at at 1 most_priority (codes "ceiling") ms
+  ceiling ← number_at at 1 MOST_PRIORITY (codes "ceiling") ms
   discipline ← discipline_at at ms
   Ok (record { name = name; ceiling = ceiling; discipline = discipline })
 
@@ -26,7 +26,7 @@ mutexes = record {
   head =
       record {
         section = Mutex;
-        most = most_objects;
+        most = MOST_OBJECTS;
         keys = codes "name" ∷ codes "ceiling" ∷ codes "discipline" ∷ [];
       };
   name_of = λ m. m.name;

@@ -1,7 +1,7 @@
 -- The objects of a table, kind by kind.
 use Rattle.std.specs.Prelude.{List, Result, Ok}
 use Rattle.toml.specs.Data.{Members}
-use Rattle.apex_types.specs.table.Table.{SemaphoreConfig, BufferConfig, BlackboardConfig, EventFlagConfig, MutexConfig}
+use Rattle.apex_machine.specs.table.Table.{SemaphoreConfig, BufferConfig, BlackboardConfig, EventFlagConfig, MutexConfig}
 use Rattle.apex_table.specs.Terms.{TableFault}
 use Rattle.apex_table.specs.Outcome.{◌>>=◌}
 use Rattle.apex_table.specs.Sections.{section}

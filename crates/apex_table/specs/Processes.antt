@@ -1,8 +1,8 @@
 -- The kind of processes, whose scripts are still texts.
 use Rattle.std.specs.Prelude.{codes, ℕ, ◌-◌, Bool, true, false, List, [], ◌∷◌, map, Result, Ok, Err}
 use Rattle.toml.specs.Data.{Data, Members}
-use Rattle.apex_types.specs.values.Limits.{most_priority, most_steps}
-use Rattle.apex_types.specs.table.Profiles.{processes_of}
+use Rattle.apex_types.specs.declared.limits.TheConstants.{MOST_PRIORITY, MOST_STEPS}
+use Rattle.apex_machine.specs.table.Profiles.{processes_of}
 use Rattle.apex_table.specs.declared.fault.Section.TheVariants.{Process}
 use Rattle.apex_table.specs.Terms.{Attributes, Place, Profile, TableFault}
 use Rattle.apex_table.specs.declared.fault.TableFault.TheVariants.{MissingKey, OutOfRange}
@@ -37,14 +37,14 @@ some_step at false ds = Ok ds
 unfoldable pub script_at : Place → Bool → Members → Result (List (List ℕ)) TableFault
 script_at at loops ms = do
   ds ← array_at at (codes "script") ms
-  few ← at_most at most_steps ds
+  few ← at_most at MOST_STEPS ds
   some ← some_step at loops few
   texts at some
 
 -- a process of a name, on `cores` cores
 unfoldable pub process : ℕ → Place → List ℕ → Members → Result ProcessDraft TableFault
 process cores at name ms = do
-  priority ← number_at at 1 most_priority (codes "priority") ms
+  priority ← number_at at 1 MOST_PRIORITY (codes "priority") ms
   core ← number_or at 0 0 (cores - 1) (codes "core") ms
   period ← span_or_infinite at (codes "period") ms
   capacity ← span_or_infinite at (codes "capacity") ms

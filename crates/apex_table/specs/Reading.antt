@@ -3,9 +3,9 @@ use Rattle.std.specs.Prelude.{codes, ℕ, if◌then◌else◌, List, [], ◌∷�
 use Rattle.std.specs.Str.{is_utf8}
 use Rattle.toml.specs.Data.{Members, get_member}
 use Rattle.toml.specs.Parse.{parse_document}
-use Rattle.apex_types.specs.values.Limits.{most_cores, most_entries, most_profile, usual_entries}
-use Rattle.apex_types.specs.table.Profiles.{profile_of}
-use Rattle.apex_types.specs.table.Table.{ProcessConfig, Step, Table}
+use Rattle.apex_types.specs.declared.limits.TheConstants.{MOST_CORES, MOST_ENTRIES, MOST_PROFILE, USUAL_ENTRIES}
+use Rattle.apex_machine.specs.table.Profiles.{profile_of}
+use Rattle.apex_machine.specs.table.Table.{ProcessConfig, Step, Table}
 use Rattle.apex_table.specs.declared.fault.Section.TheVariants.{Top}
 use Rattle.apex_table.specs.Terms.{Profile, TableFault}
 use Rattle.apex_table.specs.declared.fault.TableFault.TheVariants.{NotToml}
@@ -44,9 +44,9 @@ table_with profile cores limit processes objects init = record {
 unfoldable pub reading : Members → Result Table TableFault
 reading tree = do
   ms ← known (place Top 0) top_keys tree
-  number ← number_or (place Top 0) 1 1 most_profile (codes "profile") ms
-  cores ← number_at (place Top 0) 1 most_cores (codes "cores") ms
-  limit ← number_or (place Top 0) usual_entries 1 most_entries (codes "history") ms
+  number ← number_or (place Top 0) 1 1 MOST_PROFILE (codes "profile") ms
+  cores ← number_at (place Top 0) 1 MOST_CORES (codes "cores") ms
+  limit ← number_or (place Top 0) USUAL_ENTRIES 1 MOST_ENTRIES (codes "history") ms
   drafts ← section (processes (profile_of number) cores) ms
   some ← some_process drafts
   things ← objects ms

@@ -1,6 +1,6 @@
 -- The scripts of the processes: their texts as steps.
 use Rattle.std.specs.Prelude.{ℕ, ◌+◌, List, [], length, Result, Ok}
-use Rattle.apex_types.specs.table.Table.{ProcessConfig, Step}
+use Rattle.apex_machine.specs.table.Table.{ProcessConfig, Step}
 use Rattle.apex_types.specs.declared.calls.Origin.TheVariants.{Script}
 use Rattle.apex_table.specs.declared.fault.Section.TheVariants.{Process}
 use Rattle.apex_table.specs.Terms.{Place, TableFault}

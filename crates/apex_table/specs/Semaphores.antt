@@ -1,8 +1,8 @@
 -- The kind of semaphores.
 use Rattle.std.specs.Prelude.{codes, ℕ, List, [], ◌∷◌, map, Result, Ok}
 use Rattle.toml.specs.Data.{Members}
-use Rattle.apex_types.specs.values.Limits.{most_objects, most_value}
-use Rattle.apex_types.specs.table.Table.{SemaphoreConfig}
+use Rattle.apex_types.specs.declared.limits.TheConstants.{MOST_OBJECTS, MOST_VALUE}
+use Rattle.apex_machine.specs.table.Table.{SemaphoreConfig}
 use Rattle.apex_table.specs.Terms.{Place, TableFault}
 use Rattle.apex_table.specs.declared.fault.Section.TheVariants.{Semaphore}
 use Rattle.apex_table.specs.Outcome.{◌>>=◌}
@@ -16,7 +16,7 @@ semaphore_names semaphores = map (λ (s : SemaphoreConfig). s.name) semaphores
 -- a semaphore of a name
 unfoldable pub semaphore : Place → List ℕ → Members → Result SemaphoreConfig TableFault
 semaphore at name ms = do
-  maximum ← number_at at 1 most_value (codes "maximum") ms
+  maximum ← number_at at 1 MOST_VALUE (codes "maximum") ms
   initial ← number_at at 0 maximum (codes "initial") ms
   discipline ← discipline_at at ms
   Ok (record { name = name; maximum = maximum; initial = initial; discipline = discipline })
@@ -27,7 +27,7 @@ semaphores = record {
   head =
       record {
         section = Semaphore;
-        most = most_objects;
+        most = MOST_OBJECTS;
         keys = codes "name" ∷ codes "maximum" ∷ codes "initial" ∷ codes "discipline" ∷ [];
       };
   name_of = λ s. s.name;

@@ -1,6 +1,6 @@
 -- The text of a step: its call, as a line writes it, is the one text that is read as the step.
 use Rattle.std.specs.Prelude.{◌≡◌, ℕ, ◌+◌, ◌<◌, List, length, map, Option, option_map, Ok, slice_get}
-use Rattle.apex_types.specs.table.Table.{Table, Step, ProcessConfig, SemaphoreConfig, BufferConfig, BlackboardConfig, EventFlagConfig, MutexConfig, process_config, step_at, IsLawful}
+use Rattle.apex_machine.specs.table.Table.{Table, Step, ProcessConfig, SemaphoreConfig, BufferConfig, BlackboardConfig, EventFlagConfig, MutexConfig, process_config, step_at, IsLawful}
 use Rattle.apex_types.specs.declared.calls.Origin.TheVariants as origin
 use Rattle.apex_calls.specs.CallText.{call_text}
 use Rattle.apex_table.specs.declared.fault.Section.TheVariants.{Process, Init}

@@ -3,7 +3,7 @@
 use Rattle.std.specs.Prelude.{ℕ, Bool, true, false, ◌&&◌, not, if◌then◌else◌, List, [], ◌∷◌, length, Option, None, Some, is_some, Result, Ok, Err}
 use Rattle.std.specs.List.{position_from}
 use Rattle.std.specs.Str.{bytes_eq}
-use Rattle.apex_types.specs.table.Table.{Step}
+use Rattle.apex_machine.specs.table.Table.{Step}
 use Rattle.apex_types.specs.declared.calls.Named.TheVariants.{Known, Unknown}
 use Rattle.apex_calls.specs.Catalogue.{Row, rows, row_in}
 use Rattle.apex_calls.specs.Parts.{none, call_of}

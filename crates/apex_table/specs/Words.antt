@@ -4,11 +4,11 @@ use Rattle.std.specs.Prelude.{codes, ℕ, ◌+◌, ◌*◌, ◌%◌, ◌==◌, �
 use Rattle.std.specs.Char.{digit_value, is_ascii_digit}
 use Rattle.std.specs.List.{list_all, slice_split, position_from}
 use Rattle.std.specs.Str.{bytes_eq}
-use Rattle.apex_types.specs.values.Limits.{most_message, most_span}
+use Rattle.apex_types.specs.declared.limits.TheConstants.{MOST_MESSAGE, MOST_SPAN}
 use Rattle.apex_table.specs.Terms.{Place, RequestedMode, TableFault, Timeout}
 use Rattle.apex_types.specs.declared.calls.RequestedMode.TheVariants.{Idle, Normal}
 use Rattle.apex_types.specs.declared.calls.Timeout.TheVariants.{Poll, Ticks, Infinite}
-use Rattle.apex_types.specs.values.Numbers.{number_of, at_least, at_most}
+use Rattle.apex_types.specs.Numbers.{number_of, at_least, at_most}
 use Rattle.apex_table.specs.declared.fault.TableFault.TheVariants.{OutOfRange, UnknownName}
 use Rattle.apex_table.specs.Outcome.{made, some_or}
 
@@ -38,7 +38,7 @@ abbrev pub timeout : Place → List ℕ → Result Timeout TableFault
 timeout at word =
     if bytes_eq word (codes "0") then Ok Poll else
     if bytes_eq word (codes "infinite") then Ok Infinite else
-    made Ticks (number at 1 most_span word)
+    made Ticks (number at 1 MOST_SPAN word)
 
 -- the mode that a word asks for
 abbrev pub requested_mode : List ℕ → Option RequestedMode
@@ -68,7 +68,7 @@ is_message word = is_some (bytes_of word)
 
 -- these bytes, if they are 64 at the most
 abbrev pub few_bytes : List ℕ → Option (List ℕ)
-few_bytes bytes = if nat_le (length bytes) most_message then Some bytes else None
+few_bytes bytes = if nat_le (length bytes) MOST_MESSAGE then Some bytes else None
 
 -- the bytes of a message, which are 64 at the most
 abbrev pub message_bytes : Place → List ℕ → Result (List ℕ) TableFault

@@ -1,10 +1,11 @@
 //! The attributes of a process, and of an object of each kind, in the table.
 ghost use Rattle.std.specs.Prelude.{◌≡◌, ◌≤◌, length};
-ghost use Rattle.apex_types.specs.values.Limits.{most_literal};
-ghost use Rattle.apex_types.specs.table.Table.{step_at, call_in};
+ghost use Rattle.apex_types.specs.declared.limits.TheConstants.{MOST_LITERAL};
+ghost use Rattle.apex_machine.specs.table.Table.{step_at, call_in};
 
 use crate::listed::{call_in, literal_in};
-use apex_types::{Attributes, Call, CoreId, Discipline, Name, Step};
+use apex_machine::{Attributes, Step};
+use apex_types::{Call, CoreId, Discipline, Name};
 use std::marker::Model;
 
 /// A process as the table gives it (ARINC 653 Part 1, process management).
@@ -19,7 +20,7 @@ pub struct ProcessConfig {
 }
 
 impl Model for ProcessConfig {
-    ghost use Rattle.apex_types.specs.table.Table.{ProcessConfig};
+    ghost use Rattle.apex_machine.specs.table.Table.{ProcessConfig};
 
     ghost Value = { ProcessConfig };
 
@@ -112,7 +113,7 @@ impl ProcessConfig {
     /// its end.
     pub fn literal(&self, place: usize) -> &[u8]
         ensures value { result.now ≡ (step_at self.now.script place).literal }
-        ensures range { length result.now ≤ most_literal }
+        ensures range { length result.now ≤ MOST_LITERAL }
     {
         literal_in(&self.script, place)
     }
@@ -128,7 +129,7 @@ pub struct SemaphoreConfig {
 }
 
 impl Model for SemaphoreConfig {
-    ghost use Rattle.apex_types.specs.table.Table.{SemaphoreConfig};
+    ghost use Rattle.apex_machine.specs.table.Table.{SemaphoreConfig};
 
     ghost Value = { SemaphoreConfig };
 
@@ -200,7 +201,7 @@ pub struct BufferConfig {
 }
 
 impl Model for BufferConfig {
-    ghost use Rattle.apex_types.specs.table.Table.{BufferConfig};
+    ghost use Rattle.apex_machine.specs.table.Table.{BufferConfig};
 
     ghost Value = { BufferConfig };
 
@@ -265,7 +266,7 @@ pub struct BlackboardConfig {
 }
 
 impl Model for BlackboardConfig {
-    ghost use Rattle.apex_types.specs.table.Table.{BlackboardConfig};
+    ghost use Rattle.apex_machine.specs.table.Table.{BlackboardConfig};
 
     ghost Value = { BlackboardConfig };
 
@@ -300,7 +301,7 @@ pub struct EventFlagConfig {
 }
 
 impl Model for EventFlagConfig {
-    ghost use Rattle.apex_types.specs.table.Table.{EventFlagConfig};
+    ghost use Rattle.apex_machine.specs.table.Table.{EventFlagConfig};
 
     ghost Value = { EventFlagConfig };
 
@@ -330,7 +331,7 @@ pub struct MutexConfig {
 }
 
 impl Model for MutexConfig {
-    ghost use Rattle.apex_types.specs.table.Table.{MutexConfig};
+    ghost use Rattle.apex_machine.specs.table.Table.{MutexConfig};
 
     ghost Value = { MutexConfig };
 

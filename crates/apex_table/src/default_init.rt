@@ -1,14 +1,15 @@
 //! The init list of a table that has none.
 ghost use Rattle.std.specs.Prelude.{◌≡◌, ◌<◌, ◌≤◌, ◌++◌, length, IfOk};
-ghost use Rattle.apex_types.specs.values.Limits.{most_objects, most_processes};
-ghost use Rattle.apex_types.specs.values.Places.{map_places};
+ghost use Rattle.apex_types.specs.declared.limits.TheConstants.{MOST_OBJECTS, MOST_PROCESSES};
+ghost use Rattle.apex_types.specs.Places.{map_places};
 ghost use Rattle.apex_table.specs.DefaultInit.{create, creates, creates_objects, default_init};
 
 use crate::configs::ProcessConfig;
 use crate::objects::Objects;
 use apex_calls::Kind;
+use apex_machine::Step;
 use apex_types::{
-    Call, Id, Named, ObjectCall, PartitionCall, ProcessId, ProcessService, RequestedMode, Step,
+    Call, Id, Named, ObjectCall, PartitionCall, ProcessId, ProcessService, RequestedMode,
 };
 use std::alloc::{AllocError, Global};
 
@@ -30,7 +31,7 @@ fn create(kind: Kind, place: usize) -> Call
 
 /// Adds the CREATE of each of these objects, which are of the kind.
 fn create_each<E>(init: &mut Vec<Step>, kind: Kind, objects: &[E]) -> Result<(), AllocError>
-    requires { length objects.now ≤ most_objects }
+    requires { length objects.now ≤ MOST_OBJECTS }
     ensures { IfOk result (λ _. init.new.items ≡ init.old.items
         ++ map_places (creates kind) 0 objects.now) }
 {
@@ -61,7 +62,7 @@ pub fn default_init(
     processes: &[ProcessConfig],
     objects: &Objects,
 ) -> Result<Vec<Step>, AllocError>
-    requires { length processes.now ≤ most_processes }
+    requires { length processes.now ≤ MOST_PROCESSES }
     ensures { IfOk result (λ init. init.items ≡ default_init processes.now objects.now) }
 {
     let mut init = create_objects(alloc, objects)?;

@@ -1,6 +1,6 @@
 //! The faults of a table's text, and their places.
 ghost use Rattle.std.specs.Prelude.{◌≡◌, ◌+◌, ◌<◌, ◌≤◌, ◌++◌, length, Some};
-ghost use Rattle.apex_types.specs.values.Limits.{most_init_steps};
+ghost use Rattle.apex_types.specs.declared.limits.TheConstants.{MOST_INIT_STEPS};
 ghost use Rattle.apex_table.specs.Fault.{section_word, place_text, place_after, fault_text};
 ghost use Rattle.apex_table.specs.Outcome.{place};
 ghost use Rattle.apex_table.specs.declared.fault.TableFault.TheVariants.{Memory};
@@ -76,7 +76,7 @@ impl Place {
 
     /// The entry after the first `count` ones of the section.
     pub(crate) fn next(section: Section, count: usize) -> Place
-        requires { count < most_init_steps }
+        requires { count < MOST_INIT_STEPS }
         ensures { result ≡ place section (count + 1) }
     {
         Place {

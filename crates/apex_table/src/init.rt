@@ -1,6 +1,6 @@
 //! The init list that a table gives.
 ghost use Rattle.std.specs.Prelude.{◌≡◌, ◌<◌, ◌≤◌, map, length, option_map, IfOk, IfSome};
-ghost use Rattle.apex_types.specs.values.Limits.{most_init_steps, most_processes};
+ghost use Rattle.apex_types.specs.declared.limits.TheConstants.{MOST_INIT_STEPS, MOST_PROCESSES};
 ghost use Rattle.toml.specs.View.{view};
 ghost use Rattle.apex_table.specs.Outcome.{Gives};
 ghost use Rattle.apex_table.specs.Init.{next_text, texts, given_texts, init_texts, is_init_call, init_step, next_init_step, init_steps, init_list};
@@ -13,12 +13,13 @@ use crate::names::Names;
 use crate::objects::Objects;
 use crate::steps::step;
 use apex_calls::{parts_of, row_of};
-use apex_types::{Call, MOST_INIT_STEPS, Origin, Step};
+use apex_machine::Step;
+use apex_types::{Call, MOST_INIT_STEPS, Origin};
 use std::alloc::Global;
 use toml::Value;
 
 fn next_text<'a>(before: &[&'a str], value: &'a Value) -> Result<&'a str, TableFault>
-    requires { length before.now < most_init_steps }
+    requires { length before.now < MOST_INIT_STEPS }
     ensures { Gives (λ t. t.now) result (next_text (map (λ t. t.now) before.now) (view value.now)) }
 {
     let at = Place::next(Section::Init, before.len());
@@ -26,7 +27,7 @@ fn next_text<'a>(before: &[&'a str], value: &'a Value) -> Result<&'a str, TableF
 }
 
 fn texts<'a>(alloc: Global, items: &'a [Value]) -> Result<Vec<&'a str>, TableFault>
-    requires { length items.now ≤ most_init_steps }
+    requires { length items.now ≤ MOST_INIT_STEPS }
     ensures gives { Gives (λ v. map (λ t. t.now) v.items) result (texts (map view items.now)) }
     ensures count { IfOk result (λ v. length v.items ≡ length items.now) }
 {
@@ -40,7 +41,7 @@ fn texts<'a>(alloc: Global, items: &'a [Value]) -> Result<Vec<&'a str>, TableFau
 #[tactic(auto, unfolding(crate::specs::Init::given_texts))]
 fn given_texts<'a>(alloc: Global, value: &'a Value) -> Result<Vec<&'a str>, TableFault>
     ensures gives { Gives (λ v. map (λ t. t.now) v.items) result (given_texts (view value.now)) }
-    ensures count { IfOk result (λ v. length v.items ≤ most_init_steps) }
+    ensures count { IfOk result (λ v. length v.items ≤ MOST_INIT_STEPS) }
 {
     let at = Place::of(Section::Init);
     let items = keys::array(at, value)?;
@@ -55,7 +56,7 @@ pub fn init_texts<'a>(
 ) -> Result<Option<Vec<&'a str>>, TableFault>
     ensures gives { Gives (option_map (λ v. map (λ t. t.now) v.items)) result
         (init_texts (option_map (λ v. view v.now) value.entry)) }
-    ensures few_steps { IfOk result (λ o. IfSome o (λ v. length v.items ≤ most_init_steps)) }
+    ensures few_steps { IfOk result (λ o. IfSome o (λ v. length v.items ≤ MOST_INIT_STEPS)) }
 {
     match value {
         Some(value) => Ok(Some(given_texts(alloc, value)?)),
@@ -68,7 +69,7 @@ fn is_init_call(call: &Call) -> bool
     ensures { result ≡ is_init_call call.now }
 {
     let (service, _arguments) = parts_of(call);
-    row_of(service).3
+    row_of(service).may_init
 }
 
 /// The step of this origin, by its text; last it is tested whether an init list may have it.
@@ -96,7 +97,7 @@ fn next_init_step(
     before: &[Step],
     text: &str,
 ) -> Result<Step, TableFault>
-    requires { length before.now < most_init_steps }
+    requires { length before.now < MOST_INIT_STEPS }
     ensures { Gives (λ s. s) result (next_init_step names.now before.now text.now) }
 {
     let at = Place::next(Section::Init, before.len());
@@ -105,7 +106,7 @@ fn next_init_step(
 }
 
 fn init_steps(alloc: Global, names: &Names, texts: &[&str]) -> Result<Vec<Step>, TableFault>
-    requires { length texts.now ≤ most_init_steps }
+    requires { length texts.now ≤ MOST_INIT_STEPS }
     ensures { Gives (λ v. v.items) result (init_steps names.now (map (λ t. t.now) texts.now)) }
 {
     let mut steps = Vec::new(alloc);
@@ -123,8 +124,8 @@ pub fn init_list(
     objects: &Objects,
     texts: Option<Vec<&str>>,
 ) -> Result<Vec<Step>, TableFault>
-    requires processes { length processes.now ≤ most_processes }
-    requires texts { IfSome texts (λ v. length v.items ≤ most_init_steps) }
+    requires processes { length processes.now ≤ MOST_PROCESSES }
+    requires texts { IfSome texts (λ v. length v.items ≤ MOST_INIT_STEPS) }
     ensures { Gives (λ v. v.items) result
         (init_list names.now processes.now objects.now
         (option_map (λ v. map (λ t. t.now) v.items) texts.entry)) }

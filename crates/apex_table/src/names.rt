@@ -1,6 +1,6 @@
 //! The names of a table's things, kind by kind.
 ghost use Rattle.std.specs.Prelude.{◌≡◌, ◌≤◌, map, length, IfOk};
-ghost use Rattle.apex_types.specs.values.Limits.{most_processes};
+ghost use Rattle.apex_types.specs.declared.limits.TheConstants.{MOST_PROCESSES};
 ghost use Rattle.apex_table.specs.Names.{names_in, names_of};
 
 use crate::named::Named;
@@ -24,7 +24,7 @@ pub struct Names {
 
 impl Model for Names {
     ghost use Rattle.std.specs.Prelude.{◌≤◌, length};
-    ghost use Rattle.apex_types.specs.values.Limits.{most_objects, most_processes};
+    ghost use Rattle.apex_types.specs.declared.limits.TheConstants.{MOST_OBJECTS, MOST_PROCESSES};
     ghost use Rattle.apex_table.specs.Names.{Names};
 
     ghost Value = { Names };
@@ -38,12 +38,12 @@ impl Model for Names {
       mutexes = n.mutexes.items;
     } };
 
-    ghost invariant = { λ n. (length n.processes.items ≤ most_processes)
-        × (length n.semaphores.items ≤ most_objects)
-        × (length n.buffers.items ≤ most_objects)
-        × (length n.blackboards.items ≤ most_objects)
-        × (length n.event_flags.items ≤ most_objects)
-        × (length n.mutexes.items ≤ most_objects) };
+    ghost invariant = { λ n. (length n.processes.items ≤ MOST_PROCESSES)
+        × (length n.semaphores.items ≤ MOST_OBJECTS)
+        × (length n.buffers.items ≤ MOST_OBJECTS)
+        × (length n.blackboards.items ≤ MOST_OBJECTS)
+        × (length n.event_flags.items ≤ MOST_OBJECTS)
+        × (length n.mutexes.items ≤ MOST_OBJECTS) };
 }
 
 /// The names of the entries of one kind.
@@ -60,7 +60,7 @@ fn listed<T: Named>(alloc: Global, entries: &[T]) -> Result<Vec<Name>, AllocErro
 impl Names {
     /// The names of these things. It fails only for want of memory.
     pub fn of(alloc: Global, processes: &[Draft], objects: &Objects) -> Result<Names, AllocError>
-        requires { length processes.now ≤ most_processes }
+        requires { length processes.now ≤ MOST_PROCESSES }
         ensures { IfOk result (λ names. names ≡ names_of processes.now objects.now) }
     {
         Ok(Names {
@@ -76,7 +76,7 @@ impl Names {
     /// The names of the things of this kind.
     pub fn of_kind(&self, kind: &Kind) -> &[Name]
         ensures value { result.now ≡ names_in self.now kind.now }
-        ensures few_names { length result.now ≤ most_processes }
+        ensures few_names { length result.now ≤ MOST_PROCESSES }
     {
         match kind {
             Kind::Process => &self.processes,

@@ -28,7 +28,7 @@ pub struct Objects {
 
 impl Model for Objects {
     ghost use Rattle.std.specs.Prelude.{◌≤◌, length};
-    ghost use Rattle.apex_types.specs.values.Limits.{most_objects};
+    ghost use Rattle.apex_types.specs.declared.limits.TheConstants.{MOST_OBJECTS};
     ghost use Rattle.apex_table.specs.Objects.{Objects};
 
     ghost Value = { Objects };
@@ -41,11 +41,11 @@ impl Model for Objects {
       mutexes = o.mutexes.items;
     } };
 
-    ghost invariant = { λ o. (length o.semaphores.items ≤ most_objects)
-        × (length o.buffers.items ≤ most_objects)
-        × (length o.blackboards.items ≤ most_objects)
-        × (length o.event_flags.items ≤ most_objects)
-        × (length o.mutexes.items ≤ most_objects) };
+    ghost invariant = { λ o. (length o.semaphores.items ≤ MOST_OBJECTS)
+        × (length o.buffers.items ≤ MOST_OBJECTS)
+        × (length o.blackboards.items ≤ MOST_OBJECTS)
+        × (length o.event_flags.items ≤ MOST_OBJECTS)
+        × (length o.mutexes.items ≤ MOST_OBJECTS) };
 }
 
 impl Objects {

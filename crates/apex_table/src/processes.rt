@@ -1,6 +1,6 @@
 //! The section of processes.
 ghost use Rattle.std.specs.Prelude.{◌≡◌, ◌≤◌, map, length, IfOk};
-ghost use Rattle.apex_types.specs.values.Limits.{most_cores, most_init_steps, most_steps};
+ghost use Rattle.apex_types.specs.declared.limits.TheConstants.{MOST_CORES, MOST_INIT_STEPS, MOST_STEPS};
 ghost use Rattle.toml.specs.View.{view, table_view};
 ghost use Rattle.apex_table.specs.Outcome.{Gives};
 ghost use Rattle.apex_table.specs.Sections.{head_of};
@@ -10,7 +10,8 @@ use crate::fault::{Place, Section, TableFault};
 use crate::keys;
 use crate::named::Named;
 use crate::sections::{EntryKind, Head};
-use apex_types::{Attributes, CoreId, MOST_PRIORITY, MOST_STEPS, Name, Profile};
+use apex_machine::{Attributes, Profile};
+use apex_types::{CoreId, MOST_PRIORITY, MOST_STEPS, Name};
 use std::alloc::Global;
 use std::marker::Model;
 use toml::{Table, Value};
@@ -28,7 +29,7 @@ pub struct Draft<'a> {
 
 impl<'a> Model for Draft<'a> {
     ghost use Rattle.std.specs.Prelude.{◌≤◌, map, length};
-    ghost use Rattle.apex_types.specs.values.Limits.{most_steps};
+    ghost use Rattle.apex_types.specs.declared.limits.TheConstants.{MOST_STEPS};
     ghost use Rattle.apex_table.specs.Sections.{head_of};
     ghost use Rattle.apex_table.specs.Processes.{ProcessDraft};
 
@@ -43,7 +44,7 @@ impl<'a> Model for Draft<'a> {
       script = map (λ t. t.now) d.script.items;
     } };
 
-    ghost invariant = { λ d. length d.script.items ≤ most_steps };
+    ghost invariant = { λ d. length d.script.items ≤ MOST_STEPS };
 }
 
 impl<'a> Named for Draft<'a> {
@@ -84,7 +85,7 @@ fn script_at<'a>(
 ) -> Result<Vec<&'a str>, TableFault>
     ensures gives { Gives (λ v. map (λ t. t.now) v.items) result
         (script_at at loops (table_view table.now)) }
-    ensures few_steps { IfOk result (λ v. length v.items ≤ most_steps) }
+    ensures few_steps { IfOk result (λ v. length v.items ≤ MOST_STEPS) }
 {
     let items = keys::array_at(at, table, "script")?;
     keys::at_most(at, MOST_STEPS, items)?;
@@ -101,7 +102,7 @@ const PROCESS_KEYS: &[&str] = &[
 pub struct Processes {
     pub profile: Profile,
     pub cores: u32,
-    ghost in_range: { (1 ≤ cores) × (cores ≤ most_cores) },
+    ghost in_range: { (1 ≤ cores) × (cores ≤ MOST_CORES) },
 }
 
 impl<'a> EntryKind<'a> for Processes {
@@ -113,7 +114,7 @@ impl<'a> EntryKind<'a> for Processes {
 
     fn head(&self) -> Head<'static>
         ensures head { head_of result ≡ (processes self.now.profile self.now.cores).head }
-        ensures few_entries { result.most ≤ most_init_steps }
+        ensures few_entries { result.most ≤ MOST_INIT_STEPS }
     {
         Head {
             section: Section::Process,

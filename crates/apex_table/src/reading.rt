@@ -15,7 +15,8 @@ use crate::scripts::with_scripts;
 use crate::sections::read_section;
 use crate::table::Table;
 use crate::texts::script_texts;
-use apex_types::{MOST_CORES, MOST_ENTRIES, MOST_PROFILE, Profile, USUAL_ENTRIES};
+use apex_machine::Profile;
+use apex_types::{MOST_CORES, MOST_ENTRIES, MOST_PROFILE, USUAL_ENTRIES};
 use std::alloc::Global;
 
 const TOP_KEYS: &[&str] = &[

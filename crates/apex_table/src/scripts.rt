@@ -1,6 +1,6 @@
 //! The scripts of a table's processes.
 ghost use Rattle.std.specs.Prelude.{◌≡◌, ◌<◌, ◌≤◌, map, length, IfOk};
-ghost use Rattle.apex_types.specs.values.Limits.{most_processes, most_steps};
+ghost use Rattle.apex_types.specs.declared.limits.TheConstants.{MOST_PROCESSES, MOST_STEPS};
 ghost use Rattle.apex_table.specs.Outcome.{Gives};
 ghost use Rattle.apex_table.specs.Scripts.{script, next_entry, with_scripts};
 
@@ -9,7 +9,8 @@ use crate::fault::{Place, Section, TableFault};
 use crate::names::Names;
 use crate::processes::Draft;
 use crate::steps::step;
-use apex_types::{Origin, ProcessId, Step};
+use apex_machine::Step;
+use apex_types::{Origin, ProcessId};
 use std::alloc::Global;
 
 fn script(
@@ -19,7 +20,7 @@ fn script(
     names: &Names,
     texts: &[&str],
 ) -> Result<Vec<Step>, TableFault>
-    requires texts { length texts.now ≤ most_steps }
+    requires texts { length texts.now ≤ MOST_STEPS }
     ensures { Gives (λ v. v.items) result
         (script at process names.now (map (λ t. t.now) texts.now)) }
 {
@@ -38,7 +39,7 @@ fn next_entry(
     before: &[ProcessConfig],
     draft: &Draft,
 ) -> Result<ProcessConfig, TableFault>
-    requires few_processes { length before.now < most_processes }
+    requires few_processes { length before.now < MOST_PROCESSES }
     ensures { Gives (λ p. p) result (next_entry names.now before.now draft.now) }
 {
     let at = Place::next(Section::Process, before.len());
@@ -60,7 +61,7 @@ pub fn with_scripts(
     names: &Names,
     drafts: &[Draft],
 ) -> Result<Vec<ProcessConfig>, TableFault>
-    requires { length drafts.now ≤ most_processes }
+    requires { length drafts.now ≤ MOST_PROCESSES }
     ensures gives { Gives (λ v. v.items) result (with_scripts names.now drafts.now) }
     ensures count { IfOk result (λ v. length v.items ≡ length drafts.now) }
 {

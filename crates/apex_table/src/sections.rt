@@ -1,6 +1,6 @@
 //! A section of any kind, entry by entry.
 ghost use Rattle.std.specs.Prelude.{◌≡◌, ◌<◌, ◌≤◌, ℕ, List, length, map, option_map, Result, IfOk};
-ghost use Rattle.apex_types.specs.values.Limits.{most_init_steps};
+ghost use Rattle.apex_types.specs.declared.limits.TheConstants.{MOST_INIT_STEPS};
 ghost use Rattle.toml.specs.Data.{Members};
 ghost use Rattle.toml.specs.View.{view, table_view};
 ghost use Rattle.apex_table.specs.Outcome.{Gives};
@@ -34,7 +34,7 @@ pub trait EntryKind<'a> {
 
     fn head(&self) -> Head<'static>
         ensures head { head_of result ≡ head self.now }
-        ensures few_entries { result.most ≤ most_init_steps };
+        ensures few_entries { result.most ≤ MOST_INIT_STEPS };
 
     /// Reads the entry of this name.
     fn entry(
@@ -71,7 +71,7 @@ fn next_entry<'a, K: EntryKind<'a>>(
     before: &[K::Entry],
     value: &'a Value,
 ) -> Result<K::Entry, TableFault>
-    requires { length before.now < most_init_steps }
+    requires { length before.now < MOST_INIT_STEPS }
     ensures { Gives (λ e. e) result
         (next_entry (kind_of (head_of head.entry) K.Entry.name_of (K.read kind.now)) before.now
         (view value.now)) }

@@ -10,7 +10,8 @@ mod words;
 use crate::fault::{Place, TableFault};
 use crate::names::Names;
 use apex_calls::{Row, Shape, call_of, row_of_word};
-use apex_types::{Origin, Step};
+use apex_machine::Step;
+use apex_types::Origin;
 use given::{Given, with_word};
 use std::alloc::Global;
 use words::{is_message, is_number, is_timeout, requested_mode, words};
@@ -89,11 +90,11 @@ fn row_step(
     ensures { Gives (λ s. s) result
         (row_step at origin.now names.now (view row.now) (map (λ w. w.now) words.now)) }
 {
-    if !have_forms(row.2, words) {
+    if !have_forms(row.shapes, words) {
         return Err(TableFault::BadStep(at));
     }
-    let given = with_words(at, origin, names, row.2, words)?;
-    Ok(Step::new(call_of(row.0, &given.arguments), given.literal))
+    let given = with_words(at, origin, names, row.shapes, words)?;
+    Ok(Step::new(call_of(row.service, &given.arguments), given.literal))
 }
 
 /// The step of these words, of which the first one asks for the service.

@@ -1,7 +1,7 @@
 //! A partition's table.
 ghost use Rattle.std.specs.Prelude.{◌≡◌, ◌<◌, ◌≤◌, length, option_map, slice_get};
-ghost use Rattle.apex_types.specs.values.Limits.{most_cores, most_entries, most_literal, most_objects, most_processes};
-ghost use Rattle.apex_types.specs.table.Table.{IsLawful, process_config, semaphore_config, buffer_config, blackboard_config, event_flag_config, mutex_config, call_in, literal_text};
+ghost use Rattle.apex_types.specs.declared.limits.TheConstants.{MOST_CORES, MOST_ENTRIES, MOST_LITERAL, MOST_OBJECTS, MOST_PROCESSES};
+ghost use Rattle.apex_machine.specs.table.Table.{IsLawful, process_config, semaphore_config, buffer_config, blackboard_config, event_flag_config, mutex_config, call_in, literal_text};
 ghost use Rattle.apex_table.specs.Reading.{table_with};
 ghost use Rattle.apex_table.specs.StepTexts.{step_text, IsWithTexts};
 
@@ -11,9 +11,8 @@ use crate::configs::{
 use crate::listed::{call_in, literal_in};
 use crate::objects::Objects;
 use crate::texts::ScriptTexts;
-use apex_types::{
-    BlackboardId, BufferId, Call, EventId, MutexId, Origin, ProcessId, Profile, SemaphoreId, Step,
-};
+use apex_machine::{Profile, Step};
+use apex_types::{BlackboardId, BufferId, Call, EventId, MutexId, Origin, ProcessId, SemaphoreId};
 use std::marker::Model;
 
 /// A partition's table. Its type ensures that every range and every reference in it is right.
@@ -30,7 +29,7 @@ pub struct Table {
 }
 
 impl Model for Table {
-    ghost use Rattle.apex_types.specs.table.Table.{Table};
+    ghost use Rattle.apex_machine.specs.table.Table.{Table};
     ghost use Rattle.apex_table.specs.Reading.{table_with};
     ghost use Rattle.apex_table.specs.StepTexts.{IsWithTexts};
 
@@ -78,7 +77,7 @@ impl Table {
     /// The number of cores that the partition has, 1 to 8.
     pub fn cores(&self) -> u8
         ensures value { result ≡ self.now.cores }
-        ensures range { (1 ≤ result) × (result ≤ most_cores) }
+        ensures range { (1 ≤ result) × (result ≤ MOST_CORES) }
     {
         self.cores
     }
@@ -86,15 +85,15 @@ impl Table {
     /// The most entries that the history may have, 1 to 65,536.
     pub fn limit(&self) -> u32
         ensures value { result ≡ self.now.limit }
-        ensures range { (1 ≤ result) × (result ≤ most_entries) }
+        ensures range { (1 ≤ result) × (result ≤ MOST_ENTRIES) }
     {
         self.limit
     }
 
-    #[tactic(auto, using(apex_types::proofs::BothProfiles::lawful_count))]
+    #[tactic(auto, using(apex_machine::proofs::BothProfiles::lawful_count))]
     pub fn process_count(&self) -> usize
         ensures value { result ≡ length self.now.processes }
-        ensures range { (1 ≤ result) × (result ≤ most_processes) }
+        ensures range { (1 ≤ result) × (result ≤ MOST_PROCESSES) }
     {
         self.processes.len()
     }
@@ -110,7 +109,7 @@ impl Table {
 
     pub fn semaphore_count(&self) -> usize
         ensures value { result ≡ length self.now.semaphores }
-        ensures range { result ≤ most_objects }
+        ensures range { result ≤ MOST_OBJECTS }
     {
         self.objects.semaphores.len()
     }
@@ -126,7 +125,7 @@ impl Table {
 
     pub fn buffer_count(&self) -> usize
         ensures value { result ≡ length self.now.buffers }
-        ensures range { result ≤ most_objects }
+        ensures range { result ≤ MOST_OBJECTS }
     {
         self.objects.buffers.len()
     }
@@ -142,7 +141,7 @@ impl Table {
 
     pub fn blackboard_count(&self) -> usize
         ensures value { result ≡ length self.now.blackboards }
-        ensures range { result ≤ most_objects }
+        ensures range { result ≤ MOST_OBJECTS }
     {
         self.objects.blackboards.len()
     }
@@ -158,7 +157,7 @@ impl Table {
 
     pub fn event_flag_count(&self) -> usize
         ensures value { result ≡ length self.now.event_flags }
-        ensures range { result ≤ most_objects }
+        ensures range { result ≤ MOST_OBJECTS }
     {
         self.objects.event_flags.len()
     }
@@ -174,7 +173,7 @@ impl Table {
 
     pub fn mutex_count(&self) -> usize
         ensures value { result ≡ length self.now.mutexes }
-        ensures range { result ≤ most_objects }
+        ensures range { result ≤ MOST_OBJECTS }
     {
         self.objects.mutexes.len()
     }
@@ -221,7 +220,7 @@ impl Table {
     /// The literal of the step of this origin, which has no byte if there is no such step.
     pub fn literal(&self, origin: Origin) -> &[u8]
         ensures value { result.now ≡ literal_text self.now origin }
-        ensures range { length result.now ≤ most_literal }
+        ensures range { length result.now ≤ MOST_LITERAL }
     {
         match origin {
             Origin::Init(place) => literal_in(&self.init, usize::from(place)),

@@ -72,7 +72,7 @@ impl Timeline {
     }
 
     /// The number of nodes that the calls, reading ones too, have read or written since the line
-    /// was made, modulo 2^64.
+    /// was made; it stays at the greatest `u64`.
     pub fn visits(&self) -> u64 {
         self.links.visits()
     }
@@ -129,6 +129,7 @@ impl Timeline {
         requires { process < length self.old.instants }
         ensures { IsReset self.old self.new process instant }
     {
+        // For the proof: no process is on the line twice.
         self.holds();
         self.disarm(process);
         if let Some(instant) = instant {
@@ -141,6 +142,7 @@ impl Timeline {
         ensures value { result ≡ first_of self.now.order }
         ensures known { IfSome result (λ p. p < length self.now.instants) }
     {
+        // For the proof: the first process has an instant.
         self.links.holds();
         self.links.front(line())
     }

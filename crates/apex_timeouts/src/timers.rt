@@ -1,6 +1,6 @@
 //! The dues and the deadlines of a partition.
 ghost use Rattle.std.specs.Prelude.{◌≡◌, ◌<◌, length, IfOk, IfSome};
-ghost use Rattle.apex_types.specs.processes.Dues.{sooner};
+ghost use Rattle.apex_machine.specs.processes.Dues.{sooner};
 ghost use Rattle.apex_timeouts.specs.Timeline.{due_at, empty_line, next_of, without_due_at, IsReset, IsTimed};
 
 use crate::timeline::Timeline;
@@ -47,9 +47,9 @@ impl Timers {
     }
 
     /// The number of nodes of the lines that the calls, reading ones too, have read or written
-    /// since they were made, modulo 2^64.
+    /// since they were made; it stays at the greatest `u64`.
     pub fn visits(&self) -> u64 {
-        self.dues.visits().wrapping_add(self.deadlines.visits())
+        self.dues.visits().saturating_add(self.deadlines.visits())
     }
 
     /// The wait of the process ends by itself at this instant, in ticks, from now on, or never.

@@ -3,7 +3,7 @@ use Rattle.std.proofs.Common.{◌≡◌, ℕ, suc, ◌+◌, ◌-◌, ◌*◌, �
 use Rattle.std.proofs.Math.Nat.{add-mul, mul_assoc, pow-succ'}
 use Rattle.std.specs.Char.{is_ascii_digit}
 use Rattle.std.specs.Str.{all_ascii_digits}
-use Rattle.apex_types.specs.values.Numbers.{digits_value}
+use Rattle.apex_types.specs.Numbers.{digits_value}
 
 -- the number of n's digits and, behind them, these; none if a byte is no digit
 abbrev pub more_digits : ℕ → List ℕ → Option ℕ

@@ -5,7 +5,7 @@ use Rattle.std.proofs.lemmas.List.{ext_get_or, length-set, get_or-set_other}
 use Rattle.std.proofs.lemmas.Grind.{get_or-set_at}
 use Rattle.std.proofs.lemmas.Bool.{cases_eq}
 use Rattle.std.proofs.lemmas.Option.{same_Some}
-use Rattle.apex_types.specs.values.Places.{map_places}
+use Rattle.apex_types.specs.Places.{map_places}
 
 pub length-map_places : {A B : Type 0} (f : ℕ → A → B) (p : ℕ) (xs : List A) → length (map_places f p xs) ≡ length xs
 length-map_places f p [] = refl

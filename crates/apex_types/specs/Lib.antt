@@ -1,6 +1,9 @@
-pub mod values
-pub mod table
-pub mod processes
-pub mod services
-pub mod machine
-pub mod text
+-- The values in the terms of every page: limits, modes, calls, names, numbers, and lists of places.
+pub mod Terms
+pub mod Limits
+pub mod Modes
+pub mod Calls
+pub mod Name
+pub mod Numbers
+pub mod Places
+pub mod Messages

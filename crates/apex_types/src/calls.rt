@@ -1,6 +1,6 @@
 //! The services with their arguments, as a step asks for them.
 ghost use Rattle.std.specs.Prelude.{◌≡◌};
-ghost use Rattle.apex_types.specs.services.Calls.{known, object_of};
+ghost use Rattle.apex_types.specs.Calls.{known, object_of};
 
 use crate::identifiers::{BlackboardId, BufferId, EventId, MutexId, ProcessId, SemaphoreId};
 use crate::spans::Span;

@@ -1,11 +1,11 @@
 //! The entries of a history: the event, its caller and call, the reply, and the notices.
 ghost use Rattle.std.specs.Prelude.{◌≡◌, ◌<◌, ◌≤◌, [], ◌∷◌, ◌++◌, length};
-ghost use Rattle.apex_types.specs.values.Limits.{most_notices};
+ghost use Rattle.apex_types.specs.declared.limits.TheConstants.{MOST_NOTICES};
 
 use crate::calls::{Call, Message};
 use crate::identifiers::{CoreId, ProcessId};
 use crate::limits::MOST_NOTICES;
-use crate::records::DeadlineType;
+use crate::modes::DeadlineType;
 use arrayvec::ArrayVec;
 use std::marker::Model;
 use thiserror::Error;
@@ -117,7 +117,7 @@ impl Notices {
 
     /// The notices of this slice. Takes no memory.
     fn copied(notices: &[Notice]) -> Notices
-        requires { length notices.now ≤ most_notices }
+        requires { length notices.now ≤ MOST_NOTICES }
         ensures { result ≡ notices.now }
     {
         let mut copied = ArrayVec::new();
@@ -128,7 +128,7 @@ impl Notices {
     }
 
     pub fn push(&mut self, notice: Notice)
-        requires { length self.old < most_notices }
+        requires { length self.old < MOST_NOTICES }
         ensures { self.new ≡ self.old ++ notice ∷ [] }
     {
         self.notices.push(notice);
@@ -143,7 +143,7 @@ impl Notices {
 
     pub fn as_slice(&self) -> &[Notice]
         ensures value { result.now ≡ self.now }
-        ensures few_notices { length result.now ≤ most_notices }
+        ensures few_notices { length result.now ≤ MOST_NOTICES }
     {
         self.notices.as_slice()
     }
@@ -196,7 +196,7 @@ pub struct LentEntry<'a> {
 
 impl<'a> Model for LentEntry<'a> {
     ghost use Rattle.std.specs.Prelude.{◌≤◌, length};
-    ghost use Rattle.apex_types.specs.values.Limits.{most_notices};
+    ghost use Rattle.apex_types.specs.declared.limits.TheConstants.{MOST_NOTICES};
     ghost use Rattle.apex_types.specs.declared.entries.Entry.{Entry};
 
     ghost Value = { Entry };
@@ -211,7 +211,7 @@ impl<'a> Model for LentEntry<'a> {
       notices = e.notices.now;
     } };
 
-    ghost invariant = { λ e. length e.notices.now ≤ most_notices };
+    ghost invariant = { λ e. length e.notices.now ≤ MOST_NOTICES };
 }
 
 impl<'a> LentEntry<'a> {

@@ -1,6 +1,6 @@
 //! The numbers of cores, processes and objects.
 ghost use Rattle.std.specs.Prelude.{◌≡◌, ◌+◌, ◌<◌};
-ghost use Rattle.apex_types.specs.values.Limits.{most_cores};
+ghost use Rattle.apex_types.specs.declared.limits.TheConstants.{MOST_CORES};
 
 use std::marker::{Model, PhantomData};
 
@@ -12,13 +12,13 @@ pub struct CoreId {
 
 impl Model for CoreId {
     ghost use Rattle.std.specs.Prelude.{ℕ, ◌<◌};
-    ghost use Rattle.apex_types.specs.values.Limits.{most_cores};
+    ghost use Rattle.apex_types.specs.declared.limits.TheConstants.{MOST_CORES};
 
     ghost Value = { ℕ };
 
     ghost view = { λ c. c.number };
 
-    ghost invariant = { λ c. c.number < most_cores };
+    ghost invariant = { λ c. c.number < MOST_CORES };
 
     ghost inverse = { λ n. record { number = n } };
 }
@@ -26,7 +26,7 @@ impl Model for CoreId {
 impl CoreId {
     /// The core of this number.
     pub fn new(number: u8) -> CoreId
-        requires { number < most_cores }
+        requires { number < MOST_CORES }
         ensures { result ≡ number }
     {
         CoreId { number }
@@ -35,7 +35,7 @@ impl CoreId {
     /// The core's number, from 0 to 7.
     pub fn number(self) -> u8
         ensures value { result ≡ self }
-        ensures range { result < most_cores }
+        ensures range { result < MOST_CORES }
     {
         self.number
     }

@@ -1,5 +1,7 @@
-//! The limits of this profile. Each number is said here once: the code takes it from here, and so do
-//! the definitions.
+//! The limits of this profile. The code takes each limit from here by its name, and so do the
+//! definitions and the clauses.
+ghost use Rattle.std.specs.Prelude.{◌≡◌};
+ghost use Rattle.apex_types.specs.declared.limits.TheConstants.{MOST_PROFILE, MOST_CORES, MOST_PROCESSES, MOST_PROCESSES_IN_ONE, MOST_OBJECTS, MOST_NAME, MOST_STEPS, MOST_INIT_STEPS, MOST_MESSAGE, MOST_LITERAL, MOST_MESSAGES, MOST_ENTRIES, USUAL_ENTRIES, MOST_TICKS, MOST_WORK, MOST_NOTICES, MOST_PRIORITY, MOST_OWNED, MOST_OWNED_IN_ONE, MOST_DEPTH, MOST_VALUE, MOST_SPAN, MOST_LINE};
 
 /// The number of the largest profile; the smallest is 1.
 pub const MOST_PROFILE: u32 = 2;
@@ -69,3 +71,30 @@ pub const MOST_SPAN: u32 = u32::MAX;
 
 /// The most bytes of a history's line.
 pub const MOST_LINE: usize = 4_096;
+
+/// Each limit is the number of this profile.
+pub fn limits_of_the_profile()
+    ensures most_profile { MOST_PROFILE ≡ 2 }
+    ensures most_cores { MOST_CORES ≡ 8 }
+    ensures most_processes { MOST_PROCESSES ≡ 64 }
+    ensures most_processes_in_one { MOST_PROCESSES_IN_ONE ≡ 32 }
+    ensures most_objects { MOST_OBJECTS ≡ 16 }
+    ensures most_name { MOST_NAME ≡ 30 }
+    ensures most_steps { MOST_STEPS ≡ 64 }
+    ensures most_init_steps { MOST_INIT_STEPS ≡ 512 }
+    ensures most_message { MOST_MESSAGE ≡ 64 }
+    ensures most_literal { MOST_LITERAL ≡ 64 }
+    ensures most_messages { MOST_MESSAGES ≡ 16 }
+    ensures most_entries { MOST_ENTRIES ≡ 65536 }
+    ensures usual_entries { USUAL_ENTRIES ≡ 4096 }
+    ensures most_ticks { MOST_TICKS ≡ 1048576 }
+    ensures most_work { MOST_WORK ≡ 1048576 }
+    ensures most_notices { MOST_NOTICES ≡ 128 }
+    ensures most_priority { MOST_PRIORITY ≡ 239 }
+    ensures most_owned { MOST_OWNED ≡ 4 }
+    ensures most_owned_in_one { MOST_OWNED_IN_ONE ≡ 1 }
+    ensures most_depth { MOST_DEPTH ≡ 32 }
+    ensures most_value { MOST_VALUE ≡ 32767 }
+    ensures most_span { MOST_SPAN ≡ 4294967295 }
+    ensures most_line { MOST_LINE ≡ 4096 }
+{}

@@ -4,8 +4,8 @@ ghost use Rattle.std.specs.List.{list_all};
 ghost use Rattle.std.specs.Str.{bytes_eq};
 ghost use Rattle.std.specs.Cmp.{partial_equiv_from_equiv};
 ghost use Rattle.std.specs.Cmp.Lexicographic.{nat_list_eq_equiv};
-ghost use Rattle.apex_types.specs.values.Limits.{most_name};
-ghost use Rattle.apex_types.specs.values.Name.{is_visible, is_name, padded};
+ghost use Rattle.apex_types.specs.declared.limits.TheConstants.{MOST_NAME};
+ghost use Rattle.apex_types.specs.Name.{is_visible, is_name, padded};
 
 use crate::limits::MOST_NAME;
 use std::marker::Model;
@@ -21,7 +21,7 @@ pub struct Name {
 
 impl Model for Name {
     ghost use Rattle.std.specs.Prelude.{ℕ, List, take, length};
-    ghost use Rattle.apex_types.specs.values.Name.{padded, IsNameIn};
+    ghost use Rattle.apex_types.specs.Name.{padded, IsNameIn};
     ghost use Rattle.std.proofs.Common.{sym, length-take-le};
 
     ghost Value = { List ℕ };
@@ -71,7 +71,7 @@ fn is_name(text: &[u8]) -> bool
 }
 
 fn padded(name: &[u8]) -> [u8; MOST_NAME]
-    requires { length name.now ≤ most_name }
+    requires { length name.now ≤ MOST_NAME }
     ensures { result ≡ padded name.now }
 {
     let mut bytes = [0; MOST_NAME];

@@ -1,6 +1,6 @@
 //! The reading of decimal numbers.
 ghost use Rattle.std.specs.Prelude.{◌≡◌, ℕ, ◌+◌, ◌*◌, ◌^◌, ◌<◌, ◌≤◌, min, option_map};
-ghost use Rattle.apex_types.specs.values.Numbers.{number_of, at_most, has_leading_zero};
+ghost use Rattle.apex_types.specs.Numbers.{number_of, at_most, has_leading_zero};
 
 fn has_leading_zero(word: &[u8]) -> bool
     ensures { result ≡ has_leading_zero word.now }

@@ -11,13 +11,13 @@ pub struct Span {
 
 impl Model for Span {
     ghost use Rattle.std.specs.Prelude.{ℕ, ◌≤◌};
-    ghost use Rattle.apex_types.specs.values.Limits.{most_span};
+    ghost use Rattle.apex_types.specs.declared.limits.TheConstants.{MOST_SPAN};
 
     ghost Value = { ℕ };
 
     ghost view = { λ s. s.ticks };
 
-    ghost invariant = { λ s. (1 ≤ s.ticks) × (s.ticks ≤ most_span) };
+    ghost invariant = { λ s. (1 ≤ s.ticks) × (s.ticks ≤ MOST_SPAN) };
 
     ghost inverse = { λ n. record { ticks = n } };
 }

@@ -1,41 +1,34 @@
 -- The wait queues: a list for each queue, and its length.
-use Rattle.std.specs.Prelude.{◌≡◌, ℕ, ◌+◌, ◌<◌, nat_lt, Bool, List, [], ◌∷◌, ◌++◌, length, slice_index_or, ⊤}
-use Rattle.apex_types.specs.declared.records.Discipline.{Discipline}
-use Rattle.apex_types.specs.declared.records.Queue.{Queue}
-use Rattle.apex_types.specs.declared.records.Discipline.TheVariants.{Fifo, Priority}
-use Rattle.apex_types.specs.declared.records.Queue.TheVariants as queues
-use Rattle.apex_links.specs.Links.{Links, list_at, removed, with_list}
+use Rattle.std.specs.Prelude.{◌≡◌, ℕ, ◌+◌, ◌*◌, ◌<◌, nat_lt, Bool, List, [], ◌∷◌, ◌++◌, length, slice_index_or, ⊤}
+use Rattle.apex_types.specs.declared.modes.Discipline.{Discipline}
+use Rattle.apex_machine.specs.declared.records.Queue.{Queue}
+use Rattle.apex_types.specs.declared.modes.Discipline.TheVariants.{Fifo, Priority}
+use Rattle.apex_machine.specs.declared.records.Queue.TheVariants as queues
+use Rattle.apex_links.specs.declared.numbers.TheConstants.{ID_PLACES, QUEUE_LISTS, READY_LISTS}
+use Rattle.apex_links.specs.Links.{Links, list_at, with_list}
 use Rattle.apex_links.specs.Placing.{placed}
-
--- the number of lists of a set that come before those of the queues
-abbrev pub first_list : ℕ
-first_list = 2048
-
--- the most queues: six kinds of 256
-abbrev pub most_queues : ℕ
-most_queues = 1536
 
 -- the place of a queue among all
 abbrev pub queue_place : Queue → ℕ
 queue_place queues.Normal = 0
-queue_place (queues.Semaphore s) = 256 + s
-queue_place (queues.Buffer b) = 512 + b
-queue_place (queues.Blackboard b) = 768 + b
-queue_place (queues.EventFlag e) = 1024 + e
-queue_place (queues.Mutex m) = 1280 + m
+queue_place (queues.Semaphore s) = ID_PLACES + s
+queue_place (queues.Buffer b) = 2 * ID_PLACES + b
+queue_place (queues.Blackboard b) = 3 * ID_PLACES + b
+queue_place (queues.EventFlag e) = 4 * ID_PLACES + e
+queue_place (queues.Mutex m) = 5 * ID_PLACES + m
 
--- the number of the queue's object is below 256
+-- the number of the queue's object is below that of the places of a kind
 abbrev pub IsNumbered : Queue → Type 0
 IsNumbered queues.Normal = ⊤
-IsNumbered (queues.Semaphore s) = s < 256
-IsNumbered (queues.Buffer b) = b < 256
-IsNumbered (queues.Blackboard b) = b < 256
-IsNumbered (queues.EventFlag e) = e < 256
-IsNumbered (queues.Mutex m) = m < 256
+IsNumbered (queues.Semaphore s) = s < ID_PLACES
+IsNumbered (queues.Buffer b) = b < ID_PLACES
+IsNumbered (queues.Blackboard b) = b < ID_PLACES
+IsNumbered (queues.EventFlag e) = e < ID_PLACES
+IsNumbered (queues.Mutex m) = m < ID_PLACES
 
 -- the list of a queue
 abbrev pub wait_list : Queue → ℕ
-wait_list queue = first_list + queue_place queue
+wait_list queue = READY_LISTS + queue_place queue
 
 -- the queues as a contract sees them: the number of waiters of each, and the priority that each
 -- process had when it began to wait
@@ -66,12 +59,7 @@ abbrev pub joined : List ℕ → Links → Queue → Discipline → ℕ → ℕ 
 joined priorities links queue discipline p priority =
     queued_in priorities links (wait_list queue) discipline p priority
 
--- process p leaves its list, and waits in the queue with this priority from now on
-abbrev pub requeued : List ℕ → Links → Queue → Discipline → ℕ → ℕ → Links
-requeued priorities links queue discipline p priority =
-    joined priorities (removed links p) queue discipline p priority
-
 -- the counts are those of the lists
 abbrev pub AreCounted : List ℕ → Links → Type 0
 AreCounted counts links =
-    (n : ℕ) → n < most_queues → slice_index_or counts n 0 ≡ length (list_at links (first_list + n))
+    (n : ℕ) → n < QUEUE_LISTS → slice_index_or counts n 0 ≡ length (list_at links (READY_LISTS + n))

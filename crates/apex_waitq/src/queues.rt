@@ -1,20 +1,16 @@
 //! The waiters of each queue.
 ghost use Rattle.std.specs.Prelude.{◌≡◌, ◌+◌, ◌<◌, ◌≤◌, ◌^◌, length, replicate, slice_set, IfOk};
+ghost use Rattle.apex_links.specs.declared.numbers.TheConstants.{ALL_LISTS, QUEUE_LISTS};
 ghost use Rattle.apex_links.specs.Neighbours.{first_of};
 ghost use Rattle.apex_links.specs.Links.{list_at, removed, IsFree};
-ghost use Rattle.apex_waitq.specs.WaitQueues.{first_list, is_lower, joined, most_queues, queued_in, requeued, wait_list, AreCounted, IsNumbered};
+ghost use Rattle.apex_waitq.specs.WaitQueues.{is_lower, joined, queued_in, wait_list, AreCounted, IsNumbered};
 
 use crate::lists::{queue_place, wait_list};
-use apex_links::{LinkSet, ListId, Test};
-use apex_types::{Discipline, ProcessId, Queue};
+use apex_links::{ALL_LISTS, LinkSet, ListId, QUEUE_LISTS, READY_LISTS, Test};
+use apex_machine::Queue;
+use apex_types::{Discipline, ProcessId};
 use std::alloc::{AllocError, Global};
 use std::marker::Model;
-
-/// The number of lists of a link set that come before those of the queues.
-const FIRST_LIST: usize = 2048;
-
-/// The most queues.
-const MOST_QUEUES: usize = 1536;
 
 /// The number of waiters of each queue, and the priority that each process had when it began to
 /// wait.
@@ -28,13 +24,14 @@ pub struct WaitQueues {
 
 impl Model for WaitQueues {
     ghost use Rattle.std.specs.Prelude.{◌≡◌, length};
-    ghost use Rattle.apex_waitq.specs.WaitQueues.{most_queues, Waits};
+    ghost use Rattle.apex_links.specs.declared.numbers.TheConstants.{QUEUE_LISTS};
+    ghost use Rattle.apex_waitq.specs.WaitQueues.{Waits};
 
     ghost Value = { Waits };
 
     ghost view = { λ q. record { counts = q.counts.items; priorities = q.priorities.items } };
 
-    ghost invariant = { λ q. length q.counts.items ≡ most_queues };
+    ghost invariant = { λ q. length q.counts.items ≡ QUEUE_LISTS };
 }
 
 /// The test for processes of a lower priority.
@@ -57,10 +54,10 @@ impl Test for Lower<'_> {
 impl WaitQueues {
     /// Queues for n processes, none of which waits. Fails only for want of memory.
     pub fn new(alloc: Global, processes: u16) -> Result<WaitQueues, AllocError>
-        ensures counts { IfOk result (λ queues. queues.counts ≡ replicate most_queues 0) }
+        ensures counts { IfOk result (λ queues. queues.counts ≡ replicate QUEUE_LISTS 0) }
         ensures priorities { IfOk result (λ queues. queues.priorities ≡ replicate processes 0) }
     {
-        let counts = vec![in alloc; 0; MOST_QUEUES]?;
+        let counts = vec![in alloc; 0; QUEUE_LISTS]?;
         let priorities = vec![in alloc; 0; usize::from(processes)]?;
         Ok(WaitQueues { counts, priorities })
     }
@@ -104,7 +101,7 @@ impl WaitQueues {
         process: ProcessId,
         priority: u8,
     )
-        requires lists { first_list + most_queues ≤ length links.old.lists }
+        requires lists { ALL_LISTS ≤ length links.old.lists }
         requires process { process < links.old.processes }
         requires processes { links.old.processes ≤ length self.old.priorities }
         requires few_processes { links.old.processes < 2 ^ 16 }
@@ -116,16 +113,17 @@ impl WaitQueues {
         ensures counted { AreCounted self.new.counts links.new }
         ensures numbered { IsNumbered queue }
     {
+        // For the proof: a queue is no longer than the processes are many, so its count fits.
         links.holds();
         let list = wait_list(queue);
         self.enter(links, list, discipline, process, priority);
         self.priorities[process.place()] = priority;
-        self.counts[list.place() - FIRST_LIST] += 1;
+        self.counts[list.place() - READY_LISTS] += 1;
     }
 
     /// The process is in no list from now on.
     pub fn leave(&mut self, links: &mut LinkSet, process: ProcessId)
-        requires lists { first_list + most_queues ≤ length links.old.lists }
+        requires lists { ALL_LISTS ≤ length links.old.lists }
         requires process { process < links.old.processes }
         requires counted { AreCounted self.old.counts links.old }
         ensures links { links.new ≡ removed links.old process }
@@ -133,46 +131,23 @@ impl WaitQueues {
         ensures priorities { self.new.priorities ≡ self.old.priorities }
         ensures counted { AreCounted self.new.counts links.new }
     {
+        // For the proof: the process is in one list at most.
         links.holds();
         if let Some(list) = links.take(process) {
             let place = list.place();
-            if place >= FIRST_LIST && place < FIRST_LIST + MOST_QUEUES {
-                self.counts[place - FIRST_LIST] -= 1;
+            if place >= READY_LISTS && place < ALL_LISTS {
+                self.counts[place - READY_LISTS] -= 1;
             }
         }
     }
 
-    /// The process waits in the queue with this priority from now on, as the newest there: it
-    /// leaves its place, and goes behind all others, or with the discipline PRIORITY before those
-    /// of a lower priority.
-    pub fn requeue(
-        &mut self,
-        links: &mut LinkSet,
-        queue: Queue,
-        discipline: Discipline,
-        process: ProcessId,
-        priority: u8,
-    )
-        requires lists { first_list + most_queues ≤ length links.old.lists }
-        requires process { process < links.old.processes }
-        requires processes { links.old.processes ≤ length self.old.priorities }
-        requires few_processes { links.old.processes < 2 ^ 16 }
-        requires counted { AreCounted self.old.counts links.old }
-        ensures links { links.new
-            ≡ requeued self.old.priorities links.old queue discipline process priority }
-        ensures priorities { self.new.priorities ≡ slice_set self.old.priorities process priority }
-        ensures counted { AreCounted self.new.counts links.new }
-    {
-        self.leave(links, process);
-        self.join(links, queue, discipline, process, priority);
-    }
-
     /// The first waiter of the queue.
     pub fn first(&self, links: &LinkSet, queue: Queue) -> Option<ProcessId>
-        requires lists { first_list + most_queues ≤ length links.now.lists }
+        requires lists { ALL_LISTS ≤ length links.now.lists }
         ensures value { result ≡ first_of (list_at links.now (wait_list queue)) }
         ensures numbered { IsNumbered queue }
     {
+        // The lists are in the link set alone.
         let _ = self;
         links.front(wait_list(queue))
     }
@@ -183,7 +158,8 @@ impl WaitQueues {
         ensures value { result ≡ length (list_at links.now (wait_list queue)) }
         ensures numbered { IsNumbered queue }
     {
+        // Lent for the contract alone, which says the count of the links.
         let _ = links;
-        self.counts[usize::from(queue_place(queue))]
+        self.counts[queue_place(queue)]
     }
 }

@@ -1,9 +1,9 @@
 //! Eight cores in contention, by threads of their own.
 
-use super::crews::{TICKS, TURNS};
+use super::crews::{ALL, TICKS, TURNS};
 use super::values::{is_value_by_run, value_by_entries, value_by_lines};
 use crate::closings::{Outcome, lines_of};
-use crate::openings::open_and_play;
+use crate::openings::{Audience, open_and_play};
 use crate::steps::Step;
 use apex_history::Entries;
 use apex_types::{MOST_CORES, Who};
@@ -90,9 +90,6 @@ fn last_number(entries: Entries<'_>, who: Who) -> u32 {
     number
 }
 
-/// The entries of the whole crew.
-const ALL: u32 = MOST_CORES * TURNS + TICKS;
-
 /// Whether there is a receipt of the last turn of each core.
 fn are_last(outcome: &Outcome) -> bool {
     for receipt in &outcome.receipts {
@@ -139,37 +136,33 @@ const STORM: &[Step] = &[Step::Storm(0), TICKED];
 
 const SLOW_STORM: &[Step] = &[Step::Storm(10), TICKED];
 
-/// Weathers this number of storms, one after the other.
-fn weather_all<R: Abort + Threads + Wait + Sync>(
+/// Weathers a storm before this audience.
+fn weather<R: Abort + Threads + Wait + Sync>(
     rt: &R,
     alloc: Global,
-    storms: u32,
     storm: &[Step],
-    has_reader: bool,
+    audience: Audience,
 ) {
-    for _time in 0..storms {
-        look_at(
-            rt,
-            alloc,
-            open_and_play(rt, alloc, TABLE, has_reader, storm),
-        );
-    }
+    look_at(rt, alloc, open_and_play(rt, alloc, TABLE, audience, storm));
 }
 
 #[test]
 fn twenty_storms_are_weathered(rt: HostRuntime) {
-    weather_all(&rt, rt.alloc(), 20, STORM, false);
+    for _storm in 0..20u32 {
+        weather(&rt, rt.alloc(), STORM, Audience::Nobody);
+    }
 }
 
 // While a process backs off at the gate, others move it and stop it, so that much of its work is
 // lost.
 #[test]
 fn a_storm_is_weathered_where_work_takes_time(rt: HostRuntime) {
-    weather_all(&rt, rt.alloc(), 1, SLOW_STORM, false);
+    weather(&rt, rt.alloc(), SLOW_STORM, Audience::Nobody);
 }
 
-// Neither the entries nor the time go back while eight cores and the ticker are at work.
+// Neither the entries nor the time go back while eight cores and the ticker are at work; and in the
+// middle of the storm the reader sees the half of the history that is there.
 #[test]
 fn ten_thousand_reads_beside_a_storm(rt: HostRuntime) {
-    weather_all(&rt, rt.alloc(), 1, STORM, true);
+    weather(&rt, rt.alloc(), STORM, Audience::OneReader);
 }

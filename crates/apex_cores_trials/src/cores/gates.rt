@@ -38,7 +38,15 @@ impl Counter {
 }
 
 impl Gate for Counter {
-    fn work(&self, core: CoreId, process: ProcessId, ticks: u32) {
+    ghost use Rattle.std.specs.Prelude.{⊤};
+
+    type Token = ();
+
+    ghost does = { λ _ _ _ _ _. ⊤ };
+
+    fn enter(&self, _core: CoreId) {}
+
+    fn work(&self, _token: &mut (), core: CoreId, process: ProcessId, ticks: u32) {
         self.calls.fetch_add(1, Ordering::SeqCst);
         self.cores
             .fetch_add(u64::from(core.number()), Ordering::SeqCst);
@@ -46,4 +54,6 @@ impl Gate for Counter {
             .fetch_add(u64::from(process.number()), Ordering::SeqCst);
         self.ticks.fetch_add(u64::from(ticks), Ordering::SeqCst);
     }
+
+    fn leave(&self, _token: ()) {}
 }

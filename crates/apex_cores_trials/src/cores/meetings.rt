@@ -1,11 +1,15 @@
 //! Two cores, each of which works only if the other one does, too.
+ghost use Rattle.std.specs.Prelude.{◌≡◌, None, length};
+ghost use Rattle.apex_receipts.specs.Receipts.{IsNamedAfter};
 
 use crate::closings::entry_count;
-use apex_cores::{Gate, RunPlan, run_partition};
-use apex_table::read_table;
+use apex_cores::{Gate, RunFault, RunPlan, run_partition};
+use apex_partition::{Closed, Naming, Opened};
+use apex_table::{Table, read_table};
 use apex_types::{CoreId, ProcessId};
 use crossbeam_utils::Backoff;
 use std::alloc::Global;
+use std::marker::Brand;
 use std::process::Abort;
 use std::sync::Wait;
 use std::sync::atomic::{AtomicBool, Ordering};
@@ -42,7 +46,15 @@ struct Meeting {
 }
 
 impl Gate for Meeting {
-    fn work(&self, core: CoreId, _process: ProcessId, _ticks: u32) {
+    ghost use Rattle.std.specs.Prelude.{⊤};
+
+    type Token = ();
+
+    ghost does = { λ _ _ _ _ _. ⊤ };
+
+    fn enter(&self, _core: CoreId) {}
+
+    fn work(&self, _token: &mut (), core: CoreId, _process: ProcessId, _ticks: u32) {
         let (mine, other) = if core.number() == 0 {
             (&self.first, &self.second)
         } else {
@@ -58,20 +70,41 @@ impl Gate for Meeting {
         }
         self.missed.store(true, Ordering::SeqCst);
     }
+
+    fn leave(&self, _token: ()) {}
 }
 
 /// The turns of each core.
 const TURNS: u32 = 30_000;
 
+/// The plan of both cores.
+const PLAN: RunPlan = RunPlan {
+    turns: TURNS,
+    ticks: 0,
+};
+
+/// The number of entries of a run over this gate, of a partition that is named after this book.
+fn run_named<P: Naming + Send + Sync, R: Abort + Threads + Wait + Sync>(
+    rt: &R,
+    alloc: Global,
+    table: Table,
+    opened: Opened,
+    gate: &Meeting,
+) -> usize
+    requires table { P.table ≡ table }
+    requires named { IsNamedAfter P.book P.scribe P.voice opened }
+    requires cores { length opened.cores ≡ table.cores }
+    requires cell { P.cell ≡ None }
+{
+    let ran: Result<Closed<P>, RunFault> = run_partition(rt, alloc, table, opened, PLAN, gate);
+    entry_count(ran.expect(rt, "threads and memory").into_partition())
+}
+
 /// The number of entries of a run over this gate.
 fn run_over<R: Abort + Threads + Wait + Sync>(rt: &R, alloc: Global, gate: &Meeting) -> usize {
     let table = read_table(alloc, TABLE.as_bytes()).expect(rt, "the table is lawful");
-    let plan = RunPlan {
-        turns: TURNS,
-        ticks: 0,
-    };
-    let closed = run_partition(rt, alloc, table, plan, gate);
-    entry_count(closed.expect(rt, "threads and memory"))
+    let opened = Opened::new(alloc, u32::from(table.cores())).expect(rt, "memory");
+    run_named::<Brand, R>(rt, alloc, table, opened, gate)
 }
 
 // If one thread served both cores, or held the lock while it worked, or never came to the gate,

@@ -1,5 +1,6 @@
 //! Readers in threads of their own, beside a storm and beside a holder of the lock.
 
+use super::crews::{ALL, Crew, READS};
 use crate::openings::Open;
 use crate::partition::{Scene, act_out};
 use crate::steps::{Shown, Step};
@@ -12,9 +13,6 @@ use std::sync::atomic::{AtomicU64, Ordering};
 use std::thread;
 use std::thread::Threads;
 
-/// The reads of a reader beside a storm.
-const READS: u32 = 10_000;
-
 /// The most times that a thread asks whether another one has done its part.
 const POLLS: u32 = 1_000_000;
 
@@ -24,22 +22,62 @@ fn read_once<P: Naming, R: Wait>(rt: &R, reader: &mut Reader<P>) -> (u32, u64) {
     (front.entries, front.now)
 }
 
-/// Makes all reads, one after the other, and returns the number of those that go back. Without a
-/// reader there is none.
-pub fn read_all<P: Naming, R: Wait>(rt: &R, reader: &mut Option<Reader<P>>) -> u32 {
-    let Some(reader) = reader else {
-        return 0;
-    };
-    let (mut entries, mut now) = (0, 0);
-    let mut backwards = 0u32;
-    for _time in 0..READS {
-        let (next_entries, next_now) = read_once(rt, reader);
-        if next_entries < entries || next_now < now {
-            backwards = backwards.saturating_add(1);
+/// What a reader saw beside a storm.
+#[derive(Clone, Copy)]
+struct Readings {
+    /// The entries and the time of the last front.
+    entries: u32,
+    now: u64,
+    /// Whether neither the entries nor the time ever went back.
+    is_forward: bool,
+}
+
+impl Readings {
+    /// A reader has read nothing.
+    fn new() -> Readings {
+        Readings {
+            entries: 0,
+            now: 0,
+            is_forward: true,
         }
-        (entries, now) = (next_entries, next_now);
     }
-    backwards
+
+    /// Reads once beside the crew.
+    fn read<P: Naming, R: Wait>(&mut self, rt: &R, crew: &Crew, reader: &mut Reader<P>) {
+        let (entries, now) = read_once(rt, reader);
+        self.is_forward = self.is_forward && self.entries <= entries && self.now <= now;
+        self.entries = entries;
+        self.now = now;
+        crew.note_read();
+    }
+
+    /// Makes half of the reads, one after the other.
+    fn read_half<P: Naming, R: Wait>(&mut self, rt: &R, crew: &Crew, reader: &mut Reader<P>) {
+        for _time in 0..READS / 2 {
+            self.read(rt, crew, reader);
+        }
+    }
+}
+
+/// Makes half of the reads once all of the crew have begun, one in the middle of the storm, for
+/// which the others wait, and the other half from then on. Whether nothing goes back, and the front
+/// in the middle has all entries of the first half, and no others. Without a reader there is none.
+pub fn reads_in_order<P: Naming, R: Wait>(
+    rt: &R,
+    crew: &Crew,
+    reader: &mut Option<Reader<P>>,
+) -> bool {
+    let Some(reader) = reader else {
+        return true;
+    };
+    let mut readings = Readings::new();
+    crew.begin();
+    readings.read_half(rt, crew, reader);
+    crew.await_middle();
+    readings.read(rt, crew, reader);
+    let middle = readings.entries;
+    readings.read_half(rt, crew, reader);
+    readings.is_forward && middle == ALL / 2
 }
 
 /// The words between the holder of the lock and the reader's thread: whether the lock is held, and

@@ -1,10 +1,14 @@
 //! Runs of which a thread is refused, and the ticker's thread beside the cores.
+ghost use Rattle.std.specs.Prelude.{◌≡◌, None, length};
+ghost use Rattle.apex_receipts.specs.Receipts.{IsNamedAfter};
 
 use super::gates::Counter;
 use crate::closings::entry_count;
 use apex_cores::{RunFault, RunPlan, Starts, run_partition_with};
-use apex_table::read_table;
+use apex_partition::{Closed, Naming, Opened};
+use apex_table::{Table, read_table};
 use std::alloc::Global;
+use std::marker::Brand;
 use std::process::Abort;
 use std::sync::Wait;
 use std::thread::Threads;
@@ -61,6 +65,25 @@ struct Outcome {
     works: u64,
 }
 
+/// The number of entries of a run of a partition that is named after this book, or its fault.
+fn run_named<P: Naming + Send + Sync, R: Abort + Threads + Wait + Sync>(
+    rt: &R,
+    alloc: Global,
+    table: Table,
+    opened: Opened,
+    plan: RunPlan,
+    starts: &mut AllBut,
+    gate: &Counter,
+) -> Result<usize, RunFault>
+    requires table { P.table ≡ table }
+    requires named { IsNamedAfter P.book P.scribe P.voice opened }
+    requires cores { length opened.cores ≡ table.cores }
+    requires cell { P.cell ≡ None }
+{
+    let closed: Closed<P> = run_partition_with(rt, alloc, table, opened, plan, starts, gate)?;
+    Ok(entry_count(closed.into_partition()))
+}
+
 /// Runs the partition of this table, of which the thread of this number is refused.
 fn run_without<R: Abort + Threads + Wait + Sync>(
     rt: &R,
@@ -70,16 +93,14 @@ fn run_without<R: Abort + Threads + Wait + Sync>(
     refused: u32,
 ) -> Outcome {
     let table = read_table(alloc, text.as_bytes()).expect(rt, "the table is lawful");
+    let opened = Opened::new(alloc, u32::from(table.cores())).expect(rt, "memory");
     let gate = Counter::new();
     let mut starts = AllBut {
         refused,
         asked: 0,
         is_in_turn: true,
     };
-    let entries = match run_partition_with(rt, alloc, table, plan, &mut starts, &gate) {
-        Ok(closed) => Ok(entry_count(closed)),
-        Err(fault) => Err(fault),
-    };
+    let entries = run_named::<Brand, R>(rt, alloc, table, opened, plan, &mut starts, &gate);
     Outcome {
         entries,
         starts,

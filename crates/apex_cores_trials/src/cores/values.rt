@@ -1,6 +1,6 @@
 //! The value that a history leaves of its semaphore S, read in three ways.
 ghost use Rattle.std.specs.Prelude.{All, IsTrue};
-ghost use Rattle.apex_dispatch.specs.Events.{IsWithin};
+ghost use Rattle.apex_machine.specs.Events.{IsWithin};
 
 use apex_dispatch::Kernel;
 use apex_history::{Counted, Entries, Page, read_line};

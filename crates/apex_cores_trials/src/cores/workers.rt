@@ -3,7 +3,7 @@
 use super::crews::put_back;
 use super::gates::Counter;
 use crate::closings::entry_count;
-use crate::openings::{Open, open_and_play};
+use crate::openings::{Audience, Open, open_and_play};
 use crate::steps::Step;
 use apex_cores::{TickerReport, run_core, run_ticker};
 use apex_partition::{Naming, Receipt, Shared, Ticker};
@@ -56,7 +56,7 @@ fn is_last<P: Naming>(last: Option<&Receipt<P>>, shift: Shift) -> bool {
 pub fn makes_turns<P: Naming, R: Abort + Wait>(rt: &R, open: &mut Open<P>, shift: Shift) -> bool {
     let gate = Counter::new();
     let seat = open.seats.pop().expect(rt, "the core has a seat");
-    let report = run_core(rt, &open.shared, seat, shift.asked, &gate);
+    let report = run_core(rt, &open.shared, seat, shift.asked, &gate, &mut ());
     let made = put_back(rt, open, report);
     made == (shift.made, shift.made < shift.asked)
         && gate.calls() == shift.calls
@@ -132,6 +132,6 @@ const SHIFTS: &[Step] = &[
 
 #[test]
 fn workers_stop_at_a_full_history(rt: HostRuntime) {
-    let outcome = open_and_play(&rt, rt.alloc(), WORKER, false, SHIFTS);
+    let outcome = open_and_play(&rt, rt.alloc(), WORKER, Audience::Nobody, SHIFTS);
     assert!(rt; entry_count(outcome.partition) == 10);
 }

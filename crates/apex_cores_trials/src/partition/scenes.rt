@@ -2,7 +2,7 @@
 
 use super::alone::{ALONE, FULL};
 use crate::closings::{Outcome, lines_of};
-use crate::openings::open_and_play;
+use crate::openings::{Audience, open_and_play};
 use crate::steps::{Shown, Step};
 use crate::tables::{STARTED, WAITER_AND_SIGNALLER};
 use std::alloc::Global;
@@ -56,7 +56,7 @@ fn are_texts(bytes: &[u8], texts: &[&str]) -> bool {
 
 /// Plays the scene, and looks at what it leaves.
 pub fn act_out<R: Abort + Threads + Wait + Sync>(rt: &R, alloc: Global, scene: &Scene<'_>) {
-    let outcome = open_and_play(rt, alloc, scene.table, true, scene.steps);
+    let outcome = open_and_play(rt, alloc, scene.table, Audience::OneReader, scene.steps);
     assert!(rt; outcome.partition.table().cores() == 2);
     assert!(rt; are_in_order(&outcome));
     assert!(rt; is_told(&outcome, &scene.last));

@@ -1,12 +1,12 @@
 //! The services of process management that a process asks for itself.
 
 ghost use Rattle.std.specs.Prelude.{◌≡◌, ◌<◌, ◌≤◌, [], length};
-ghost use Rattle.apex_types.specs.services.CallerServices as services;
-ghost use Rattle.apex_types.specs.services.Callers.{IsReady, IsReadyCaller};
-ghost use Rattle.apex_types.specs.processes.Dues.{HasTime};
-ghost use Rattle.apex_types.specs.values.Limits.{most_owned, most_processes};
-ghost use Rattle.apex_types.specs.services.Rows.{Leaves};
-ghost use Rattle.apex_types.specs.processes.Stamps.{HasStamps, HasStampsFor};
+ghost use Rattle.apex_machine.specs.services.CallerServices as services;
+ghost use Rattle.apex_machine.specs.services.Callers.{IsReady, IsReadyCaller};
+ghost use Rattle.apex_machine.specs.processes.Dues.{HasTime};
+ghost use Rattle.apex_types.specs.declared.limits.TheConstants.{MOST_OWNED, MOST_PROCESSES};
+ghost use Rattle.apex_machine.specs.services.Rows.{Leaves};
+ghost use Rattle.apex_machine.specs.processes.Stamps.{HasStamps, HasStampsFor};
 
 use crate::objects::Objects;
 use apex_store::{Store, due_after, halt};
@@ -40,7 +40,7 @@ fn suspend_self<S: Store>(
 }
 
 /// Carries out a service that the process asks for itself.
-#[tactic(auto, using(apex_types::proofs::Handovers::few_halted))]
+#[tactic(auto, using(apex_machine::proofs::Handovers::few_halted))]
 fn serve_itself<S: Store>(
     store: &mut S,
     objects: &Objects,
@@ -49,9 +49,9 @@ fn serve_itself<S: Store>(
     notices: &mut Notices,
 ) -> Reply
     requires ready { IsReady (S.roster store.old) process }
-    requires stamps { HasStampsFor most_owned (S.roster store.old) }
+    requires stamps { HasStampsFor MOST_OWNED (S.roster store.old) }
     requires time { HasTime (S.roster store.old) }
-    requires room { length notices.old ≤ most_processes }
+    requires room { length notices.old ≤ MOST_PROCESSES }
     ensures { Leaves (services.service_by (S.roster store.old) objects.now call.now process)
         (S.roster store.new) objects.now result notices.old notices.new }
 {
@@ -80,9 +80,9 @@ pub(crate) fn serve<S: Store>(
     notices: &mut Notices,
 ) -> Reply
     requires caller { IsReadyCaller (S.roster store.old) caller.now }
-    requires stamps { HasStampsFor most_owned (S.roster store.old) }
+    requires stamps { HasStampsFor MOST_OWNED (S.roster store.old) }
     requires time { HasTime (S.roster store.old) }
-    requires room { length notices.old ≤ most_processes }
+    requires room { length notices.old ≤ MOST_PROCESSES }
     ensures { Leaves (services.caller_service (S.roster store.old) objects.now caller.now call.now)
         (S.roster store.new) objects.now result notices.old notices.new }
 {

@@ -1,19 +1,21 @@
 //! The services of partition management.
 
 ghost use Rattle.std.specs.Prelude.{◌≡◌, ◌<◌, ◌≤◌, true, false, [], ◌++◌, length, IfSome};
-ghost use Rattle.apex_types.specs.values.Limits.{most_notices, most_processes};
-ghost use Rattle.apex_types.specs.processes.Dues.{HasTime};
-ghost use Rattle.apex_types.specs.services.InTurn.{Makes};
-ghost use Rattle.apex_types.specs.services.PartitionServices as services;
-ghost use Rattle.apex_types.specs.processes.Roster.{is_normal, record_at};
-ghost use Rattle.apex_types.specs.services.Rows.{Leaves};
-ghost use Rattle.apex_types.specs.services.Premises.{CanServe};
-ghost use Rattle.apex_types.specs.processes.Stamps.{HasManyStamps, HasOrderlyStarts, HasStamps, may_wait};
+ghost use Rattle.apex_types.specs.declared.limits.TheConstants.{MOST_NOTICES};
+ghost use Rattle.apex_machine.specs.processes.Dues.{HasTime};
+ghost use Rattle.apex_machine.specs.services.InTurn.{Makes};
+ghost use Rattle.apex_machine.specs.services.PartitionServices as services;
+ghost use Rattle.apex_types.specs.Modes.{is_normal};
+ghost use Rattle.apex_machine.specs.processes.Roster.{record_at};
+ghost use Rattle.apex_machine.specs.services.Rows.{Leaves};
+ghost use Rattle.apex_machine.specs.services.Premises.{CanServe};
+ghost use Rattle.apex_machine.specs.processes.Stamps.{HasOrderlyStarts, HasStamps, may_wait};
 
 use crate::objects::Objects;
+use apex_machine::{Queue, Wait};
 use apex_store::Store;
 use apex_types::{
-    Mode, Notice, Notices, PartitionCall, ProcessId, Queue, Reply, RequestedMode, ReturnCode, Wait,
+    Mode, Notice, Notices, PartitionCall, ProcessId, Reply, RequestedMode, ReturnCode,
 };
 
 /// The delay in ticks of a start that waits for NORMAL.
@@ -28,13 +30,13 @@ fn delay_of(wait: Option<Wait>) -> u32
 
 /// The start of a process that waited for NORMAL begins: a release if its delay is 0, else a wait
 /// for its start.
-#[tactic(auto, using(apex_types::proofs::Dues::from_now))]
+#[tactic(auto, using(apex_machine::proofs::Dues::from_now))]
 fn begin_waiter<S: Store>(store: &mut S, process: ProcessId, notices: &mut Notices)
     requires known { process < length (S.roster store.old).records }
     requires free { may_wait (record_at (S.roster store.old) process) ≡ true }
     requires stamps { HasStamps (S.roster store.old) }
     requires time { HasTime (S.roster store.old) }
-    requires room { length notices.old < most_notices }
+    requires room { length notices.old < MOST_NOTICES }
     ensures { Makes (services.begin_waiter (S.roster store.old) process)
         (S.roster store.new) notices.old notices.new }
 {
@@ -57,7 +59,7 @@ fn first_to_start<S: Store>(store: &S) -> Option<ProcessId>
 }
 
 /// The entry into NORMAL: begins the starts that wait for it, the longest wait first.
-#[tactic(auto, unfolding(apex_types::specs::services::PartitionServices::enter_normal))]
+#[tactic(auto, unfolding(apex_machine::specs::services::PartitionServices::enter_normal))]
 fn enter_normal<S: Store>(store: &mut S, notices: &mut Notices)
     requires early { is_normal (S.roster store.old).mode ≡ false }
     requires starts { HasOrderlyStarts (S.roster store.old) }

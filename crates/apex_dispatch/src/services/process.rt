@@ -1,20 +1,20 @@
 //! The services of process management for a process that is named.
 
 ghost use Rattle.std.specs.Prelude.{◌≡◌, ◌<◌, ◌≤◌, [], ◌++◌, length, false, is_some, not, IfSome};
-ghost use Rattle.apex_types.specs.values.Limits.{most_notices, most_owned, most_processes};
-ghost use Rattle.apex_types.specs.services.Callers.{IsReadyCaller, is_by_process};
-ghost use Rattle.apex_types.specs.processes.Dues.{HasTime};
-ghost use Rattle.apex_types.specs.processes.Periods.{is_period_long};
-ghost use Rattle.apex_types.specs.services.ProcessServices as services;
-ghost use Rattle.apex_types.specs.processes.Roster.{Roster};
-ghost use Rattle.apex_types.specs.services.Rows.{Leaves};
-ghost use Rattle.apex_types.specs.services.Premises.{CanServe};
-ghost use Rattle.apex_types.specs.processes.Stamps.{HasManyStamps, HasStamps, HasStampsFor};
+ghost use Rattle.apex_types.specs.declared.limits.TheConstants.{MOST_NOTICES, MOST_OWNED, MOST_PROCESSES};
+ghost use Rattle.apex_machine.specs.services.Callers.{IsReadyCaller, is_by_process};
+ghost use Rattle.apex_machine.specs.processes.Dues.{HasTime};
+ghost use Rattle.apex_machine.specs.processes.Periods.{is_period_long};
+ghost use Rattle.apex_machine.specs.services.ProcessServices as services;
+ghost use Rattle.apex_machine.specs.services.Rows.{Leaves};
+ghost use Rattle.apex_machine.specs.services.Premises.{CanServe};
+ghost use Rattle.apex_machine.specs.processes.Stamps.{HasStamps, HasStampsFor};
 
+use apex_machine::Record;
 use apex_store::{Object, Store, halt};
 use apex_types::{
-    Caller, CoreId, MOST_PRIORITY, Notice, Notices, ProcessId, ProcessKind, ProcessService, Record,
-    Reply, ReturnCode, Span, State, Timeout,
+    Caller, CoreId, MOST_PRIORITY, Notice, Notices, ProcessId, ProcessKind, ProcessService, Reply,
+    ReturnCode, Span, State, Timeout,
 };
 use std::marker::Model;
 
@@ -25,7 +25,7 @@ pub(crate) struct ProcessObject {
 }
 
 impl Model for ProcessObject {
-    ghost use Rattle.apex_types.specs.services.ProcessServices.{ProcessObject};
+    ghost use Rattle.apex_machine.specs.services.ProcessServices.{ProcessObject};
 
     ghost Value = { ProcessObject };
 
@@ -100,7 +100,7 @@ impl ProcessObject {
 
     /// INITIALIZE_PROCESS_CORE_AFFINITY: INVALID_MODE in NORMAL, INVALID_PARAM if the process isn't
     /// created, INVALID_CONFIG if the partition has no such core.
-    #[tactic(auto, using(apex_types::proofs::Starts::early_ineligible))]
+    #[tactic(auto, using(apex_machine::proofs::Starts::early_ineligible))]
     fn initialize_core_affinity<S: Store>(&self, store: &mut S, id: ProcessId, core: u8) -> Reply
         requires known { id < length (S.roster store.old).records }
         ensures { Leaves (services.initialize_core_affinity (S.roster store.old) self.now id core)
@@ -149,7 +149,7 @@ impl ProcessObject {
         requires known { id < length (S.roster store.old).records }
         requires stamps { HasStamps (S.roster store.old) }
         requires time { HasTime (S.roster store.old) }
-        requires room { length notices.old < most_notices }
+        requires room { length notices.old < MOST_NOTICES }
         ensures { Leaves (services.start_process (S.roster store.old) self.now id delay)
             (S.roster store.new) self.now result notices.old notices.new }
     {
@@ -172,7 +172,7 @@ impl ProcessObject {
 
     /// STOP of another process, whose mutexes go to their first waiters. INVALID_PARAM if it is the
     /// caller or isn't created, NO_ACTION if it is dormant.
-    #[tactic(auto, using(apex_types::proofs::Handovers::few_halted))]
+    #[tactic(auto, using(apex_machine::proofs::Handovers::few_halted))]
     fn stop<S: Store>(
         &self,
         store: &mut S,
@@ -181,8 +181,8 @@ impl ProcessObject {
         notices: &mut Notices,
     ) -> Reply
         requires known { id < length (S.roster store.old).records }
-        requires stamps { HasStampsFor most_owned (S.roster store.old) }
-        requires room { length notices.old ≤ most_processes }
+        requires stamps { HasStampsFor MOST_OWNED (S.roster store.old) }
+        requires room { length notices.old ≤ MOST_PROCESSES }
         ensures { Leaves (services.stop_process (S.roster store.old) self.now id caller.now)
             (S.roster store.new) self.now result notices.old notices.new }
     {
@@ -236,7 +236,7 @@ impl ProcessObject {
     ) -> Reply
         requires known { id < length (S.roster store.old).records }
         requires stamps { HasStamps (S.roster store.old) }
-        requires room { length notices.old < most_notices }
+        requires room { length notices.old < MOST_NOTICES }
         ensures { Leaves (services.resume_process (S.roster store.old) self.now id caller.now)
             (S.roster store.new) self.now result notices.old notices.new }
     {
@@ -264,8 +264,8 @@ impl Object for ProcessObject {
     type KindService = ProcessService;
 
     ghost use Rattle.std.specs.Prelude.{◌<◌, length};
-    ghost use Rattle.apex_types.specs.services.ProcessServices.{process_kind};
-    ghost use Rattle.apex_types.specs.table.Table.{ProcessConfig};
+    ghost use Rattle.apex_machine.specs.services.ProcessServices.{process_kind};
+    ghost use Rattle.apex_machine.specs.table.Table.{ProcessConfig};
 
     ghost Config = { ProcessConfig };
 

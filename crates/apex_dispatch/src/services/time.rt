@@ -1,21 +1,22 @@
 //! The services of time management.
 
 ghost use Rattle.std.specs.Prelude.{◌≡◌, ◌≤◌, []};
-ghost use Rattle.apex_types.specs.services.Callers.{IsReady, IsReadyCaller};
-ghost use Rattle.apex_types.specs.processes.Dues.{HasTime};
-ghost use Rattle.apex_types.specs.values.Limits.{latest};
-ghost use Rattle.apex_types.specs.processes.Periods.{HasNoFutureRelease, is_beyond};
-ghost use Rattle.apex_types.specs.services.Rows.{Leaves};
-ghost use Rattle.apex_types.specs.processes.Stamps.{HasStamps};
-ghost use Rattle.apex_types.specs.services.TimeServices as services;
-ghost use Rattle.apex_types.specs.declared.TimeCall.TheVariants.{PeriodicWait, Replenish};
+ghost use Rattle.apex_machine.specs.services.Callers.{IsReady, IsReadyCaller};
+ghost use Rattle.apex_machine.specs.processes.Dues.{HasTime};
+ghost use Rattle.apex_types.specs.Limits.{latest};
+ghost use Rattle.apex_machine.specs.processes.Periods.{HasNoFutureRelease, is_beyond};
+ghost use Rattle.apex_machine.specs.services.Rows.{Leaves};
+ghost use Rattle.apex_machine.specs.processes.Stamps.{HasStamps};
+ghost use Rattle.apex_machine.specs.services.TimeServices as services;
+ghost use Rattle.apex_types.specs.declared.calls.TimeCall.TheVariants.{PeriodicWait, Replenish};
 
 use crate::objects::Objects;
+use apex_machine::Wait;
 use apex_store::{Store, due_after, is_owner, next_release};
-use apex_types::{Caller, ProcessId, Reply, ReturnCode, Span, TimeCall, Timeout, Wait};
+use apex_types::{Caller, ProcessId, Reply, ReturnCode, Span, TimeCall, Timeout};
 
 /// TIMED_WAIT by a process: INVALID_PARAM if the time is infinite.
-#[tactic(auto, using(apex_types::proofs::Starts::eligible_may_wait))]
+#[tactic(auto, using(apex_machine::proofs::Starts::eligible_may_wait))]
 fn timed_wait<S: Store>(
     store: &mut S,
     objects: &Objects,
@@ -67,7 +68,7 @@ fn serve_timed_wait<S: Store>(
 
 /// PERIODIC_WAIT by a process: it waits for its next release, and has no deadline until then.
 /// INVALID_MODE if it is aperiodic or owns a mutex.
-#[tactic(auto, using(apex_types::proofs::Starts::eligible_may_wait))]
+#[tactic(auto, using(apex_machine::proofs::Starts::eligible_may_wait))]
 fn periodic_wait<S: Store>(store: &mut S, objects: &Objects, process: ProcessId) -> Reply
     requires ready { IsReady (S.roster store.old) process }
     requires stamps { HasStamps (S.roster store.old) }

@@ -5,7 +5,7 @@ ghost use Rattle.std.specs.List.{All};
 ghost use Rattle.apex_history.specs.declared.puts.TheConstants.{ARGUMENT_ROOM, ARGUMENTS_ROOM, CALL_ROOM, LINES_ROOM};
 ghost use Rattle.apex_calls.specs.declared.catalogue.TheConstants.{MOST_SHAPES};
 ghost use Rattle.arrayvec.specs.ArrayVec.{array_vec_len};
-ghost use Rattle.apex_types.specs.table.Table.{IsKnown, IsKnownName, literal_text};
+ghost use Rattle.apex_machine.specs.table.Table.{IsKnown, IsKnownName, literal_text};
 ghost use Rattle.apex_calls.specs.CallText.{IsKnownWord, call_text, count_of, mode_text, name_of, named_text, word_text};
 
 use super::message::put_message;
@@ -25,7 +25,7 @@ fn mode_name(mode: &RequestedMode) -> &'static str
     }
 }
 
-// The name that the table gives the thing of this kind at this place.
+/// The name that the table gives the thing of this kind at this place.
 fn name<'t>(table: &'t Table, kind: &Kind, place: u8) -> &'t Name
     requires { place < count_of table.now kind.now }
     ensures { result.now ≡ name_of table.now kind.now place }
@@ -40,7 +40,7 @@ fn name<'t>(table: &'t Table, kind: &Kind, place: u8) -> &'t Name
     }
 }
 
-// The name that a step gives.
+/// The name that a step gives.
 fn put_named(line: &mut Lines, table: &Table, kind: &Kind, named: &Named<u8>)
     requires known { IsKnownName (count_of table.now kind.now) named.now }
     requires room { array_vec_len line.old + ARGUMENT_ROOM ≤ LINES_ROOM }
@@ -54,7 +54,7 @@ fn put_named(line: &mut Lines, table: &Table, kind: &Kind, named: &Named<u8>)
     }
 }
 
-// The word of an argument.
+/// The word of an argument.
 fn put_word(line: &mut Lines, table: &Table, arguments: &Arguments, shape: &Shape)
     requires known { IsKnownWord table.now arguments.now shape.now }
     requires room { array_vec_len line.old + ARGUMENT_ROOM ≤ LINES_ROOM }
@@ -72,7 +72,7 @@ fn put_word(line: &mut Lines, table: &Table, arguments: &Arguments, shape: &Shap
     }
 }
 
-// The word of an argument, with a space before it.
+/// The word of an argument, with a space before it.
 #[tactic(auto, using(std::proofs::Common::append_assoc))]
 fn put_argument(line: &mut Lines, table: &Table, arguments: &Arguments, shape: &Shape)
     requires known { IsKnownWord table.now arguments.now shape.now }
@@ -85,7 +85,7 @@ fn put_argument(line: &mut Lines, table: &Table, arguments: &Arguments, shape: &
     put_word(line, table, arguments, shape);
 }
 
-// The words of some arguments.
+/// The words of some arguments.
 fn put_words(line: &mut Lines, table: &Table, arguments: &Arguments, shapes: &[Shape])
     requires known { All (IsKnownWord table.now arguments.now) shapes.now }
     requires few_shapes { length shapes.now ≤ MOST_SHAPES }
@@ -101,7 +101,7 @@ fn put_words(line: &mut Lines, table: &Table, arguments: &Arguments, shapes: &[S
     }
 }
 
-// A call, as the table writes its step.
+/// A call, as the table writes its step.
 #[inline(never)]
 fn put_call(line: &mut Lines, table: &Table, call: &Call)
     requires known { IsKnown table.now call.now }
@@ -111,8 +111,8 @@ fn put_call(line: &mut Lines, table: &Table, call: &Call)
 {
     let (service, arguments) = parts_of(call);
     let row = row_of(service);
-    put(line, row.1);
-    put_words(line, table, &arguments, row.2);
+    put(line, row.word);
+    put_words(line, table, &arguments, row.shapes);
 }
 
 /// The call of this caller, as the table writes its step. If the call is that of a step of the

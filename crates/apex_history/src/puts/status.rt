@@ -2,16 +2,15 @@
 ghost use Rattle.std.specs.Prelude.{◌≡◌, ◌+◌, ◌*◌, ◌<◌, ◌≤◌, ◌++◌, length, flat_map, codes, decimal};
 ghost use Rattle.apex_history.specs.declared.puts.TheConstants.{ARGUMENT_ROOM, LINES_ROOM};
 ghost use Rattle.arrayvec.specs.ArrayVec.{array_vec_len};
-ghost use Rattle.apex_types.specs.values.Limits.{most_messages, most_owned, most_processes};
-ghost use Rattle.apex_types.specs.text.Texts.{id_text, message_text};
-ghost use Rattle.apex_types.specs.text.Status as status;
+ghost use Rattle.apex_types.specs.declared.limits.TheConstants.{MOST_MESSAGES, MOST_OWNED, MOST_PROCESSES};
+ghost use Rattle.apex_machine.specs.text.Texts.{id_text, message_text};
+ghost use Rattle.apex_machine.specs.text.Status as status;
 
 use super::message::put_message;
 use super::{Lines, put, put_id, put_long_number, put_name};
+use apex_machine::{Holding, Holdings, Record, Suspender, Wait};
 use apex_table::Table;
-use apex_types::{
-    Holding, Holdings, Id, Message, Mode, Name, ProcessId, Record, State, Suspender, Wait,
-};
+use apex_types::{Id, Message, Mode, Name, ProcessId, State};
 
 pub(super) fn mode_word(mode: &Mode) -> &'static str
     ensures value { result.now ≡ status.operating_mode_text mode.now }
@@ -89,23 +88,23 @@ fn put_mutex_behind(line: &mut Lines, holding: &Holding)
 }
 
 fn put_mutexes_behind(line: &mut Lines, held: &[Holding])
-    requires few_owned { length held.now ≤ most_owned }
-    requires room { array_vec_len line.old + 11 * most_owned ≤ LINES_ROOM }
+    requires few_owned { length held.now ≤ MOST_OWNED }
+    requires room { array_vec_len line.old + 11 * MOST_OWNED ≤ LINES_ROOM }
     ensures text { line.new.items ≡ line.old.items
         ++ flat_map (status.behind_text status.held_text) held.now }
-    ensures short { array_vec_len line.new ≤ array_vec_len line.old + 11 * most_owned }
+    ensures short { array_vec_len line.new ≤ array_vec_len line.old + 11 * MOST_OWNED }
 {
     for holding in held {
         put_mutex_behind(line, holding);
     }
 }
 
-// The mutexes that a process owns, in order of their numbers, with `,` between.
+/// The mutexes that a process owns, in order of their numbers, with `,` between.
 #[tactic(auto, using(std::proofs::Common::append_assoc))]
 pub(super) fn put_owned(line: &mut Lines, owned: &Holdings)
-    requires { array_vec_len line.old + 10 + 11 * most_owned ≤ LINES_ROOM }
+    requires { array_vec_len line.old + 10 + 11 * MOST_OWNED ≤ LINES_ROOM }
     ensures text { line.new.items ≡ line.old.items ++ status.owns_text owned.now }
-    ensures short { array_vec_len line.new ≤ array_vec_len line.old + 10 + 11 * most_owned }
+    ensures short { array_vec_len line.new ≤ array_vec_len line.old + 10 + 11 * MOST_OWNED }
 {
     let held = owned.in_order();
     match held.as_slice().split_first() {
@@ -129,7 +128,7 @@ pub(super) fn put_optional_message(line: &mut Lines, table: &Table, message: &Op
     }
 }
 
-// A kind, with the colon behind it, and an id.
+/// A kind, with the colon behind it, and an id.
 #[tactic(auto, using(std::proofs::Common::append_assoc))]
 fn put_kind_and_id<K: Copy>(line: &mut Lines, kind: &str, id: Id<K>)
     requires { array_vec_len line.old + length kind.now + 10 ≤ LINES_ROOM }
@@ -181,24 +180,24 @@ fn put_id_behind(line: &mut Lines, id: ProcessId)
 }
 
 fn put_ids_behind(line: &mut Lines, ids: &[ProcessId])
-    requires few_ids { length ids.now ≤ most_processes }
-    requires room { array_vec_len line.old + 11 * most_processes ≤ LINES_ROOM }
+    requires few_ids { length ids.now ≤ MOST_PROCESSES }
+    requires room { array_vec_len line.old + 11 * MOST_PROCESSES ≤ LINES_ROOM }
     ensures text { line.new.items ≡ line.old.items
         ++ flat_map (status.behind_text id_text) ids.now }
-    ensures short { array_vec_len line.new ≤ array_vec_len line.old + 11 * most_processes }
+    ensures short { array_vec_len line.new ≤ array_vec_len line.old + 11 * MOST_PROCESSES }
 {
     for id in ids {
         put_id_behind(line, *id);
     }
 }
 
-// The ids of waiters, with `,` between.
+/// The ids of waiters, with `,` between.
 #[tactic(auto, using(std::proofs::Common::append_assoc))]
 fn put_ids(line: &mut Lines, ids: &[ProcessId])
-    requires few_ids { length ids.now ≤ most_processes }
-    requires room { array_vec_len line.old + 10 + 11 * most_processes ≤ LINES_ROOM }
+    requires few_ids { length ids.now ≤ MOST_PROCESSES }
+    requires room { array_vec_len line.old + 10 + 11 * MOST_PROCESSES ≤ LINES_ROOM }
     ensures text { line.new.items ≡ line.old.items ++ status.ids_text ids.now }
-    ensures short { array_vec_len line.new ≤ array_vec_len line.old + 10 + 11 * most_processes }
+    ensures short { array_vec_len line.new ≤ array_vec_len line.old + 10 + 11 * MOST_PROCESSES }
 {
     match ids.split_first() {
         Some((first, others)) => {
@@ -221,27 +220,27 @@ fn put_message_behind(line: &mut Lines, table: &Table, message: &Message)
 }
 
 fn put_messages_behind(line: &mut Lines, table: &Table, messages: &[Message])
-    requires few_messages { length messages.now ≤ most_messages }
-    requires room { array_vec_len line.old + (ARGUMENT_ROOM + 1) * most_messages ≤ LINES_ROOM }
+    requires few_messages { length messages.now ≤ MOST_MESSAGES }
+    requires room { array_vec_len line.old + (ARGUMENT_ROOM + 1) * MOST_MESSAGES ≤ LINES_ROOM }
     ensures text { line.new.items ≡ line.old.items
         ++ flat_map (status.behind_text (message_text table.now)) messages.now }
     ensures short { array_vec_len line.new
-        ≤ array_vec_len line.old + (ARGUMENT_ROOM + 1) * most_messages }
+        ≤ array_vec_len line.old + (ARGUMENT_ROOM + 1) * MOST_MESSAGES }
 {
     for message in messages {
         put_message_behind(line, table, message);
     }
 }
 
-// A buffer's messages, with `,` between.
+/// A buffer's messages, with `,` between.
 #[tactic(auto, using(std::proofs::Common::append_assoc))]
 pub(super) fn put_messages(line: &mut Lines, table: &Table, messages: &[Message])
-    requires few_messages { length messages.now ≤ most_messages }
-    requires room { array_vec_len line.old + ARGUMENT_ROOM + (ARGUMENT_ROOM + 1) * most_messages
+    requires few_messages { length messages.now ≤ MOST_MESSAGES }
+    requires room { array_vec_len line.old + ARGUMENT_ROOM + (ARGUMENT_ROOM + 1) * MOST_MESSAGES
         ≤ LINES_ROOM }
     ensures text { line.new.items ≡ line.old.items ++ status.messages_text table.now messages.now }
     ensures short { array_vec_len line.new
-        ≤ array_vec_len line.old + ARGUMENT_ROOM + (ARGUMENT_ROOM + 1) * most_messages }
+        ≤ array_vec_len line.old + ARGUMENT_ROOM + (ARGUMENT_ROOM + 1) * MOST_MESSAGES }
 {
     match messages.split_first() {
         Some((first, others)) => {
@@ -252,7 +251,7 @@ pub(super) fn put_messages(line: &mut Lines, table: &Table, messages: &[Message]
     }
 }
 
-// The head of the line of a process or an object.
+/// The head of the line of a process or an object.
 #[tactic(auto, using(std::proofs::Common::append_assoc))]
 pub(super) fn put_head<K: Copy>(line: &mut Lines, kind: &str, id: Id<K>, name: &Name)
     requires word { length kind.now ≤ 10 }
@@ -267,13 +266,13 @@ pub(super) fn put_head<K: Copy>(line: &mut Lines, kind: &str, id: Id<K>, name: &
     put_name(line, name);
 }
 
-// The end of the line of an object.
+/// The end of the line of an object.
 #[tactic(auto, using(std::proofs::Common::append_assoc))]
 pub(super) fn put_waiting(line: &mut Lines, waiting: &[ProcessId])
-    requires few_waiters { length waiting.now ≤ most_processes }
-    requires room { array_vec_len line.old + 20 + 11 * most_processes ≤ LINES_ROOM }
+    requires few_waiters { length waiting.now ≤ MOST_PROCESSES }
+    requires room { array_vec_len line.old + 20 + 11 * MOST_PROCESSES ≤ LINES_ROOM }
     ensures text { line.new.items ≡ line.old.items ++ status.waiting_text waiting.now }
-    ensures short { array_vec_len line.new ≤ array_vec_len line.old + 20 + 11 * most_processes }
+    ensures short { array_vec_len line.new ≤ array_vec_len line.old + 20 + 11 * MOST_PROCESSES }
 {
     put(line, " waiting ");
     put_ids(line, waiting);

@@ -2,8 +2,8 @@
 ghost use Rattle.std.specs.Prelude.{◌≡◌, ◌+◌, ◌<◌, ◌≤◌, ◌++◌, length, codes};
 ghost use Rattle.apex_history.specs.declared.puts.TheConstants.{LINES_ROOM};
 ghost use Rattle.arrayvec.specs.ArrayVec.{array_vec_len};
-ghost use Rattle.apex_types.specs.values.Limits.{most_line, most_messages, most_processes};
-ghost use Rattle.apex_types.specs.text.Status as status;
+ghost use Rattle.apex_types.specs.declared.limits.TheConstants.{MOST_LINE, MOST_MESSAGES, MOST_PROCESSES};
+ghost use Rattle.apex_machine.specs.text.Status as status;
 ghost use Rattle.apex_history.specs.StatusRows.{row_text, IsPrintableRow};
 
 use super::status::{
@@ -12,10 +12,10 @@ use super::status::{
 };
 use super::{Lines, put, put_long_number, put_number};
 use crate::status_rows::StatusRow;
+use apex_machine::Record;
 use apex_table::Table;
 use apex_types::{
-    BlackboardId, BufferId, CoreId, EventId, Message, Mode, MutexId, ProcessId, Record,
-    SemaphoreId, State,
+    BlackboardId, BufferId, CoreId, EventId, Message, Mode, MutexId, ProcessId, SemaphoreId, State,
 };
 
 #[tactic(auto, using(std::proofs::Common::append_assoc))]
@@ -60,7 +60,7 @@ fn put_core(line: &mut Lines, core: CoreId, running: &Option<ProcessId>)
     put(line, "\n");
 }
 
-// A process's state, priorities, core and wait.
+/// A process's state, priorities, core and wait.
 #[tactic(auto, using(std::proofs::Common::append_assoc))]
 fn put_state(line: &mut Lines, state: &State, fields: &Record)
     requires { array_vec_len line.old + 100 ≤ LINES_ROOM }
@@ -79,7 +79,7 @@ fn put_state(line: &mut Lines, state: &State, fields: &Record)
     put_optional_wait(line, &fields.wait);
 }
 
-// The instants at which a process's wait ends, and its deadline passes.
+/// The instants at which a process's wait ends, and its deadline passes.
 #[tactic(auto, using(std::proofs::Common::append_assoc))]
 fn put_instants(line: &mut Lines, fields: &Record)
     requires { array_vec_len line.old + 60 ≤ LINES_ROOM }
@@ -92,7 +92,7 @@ fn put_instants(line: &mut Lines, fields: &Record)
     put_instant(line, &fields.deadline);
 }
 
-// Who suspended a process, its mutexes, and the last message that it received.
+/// Who suspended a process, its mutexes, and the last message that it received.
 #[tactic(auto, using(std::proofs::Common::append_assoc))]
 fn put_held(line: &mut Lines, table: &Table, fields: &Record)
     requires { array_vec_len line.old + 224 ≤ LINES_ROOM }
@@ -110,7 +110,7 @@ fn put_held(line: &mut Lines, table: &Table, fields: &Record)
 #[tactic(auto, using(std::proofs::Common::append_assoc))]
 fn put_process(line: &mut Lines, table: &Table, process: ProcessId, state: &State, fields: &Record)
     requires known { process < length table.now.processes }
-    requires room { array_vec_len line.old + most_line ≤ LINES_ROOM }
+    requires room { array_vec_len line.old + MOST_LINE ≤ LINES_ROOM }
     ensures text { line.new.items ≡ line.old.items
         ++ status.process_line table.now process state.now fields.now }
 {
@@ -130,8 +130,8 @@ fn put_semaphore(
     waiting: &[ProcessId],
 )
     requires known { semaphore < length table.now.semaphores }
-    requires few_waiters { length waiting.now ≤ most_processes }
-    requires room { array_vec_len line.old + most_line ≤ LINES_ROOM }
+    requires few_waiters { length waiting.now ≤ MOST_PROCESSES }
+    requires room { array_vec_len line.old + MOST_LINE ≤ LINES_ROOM }
     ensures text { line.new.items ≡ line.old.items
         ++ status.semaphore_line table.now semaphore value waiting.now }
 {
@@ -155,9 +155,9 @@ fn put_buffer(
     waiting: &[ProcessId],
 )
     requires known { buffer < length table.now.buffers }
-    requires held { length messages.now ≤ most_messages }
-    requires few_waiters { length waiting.now ≤ most_processes }
-    requires room { array_vec_len line.old + most_line ≤ LINES_ROOM }
+    requires held { length messages.now ≤ MOST_MESSAGES }
+    requires few_waiters { length waiting.now ≤ MOST_PROCESSES }
+    requires room { array_vec_len line.old + MOST_LINE ≤ LINES_ROOM }
     ensures text { line.new.items ≡ line.old.items
         ++ status.buffer_line table.now buffer messages.now waiting.now }
 {
@@ -176,8 +176,8 @@ fn put_blackboard(
     waiting: &[ProcessId],
 )
     requires known { blackboard < length table.now.blackboards }
-    requires few_waiters { length waiting.now ≤ most_processes }
-    requires room { array_vec_len line.old + most_line ≤ LINES_ROOM }
+    requires few_waiters { length waiting.now ≤ MOST_PROCESSES }
+    requires room { array_vec_len line.old + MOST_LINE ≤ LINES_ROOM }
     ensures text { line.new.items ≡ line.old.items
         ++ status.blackboard_line table.now blackboard message.now waiting.now }
 {
@@ -201,8 +201,8 @@ fn put_event_flag(
     waiting: &[ProcessId],
 )
     requires known { event_flag < length table.now.event_flags }
-    requires few_waiters { length waiting.now ≤ most_processes }
-    requires room { array_vec_len line.old + most_line ≤ LINES_ROOM }
+    requires few_waiters { length waiting.now ≤ MOST_PROCESSES }
+    requires room { array_vec_len line.old + MOST_LINE ≤ LINES_ROOM }
     ensures text { line.new.items ≡ line.old.items
         ++ status.event_flag_line table.now event_flag up waiting.now }
 {
@@ -217,7 +217,7 @@ fn put_event_flag(
     put_waiting(line, waiting);
 }
 
-// The owner of a mutex, and its depth.
+/// The owner of a mutex, and its depth.
 #[tactic(auto, using(std::proofs::Common::append_assoc))]
 fn put_owner(line: &mut Lines, owner: &Option<ProcessId>, depth: u8)
     requires { array_vec_len line.old + 40 ≤ LINES_ROOM }
@@ -240,8 +240,8 @@ fn put_mutex(
     waiting: &[ProcessId],
 )
     requires known { mutex < length table.now.mutexes }
-    requires few_waiters { length waiting.now ≤ most_processes }
-    requires room { array_vec_len line.old + most_line ≤ LINES_ROOM }
+    requires few_waiters { length waiting.now ≤ MOST_PROCESSES }
+    requires room { array_vec_len line.old + MOST_LINE ≤ LINES_ROOM }
     ensures text { line.new.items ≡ line.old.items
         ++ status.mutex_line table.now mutex owner.now depth waiting.now }
 {
@@ -253,7 +253,7 @@ fn put_mutex(
 /// Puts the line of the row behind the others.
 pub(crate) fn put_row(line: &mut Lines, table: &Table, row: &StatusRow<'_>)
     requires printable { IsPrintableRow table.now row.now }
-    requires room { array_vec_len line.old + most_line ≤ LINES_ROOM }
+    requires room { array_vec_len line.old + MOST_LINE ≤ LINES_ROOM }
     ensures { line.new.items ≡ line.old.items ++ row_text table.now row.now }
 {
     match row {

@@ -10,7 +10,8 @@ use crate::steps::words::{
     entry_of, message_bytes, number, place_of_name, requested_mode, timeout,
 };
 use apex_calls::{Arguments, Shape};
-use apex_types::{Literal, Message, Name, Named, Origin, RequestedMode, Timeout};
+use apex_machine::Literal;
+use apex_types::{Message, Name, Named, Origin, RequestedMode, Timeout};
 use std::marker::Model;
 
 /// The values of the words so far: the arguments of the call, and the literal of the step.

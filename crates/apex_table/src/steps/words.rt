@@ -1,6 +1,6 @@
 //! The words of a step, and the forms that they may have.
 ghost use Rattle.std.specs.Prelude.{ℕ, ◌≡◌, ◌<◌, ◌≤◌, ◌/◌, ◌%◌, ◌==◌, ◌&&◌, true, map, length, IfOk};
-ghost use Rattle.apex_types.specs.values.Limits.{most_message, most_processes};
+ghost use Rattle.apex_types.specs.declared.limits.TheConstants.{MOST_MESSAGE, MOST_PROCESSES};
 ghost use Rattle.std.specs.Char.{digit_value};
 ghost use Rattle.std.specs.List.{list_all, position_from};
 ghost use Rattle.std.specs.Str.{bytes_eq};
@@ -8,8 +8,9 @@ ghost use Rattle.apex_table.specs.Words.{words, is_number, is_timeout, is_digit,
 
 use crate::fault::{Place, TableFault};
 use crate::named::place_of;
+use apex_machine::Literal;
 use apex_types::{
-    Literal, MOST_LITERAL, MOST_MESSAGE, MOST_SPAN, Name, RequestedMode, Timeout, number_at_most,
+    MOST_LITERAL, MOST_MESSAGE, MOST_SPAN, Name, RequestedMode, Timeout, number_at_most,
 };
 use arrayvec::ArrayVec;
 use std::alloc::{AllocError, Global};
@@ -108,7 +109,7 @@ fn value_of(digit: u8) -> u8
 /// The bytes that pairs of digits write. Takes no memory.
 fn decoded(digits: &[u8]) -> Literal
     requires digits { list_all is_digit digits.now ≡ true }
-    requires few_digits { length digits.now / 2 ≤ most_message }
+    requires few_digits { length digits.now / 2 ≤ MOST_MESSAGE }
     ensures { result ≡ pairs_value digits.now }
 {
     let mut bytes = ArrayVec::<u8, MOST_LITERAL>::new();
@@ -140,7 +141,7 @@ pub fn message_bytes(at: Place, word: &str) -> Result<Literal, TableFault>
 
 /// The place, counted from 0, of the entry of this name, if one has it.
 pub fn place_of_name(names: &[Name], name: &[u8]) -> Option<u8>
-    requires { length names.now ≤ most_processes }
+    requires { length names.now ≤ MOST_PROCESSES }
     ensures { result ≡ position_from (bytes_eq name.now) 0 names.now }
 {
     match place_of(names, name) {
@@ -151,7 +152,7 @@ pub fn place_of_name(names: &[Name], name: &[u8]) -> Option<u8>
 
 /// The place, counted from 0, of the entry of this name.
 pub fn entry_of(at: Place, names: &[Name], name: &str) -> Result<u8, TableFault>
-    requires { length names.now ≤ most_processes }
+    requires { length names.now ≤ MOST_PROCESSES }
     ensures { result ≡ entry_of at names.now name.now }
 {
     match place_of_name(names, name.as_bytes()) {

@@ -11,7 +11,7 @@ returns-in_default-latest-clause-answers c =
     let room : length old.machine.history < old.table.limit = search rules in
     let none : last_or None c.accept.new.self.machine.history ≡ None = search rules in
     absurd (latest_some old.table old.machine c.args.event c.accept.new.self.machine.history room
-    (ap (λ (k : KernelState). k.machine.history) c.accept.ensures.done) none)
+    (ap (λ (k : KernelState _). k.machine.history) c.accept.ensures.done) none)
 
 pub line-requires : goal.line-requires
 line-requires c =
@@ -20,7 +20,7 @@ line-requires c =
     let room : length old.machine.history < old.table.limit = search rules in
     let is : last_or None new.machine.history ≡ Some c.in-Some.entry = search rules in
     rw c.table.ensures (latest_holds old.table old.machine c.args.event new.machine.history room
-    (ap (λ (k : KernelState). k.machine.history) c.accept.ensures.done) (IsPrintable new.table) c.in-Some.entry is c.holds.ensures.printable)
+    (ap (λ (k : KernelState _). k.machine.history) c.accept.ensures.done) (IsPrintable new.table) c.in-Some.entry is c.holds.ensures.printable)
 
 pub returns-then-eq-clause-answers : goal.returns-then-eq-clause-answers
 returns-then-eq-clause-answers c =
@@ -30,7 +30,7 @@ returns-then-eq-clause-answers c =
     let is : last_or None new.machine.history ≡ Some c.in-Some.entry = search rules in (
       c.in-Some.entry,
       latest_adds old.table old.machine c.args.event new.machine.history room
-          (ap (λ (k : KernelState). k.machine.history) c.accept.ensures.done) c.in-Some.entry is,
+          (ap (λ (k : KernelState _). k.machine.history) c.accept.ensures.done) c.in-Some.entry is,
       search rules,
     )
 
@@ -40,5 +40,5 @@ returns-else-eq-clause-answers c =
     let new = c.accept.new.self in
     let room : length old.machine.history < old.table.limit = search rules in
     let is : last_or None new.machine.history ≡ Some c.in-Some.entry = search rules in
-    let ran = ap (λ (k : KernelState). k.machine.history) c.accept.ensures.done in
+    let ran = ap (λ (k : KernelState _). k.machine.history) c.accept.ensures.done in
     (c.in-Some.entry, latest_adds old.table old.machine c.args.event new.machine.history room ran c.in-Some.entry is, search rules)

@@ -2,8 +2,8 @@ use Rattle.std.proofs.Common.{◌≡◌, ◌∙◌, ℕ, ◌+◌, List, ◌++◌
 use Rattle.std.specs.Io.KnownBytes.{Consumes, prepend_known}
 use Rattle.std.proofs.lemmas.Result.{err_from_is_err_and}
 use Rattle.apex_history.specs.Counted.{inner_of}
-use Rattle.apex_types.specs.table.Table.{Table}
-use Rattle.apex_types.specs.machine.Machine.{events_of}
+use Rattle.apex_machine.specs.table.Table.{Table}
+use Rattle.apex_machine.specs.Machine.{events_of}
 use Rattle.apex_check.specs.Terms.{Entry}
 use Rattle.apex_check.specs.Ahead.{Comes, IsFirstLine}
 use Rattle.apex_check.specs.declared.pending.Next.TheVariants.{Part, Rest, End}

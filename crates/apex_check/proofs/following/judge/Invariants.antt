@@ -3,7 +3,7 @@
 use Rattle.std.proofs.Common.{◌≡◌, ◌-◌, ℕ, List, length}
 use Rattle.std.specs.Io.KnownBytes.{Consumes, prepend_known}
 use Rattle.apex_history.specs.Counted.{inner_of, failures_of}
-use Rattle.apex_types.specs.machine.Machine.{events_of}
+use Rattle.apex_machine.specs.Machine.{events_of}
 use Rattle.apex_check.specs.Histories.{AreLines}
 use Rattle.apex_check.proofs.following.judge.Given as goal
 

@@ -1,5 +1,5 @@
 use Rattle.std.proofs.Common.{◌≡◌, ◌+◌, ◌≤◌, ap, length, take, Ok, Err, rules}
-use Rattle.apex_types.specs.machine.Machine.{accept, replay}
+use Rattle.apex_machine.specs.Machine.{accept, replay}
 use Rattle.apex_dispatch.specs.Kernel.{KernelState}
 use Rattle.apex_check.specs.Histories.{event_named}
 use Rattle.apex_check.proofs.MoreLines.{faulty, judged, unended_is}
@@ -23,9 +23,9 @@ returns-clause-judged c = λ before found are one e.
     let cores : c.cores.result ≡ old.table.cores = search rules in
     let read : event_named c.cores.result (take c.args.end bytes) ≡ Ok c.in-Ok.event = search rules in
     let named : event_named old.table.cores found ≡ Ok c.in-Ok.event = rw (cores, unended_is bytes found c.args.end c.requires e) at read in
-    let table : new.table ≡ old.table = ap (λ (k : KernelState). k.table) c.compare-answer.ensures.new in
+    let table : new.table ≡ old.table = ap (λ (k : KernelState _). k.table) c.compare-answer.ensures.new in
     let ran : new.machine.history ≡ (accept old.table old.machine c.in-Ok.event).history =
-    ap (λ (k : KernelState). k.machine.history) c.compare-answer.ensures.new in
+    ap (λ (k : KernelState _). k.machine.history) c.compare-answer.ensures.new in
     let replays : replay old.table new.machine.history ≡ new.machine = rw table at c.holds-2.ensures.replays in
     let fits : length new.machine.history ≤ old.table.limit = rw table at c.holds-2.ensures.within in
     judged old.table old.machine new.machine before found line c.in-Ok.event are one named e ran c.holds.ensures.replays replays fits

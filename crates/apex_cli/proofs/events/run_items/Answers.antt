@@ -1,8 +1,8 @@
 use Rattle.std.proofs.Common.{◌≡◌, ◌∙◌, ◌+◌, ◌<◌, ◌≤◌, ap, sym, refl, arith, length, length-append, drop}
 use Rattle.std.proofs.lemmas.List.{length-replicate}
-use Rattle.apex_types.specs.machine.Machine.{Machine, run}
+use Rattle.apex_machine.specs.Machine.{Machine, run}
 use Rattle.apex_dispatch.specs.Kernel.{KernelState, kernel_in}
-use Rattle.apex_dispatch.proofs.Runs.{run-fills, run-full}
+use Rattle.apex_laws.proofs.Runs.{run-fills, run-full}
 use Rattle.apex_cli.specs.Schedule.{events_of_item, events_of_items}
 use Rattle.apex_cli.proofs.ItemRuns.{below_at, items_next, items_split, length-run, no_room_for}
 use Rattle.apex_cli.proofs.events.run_items.Goals as goal
@@ -31,7 +31,8 @@ returns-in_err-run_repeated-clause-done c =
     let item = c.item-item.result in
     let invariant = c.loop-item.invariant in
     let made = run table machine (events_of_item item) in
-    let done : c.run_repeated.new.kernel ≡ kernel_in table made =
+    let store = c.run_repeated.new.kernel.store in
+    let done : c.run_repeated.new.kernel ≡ kernel_in table made store =
     rw (← invariant.table, c.repeated-event.ensures.events) c.in_err-run_repeated.ensures.done in
     let many : length (events_of_item item) ≡ c.repeated-event.result.1 =
     ap length c.repeated-event.ensures.events ∙ length-replicate _ _ in
@@ -39,7 +40,7 @@ returns-in_err-run_repeated-clause-done c =
     rw many (no_room_for _ _ (λ fits. c.in_err-run_repeated.ensures.accepted.1 (rw invariant.table fits))) in
     let full = run-fills table machine (events_of_item item) (omega (arith, more)) in
     let rest = items_next table machine made items i item _ (omega arith) c.item-item.is refl invariant.rest in
-    done ∙ ap (λ (m : Machine). kernel_in table m)
+    done ∙ ap (λ (m : Machine). kernel_in table m store)
     (sym (run-full table made (events_of_items (drop (i + 1) items)) full) ∙ rest)
 
 pub loop-item-preserved : goal.loop-item-preserved
@@ -51,9 +52,10 @@ loop-item-preserved c =
     let item = c.item-item.result in
     let invariant = c.loop-item.invariant in
     let made = run table machine (events_of_item item) in
-    let done : c.run_repeated.new.kernel ≡ kernel_in table made =
+    let store = c.run_repeated.new.kernel.store in
+    let done : c.run_repeated.new.kernel ≡ kernel_in table made store =
     rw (← invariant.table, c.repeated-event.ensures.events) c.in_ok-run_repeated.ensures.done in
-    let new : c.run_repeated.new.kernel.machine ≡ made = ap (λ (k : KernelState). k.machine) done in
+    let new : c.run_repeated.new.kernel.machine ≡ made = ap (λ (k : KernelState _). k.machine) done in
     let many : length (events_of_item item) ≡ c.repeated-event.result.1 =
     ap length c.repeated-event.ensures.events ∙ length-replicate _ _ in
     let fits : length machine.history + length (events_of_item item) ≤ table.limit =
@@ -63,8 +65,8 @@ loop-item-preserved c =
     let split : length (events_of_items (drop i items)) ≡ length (events_of_item item) + length later =
     ap length (items_split items i item (omega arith) c.item-item.is) ∙ length-append (events_of_item item) later in
     record {
-      table = ap (λ (k : KernelState). k.table) done;
-      values = done ∙ ap (λ (m : Machine). kernel_in table m) (sym new);
+      table = ap (λ (k : KernelState _). k.table) done;
+      values = done ∙ ap (λ (m : Machine). kernel_in table m store) (sym new);
       rest = items_next table machine _ items i item _ (omega arith) c.item-item.is new invariant.rest;
       count = rw (new, longer) (omega (arith, invariant.count, split));
       within = rw (new, longer) (omega (arith, fits));

@@ -3,7 +3,7 @@ use Rattle.std.specs.Prelude.{vec_len}
 use Rattle.std.proofs.lemmas.Result.{err_from_is_err_and}
 use Rattle.std.specs.Vec.Iter.{into_iter_items, into_iter_len}
 use Rattle.apex_receipts.specs.Receipts.{Spoken}
-use Rattle.apex_cores.proofs.Asking.{agreed_more, given_up}
+use Rattle.apex_cores.proofs.Asking.{agreed_more, lacks_this}
 use Rattle.apex_cores.proofs.Rows.{core_same, each_first, each_more, fresh}
 use Rattle.apex_cores.proofs.pool.start_cores.Goals as goal
 
@@ -42,12 +42,12 @@ loop-seat-preserved g c =
       room = omega (arith, pushed.capacity, old.room);
     }
 
-pub returns-in_err-start_core-clause-asked : goal.returns-in_err-start_core-clause-asked
-returns-in_err-start_core-clause-asked g c =
+pub returns-in_err-start_core-clause-lacks : goal.returns-in_err-start_core-clause-lacks
+returns-in_err-start_core-clause-lacks g c =
     let p = err_from_is_err_and c.from_residual.result c.from_residual.ensures.1 in
     let old = c.loop-seat.invariant in
     let steps = c.in-Some.ensures.steps in
     let first = each_first _ _ _ _ _ steps.0 old.left in
     let started = vec_len c.loop-seat.started in
-    rw (p.1, p.2) (given_up g.S.Starts.asks (vec_len c.args.seats) started started c.in_err-start_core.field-0.0 c.args.starts.now c.loop-seat.starts
+    rw p.1 (lacks_this g.S.Starts.asks (vec_len c.args.seats) started started c.args.starts.now c.loop-seat.starts
     c.start_core.new.starts old.asked (c.in_err-start_core.ensures.asked started (ap (λ (s : Spoken). s.who) first.0)) refl (omega (arith, steps.1, old.count)))

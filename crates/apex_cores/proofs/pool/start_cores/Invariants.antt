@@ -9,7 +9,7 @@ use Rattle.apex_cores.proofs.pool.start_cores.Given as goal
 
 abbrev pub invariant-loop-seat : goal.invariant-loop-seat
 invariant-loop-seat g l = record {
-  started : EachFrom (λ core handle. IsTaskOf l.turns core handle.promise) 0 l.started.items;
+  started : EachFrom (λ core handle. IsTaskOf l.run.plan.turns core handle.promise) 0 l.started.items;
   left : EachFrom (λ core seat. seat ≡ unspoken (Core core)) (vec_len l.started) (into_iter_items l.seat-iterator);
   count : vec_len l.started + into_iter_len l.seat-iterator ≡ vec_len l.fn.seats;
   asked : HaveAgreed g.S.Starts.asks 0 (vec_len l.started) l.fn.starts l.starts;

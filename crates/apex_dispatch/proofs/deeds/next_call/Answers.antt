@@ -1,5 +1,5 @@
 use Rattle.std.proofs.Common.{sym}
-use Rattle.apex_types.proofs.Starts.{chosen_ready}
+use Rattle.apex_machine.proofs.Starts.{chosen_ready}
 use Rattle.apex_dispatch.proofs.deeds.next_call.Goals as goal
 
 pub take_step-call-requires-clause-ready : goal.take_step-call-requires-clause-ready

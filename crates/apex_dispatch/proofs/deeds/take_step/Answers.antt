@@ -1,6 +1,6 @@
 use Rattle.std.proofs.Common.{◌≡◌, ◌∙◌, Some, sym}
-use Rattle.apex_types.specs.table.Table.{call_in, process_config}
-use Rattle.apex_dispatch.proofs.Known.{known_script_step}
+use Rattle.apex_machine.specs.table.Table.{call_in, process_config}
+use Rattle.apex_laws.proofs.Known.{known_script_step}
 use Rattle.apex_dispatch.proofs.Steps.{asks_step}
 use Rattle.apex_dispatch.proofs.deeds.take_step.Goals as goal
 

@@ -1,12 +1,6 @@
-use Rattle.std.proofs.Common.{subst}
-use Rattle.apex_types.specs.machine.Machine.{events_of}
-use Rattle.apex_dispatch.proofs.InVain.{none_in_vain}
-use Rattle.apex_dispatch.proofs.Sound.{IsSound, sound_run}
+use Rattle.apex_laws.proofs.Kept.{never_in_vain}
 use Rattle.apex_dispatch.proofs.laws.nobody_waits_in_vain.Goals as goal
 
 pub returns : goal.returns
 returns g c =
-    let kernel = c.args.kernel.now in
-    let held = c.holds.ensures in
-    let sound = subst (IsSound kernel.table) held.replays (sound_run kernel.table held.lawful (events_of kernel.machine.history)) in
-    none_in_vain kernel.table kernel.machine sound.orderly.kept
+    never_in_vain c.args.kernel.now.table c.args.kernel.now.machine c.holds.ensures.lawful c.holds.ensures.replays

@@ -1,5 +1,5 @@
-use Rattle.apex_types.specs.services.BufferServices.{buffer_kind}
-use Rattle.apex_dispatch.proofs.Filled.{IsFilled}
+use Rattle.apex_machine.specs.services.BufferServices.{buffer_kind}
+use Rattle.apex_laws.proofs.Filled.{IsFilled}
 use Rattle.apex_dispatch.proofs.objects.buffers_before.Given as goal
 
 abbrev pub invariant-loop-place : goal.invariant-loop-place

@@ -1,6 +1,6 @@
-use Rattle.apex_types.specs.services.EventFlagServices.{event_flag_kind}
-use Rattle.apex_types.specs.table.Table.{no_event_flag}
-use Rattle.apex_dispatch.proofs.Filled.{filled_next}
+use Rattle.apex_machine.specs.services.EventFlagServices.{event_flag_kind}
+use Rattle.apex_machine.specs.table.Table.{no_event_flag}
+use Rattle.apex_laws.proofs.Filled.{filled_next}
 use Rattle.apex_dispatch.proofs.objects.event_flags_before.Goals as goal
 
 pub loop-place-preserved : goal.loop-place-preserved

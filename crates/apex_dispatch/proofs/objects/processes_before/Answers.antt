@@ -1,6 +1,6 @@
-use Rattle.apex_types.specs.services.ProcessServices.{process_kind}
-use Rattle.apex_types.specs.table.Table.{no_process}
-use Rattle.apex_dispatch.proofs.Filled.{filled_next}
+use Rattle.apex_machine.specs.services.ProcessServices.{process_kind}
+use Rattle.apex_machine.specs.table.Table.{no_process}
+use Rattle.apex_laws.proofs.Filled.{filled_next}
 use Rattle.apex_dispatch.proofs.objects.processes_before.Goals as goal
 
 pub loop-place-preserved : goal.loop-place-preserved

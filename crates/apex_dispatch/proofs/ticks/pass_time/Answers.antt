@@ -1,6 +1,6 @@
 use Rattle.std.proofs.Common.{arith}
-use Rattle.apex_types.proofs.Dues.{goal_before_deadlines, goal_before_dues, goal_forward}
-use Rattle.apex_types.proofs.Reaches.{in_time_later}
+use Rattle.apex_machine.proofs.Dues.{goal_before_deadlines, goal_before_dues, goal_forward}
+use Rattle.apex_machine.proofs.Reaches.{in_time_later}
 use Rattle.apex_dispatch.proofs.ticks.pass_time.Goals as goal
 
 pub advance_to-requires-clause-forward : goal.advance_to-requires-clause-forward

@@ -1,14 +1,14 @@
 use Rattle.std.proofs.Common.{◌≡◌, ◌<◌, ◌+◌, ◌++◌, length, Some, None, refl, ◌∙◌, arith, sym, ap, length-append}
 use Rattle.std.proofs.lemmas.Int.{ints}
 use Rattle.std.proofs.lemmas.List.Sums.{count_by-le-length}
-use Rattle.apex_types.specs.processes.Dues.{first_missed, is_missed_at}
-use Rattle.apex_types.specs.services.InTurn.{Changed, Makes}
-use Rattle.apex_types.specs.processes.Stamps.{set_deadline, without_deadline_of}
-use Rattle.apex_types.specs.machine.Ticks.{serve_missed}
-use Rattle.apex_types.proofs.Dues.{first_missed_within}
-use Rattle.apex_types.proofs.Reaches.{reaches_more, reaches_none, reaches_then}
-use Rattle.apex_dispatch.proofs.MissesServed.{may_wake, missed_is, missed_tells, reach_serve_missed}
-use Rattle.apex_types.proofs.Loops.{made_by_none, made_by_all, leads_on}
+use Rattle.apex_machine.specs.processes.Dues.{first_missed, is_missed_at}
+use Rattle.apex_machine.specs.services.InTurn.{Changed, Makes}
+use Rattle.apex_machine.specs.processes.Stamps.{set_deadline, without_deadline_of}
+use Rattle.apex_machine.specs.Ticks.{serve_missed}
+use Rattle.apex_machine.proofs.Dues.{first_missed_within}
+use Rattle.apex_machine.proofs.Reaches.{reaches_more, reaches_none, reaches_then}
+use Rattle.apex_laws.proofs.MissesServed.{may_wake, missed_is, missed_tells, reach_serve_missed}
+use Rattle.apex_machine.proofs.Loops.{made_by_none, made_by_all, leads_on}
 use Rattle.apex_dispatch.proofs.ticks.serve_deadlines.Goals as goal
 
 pub loop-round-init : goal.loop-round-init

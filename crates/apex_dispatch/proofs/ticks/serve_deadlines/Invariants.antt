@@ -1,12 +1,12 @@
 use Rattle.std.proofs.Common.{◌≡◌, ◌≤◌, length, ◌+◌, ◌*◌}
-use Rattle.apex_types.specs.processes.Dues.{first_missed, is_missed_at}
-use Rattle.apex_types.specs.services.InTurn.{behind}
-use Rattle.apex_types.specs.processes.Stamps.{HasOrderlyStarts}
-use Rattle.apex_types.specs.machine.Ticks.{serve_deadlines, serve_missed}
-use Rattle.apex_types.proofs.Reaches.{Reaches}
-use Rattle.apex_types.proofs.Loops.{LeadsTo}
-use Rattle.apex_dispatch.proofs.Counts.{count}
-use Rattle.apex_dispatch.proofs.MissesServed.{may_wake}
+use Rattle.apex_machine.specs.processes.Dues.{first_missed, is_missed_at}
+use Rattle.apex_machine.specs.services.InTurn.{behind}
+use Rattle.apex_machine.specs.processes.Stamps.{HasOrderlyStarts}
+use Rattle.apex_machine.specs.Ticks.{serve_deadlines, serve_missed}
+use Rattle.apex_machine.proofs.Reaches.{Reaches}
+use Rattle.apex_machine.proofs.Loops.{LeadsTo}
+use Rattle.apex_laws.proofs.Counts.{count}
+use Rattle.apex_laws.proofs.MissesServed.{may_wake}
 use Rattle.apex_dispatch.proofs.ticks.serve_deadlines.Given as goal
 
 -- the notices so far, and those of the processes that may still be woken or miss a deadline, are at most

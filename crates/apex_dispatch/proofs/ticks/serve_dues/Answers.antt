@@ -1,12 +1,12 @@
 use Rattle.std.proofs.Common.{◌≡◌, ◌<◌, length, Some, ◌∙◌, arith, sym, ap, length-append}
-use Rattle.apex_types.specs.processes.Dues.{first_due}
-use Rattle.apex_types.specs.services.InTurn.{Makes}
-use Rattle.apex_types.specs.processes.Stamps.{without_due, without_due_of}
-use Rattle.apex_types.specs.machine.Ticks.{serve_due}
-use Rattle.apex_types.proofs.Dues.{first_due_within}
-use Rattle.apex_types.proofs.Reaches.{reaches_then}
-use Rattle.apex_dispatch.proofs.DuesServed.{IsServable, reach_serve_due, one_due, one_less, served_is}
-use Rattle.apex_types.proofs.Loops.{made_by_none, made_by_all, leads_on}
+use Rattle.apex_machine.specs.processes.Dues.{first_due}
+use Rattle.apex_machine.specs.services.InTurn.{Makes}
+use Rattle.apex_machine.specs.processes.Stamps.{without_due, without_due_of}
+use Rattle.apex_machine.specs.Ticks.{serve_due}
+use Rattle.apex_machine.proofs.Dues.{first_due_within}
+use Rattle.apex_machine.proofs.Reaches.{reaches_then}
+use Rattle.apex_laws.proofs.DuesServed.{IsServable, reach_serve_due, one_due, one_less, served_is}
+use Rattle.apex_machine.proofs.Loops.{made_by_none, made_by_all, leads_on}
 use Rattle.apex_dispatch.proofs.ticks.serve_dues.Goals as goal
 
 pub returns-in-None : goal.returns-in-None

@@ -1,13 +1,13 @@
 use Rattle.std.proofs.Common.{◌≡◌, ◌≤◌, length, ◌+◌}
-use Rattle.apex_dispatch.specs.Premises.{due_count}
-use Rattle.apex_types.specs.processes.Dues.{first_due}
-use Rattle.apex_types.specs.values.Limits.{most_notices}
-use Rattle.apex_types.specs.processes.Periods.{AreInTime}
-use Rattle.apex_types.specs.services.InTurn.{behind}
-use Rattle.apex_types.specs.processes.Stamps.{HasOrderlyStarts}
-use Rattle.apex_types.specs.machine.Ticks.{serve_due, serve_dues}
-use Rattle.apex_types.proofs.Reaches.{Reaches}
-use Rattle.apex_types.proofs.Loops.{LeadsTo}
+use Rattle.apex_laws.specs.Premises.{due_count}
+use Rattle.apex_machine.specs.processes.Dues.{first_due}
+use Rattle.apex_types.specs.declared.limits.TheConstants.{MOST_NOTICES}
+use Rattle.apex_machine.specs.processes.Periods.{AreInTime}
+use Rattle.apex_machine.specs.services.InTurn.{behind}
+use Rattle.apex_machine.specs.processes.Stamps.{HasOrderlyStarts}
+use Rattle.apex_machine.specs.Ticks.{serve_due, serve_dues}
+use Rattle.apex_machine.proofs.Reaches.{Reaches}
+use Rattle.apex_machine.proofs.Loops.{LeadsTo}
 use Rattle.apex_dispatch.proofs.ticks.serve_dues.Given as goal
 
 abbrev pub invariant-loop-round : goal.invariant-loop-round
@@ -18,5 +18,5 @@ invariant-loop-round g l = record {
   starts : HasOrderlyStarts (g.S.Store.roster l.store);
   end : l.round-end ≡ length (g.S.Store.roster l.fn.store).records;
   times : AreInTime (g.S.Store.roster l.store);
-  room : length l.notices + due_count (g.S.Store.roster l.store) ≤ most_notices;
+  room : length l.notices + due_count (g.S.Store.roster l.store) ≤ MOST_NOTICES;
 }

@@ -1,6 +1,6 @@
 use Rattle.std.proofs.Common.{arith}
 use Rattle.std.proofs.lemmas.Int.{ints}
-use Rattle.apex_dispatch.proofs.MissesServed.{reach_serve_deadlines, room_left}
+use Rattle.apex_laws.proofs.MissesServed.{reach_serve_deadlines, room_left}
 use Rattle.apex_dispatch.proofs.ticks.serve_instant.Goals as goal
 
 pub serve_dues-requires : goal.serve_dues-requires

@@ -1,8 +1,8 @@
 -- Each one that is found goes behind those before it.
 use Rattle.std.proofs.Common.{◌≡◌, ◌-◌, ◌∷◌, [], ◌++◌, length, suc, refl, sym, ap, ◌∙◌, arith, length-append, append_assoc, append-nil}
-use Rattle.apex_types.specs.text.Listing.{waiters, waiters_from}
-use Rattle.apex_types.specs.processes.Waiters.{next_waiter}
-use Rattle.apex_dispatch.proofs.Queued.{first_stands, next_stands, none_behind}
+use Rattle.apex_machine.specs.text.Listing.{waiters, waiters_from}
+use Rattle.apex_machine.specs.processes.Waiters.{next_waiter}
+use Rattle.apex_laws.proofs.Queued.{first_stands, next_stands, none_behind}
 use Rattle.apex_dispatch.proofs.waiters.waiters_in.Goals as goal
 
 pub loop-round-init : goal.loop-round-init

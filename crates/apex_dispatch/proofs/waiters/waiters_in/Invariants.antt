@@ -1,8 +1,8 @@
 -- Behind those found so far come the next one and all behind it.
 use Rattle.std.proofs.Common.{◌≡◌, ℕ, ◌+◌, ◌<◌, ◌≤◌, ◌++◌, length}
 use Rattle.std.specs.Prelude.{IfSome}
-use Rattle.apex_types.specs.text.Listing.{waiters, waiters_from}
-use Rattle.apex_dispatch.proofs.Queued.{StandsIn}
+use Rattle.apex_machine.specs.text.Listing.{waiters, waiters_from}
+use Rattle.apex_laws.proofs.Queued.{StandsIn}
 use Rattle.apex_dispatch.proofs.waiters.waiters_in.Given as goal
 
 abbrev pub invariant-loop-round : goal.invariant-loop-round

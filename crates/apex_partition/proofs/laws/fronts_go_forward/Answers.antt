@@ -2,4 +2,7 @@ use Rattle.apex_partition.proofs.Forward.{fronts_forward}
 use Rattle.apex_partition.proofs.laws.fronts_go_forward.Goals as goal
 
 pub returns : goal.returns
-returns c = fronts_forward c.args.table.now c.histories_replay.ensures c.time_goes_forward.ensures
+returns c =
+    let table = c.args.table.now in
+    let lawful = c.lawful.ensures in
+    fronts_forward table (c.histories_replay.ensures table lawful) (c.time_goes_forward.ensures table lawful)

@@ -1,7 +1,7 @@
 -- The next content is the kernel's, and the next text follows those before it.
 use Rattle.std.proofs.Common.{◌≡◌, ◌∙◌, ◌<◌, ◌++◌, ap, arith, length, refl}
 use Rattle.std.specs.Prelude.{codes, slice_get}
-use Rattle.apex_types.specs.text.Texts.{buffer_name}
+use Rattle.apex_machine.specs.text.Texts.{buffer_name}
 use Rattle.apex_pictures.specs.Counters.{content_at}
 use Rattle.apex_pictures.specs.Counts.{content_of, with_contents}
 use Rattle.apex_pictures.specs.Places.{of_places}

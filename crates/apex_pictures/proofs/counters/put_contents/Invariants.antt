@@ -1,6 +1,6 @@
 -- The contents and the changes so far.
 use Rattle.std.proofs.Common.{◌≡◌, ◌++◌, drop, length}
-use Rattle.apex_types.specs.text.Listing.{texts_of}
+use Rattle.apex_machine.specs.text.Listing.{texts_of}
 use Rattle.apex_pictures.specs.Counters.{content_at}
 use Rattle.apex_pictures.specs.Counts.{content_of, with_contents}
 use Rattle.apex_pictures.specs.Places.{of_places}

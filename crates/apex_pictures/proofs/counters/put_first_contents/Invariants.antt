@@ -1,6 +1,6 @@
 -- The first counts so far follow the text.
 use Rattle.std.proofs.Common.{◌≡◌, ◌++◌, length}
-use Rattle.apex_types.specs.text.Listing.{texts_of}
+use Rattle.apex_machine.specs.text.Listing.{texts_of}
 use Rattle.apex_pictures.specs.Counters.{content_at}
 use Rattle.apex_pictures.specs.Counts.{no_counts}
 use Rattle.apex_pictures.proofs.counters.put_first_contents.Given as goal

@@ -1,7 +1,7 @@
 -- The next value is the kernel's, and the next text follows those before it.
 use Rattle.std.proofs.Common.{◌≡◌, ◌∙◌, ◌<◌, ◌++◌, ap, arith, length, refl}
 use Rattle.std.specs.Prelude.{codes, slice_get}
-use Rattle.apex_types.specs.text.Texts.{semaphore_name}
+use Rattle.apex_machine.specs.text.Texts.{semaphore_name}
 use Rattle.apex_pictures.specs.Counters.{value_at}
 use Rattle.apex_pictures.specs.Counts.{value_of, with_values}
 use Rattle.apex_pictures.specs.Places.{of_places}

@@ -1,6 +1,6 @@
 -- The values and the changes so far.
 use Rattle.std.proofs.Common.{◌≡◌, ◌++◌, drop, length}
-use Rattle.apex_types.specs.text.Listing.{texts_of}
+use Rattle.apex_machine.specs.text.Listing.{texts_of}
 use Rattle.apex_pictures.specs.Counters.{value_at}
 use Rattle.apex_pictures.specs.Counts.{value_of, with_values}
 use Rattle.apex_pictures.specs.Places.{of_places}

@@ -1,7 +1,7 @@
 -- A buffer that is not there has no message.
 use Rattle.std.proofs.Common.{◌∙◌, ℕ, Option, ap, length, refl}
 use Rattle.std.specs.Prelude.{unwrap_or}
-use Rattle.apex_types.specs.services.BufferServices.{BufferObject, buffer_kind}
+use Rattle.apex_machine.specs.services.BufferServices.{BufferObject, buffer_kind}
 use Rattle.apex_pictures.proofs.Places.{counted_at}
 use Rattle.apex_pictures.proofs.counts.content_of.Goals as goal
 

@@ -1,7 +1,7 @@
 -- A semaphore that is not there has the value 0.
 use Rattle.std.proofs.Common.{◌∙◌, ℕ, Option, ap, refl}
 use Rattle.std.specs.Prelude.{unwrap_or}
-use Rattle.apex_types.specs.services.SemaphoreServices.{SemaphoreObject, semaphore_kind}
+use Rattle.apex_machine.specs.services.SemaphoreServices.{SemaphoreObject, semaphore_kind}
 use Rattle.apex_pictures.proofs.Places.{counted_at}
 use Rattle.apex_pictures.proofs.counts.value_of.Goals as goal
 

@@ -1,7 +1,7 @@
 -- The writer has a prefix of the picture at any time.
 use Rattle.std.proofs.Common.{◌≡◌, ◌∙◌, ◌+◌, ap, arith, drop, refl, subst, sym}
 use Rattle.std.proofs.lemmas.Result.{on_err_weaker, on_ok_weaker}
-use Rattle.apex_types.specs.machine.Machine.{Machine, accept, opening, run}
+use Rattle.apex_machine.specs.Machine.{Machine, accept, opening, run}
 use Rattle.apex_dispatch.specs.Kernel.{KernelState, kernel_in}
 use Rattle.apex_history.proofs.Outcomes.{OnErr-always}
 use Rattle.apex_history.proofs.Passing.{beginning_after, passes_all}
@@ -51,9 +51,10 @@ returns-in_err-make_room-clause-err g c =
     let table = c.args.kernel.now.table in
     let machine = c.loop-event.kernel.machine in
     let next = c.draw_event.new.kernel.machine in
-    let done : c.draw_event.new.kernel ≡ kernel_in table (accept table machine c.event-item.result) =
+    let store = c.draw_event.new.kernel.store in
+    let done : c.draw_event.new.kernel ≡ kernel_in table (accept table machine c.event-item.result) store =
     rw (← at.table) c.in-Ok-draw_event.ensures.done in
-    let new : next ≡ accept table machine c.event-item.result = ap (λ (k : KernelState). k.machine) done in
+    let new : next ≡ accept table machine c.event-item.result = ap (λ (k : KernelState _). k.machine) done in
     let grows : Grows style table machine next c.loop-event.text.items c.draw_event.new.text.items =
     rw (← at.table) c.in-Ok-draw_event.ensures.drawn in
     let passes = drawn_more _ _ style table machine next c.loop-event.text.items c.draw_event.new.text.items at.text grows in
@@ -71,15 +72,16 @@ loop-event-preserved g c =
     let table = c.args.kernel.now.table in
     let machine = c.loop-event.kernel.machine in
     let next = c.draw_event.new.kernel.machine in
-    let done : c.draw_event.new.kernel ≡ kernel_in table (accept table machine c.event-item.result) =
+    let store = c.draw_event.new.kernel.store in
+    let done : c.draw_event.new.kernel ≡ kernel_in table (accept table machine c.event-item.result) store =
     rw (← at.table) c.in-Ok-draw_event.ensures.done in
-    let new : next ≡ accept table machine c.event-item.result = ap (λ (k : KernelState). k.machine) done in
+    let new : next ≡ accept table machine c.event-item.result = ap (λ (k : KernelState _). k.machine) done in
     let grows : Grows style table machine next c.loop-event.text.items c.draw_event.new.text.items =
     rw (← at.table) c.in-Ok-draw_event.ensures.drawn in
     let passes = drawn_more _ _ style table machine next c.loop-event.text.items c.draw_event.new.text.items at.text grows in
     record {
-      table = ap (λ (k : KernelState). k.table) done;
-      values = done ∙ ap (λ (m : Machine). kernel_in table m) (sym new);
+      table = ap (λ (k : KernelState _). k.table) done;
+      values = done ∙ ap (λ (m : Machine). kernel_in table m store) (sym new);
       rest = run_next table machine next c.args.events.now c.loop-event.event-index c.event-item.result _
           (omega arith) c.event-item.is new at.rest;
       pictured = subst (IsPictured table) (sym new) (pictured_accept table machine at.pictured c.event-item.result);

@@ -1,6 +1,6 @@
 -- The events so far were made; the writer has a prefix of the picture so far, and the text the rest.
 use Rattle.std.proofs.Common.{◌≡◌, drop}
-use Rattle.apex_types.specs.machine.Machine.{opening, run}
+use Rattle.apex_machine.specs.Machine.{opening, run}
 use Rattle.apex_dispatch.specs.Kernel.{kernel_in}
 use Rattle.apex_history.specs.Counted.{inner_of, failures_of}
 use Rattle.apex_history.specs.Page.{Passes}
@@ -13,7 +13,7 @@ use Rattle.apex_pictures.proofs.drawing.draw.Given as goal
 abbrev pub invariant-loop-event : goal.invariant-loop-event
 invariant-loop-event g l = record {
   table : l.kernel.table ≡ l.fn.kernel.table;
-  values : l.kernel ≡ kernel_in l.fn.kernel.table l.kernel.machine;
+  values : l.kernel ≡ kernel_in l.fn.kernel.table l.kernel.machine l.kernel.store;
   rest : run l.fn.kernel.table l.kernel.machine (drop l.event-index l.events)
       ≡ run l.fn.kernel.table (opening l.fn.kernel.table) l.events;
   pictured : IsPictured l.fn.kernel.table l.kernel.machine;

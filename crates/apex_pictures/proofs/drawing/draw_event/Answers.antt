@@ -3,10 +3,10 @@ use Rattle.std.proofs.Common.{◌≡◌, ◌∙◌, ap, length, refl, sym, None,
 use Rattle.std.proofs.lemmas.Result.{on_ok_weaker}
 use Rattle.std.specs.List.{last_or}
 use Rattle.apex_calls.specs.Lines.{IsPrintable}
-use Rattle.apex_types.specs.machine.Machine.{accept, objects_after}
-use Rattle.apex_types.specs.processes.Running.{chosen}
-use Rattle.apex_types.specs.table.Table.{Table}
-use Rattle.apex_types.specs.values.Limits.{most_cores}
+use Rattle.apex_machine.specs.Machine.{accept, objects_after}
+use Rattle.apex_machine.specs.processes.Running.{chosen}
+use Rattle.apex_machine.specs.table.Table.{Table}
+use Rattle.apex_types.specs.declared.limits.TheConstants.{MOST_CORES}
 use Rattle.apex_dispatch.specs.Kernel.{KernelState}
 use Rattle.apex_pictures.specs.Moments.{cell_of, moment_in}
 use Rattle.apex_pictures.proofs.Counted.{counted_all}
@@ -20,7 +20,7 @@ pub returns-in_default-latest-clause-shown : goal.returns-in_default-latest-clau
 returns-in_default-latest-clause-shown g c =
     let table = c.args.kernel.now.table in
     let machine = c.args.kernel.now.machine in
-    let new : c.accept.new.self.machine ≡ accept table machine c.args.event = ap (λ (k : KernelState). k.machine) c.in-Ok.ensures.done in
+    let new : c.accept.new.self.machine ≡ accept table machine c.args.event = ap (λ (k : KernelState _). k.machine) c.in-Ok.ensures.done in
     let none : last_or None c.accept.new.self.machine.history ≡ None =
     ap (last_or None) (sym c.entries.ensures) ∙ sym c.latest.ensures ∙ c.in_default-latest.is in
     absurd (latest_some table machine (pictured_machine table machine c.holds.ensures.replays) c.args.event _
@@ -30,7 +30,7 @@ pub returns-in_default-latest-clause-drawn : goal.returns-in_default-latest-clau
 returns-in_default-latest-clause-drawn g c =
     let table = c.args.kernel.now.table in
     let machine = c.args.kernel.now.machine in
-    let new : c.accept.new.self.machine ≡ accept table machine c.args.event = ap (λ (k : KernelState). k.machine) c.in-Ok.ensures.done in
+    let new : c.accept.new.self.machine ≡ accept table machine c.args.event = ap (λ (k : KernelState _). k.machine) c.in-Ok.ensures.done in
     let none : last_or None c.accept.new.self.machine.history ≡ None =
     ap (last_or None) (sym c.entries.ensures) ∙ sym c.latest.ensures ∙ c.in_default-latest.is in
     absurd (latest_some table machine (pictured_machine table machine c.holds.ensures.replays) c.args.event _
@@ -40,7 +40,7 @@ pub put_column-requires-clause-many : goal.put_column-requires-clause-many
 put_column-requires-clause-many g c =
     let table = c.args.kernel.now.table in
     let machine = c.args.kernel.now.machine in
-    let kept : c.accept.new.self.table ≡ table = ap (λ (k : KernelState). k.table) c.in-Ok.ensures.done in
+    let kept : c.accept.new.self.table ≡ table = ap (λ (k : KernelState _). k.table) c.in-Ok.ensures.done in
     let many : length machine.roster.records ≡ length c.accept.new.self.machine.roster.records =
     c.holds.ensures.records ∙ ap (λ (t : Table). length t.processes) (sym kept) ∙ sym c.holds-2.ensures.records in
     follow_many c.args.style.now c.args.shown.now (moment_in table machine) _ c.requires.shown
@@ -50,15 +50,15 @@ pub put_column-requires-clause-fits : goal.put_column-requires-clause-fits
 put_column-requires-clause-fits g c =
     let table = c.args.kernel.now.table in
     let machine = c.args.kernel.now.machine in
-    let kept : c.accept.new.self.table ≡ table = ap (λ (k : KernelState). k.table) c.in-Ok.ensures.done in
+    let kept : c.accept.new.self.table ≡ table = ap (λ (k : KernelState _). k.table) c.in-Ok.ensures.done in
     rw kept (follow_fits c.args.style.now c.args.shown.now (moment_in table machine) table c.requires.shown
-    (counted_all table (objects_after table machine.history)) (length_of (chosen machine.roster) most_cores))
+    (counted_all table (objects_after table machine.history)) (length_of (chosen machine.roster) MOST_CORES))
 
 pub put_column-requires-clause-printable : goal.put_column-requires-clause-printable
 put_column-requires-clause-printable g c =
     let table = c.args.kernel.now.table in
     let machine = c.args.kernel.now.machine in
-    let new : c.accept.new.self.machine ≡ accept table machine c.args.event = ap (λ (k : KernelState). k.machine) c.in-Ok.ensures.done in
+    let new : c.accept.new.self.machine ≡ accept table machine c.args.event = ap (λ (k : KernelState _). k.machine) c.in-Ok.ensures.done in
     let latest : last_or None c.accept.new.self.machine.history ≡ Some c.in-Some.entry =
     ap (last_or None) (sym c.entries.ensures) ∙ sym c.latest.ensures ∙ c.in-Some.is in
     latest_holds table machine _ c.args.event (IsPrintable c.accept.new.self.table) c.in-Some.entry
@@ -68,10 +68,10 @@ pub returns-clause-drawn : goal.returns-clause-drawn
 returns-clause-drawn g c =
     let table = c.args.kernel.now.table in
     let machine = c.args.kernel.now.machine in
-    let new : c.accept.new.self.machine ≡ accept table machine c.args.event = ap (λ (k : KernelState). k.machine) c.in-Ok.ensures.done in
+    let new : c.accept.new.self.machine ≡ accept table machine c.args.event = ap (λ (k : KernelState _). k.machine) c.in-Ok.ensures.done in
     let latest : last_or None c.accept.new.self.machine.history ≡ Some c.in-Some.entry =
     ap (last_or None) (sym c.entries.ensures) ∙ sym c.latest.ensures ∙ c.in-Some.is in
-    let kept : c.accept.new.self.table ≡ table = ap (λ (k : KernelState). k.table) c.in-Ok.ensures.done in
+    let kept : c.accept.new.self.table ≡ table = ap (λ (k : KernelState _). k.table) c.in-Ok.ensures.done in
     let more = column_more table machine (pictured_machine table machine c.holds.ensures.replays) c.args.event _ c.in-Some.entry
     (c.in-Ok.ensures.accepted.0 refl) new latest in
     on_ok_weaker c.put_column.result
@@ -80,5 +80,5 @@ returns-clause-drawn g c =
 
 pub returns-clause-shown : goal.returns-clause-shown
 returns-clause-shown g c =
-    let kept : c.accept.new.self.table ≡ c.args.kernel.now.table = ap (λ (k : KernelState). k.table) c.in-Ok.ensures.done in
+    let kept : c.accept.new.self.table ≡ c.args.kernel.now.table = ap (λ (k : KernelState _). k.table) c.in-Ok.ensures.done in
     rw kept at c.put_column.ensures.shown

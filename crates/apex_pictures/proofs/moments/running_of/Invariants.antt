@@ -1,7 +1,7 @@
 -- The chosen processes of the cores so far.
 use Rattle.std.proofs.Common.{◌≡◌}
 use Rattle.arrayvec.specs.ArrayVec.{array_vec_len}
-use Rattle.apex_types.specs.processes.Running.{chosen}
+use Rattle.apex_machine.specs.processes.Running.{chosen}
 use Rattle.apex_pictures.specs.Places.{of_places}
 use Rattle.apex_pictures.proofs.moments.running_of.Given as goal
 

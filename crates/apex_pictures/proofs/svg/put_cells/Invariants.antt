@@ -1,6 +1,6 @@
 -- The cells so far follow the text.
 use Rattle.std.proofs.Common.{◌≡◌, ◌++◌, length}
-use Rattle.apex_types.specs.text.Listing.{texts_of}
+use Rattle.apex_machine.specs.text.Listing.{texts_of}
 use Rattle.apex_pictures.specs.Svg.{cell_at}
 use Rattle.apex_pictures.proofs.svg.put_cells.Given as goal
 

@@ -1,6 +1,6 @@
 -- The headings so far follow the text.
 use Rattle.std.proofs.Common.{◌≡◌, ◌++◌}
-use Rattle.apex_types.specs.text.Listing.{texts_of}
+use Rattle.apex_machine.specs.text.Listing.{texts_of}
 use Rattle.apex_pictures.specs.Svg.{heading_text}
 use Rattle.apex_pictures.proofs.svg.put_headings.Given as goal
 

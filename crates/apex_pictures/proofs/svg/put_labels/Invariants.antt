@@ -1,6 +1,6 @@
 -- The labels so far follow the text.
 use Rattle.std.proofs.Common.{◌≡◌, ◌++◌, length}
-use Rattle.apex_types.specs.text.Listing.{texts_of}
+use Rattle.apex_machine.specs.text.Listing.{texts_of}
 use Rattle.apex_pictures.specs.Svg.{label_text}
 use Rattle.apex_pictures.proofs.svg.put_labels.Given as goal
 

@@ -1,8 +1,8 @@
 -- The counts are those that the history gives, and the texts are one behind the other.
 use Rattle.std.proofs.Common.{◌≡◌, ◌∙◌, ap, subst, sym}
 use Rattle.std.proofs.lemmas.Result.{on_ok_weaker}
-use Rattle.apex_types.specs.machine.Machine.{Objects}
-use Rattle.apex_types.specs.processes.Roster.{Roster}
+use Rattle.apex_machine.specs.Deeds.{Objects}
+use Rattle.apex_machine.specs.processes.Roster.{Roster}
 use Rattle.apex_dispatch.specs.Kernel.{KernelState}
 use Rattle.apex_pictures.specs.Counts.{Counts, HasCounts, counts_after, counts_of}
 use Rattle.apex_pictures.specs.Moments.{Shown, moment_in, moment_of}
@@ -19,7 +19,7 @@ pub returns-clause-text : goal.returns-clause-text
 returns-clause-text g c =
     let kernel = c.args.kernel.now in
     let counts : counts_of kernel.table kernel.objects ≡ counts_after kernel.table kernel.machine.history =
-    ap (λ (o : Objects). counts_of kernel.table o) (ap (λ (k : KernelState). k.objects) c.holds.ensures.values) in
+    ap (λ (o : Objects). counts_of kernel.table o) (ap (λ (k : KernelState _). k.objects) c.holds.ensures.values) in
     let kept = ap (λ (s : Shown). s.counts) c.in_ok-put_changes.ensures.tracks in
     let time : c.from-time.result ≡ c.args.entry.now.number = c.from-time.ensures ∙ ap (λ (e : Entry). e.number) c.entry.view_is in
     let now : c.entry.inside.now ≡ c.args.entry.now.now = ap (λ (e : Entry). e.now) c.entry.view_is in
@@ -27,7 +27,7 @@ returns-clause-text g c =
     on_ok_weaker c.put_misses.result
     (λ put. column_whole kernel.table c.args.shown.now c.args.entry.now (bare (moment_in kernel.table kernel.machine))
     c.args.text.now.items c.put_changes.new.text.items c.put_counts.new.text.items c.put_misses.new.text.items
-    (rw (c.table-table.ensures, time, c.new-stamp.ensures.ticks, now, c.store.ensures) at c.in_ok-put_changes.ensures.text)
+    (rw (c.table-table.ensures, time, c.new-stamp.ensures.ticks, now, c.store.ensures.roster) at c.in_ok-put_changes.ensures.text)
     (rw (time, kept, counts) at c.in_ok-put_counts.ensures.text)
     (rw (time, now, notices) at put))
     c.put_misses.ensures
@@ -36,10 +36,10 @@ pub returns-clause-shown : goal.returns-clause-shown
 returns-clause-shown g c =
     let kernel = c.args.kernel.now in
     let counts : counts_of kernel.table kernel.objects ≡ counts_after kernel.table kernel.machine.history =
-    ap (λ (o : Objects). counts_of kernel.table o) (ap (λ (k : KernelState). k.objects) c.holds.ensures.values) in
+    ap (λ (o : Objects). counts_of kernel.table o) (ap (λ (k : KernelState _). k.objects) c.holds.ensures.values) in
     let shown =
     c.in_ok-put_counts.ensures.counts
     ∙ ap (λ (s : Shown). record s { counts = counts_of kernel.table kernel.objects }) c.in_ok-put_changes.ensures.tracks
     ∙ ap (λ (counted : Counts). bare (moment_of (g.S.Store.roster c.store.result.now) counted)) counts
-    ∙ ap (λ (r : Roster). bare (moment_of r (counts_after kernel.table kernel.machine.history))) c.store.ensures in
+    ∙ ap (λ (r : Roster). bare (moment_of r (counts_after kernel.table kernel.machine.history))) c.store.ensures.roster in
     on_ok_weaker c.put_misses.result (λ put. shown) c.put_misses.ensures

@@ -1,6 +1,6 @@
 -- The changes so far follow the text.
 use Rattle.std.proofs.Common.{◌≡◌, ◌++◌}
-use Rattle.apex_types.specs.text.Listing.{texts_of}
+use Rattle.apex_machine.specs.text.Listing.{texts_of}
 use Rattle.apex_pictures.specs.Moments.{with_running}
 use Rattle.apex_pictures.specs.Stamps.{IsStamp}
 use Rattle.apex_pictures.specs.Trace as trace

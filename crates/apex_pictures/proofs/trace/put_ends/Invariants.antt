@@ -1,7 +1,7 @@
 -- The ends so far follow the text.
 use Rattle.std.proofs.Common.{◌≡◌, ◌++◌, length}
 use Rattle.std.specs.Prelude.{map}
-use Rattle.apex_types.specs.text.Listing.{texts_of}
+use Rattle.apex_machine.specs.text.Listing.{texts_of}
 use Rattle.apex_pictures.specs.Moments.{none_shown, with_cells}
 use Rattle.apex_pictures.specs.Stamps.{IsStamp}
 use Rattle.apex_pictures.specs.Trace as trace

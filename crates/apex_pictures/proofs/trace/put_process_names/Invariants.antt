@@ -1,6 +1,6 @@
 -- The names so far follow the text.
 use Rattle.std.proofs.Common.{◌≡◌, ◌++◌, length}
-use Rattle.apex_types.specs.text.Listing.{texts_of}
+use Rattle.apex_machine.specs.text.Listing.{texts_of}
 use Rattle.apex_pictures.specs.Trace as trace
 use Rattle.apex_pictures.proofs.trace.put_process_names.Given as goal
 

@@ -1,8 +1,8 @@
 -- The next core's process is its chosen one, and the next text follows those before it.
 use Rattle.std.proofs.Common.{◌≡◌, ◌∙◌, ◌<◌, None, arith, length, refl, set, sym}
 use Rattle.std.specs.Prelude.{slice_index_or, slice_set}
-use Rattle.apex_types.specs.processes.Running.{chosen}
-use Rattle.apex_types.specs.values.Limits.{most_cores}
+use Rattle.apex_machine.specs.processes.Running.{chosen}
+use Rattle.apex_types.specs.declared.limits.TheConstants.{MOST_CORES}
 use Rattle.apex_pictures.specs.Moments.{running_in, with_running}
 use Rattle.apex_pictures.specs.Trace as trace
 use Rattle.apex_pictures.proofs.Places.{changed_at, kept_at, place_of, text_next}
@@ -14,13 +14,13 @@ loop-place-preserved g c =
     let at = c.loop-place.invariant in
     let place = c.loop-place.place in
     let old = c.args.running.now in
-    let few : place < most_cores = omega (arith, c.loop-place-test.true, c.cores-place-end.ensures.range.1) in
+    let few : place < MOST_CORES = omega (arith, c.loop-place-test.true, c.cores-place-end.ensures.range.1) in
     let kept : place < length old = omega (arith, few, c.requires.many) in
     let was : c.running_at-before.result ≡ slice_index_or old place None =
     (rw c.new-core.ensures at c.running_at-before.ensures.value) ∙ kept_at (chosen roster) place old _ None kept at.runs in
     let now : c.chosen-after.result ≡ chosen roster place = rw c.new-core.ensures at c.chosen-after.ensures.value in
     let is : c.chosen-after.result ≡ slice_index_or (running_in roster) place None =
-    now ∙ sym (place_of (chosen roster) most_cores place None few) in
+    now ∙ sym (place_of (chosen roster) MOST_CORES place None few) in
     let put : slice_set c.loop-place.running c.from.result c.chosen-after.result ≡ set c.loop-place.running place c.chosen-after.result =
     rw c.from.ensures refl in
     record {
@@ -37,7 +37,7 @@ loop-place-2-preserved g c =
     let at = c.loop-place-2.invariant in
     let place = c.loop-place-2.place in
     let old = c.args.running.now in
-    let few : place < most_cores = omega (arith, c.loop-place-2-test.true) in
+    let few : place < MOST_CORES = omega (arith, c.loop-place-2-test.true) in
     let kept : place < length old = omega (arith, few, c.requires.many) in
     let now : c.chosen.result ≡ chosen roster place = rw c.new.ensures at c.chosen.ensures.value in
     let put : slice_set c.loop-place-2.running c.from-in-loop-place-2.result c.chosen.result ≡ set c.loop-place-2.running place c.chosen.result =

@@ -1,8 +1,8 @@
 -- The processes of the cores so far, and the changes so far.
 use Rattle.std.proofs.Common.{◌≡◌, ◌≤◌, ◌++◌, drop}
-use Rattle.apex_types.specs.processes.Running.{chosen}
-use Rattle.apex_types.specs.text.Listing.{texts_of}
-use Rattle.apex_types.specs.values.Limits.{most_cores}
+use Rattle.apex_machine.specs.processes.Running.{chosen}
+use Rattle.apex_machine.specs.text.Listing.{texts_of}
+use Rattle.apex_types.specs.declared.limits.TheConstants.{MOST_CORES}
 use Rattle.apex_pictures.specs.Moments.{running_in, with_running}
 use Rattle.apex_pictures.specs.Places.{of_places}
 use Rattle.apex_pictures.specs.Stamps.{IsStamp}
@@ -23,7 +23,7 @@ abbrev pub invariant-loop-place-2 : goal.invariant-loop-place-2
 invariant-loop-place-2 g l =
     let roster = g.S.Store.roster l.store in
     record {
-      below : l.place ≤ most_cores;
+      below : l.place ≤ MOST_CORES;
       runs : l.running ≡ of_places (chosen roster) l.place ++ drop l.place l.fn.running;
       text : l.text.items ≡ l.fn.text.items ++ texts_of (trace.core_at l.table l.time l.stamp.ticks (with_running l.fn.running) (with_running (running_in roster))) l.table.cores;
     }

@@ -1,5 +1,5 @@
 use Rattle.std.proofs.Common.{◌≡◌, drop}
-use Rattle.apex_types.specs.processes.Dues.{earliest}
+use Rattle.apex_machine.specs.processes.Dues.{earliest}
 use Rattle.apex_store.proofs.dues.earliest.Given as goal
 
 abbrev pub invariant-loop-place : goal.invariant-loop-place

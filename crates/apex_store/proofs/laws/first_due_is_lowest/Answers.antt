@@ -1,4 +1,4 @@
-use Rattle.apex_types.proofs.Dues.{first_due_now, first_due_lowest, first_due_none}
+use Rattle.apex_machine.proofs.Dues.{first_due_now, first_due_lowest, first_due_none}
 use Rattle.apex_store.proofs.laws.first_due_is_lowest.Goals as goal
 
 pub returns : goal.returns

@@ -1,4 +1,4 @@
-use Rattle.apex_types.proofs.Dues.{first_missed_now, first_missed_lowest, first_missed_none}
+use Rattle.apex_machine.proofs.Dues.{first_missed_now, first_missed_lowest, first_missed_none}
 use Rattle.apex_store.proofs.laws.first_missed_is_lowest.Goals as goal
 
 pub returns : goal.returns

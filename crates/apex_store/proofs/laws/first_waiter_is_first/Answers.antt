@@ -1,5 +1,5 @@
-use Rattle.apex_types.specs.processes.Waiters.{discipline_of}
-use Rattle.apex_types.proofs.Orders.{waits_strict}
+use Rattle.apex_machine.specs.processes.Waiters.{discipline_of}
+use Rattle.apex_machine.proofs.Orders.{waits_strict}
 use Rattle.apex_store.proofs.TheLeast.{the_least, waits_on}
 use Rattle.apex_store.proofs.laws.first_waiter_is_first.Goals as goal
 

@@ -1,4 +1,4 @@
-use Rattle.apex_types.proofs.Orders.{before_strict}
+use Rattle.apex_machine.proofs.Orders.{before_strict}
 use Rattle.apex_store.proofs.TheLeast.{the_least, before_on}
 use Rattle.apex_store.proofs.Urgency.{most_urgent}
 use Rattle.apex_store.proofs.laws.most_urgent_runs.Goals as goal

@@ -1,4 +1,4 @@
-use Rattle.apex_types.proofs.DistinctStamps.{stamped_opening}
+use Rattle.apex_machine.proofs.DistinctStamps.{stamped_opening}
 use Rattle.apex_store.proofs.laws.opens_with_distinct_stamps.Goals as goal
 
 pub returns : goal.returns

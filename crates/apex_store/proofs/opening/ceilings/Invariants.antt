@@ -1,5 +1,5 @@
 use Rattle.std.proofs.Common.{◌≡◌, length, map, drop, ◌++◌}
-use Rattle.apex_types.specs.table.Table.{MutexConfig}
+use Rattle.apex_machine.specs.table.Table.{MutexConfig}
 use Rattle.apex_store.proofs.opening.ceilings.Given as goal
 
 abbrev pub invariant-loop-place : goal.invariant-loop-place

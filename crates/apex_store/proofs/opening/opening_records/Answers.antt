@@ -1,5 +1,5 @@
 use Rattle.std.proofs.Common.{arith}
-use Rattle.apex_types.specs.processes.Roster.{opening_record}
+use Rattle.apex_machine.specs.processes.Roster.{opening_record}
 use Rattle.apex_types.proofs.Places.{map_places_more}
 use Rattle.apex_store.proofs.opening.opening_records.Goals as goal
 

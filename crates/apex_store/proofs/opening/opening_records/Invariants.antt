@@ -1,6 +1,6 @@
 use Rattle.std.proofs.Common.{◌≡◌, ◌≤◌, take, length, vec_len, vec_capacity}
-use Rattle.apex_types.specs.processes.Roster.{opening_record}
-use Rattle.apex_types.specs.values.Places.{map_places}
+use Rattle.apex_machine.specs.processes.Roster.{opening_record}
+use Rattle.apex_types.specs.Places.{map_places}
 use Rattle.apex_store.proofs.opening.opening_records.Given as goal
 
 abbrev pub invariant-loop-place : goal.invariant-loop-place

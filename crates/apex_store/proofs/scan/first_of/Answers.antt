@@ -1,5 +1,5 @@
 use Rattle.std.proofs.Common.{◌≡◌, ◌∙◌, Some, length, sym, arith, rules}
-use Rattle.apex_types.proofs.Choice.{place_found}
+use Rattle.apex_machine.proofs.Choice.{place_found}
 use Rattle.apex_store.proofs.FirstPassing.{first_passing}
 use Rattle.apex_store.proofs.scan.first_of.Goals as goal
 

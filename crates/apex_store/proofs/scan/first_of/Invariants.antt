@@ -1,5 +1,5 @@
-use Rattle.std.proofs.Common.{◌≡◌, ◌<◌, ◌≤◌, Some, length}
-use Rattle.apex_types.proofs.Choice.{Stands}
+use Rattle.std.proofs.Common.{◌<◌, ◌≤◌, Some, length}
+use Rattle.apex_machine.proofs.Choice.{Stands}
 use Rattle.apex_store.proofs.scan.first_of.Given as goal
 
 abbrev pub invariant-loop-place : goal.invariant-loop-place

@@ -1,8 +1,8 @@
 use Rattle.std.proofs.Common.{◌≡◌, Some, arith, sym, ◌∙◌, length-append}
 use Rattle.std.proofs.lemmas.Int.{ints}
-use Rattle.apex_types.specs.services.Waking.{first_in, granted}
-use Rattle.apex_types.proofs.Loops.{made_by_none, made_by_all, leads_on}
-use Rattle.apex_types.proofs.Waking.{granted_gives, one_granted}
+use Rattle.apex_machine.specs.services.Waking.{first_in, granted}
+use Rattle.apex_machine.proofs.Loops.{made_by_none, made_by_all, leads_on}
+use Rattle.apex_machine.proofs.Waking.{granted_gives, one_granted}
 use Rattle.apex_store.proofs.waking.grant_all.Goals as goal
 
 pub returns-in-None : goal.returns-in-None

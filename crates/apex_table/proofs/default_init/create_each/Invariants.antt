@@ -1,5 +1,5 @@
 use Rattle.std.proofs.Common.{◌≡◌, ◌++◌, drop}
-use Rattle.apex_types.specs.values.Places.{map_places}
+use Rattle.apex_types.specs.Places.{map_places}
 use Rattle.apex_table.specs.DefaultInit.{creates}
 use Rattle.apex_table.proofs.default_init.create_each.Given as goal
 

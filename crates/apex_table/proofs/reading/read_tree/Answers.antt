@@ -1,6 +1,6 @@
 use Rattle.std.proofs.Common.{◌≡◌, ◌∙◌, Ok, map, option_map, rules}
 use Rattle.toml.specs.View.{table_view}
-use Rattle.apex_types.specs.table.Table.{IsLawful}
+use Rattle.apex_machine.specs.table.Table.{IsLawful}
 use Rattle.apex_table.specs.Names.{names_of}
 use Rattle.apex_table.specs.Scripts.{with_scripts}
 use Rattle.apex_table.specs.Reading.{reading, table_with}

@@ -1,6 +1,6 @@
 use Rattle.std.proofs.Common.{◌≡◌, ℕ, ◌^◌, min, drop, Some, None, if◌then◌else◌}
 use Rattle.std.specs.Str.{all_ascii_digits}
-use Rattle.apex_types.specs.values.Numbers.{digits_value}
+use Rattle.apex_types.specs.Numbers.{digits_value}
 use Rattle.apex_types.proofs.Digits.{more_digits}
 use Rattle.apex_types.proofs.numbers.number.Given as goal
 

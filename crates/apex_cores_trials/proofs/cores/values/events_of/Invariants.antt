@@ -1,5 +1,5 @@
 use Rattle.std.specs.Prelude.{All}
-use Rattle.apex_dispatch.specs.Events.{IsWithin}
+use Rattle.apex_machine.specs.Events.{IsWithin}
 use Rattle.apex_cores_trials.proofs.cores.values.events_of.Given as goal
 
 abbrev pub invariant-loop-line : goal.invariant-loop-line

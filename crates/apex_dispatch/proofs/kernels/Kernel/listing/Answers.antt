@@ -1,8 +1,8 @@
 -- The running values that are listed are those that the history gives.
 use Rattle.std.proofs.Common.{◌∙◌, ap, length, arith}
-use Rattle.apex_types.specs.text.Listing.{listing, listing_of}
-use Rattle.apex_types.specs.machine.Machine.{Objects}
-use Rattle.apex_dispatch.proofs.Known.{objects_are}
+use Rattle.apex_machine.specs.text.Listing.{listing, listing_of}
+use Rattle.apex_machine.specs.Deeds.{Objects}
+use Rattle.apex_laws.proofs.Known.{objects_are}
 use Rattle.apex_dispatch.proofs.Replays.{kept_sound}
 use Rattle.apex_dispatch.proofs.kernels.Kernel.listing.Goals as goal
 

@@ -1,7 +1,7 @@
 use Rattle.std.proofs.Common.{◌<◌, length, refl, arith}
-use Rattle.apex_types.proofs.BothProfiles.{lawful_count}
-use Rattle.apex_types.specs.declared.Event.TheVariants.{Tick}
-use Rattle.apex_types.specs.machine.Machine.{machine_with}
+use Rattle.apex_machine.proofs.BothProfiles.{lawful_count}
+use Rattle.apex_types.specs.declared.entries.Event.TheVariants.{Tick}
+use Rattle.apex_machine.specs.Machine.{machine_with}
 use Rattle.apex_dispatch.specs.Kernel.{kernel_with}
 use Rattle.apex_dispatch.proofs.Replays.{IsAfter, kept_sound, kept_stamps, kept_time, after_does}
 use Rattle.apex_dispatch.proofs.kernels.Kernel.tick.Given.{Over}
@@ -26,20 +26,20 @@ pass_time-went-requires g c =
 ticked : (g : Over) (c : After-append g) →
     let inside = c.self.inside in
     IsAfter inside.table (machine_with inside.table (g.S.Store.roster inside.store) inside.log.entries) (Tick c.args.n)
-    (kernel_with inside.table inside.objects (g.S.Store.roster c.pass_time-went.new.store) c.append.new.log.entries)
+    (kernel_with inside.table inside.objects (g.S.Store.roster c.pass_time-went.new.store) c.append.new.log.entries c.pass_time-went.new.store)
     inside.init_made c.append.new.log.limit c.watch.new.self
 ticked g c =
     let passed = c.pass_time-went.ensures in
     let changes = rw c.clear.ensures at passed.changes in
     let room : length c.self.inside.log.entries < c.self.inside.table.limit =
     omega (arith, c.self.invariant.limit, c.in_ok-refuse_full.ensures.accepted.0 refl) in
-    after_does _ _ _ _ _ _ _ c.self.invariant room (Tick c.args.n)
+    after_does _ _ _ _ _ _ _ _ c.self.invariant room (Tick c.args.n)
     (record {
       caller = refl;
       call = refl;
       outcome = record { roster = changes.roster; kept = refl; reply = rw passed.went refl; notices = changes.notices };
     })
-    _ c.append.ensures.entries _ _ (omega arith) c.append.ensures.limit c.watch.new.self c.watch.ensures c.requires.range
+    _ c.append.ensures.entries _ _ (omega arith) c.append.ensures.limit c.watch.new.self c.watch.ensures c.requires.range _
 
 pub invariant_of-self : goal.invariant_of-self
 invariant_of-self g c = (ticked g c).kept

@@ -1,8 +1,8 @@
 use Rattle.std.proofs.Common.{◌∙◌, ◌+◌, ◌<◌, length, refl, sym, arith}
-use Rattle.apex_types.specs.declared.Event.TheVariants.{Turn}
-use Rattle.apex_types.specs.machine.Machine.{machine_with}
+use Rattle.apex_types.specs.declared.entries.Event.TheVariants.{Turn}
+use Rattle.apex_machine.specs.Machine.{machine_with}
 use Rattle.apex_dispatch.specs.Kernel.{kernel_with}
-use Rattle.apex_dispatch.proofs.Known.{objects_are}
+use Rattle.apex_laws.proofs.Known.{objects_are}
 use Rattle.apex_dispatch.proofs.Replays.{IsAfter, kept_sound, kept_stamps, kept_time, after_does}
 use Rattle.apex_dispatch.proofs.kernels.Kernel.turn.Given.{Over}
 use Rattle.apex_dispatch.proofs.kernels.Kernel.turn.Goals.{After-append, After-append-in-None}
@@ -32,17 +32,17 @@ turned : (g : Over) (c : After-append g) →
     let done = c.carry_out.new in
     IsAfter inside.table (machine_with inside.table (g.S.Store.roster inside.store) inside.log.entries)
     (Turn c.args.core)
-    (kernel_with inside.table done.objects (g.S.Store.roster done.store) c.append.new.log.entries)
+    (kernel_with inside.table done.objects (g.S.Store.roster done.store) c.append.new.log.entries done.store)
     (inside.init_made + c.steps_by.result) c.append.new.log.limit c.watch.new.self
 turned g c =
     let room : length c.self.inside.log.entries < c.self.inside.table.limit =
     omega (arith, c.self.invariant.limit, c.in_ok-refuse_full.ensures.accepted.0 refl) in
     let begun = c.at.ensures ∙ c.self.invariant.begun c.args.core in
-    after_does _ _ _ _ _ _ _ c.self.invariant room (Turn c.args.core)
+    after_does _ _ _ _ _ _ _ _ c.self.invariant room (Turn c.args.core)
     (rw (c.clear.ensures, begun, c.self.invariant.init) at c.in-Some.ensures.done)
     _ c.append.ensures.entries _ _ (rw c.steps_by.ensures refl)
     c.append.ensures.limit c.watch.new.self (λ core. c.watch.ensures core ∙ rw (c.begin.ensures core, c.begun.ensures) refl)
-    (rw (← c.self.view_is) at c.requires)
+    (rw (← c.self.view_is) at c.requires) _
 
 -- and so is that after an idle turn
 idled : (g : Over) (c : After-append-in-None g) →
@@ -50,18 +50,18 @@ idled : (g : Over) (c : After-append-in-None g) →
     let done = c.carry_out.new in
     IsAfter inside.table (machine_with inside.table (g.S.Store.roster inside.store) inside.log.entries)
     (Turn c.args.core)
-    (kernel_with inside.table done.objects (g.S.Store.roster done.store) c.append-in-None.new.log.entries)
+    (kernel_with inside.table done.objects (g.S.Store.roster done.store) c.append-in-None.new.log.entries done.store)
     inside.init_made c.append-in-None.new.log.limit c.watch-in-None.new.self
 idled g c =
     let room : length c.self.inside.log.entries < c.self.inside.table.limit =
     omega (arith, c.self.invariant.limit, c.in_ok-refuse_full.ensures.accepted.0 refl) in
     let begun = c.at.ensures ∙ c.self.invariant.begun c.args.core in
-    after_does _ _ _ _ _ _ _ c.self.invariant room (Turn c.args.core)
+    after_does _ _ _ _ _ _ _ _ c.self.invariant room (Turn c.args.core)
     (rw (c.clear.ensures, begun, c.self.invariant.init) at c.in-None.ensures.idle)
     _ c.append-in-None.ensures.entries _ _ (omega arith)
     c.append-in-None.ensures.limit c.watch-in-None.new.self
     (λ core. c.watch-in-None.ensures core ∙ rw (c.begin-in-None.ensures core) refl)
-    (rw (← c.self.view_is) at c.requires)
+    (rw (← c.self.view_is) at c.requires) _
 
 pub invariant_of-self : goal.invariant_of-self
 invariant_of-self g c = (turned g c).kept

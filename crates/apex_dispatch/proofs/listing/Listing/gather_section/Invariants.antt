@@ -1,7 +1,7 @@
 -- No write failed so far; of the text that the page held and the texts so far the writer has a
 -- prefix, and the page the rest.
 use Rattle.std.proofs.Common.{◌≡◌, ◌++◌}
-use Rattle.apex_types.specs.text.Listing.{texts_of}
+use Rattle.apex_machine.specs.text.Listing.{texts_of}
 use Rattle.apex_history.specs.Counted.{inner_of, failures_of}
 use Rattle.apex_history.specs.Page.{Passes}
 use Rattle.apex_dispatch.specs.Sections.{thing_count, thing_text}

@@ -1,8 +1,8 @@
 use Rattle.std.proofs.Common.{◌≡◌, map, ◌∙◌, refl, sym, arith}
 use Rattle.std.proofs.lemmas.List.{ext_get_or, get_or-map, length-map}
-use Rattle.apex_types.specs.services.PartitionServices.{enter_idle}
-use Rattle.apex_types.specs.processes.Roster.{nobody}
-use Rattle.apex_types.specs.processes.Stamps.{stopped}
+use Rattle.apex_machine.specs.services.PartitionServices.{enter_idle}
+use Rattle.apex_machine.specs.processes.Roster.{nobody}
+use Rattle.apex_machine.specs.processes.Stamps.{stopped}
 use Rattle.apex_dispatch.proofs.services.partition.enter_idle.Goals as goal
 
 pub returns : goal.returns

@@ -1,11 +1,11 @@
 use Rattle.std.proofs.Common.{◌≡◌, Some, refl, length, arith, sym, length-append}
-use Rattle.apex_types.specs.services.PartitionServices.{first_to_start, begin_waiter, enter_normal}
-use Rattle.apex_types.specs.declared.Mode.TheVariants.{Normal}
-use Rattle.apex_types.proofs.Reaches.{reaches_then}
-use Rattle.apex_types.proofs.Modes.{reaches_set_mode}
-use Rattle.apex_types.proofs.Starts.{first_may_wait}
-use Rattle.apex_dispatch.proofs.Begun.{reach_begin_waiter, stays_begun, few_starts, begun_normal}
-use Rattle.apex_types.proofs.Loops.{made_by_none, made_by_all, leads_on}
+use Rattle.apex_machine.specs.services.PartitionServices.{first_to_start, begin_waiter, enter_normal}
+use Rattle.apex_types.specs.declared.modes.Mode.TheVariants.{Normal}
+use Rattle.apex_machine.proofs.Reaches.{reaches_then}
+use Rattle.apex_machine.proofs.Modes.{reaches_set_mode}
+use Rattle.apex_machine.proofs.Starts.{first_may_wait}
+use Rattle.apex_laws.proofs.Begun.{reach_begin_waiter, stays_begun, few_starts, begun_normal}
+use Rattle.apex_machine.proofs.Loops.{made_by_none, made_by_all, leads_on}
 use Rattle.apex_dispatch.proofs.services.partition.enter_normal.Goals as goal
 
 pub loop-round-init : goal.loop-round-init

@@ -1,7 +1,7 @@
 use Rattle.std.proofs.Common.{◌≡◌, ◌<◌, ◌∙◌, Bool, true, false, Option, None, cond, nat_lt, refl, inl, inr, arith}
 use Rattle.std.proofs.lemmas.Bool.{cases_lt, lt-ltb}
 use Rattle.std.proofs.lemmas.List.{get_or_past}
-use Rattle.apex_dispatch.specs.Terms.{OpenWork}
+use Rattle.apex_laws.specs.Terms.{OpenWork}
 use Rattle.apex_dispatch.specs.Works.{work_at}
 use Rattle.apex_dispatch.proofs.works.Works.watch_cores.Goals as goal
 

@@ -1,5 +1,5 @@
 use Rattle.std.proofs.Common.{◌≡◌, ℕ, nat_lt, option_map, if◌then◌else◌}
-use Rattle.apex_types.specs.machine.Works.{watched}
+use Rattle.apex_machine.specs.Works.{watched}
 use Rattle.apex_dispatch.specs.Works.{work_at}
 use Rattle.apex_dispatch.proofs.works.Works.watch_cores.Given as goal
 

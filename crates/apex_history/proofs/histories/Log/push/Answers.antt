@@ -1,6 +1,6 @@
 -- The row is that of the entry, and its notices come last.
 use Rattle.std.proofs.Common.{rules, ◌≡◌, ◌+◌, ◌<◌, ◌≤◌, [], ◌∷◌, ◌++◌, length, refl}
-use Rattle.apex_types.specs.values.Limits.{most_notices}
+use Rattle.apex_types.specs.declared.limits.TheConstants.{MOST_NOTICES}
 use Rattle.apex_history.specs.RowEntries.{caller_in, call_in}
 use Rattle.apex_history.proofs.EntriesOf.{row_of, entries_put, kept_put, length_entries}
 use Rattle.apex_history.proofs.histories.Log.push.Goals.{After-push_reserved}
@@ -16,7 +16,7 @@ placed c =
 
 pub invariant_of-self : goal.invariant_of-self
 invariant_of-self c =
-    let few : length c.args.entry.now.notices ≤ most_notices = rw (← c.entry.view_is) c.entry.invariant in
+    let few : length c.args.entry.now.notices ≤ MOST_NOTICES = rw (← c.entry.view_is) c.entry.invariant in
     let room : length c.self.inside.rows.items < c.self.inside.limit = rw (← c.self.view_is, length_entries) at c.requires.room in
     rw (placed c, noted c, c.push_reserved.ensures.capacity, c.put_call-asked.ensures.room)
     (kept_put _ _ _ _ _ _ _ _ _ _ c.args.entry.now c.self.invariant c.put_call-asked.ensures.calls c.put_call-asked.ensures.among room few c.put_notices.ensures.room)

@@ -2,7 +2,7 @@
 use Rattle.std.proofs.Common.{◌≡◌, ◌+◌, ◌*◌, ◌≤◌, ◌∷◌, ◌++◌, take}
 use Rattle.std.specs.Prelude.{flat_map}
 use Rattle.arrayvec.specs.ArrayVec.{array_vec_len}
-use Rattle.apex_types.specs.table.Table.{literal_text}
+use Rattle.apex_machine.specs.table.Table.{literal_text}
 use Rattle.apex_calls.specs.CallText.{name_of, word_text}
 use Rattle.apex_history.specs.declared.puts.TheConstants.{ARGUMENT_ROOM}
 use Rattle.apex_history.proofs.puts.call.put_words.Given as goal

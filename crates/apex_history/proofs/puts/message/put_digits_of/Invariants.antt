@@ -2,7 +2,7 @@
 use Rattle.std.proofs.Common.{◌≡◌, ◌+◌, ◌*◌, ◌++◌, take}
 use Rattle.std.specs.Prelude.{flat_map}
 use Rattle.arrayvec.specs.ArrayVec.{array_vec_len}
-use Rattle.apex_types.specs.text.Texts.{byte_text}
+use Rattle.apex_machine.specs.text.Texts.{byte_text}
 use Rattle.apex_history.proofs.puts.message.put_digits_of.Given as goal
 
 abbrev pub invariant-loop-byte : goal.invariant-loop-byte

@@ -2,8 +2,8 @@
 use Rattle.std.proofs.Common.{◌≡◌, ◌+◌, ◌*◌, ◌≤◌, ◌++◌, take}
 use Rattle.std.specs.Prelude.{flat_map}
 use Rattle.arrayvec.specs.ArrayVec.{array_vec_len}
-use Rattle.apex_types.specs.text.Texts.{id_text}
-use Rattle.apex_types.specs.text.Status.{behind_text}
+use Rattle.apex_machine.specs.text.Texts.{id_text}
+use Rattle.apex_machine.specs.text.Status.{behind_text}
 use Rattle.apex_history.proofs.puts.status.put_ids_behind.Given as goal
 
 abbrev pub invariant-loop-id : goal.invariant-loop-id

@@ -2,8 +2,8 @@
 use Rattle.std.proofs.Common.{◌≡◌, ◌+◌, ◌*◌, ◌≤◌, ◌++◌, take}
 use Rattle.std.specs.Prelude.{flat_map}
 use Rattle.arrayvec.specs.ArrayVec.{array_vec_len}
-use Rattle.apex_types.specs.text.Texts.{message_text}
-use Rattle.apex_types.specs.text.Status.{behind_text}
+use Rattle.apex_machine.specs.text.Texts.{message_text}
+use Rattle.apex_machine.specs.text.Status.{behind_text}
 use Rattle.apex_history.specs.declared.puts.TheConstants.{ARGUMENT_ROOM}
 use Rattle.apex_history.proofs.puts.status.put_messages_behind.Given as goal
 

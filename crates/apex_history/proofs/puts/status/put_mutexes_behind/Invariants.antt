@@ -2,7 +2,7 @@
 use Rattle.std.proofs.Common.{◌≡◌, ◌+◌, ◌*◌, ◌≤◌, ◌++◌, take}
 use Rattle.std.specs.Prelude.{flat_map}
 use Rattle.arrayvec.specs.ArrayVec.{array_vec_len}
-use Rattle.apex_types.specs.text.Status.{behind_text, held_text}
+use Rattle.apex_machine.specs.text.Status.{behind_text, held_text}
 use Rattle.apex_history.proofs.puts.status.put_mutexes_behind.Given as goal
 
 abbrev pub invariant-loop-holding : goal.invariant-loop-holding

@@ -1,7 +1,7 @@
 -- The head of the line, its message and the waiters are put one behind the other.
 use Rattle.std.specs.Prelude.{codes}
-use Rattle.apex_types.specs.text.Texts.{blackboard_name}
-use Rattle.apex_types.specs.text.Status.{head_text, optional_message_text, waiting_text}
+use Rattle.apex_machine.specs.text.Texts.{blackboard_name}
+use Rattle.apex_machine.specs.text.Status.{head_text, optional_message_text, waiting_text}
 use Rattle.apex_history.proofs.Joined.{four_joined}
 use Rattle.apex_history.proofs.puts.status_rows.put_blackboard.Goals as goal
 

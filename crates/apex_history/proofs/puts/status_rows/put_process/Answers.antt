@@ -1,7 +1,7 @@
 -- The parts of the line are put one behind the other.
 use Rattle.std.specs.Prelude.{codes}
-use Rattle.apex_types.specs.text.Texts.{process_name}
-use Rattle.apex_types.specs.text.Status.{head_text, state_part, instants_part, held_part}
+use Rattle.apex_machine.specs.text.Texts.{process_name}
+use Rattle.apex_machine.specs.text.Status.{head_text, state_part, instants_part, held_part}
 use Rattle.apex_history.proofs.Joined.{five_joined}
 use Rattle.apex_history.proofs.puts.status_rows.put_process.Goals as goal
 

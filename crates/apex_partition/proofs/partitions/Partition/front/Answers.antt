@@ -1,9 +1,9 @@
 use Rattle.std.proofs.Common.{◌≡◌, ◌<◌, ◌≤◌, ℕ, All, List, [], ◌∷◌, ◌++◌, Option, IfSome, length, ap, sym, subst, ◌∙◌, arith, rules}
 use Rattle.std.proofs.lemmas.List.FromFn.{length-map-range_with_len, map-range_with_len_more}
-use Rattle.apex_types.specs.values.Limits.{most_entries, most_processes}
-use Rattle.apex_types.specs.processes.Running.{chosen}
-use Rattle.apex_types.proofs.BothProfiles.{lawful_count}
-use Rattle.apex_dispatch.specs.Kernel.{KernelState}
+use Rattle.apex_types.specs.declared.limits.TheConstants.{MOST_ENTRIES, MOST_PROCESSES}
+use Rattle.apex_machine.specs.processes.Running.{chosen}
+use Rattle.apex_machine.proofs.BothProfiles.{lawful_count}
+use Rattle.apex_partition.specs.Headline.{PartitionState}
 use Rattle.apex_board.specs.Fronts.{IsSmallId}
 use Rattle.apex_partition.proofs.Fronts.{all_more, small_choice}
 use Rattle.apex_partition.proofs.partitions.Partition.front.Goals as goal
@@ -25,8 +25,8 @@ loop-core-preserved c =
     let kernel = c.self.inside.kernel in
     let is : c.args.self.now ≡ kernel = search rules in
     let count = (lawful_count _ c.holds.ensures.lawful).1 in
-    let few : length roster.records ≤ most_processes =
-    subst (λ (k : KernelState). length k.machine.roster.records ≤ most_processes) (sym is) (omega (arith, c.holds.ensures.records, count)) in
+    let few : length roster.records ≤ MOST_PROCESSES =
+    subst (λ (k : PartitionState). length k.machine.roster.records ≤ MOST_PROCESSES) (sym is) (omega (arith, c.holds.ensures.records, count)) in
     let small = λ (choice : Option ℕ). IfSome choice IsSmallId in
     record {
       chosen =
@@ -44,8 +44,8 @@ returns-clause-fits c =
     let done : c.loop-core.core ≤ c.cores-core-end.result = search rules in
     let kernel = c.self.inside.kernel in
     let is : c.args.self.now ≡ kernel = search rules in
-    let within : length c.args.self.now.machine.history ≤ most_entries =
-    subst (λ (k : KernelState). length k.machine.history ≤ most_entries) (sym is) (omega (arith, c.holds.ensures.within, c.holds.ensures.lawful.limit.1)) in
+    let within : length c.args.self.now.machine.history ≤ MOST_ENTRIES =
+    subst (λ (k : PartitionState). length k.machine.history ≤ MOST_ENTRIES) (sym is) (omega (arith, c.holds.ensures.within, c.holds.ensures.lawful.limit.1)) in
     let count : c.len.result ≡ length c.args.self.now.machine.history = search rules in
     record {
       entries = omega (arith, count, within);

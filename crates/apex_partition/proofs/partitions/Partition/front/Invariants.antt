@@ -1,6 +1,6 @@
 use Rattle.std.proofs.Common.{◌≡◌, All, Option, ℕ, IfSome, map}
 use Rattle.std.specs.List.{range_with_len}
-use Rattle.apex_types.specs.processes.Running.{chosen}
+use Rattle.apex_machine.specs.processes.Running.{chosen}
 use Rattle.apex_board.specs.Fronts.{IsSmallId}
 use Rattle.apex_partition.proofs.partitions.Partition.front.Given as goal
 

@@ -1,9 +1,9 @@
 use Rattle.std.proofs.Common.{subst, sym}
 use Rattle.std.specs.Prelude.{All, List}
-use Rattle.apex_types.specs.machine.Machine.{events_of}
-use Rattle.apex_types.specs.table.Table.{Table}
+use Rattle.apex_machine.specs.Machine.{events_of}
+use Rattle.apex_machine.specs.table.Table.{Table}
 use Rattle.apex_types.specs.declared.entries.Entry.{Entry}
-use Rattle.apex_dispatch.specs.Events.{IsWithin}
+use Rattle.apex_machine.specs.Events.{IsWithin}
 use Rattle.apex_partition.specs.Seats.{IsOneOf}
 use Rattle.apex_partition.proofs.Seated.{all_of}
 use Rattle.apex_partition.proofs.published.Published.close.Goals as goal

@@ -1,6 +1,6 @@
 use Rattle.std.proofs.Common.{◌≡◌, ◌+◌, [], ◌∷◌, ap, ◌∙◌, arith, length, length-append}
 use Rattle.std.specs.Prelude.{List}
-use Rattle.apex_dispatch.specs.Kernel.{KernelState}
+use Rattle.apex_partition.specs.Headline.{PartitionState}
 use Rattle.apex_types.specs.declared.entries.Entry.{Entry}
 use Rattle.apex_types.specs.declared.entries.Who.TheVariants.{Ticker}
 use Rattle.apex_receipts.specs.Receipts.{Spoken}
@@ -15,7 +15,7 @@ asked : (g : Over) (c : After-record_latest-receipt g) → asked_ticks c.record_
 asked g c =
     let old = c.self.inside.partition in
     let e = c.record_latest-receipt.result.entry in
-    let history = ap (λ (k : KernelState). k.machine.history) c.in_default.ensures.done in
+    let history = ap (λ (k : PartitionState). k.machine.history) c.in_default.ensures.done in
     let latest : IsLatest old.machine.history Ticker e c.tick.new.self.machine.history =
     rw (← c.self.invariant.1, ← c.ticker.invariant.0) c.record_latest-receipt.ensures.latest in
     tick_asks old.table old.machine c.args.n e (rw (← history) latest)
@@ -23,7 +23,7 @@ asked g c =
 pub record_latest-receipt-requires-clause-latest : goal.record_latest-receipt-requires-clause-latest
 record_latest-receipt-requires-clause-latest g c =
     let old = c.self.inside.partition in
-    let added = ap (λ (k : KernelState). k.machine.history) c.in_default.ensures.done in (
+    let added = ap (λ (k : PartitionState). k.machine.history) c.in_default.ensures.done in (
       tick_entry old.table old.machine c.args.n,
       rw (c.self.invariant.1, c.ticker.invariant.0, added) (tick_adds old.table old.machine c.args.n),
     )

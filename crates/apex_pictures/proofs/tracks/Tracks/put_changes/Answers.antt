@@ -5,8 +5,8 @@ use Rattle.std.proofs.lemmas.Result.{on_ok_weaker}
 use Rattle.std.specs.Prelude.{map}
 use Rattle.arrayvec.proofs.ArrayVecLemmas.{items-with_items}
 use Rattle.arrayvec.specs.ArrayVec.{with_items}
-use Rattle.apex_types.specs.processes.Running.{chosen}
-use Rattle.apex_types.specs.values.Limits.{most_cores}
+use Rattle.apex_machine.specs.processes.Running.{chosen}
+use Rattle.apex_types.specs.declared.limits.TheConstants.{MOST_CORES}
 use Rattle.apex_pictures.specs.Moments.{Shown, moment_of}
 use Rattle.apex_pictures.specs.Tracks.{bare, cell_on, track_of}
 use Rattle.apex_pictures.specs.declared.tracks.Track.{Track}
@@ -21,11 +21,11 @@ returns-clause-tracks g c =
     let ran = c.self.inside.running in
     let counts = c.self.inside.counts in
     let runs = c.in_ok-put_runs.ensures.running in
-    let cores : length ran.items ≡ most_cores = ap (λ (s : Shown). length s.running) c.self.view_is ∙ c.requires.cores in
+    let cores : length ran.items ≡ MOST_CORES = ap (λ (s : Shown). length s.running) c.self.view_is ∙ c.requires.cores in
     let many : length old.items ≡ length roster.records =
     sym (length-map old.items cell_on) ∙ ap (λ (s : Shown). length s.cells) c.self.view_is ∙ c.requires.tracks in
     let kept : length c.put_runs.new.running ≡ length ran.items =
-    ap (λ (l : List (Option ℕ)). length l) runs ∙ length_of (chosen roster) most_cores ∙ sym cores in
+    ap (λ (l : List (Option ℕ)). length l) runs ∙ length_of (chosen roster) MOST_CORES ∙ sym cores in
     let running = (with_items ran c.put_runs.new.running).items in
     on_ok_weaker c.put_processes.result
     (λ is.

@@ -1,5 +1,5 @@
 use Rattle.std.proofs.Common.{◌+◌, ◌∙◌, arith}
-use Rattle.apex_waitq.specs.WaitQueues.{first_list}
+use Rattle.apex_links.specs.declared.numbers.TheConstants.{READY_LISTS}
 use Rattle.apex_links.proofs.Places.{as_many_removed}
 use Rattle.apex_process.proofs.Emptied.{removed_counted}
 use Rattle.apex_process.proofs.lists.Lists.leave.Goals as goal
@@ -8,7 +8,7 @@ pub invariant_of-self : goal.invariant_of-self
 invariant_of-self c =
     let stands = rw (← c.self.view_is) at c.is_ready.ensures.ready in
     let links = c.self.inside.links in
-    let counted = removed_counted c.self.inside.queues.counts links c.args.process c.self.invariant.counted (λ n low. stands c.if-is_ready.true (first_list + n) (omega arith)) in
+    let counted = removed_counted c.self.inside.queues.counts links c.args.process c.self.invariant.counted (λ n low. stands c.if-is_ready.true (READY_LISTS + n) (omega arith)) in
     record {
       marked = c.leave.ensures.marked;
       counted = rw c.leave.ensures.links counted;

@@ -1,6 +1,6 @@
 use Rattle.std.proofs.Common.{◌∙◌, ◌++◌, [], ◌∷◌, ap, arith, sym, take, true}
 use Rattle.std.proofs.lemmas.List.{take_more}
-use Rattle.apex_types.specs.processes.Held.{holds}
+use Rattle.apex_machine.specs.processes.Held.{holds}
 use Rattle.apex_process.proofs.Owning.{enters_one, owns_as}
 use Rattle.apex_process.proofs.owners.Owners.enter.Goals as goal
 

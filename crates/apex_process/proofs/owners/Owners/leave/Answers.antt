@@ -1,6 +1,6 @@
 use Rattle.std.proofs.Common.{◌∙◌, ◌+◌, ◌∷◌, ap, arith, drop, false, sym}
 use Rattle.std.proofs.lemmas.List.{drop_more}
-use Rattle.apex_types.specs.processes.Held.{holds}
+use Rattle.apex_machine.specs.processes.Held.{holds}
 use Rattle.apex_process.proofs.Owning.{leaves_one, none_left, owns_as}
 use Rattle.apex_process.proofs.owners.Owners.leave.Goals as goal
 

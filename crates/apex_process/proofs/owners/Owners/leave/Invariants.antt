@@ -1,11 +1,12 @@
 use Rattle.std.proofs.Common.{◌≡◌, ◌≢◌, ℕ, ◌<◌, true, drop}
-use Rattle.apex_types.specs.processes.Held.{holds}
-use Rattle.apex_process.specs.Owners.{is_owner, most_mutexes, most_owners}
+use Rattle.apex_machine.specs.processes.Held.{holds}
+use Rattle.apex_links.specs.declared.numbers.TheConstants.{ID_PLACES}
+use Rattle.apex_process.specs.Owners.{is_owner, most_owners}
 use Rattle.apex_process.proofs.owners.Owners.leave.Given as goal
 
 -- the process owns none but those that are left
 abbrev pub invariant-loop-holding : goal.invariant-loop-holding
 invariant-loop-holding l = record {
-  here : (m : ℕ) → m < most_mutexes → is_owner l.self m l.fn.process ≡ true → holds m (drop l.holding-index l.held) ≡ true;
+  here : (m : ℕ) → m < ID_PLACES → is_owner l.self m l.fn.process ≡ true → holds m (drop l.holding-index l.held) ≡ true;
   others : (m p : ℕ) → p < most_owners → p ≢ l.fn.process → is_owner l.self m p ≡ is_owner l.fn.self m p;
 }

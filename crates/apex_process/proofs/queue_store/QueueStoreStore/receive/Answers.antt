@@ -1,7 +1,7 @@
-use Rattle.apex_types.proofs.Replaces.{replaces_record}
+use Rattle.apex_machine.proofs.Replaces.{replaces_record}
 use Rattle.apex_process.proofs.Kept.{kept_by}
 use Rattle.std.proofs.Common.{Some, refl}
-use Rattle.apex_types.specs.processes.Roster.{record_at}
+use Rattle.apex_machine.specs.processes.Roster.{record_at}
 use Rattle.apex_process.proofs.Timers.{timers_by, timers_kept}
 use Rattle.apex_process.proofs.Owning.{own_by, owners_kept}
 use Rattle.apex_process.proofs.Renewals.{keeps_message}

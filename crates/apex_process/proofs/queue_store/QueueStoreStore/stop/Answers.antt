@@ -1,7 +1,7 @@
 use Rattle.std.proofs.Common.{[], refl}
-use Rattle.apex_types.specs.processes.Roster.{record_at}
-use Rattle.apex_types.specs.processes.Stamps.{stopped}
-use Rattle.apex_types.proofs.Replaces.{replaces_record}
+use Rattle.apex_machine.specs.processes.Roster.{record_at}
+use Rattle.apex_machine.specs.processes.Stamps.{stopped}
+use Rattle.apex_machine.proofs.Replaces.{replaces_record}
 use Rattle.apex_process.proofs.Renewals.{none_stop, renews_stop}
 use Rattle.apex_process.proofs.Kept.{left_by}
 use Rattle.apex_process.proofs.Timers.{both_known, retimes_stop}

@@ -1,7 +1,7 @@
 use Rattle.std.proofs.Common.{refl}
-use Rattle.apex_types.specs.processes.Roster.{record_at}
-use Rattle.apex_types.specs.processes.Stamps.{self_suspended}
-use Rattle.apex_types.proofs.Replaces.{replaces_newest}
+use Rattle.apex_machine.specs.processes.Roster.{record_at}
+use Rattle.apex_machine.specs.processes.Stamps.{self_suspended}
+use Rattle.apex_machine.proofs.Replaces.{replaces_newest}
 use Rattle.apex_process.proofs.Renewals.{none_suspend_self, renews_suspend_self}
 use Rattle.apex_process.proofs.Kept.{left_by}
 use Rattle.apex_process.proofs.Timers.{due_known, retimes_suspend_self}

@@ -1,8 +1,8 @@
 use Rattle.std.proofs.Common.{◌≡◌, ◌<◌, length, None, Some, refl, sym, ◌∙◌}
-use Rattle.apex_types.specs.processes.Dues.{first_due}
-use Rattle.apex_types.specs.processes.Roster.{record_at}
-use Rattle.apex_types.proofs.Dues.{first_due_within}
-use Rattle.apex_types.proofs.Replaces.{replaces_record}
+use Rattle.apex_machine.specs.processes.Dues.{first_due}
+use Rattle.apex_machine.specs.processes.Roster.{record_at}
+use Rattle.apex_machine.proofs.Dues.{first_due_within}
+use Rattle.apex_machine.proofs.Replaces.{replaces_record}
 use Rattle.apex_process.proofs.Renewals.{keeps_due}
 use Rattle.apex_process.proofs.Kept.{kept_by}
 use Rattle.apex_process.proofs.Timers.{due_known, retimes_without_due}

@@ -1,7 +1,7 @@
 use Rattle.std.proofs.Common.{refl}
-use Rattle.apex_types.specs.processes.Roster.{record_at}
-use Rattle.apex_types.specs.processes.Stamps as stamps
-use Rattle.apex_types.proofs.Replaces.{replaces_readied}
+use Rattle.apex_machine.specs.processes.Roster.{record_at}
+use Rattle.apex_machine.specs.processes.Stamps as stamps
+use Rattle.apex_machine.proofs.Replaces.{replaces_readied}
 use Rattle.apex_process.proofs.Renewals.{renews_unblock}
 use Rattle.apex_process.proofs.Kept.{renewed_row}
 use Rattle.apex_process.proofs.Timers.{deadline_kept, due_row, retimes_unblock}
@@ -12,9 +12,9 @@ pub invariant_of-self : goal.invariant_of-self
 invariant_of-self c =
     let was = c.self.inside.records in
     let known = rw (← c.self.view_is) at c.requires.known in (
-      renewed_row was _ _ c.self.inside.lists _ c.args.process c.read-woken.result.now known c.self.invariant.0 c.unblock.ensures
-          (renews_unblock was c.args.process known c.self.invariant.0.stamped) c.read-woken.ensures c.put_newest.ensures.links c.put_newest.ensures.priorities c.put_newest.ensures.place,
-      due_row was _ _ c.self.inside.timers.dues c.self.inside.timers.deadlines _ _ c.args.process c.read-woken.result.now c.self.invariant.1 c.unblock.ensures (retimes_unblock was c.args.process known) c.read-woken.ensures
+      renewed_row was _ _ c.self.inside.lists _ c.args.process c.record-woken.result.now known c.self.invariant.0 c.unblock.ensures
+          (renews_unblock was c.args.process known c.self.invariant.0.stamped) c.record-woken.ensures c.put_newest.ensures.links c.put_newest.ensures.priorities c.put_newest.ensures.place,
+      due_row was _ _ c.self.inside.timers.dues c.self.inside.timers.deadlines _ _ c.args.process c.record-woken.result.now c.self.invariant.1 c.unblock.ensures (retimes_unblock was c.args.process known) c.record-woken.ensures
           (deadline_kept (replaces_readied was c.args.process known (stamps.awake (record_at was c.args.process)) refl) refl) c.set_due.ensures.dues c.set_due.ensures.deadlines,
       owners_kept was _ _ _ c.self.invariant.2 c.unblock.ensures (own_by (replaces_readied was c.args.process known (stamps.awake (record_at was c.args.process)) refl) refl),
     )

@@ -1,0 +1,89 @@
+//! The words that the operating system gives.
+
+use apex_cli::{CliFault, given_words};
+use linked_list_allocator::LocalHeap;
+use std::alloc::Allocator;
+use std::env::{Env, FillError};
+
+/// So many words that their list takes more memory than the reading of one does.
+const WORDS: usize = 32;
+
+/// More than the words take, in steps of a heap.
+const STEPS: usize = 1_024;
+
+/// The bytes by which a heap's blocks grow.
+const STEP: usize = 16;
+
+/// The words that a program was given.
+#[derive(Drop)]
+struct Given<'a> {
+    words: &'a [&'a [u8]],
+}
+
+impl<'a> Env for Given<'a> {
+    fn arg(&self, i: usize, buf: &mut [u8]) -> Result<usize, FillError> {
+        let Some(word) = self.words.get(i) else {
+            return Err(FillError::NotPresent);
+        };
+        let Some(room) = buf.get_mut(..word.len()) else {
+            return Err(FillError::TooLong);
+        };
+        room.copy_from_slice(word);
+        Ok(word.len())
+    }
+
+    fn var(&self, _name: &str, _buf: &mut [u8]) -> Result<usize, FillError> {
+        Err(FillError::NotPresent)
+    }
+
+    fn var_at(&self, _i: usize, _buf: &mut [u8]) -> Result<usize, FillError> {
+        Err(FillError::NotPresent)
+    }
+}
+
+/// Whether the words are these bytes.
+fn are_words<A: Allocator>(given: &[String<A>], words: &[&[u8]]) -> bool {
+    for (given, word) in given.iter().zip(words) {
+        if given.as_bytes() != *word {
+            return false;
+        }
+    }
+    given.len() == words.len()
+}
+
+#[test]
+fn all_words_are_passed_on(rt: HostRuntime) {
+    let words: [&[u8]; 6] = [b"apex", b"replay", b"--schedule", b"0*8 t1", b"", b"more"];
+    let given = given_words(&(&Given { words: &words }, rt.alloc()));
+    let given = given.expect(&rt, "the words are text");
+    assert!(rt; are_words(given.as_slice(), &words));
+}
+
+#[test]
+fn a_word_that_is_no_text_is_usage(rt: HostRuntime) {
+    let words: [&[u8]; 3] = [b"apex", b"replay", b"\xff"];
+    let given = given_words(&(&Given { words: &words }, rt.alloc()));
+    assert!(rt; given.err() == Some(CliFault::Usage));
+}
+
+/// A heap that is one step longer refuses a later request, up to the last one.
+#[test]
+fn a_refused_request_is_want_of_memory(rt: HostRuntime) {
+    let words = [b"word".as_slice(); WORDS];
+    let mut is_refused = false;
+    let mut is_given = false;
+    for steps in 0..STEPS {
+        let heap = LocalHeap::new(rt.alloc(), steps * STEP).expect(&rt, "memory for the heap");
+        match given_words(&(&Given { words: &words }, &heap)) {
+            Ok(given) => {
+                assert!(rt; are_words(given.as_slice(), &words));
+                is_given = true;
+            }
+            Err(fault) => {
+                assert_eq!(rt; fault, CliFault::Memory);
+                is_refused = true;
+            }
+        }
+    }
+    assert!(rt; is_refused && is_given);
+}

@@ -1,5 +1,0 @@
-use Rattle.apex_dispatch.proofs.Sound.{sound_run}
-use Rattle.apex_dispatch.proofs.laws.runs_stay_within.Goals as goal
-
-pub returns : goal.returns
-returns c events = (sound_run c.args.table.now c.lawful.ensures events).within

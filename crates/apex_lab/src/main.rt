@@ -1,0 +1,29 @@
+//! The program `apex_lab`: draws the history that a partition has for a schedule, or a history
+//! that is legal, as SVG or as a trace.
+#![tactic(auto)]
+
+mod histories;
+mod program;
+mod schedules;
+mod tasks;
+mod words;
+
+use crate::program::serve;
+use apex_cli::given_words;
+use apex_history::Counted;
+use std::io;
+use std::process::ExitCode;
+
+fn main(rt: HostRuntime) -> ExitCode {
+    let mut reader = Counted::new(rt.reader());
+    let mut writer = Counted::new(io::writer(&rt));
+    let mut error_writer = Counted::new(rt.stderr());
+    let status = serve(
+        rt.alloc(),
+        given_words(&rt),
+        &mut reader,
+        &mut writer,
+        &mut error_writer,
+    );
+    ExitCode::from(status)
+}

@@ -1,0 +1,5 @@
+use Rattle.apex_laws.proofs.Sound.{sound_run}
+use Rattle.apex_laws.proofs.runs_stay_within.Goals as goal
+
+pub returns : goal.returns
+returns c table lawful events = (sound_run table lawful events).within
