@@ -41,7 +41,7 @@ pub struct Crew {
     halfway: AtomicU64,
     /// The number of fronts that the reader has read.
     reads: AtomicU64,
-    /// The number of times that a thread waited for others in vain.
+    /// The number of waits for other threads that gave up.
     alone: AtomicU64,
 }
 
@@ -91,7 +91,7 @@ impl Crew {
         self.reads.fetch_add(1, Ordering::SeqCst);
     }
 
-    /// Whether no thread waited for others in vain.
+    /// Whether no thread gave up a wait for others.
     fn is_whole(&self) -> bool {
         self.alone.load(Ordering::SeqCst) == 0
     }

@@ -5,7 +5,7 @@ use linked_list_allocator::LocalHeap;
 use std::alloc::Allocator;
 use std::env::{Env, FillError};
 
-/// So many words that their list takes more memory than the reading of one does.
+/// The number of words: their list takes more memory than the reading of one of them.
 const WORDS: usize = 32;
 
 /// More than the words take, in steps of a heap.
