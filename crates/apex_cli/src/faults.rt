@@ -119,13 +119,13 @@ fn put_table_fault(text: &mut Line, fault: TableFault)
     ensures text { text.new.bytes ≡ text.old.bytes ++ tables.fault_text fault }
     ensures short { array_string_len text.new ≤ array_string_len text.old + 36 }
 {
-    let (word, place) = fault.parts();
+    let (word, subject) = fault.parts();
     text.push_str(word);
-    if let Some(place) = place {
+    if let Some(subject) = subject {
         text.push_str(" in ");
-        text.push_str(place.section.word());
+        text.push_str(subject.place.section.word());
         text.push_str(" ");
-        put_number(text, place.number);
+        put_number(text, subject.place.number);
     }
 }
 

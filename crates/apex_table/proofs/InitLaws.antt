@@ -8,9 +8,10 @@ use Rattle.apex_types.specs.declared.calls.Origin.TheVariants as origin
 use Rattle.apex_table.specs.declared.fault.Section.TheVariants.{Init}
 use Rattle.apex_table.specs.Terms.{Place, Profile}
 use Rattle.apex_table.specs.declared.fault.TableFault.TheVariants.{BadInitStep}
+use Rattle.apex_table.specs.Subjects.{whole}
 use Rattle.apex_table.specs.Outcome.{place}
 use Rattle.apex_table.specs.Keys.{array, at_most}
-use Rattle.apex_table.specs.Steps.{step}
+use Rattle.apex_table.specs.Steps.{of_word, step}
 use Rattle.apex_table.specs.Objects.{Objects}
 use Rattle.apex_table.specs.Names.{Names}
 use Rattle.apex_table.specs.Reading.{table_with}
@@ -28,9 +29,9 @@ AreFew o = IfSome o (λ ts. length ts ≤ MOST_INIT_STEPS)
 given_texts_law : (d : Data) → IfOk (given_texts d) (λ ts. length ts ≤ MOST_INIT_STEPS)
 unfolding given_texts
 given_texts_law d =
-    ok_then (array (place Init 0) d) _ (λ ts. length ts ≤ MOST_INIT_STEPS) (λ ds _.
-    ok_then (at_most (place Init 0) MOST_INIT_STEPS ds) _ (λ ts. length ts ≤ MOST_INIT_STEPS) (λ few e.
-    let bound : length few ≤ MOST_INIT_STEPS = IfOk-at_ok (λ xs. length xs ≤ MOST_INIT_STEPS) e (at_most_law (place Init 0) MOST_INIT_STEPS ds) in
+    ok_then (array (whole (place Init 0)) d) _ (λ ts. length ts ≤ MOST_INIT_STEPS) (λ ds _.
+    ok_then (at_most (whole (place Init 0)) MOST_INIT_STEPS ds) _ (λ ts. length ts ≤ MOST_INIT_STEPS) (λ few e.
+    let bound : length few ≤ MOST_INIT_STEPS = IfOk-at_ok (λ xs. length xs ≤ MOST_INIT_STEPS) e (at_most_law (whole (place Init 0)) MOST_INIT_STEPS ds) in
     IfOk-weaker (texts few) _ _ (λ ts h. omega arith) (each_length next_text [] few)))
 
 pub init_texts_law : (o : Option Data) → IfOk (init_texts o) AreFew
@@ -51,7 +52,7 @@ module _ (table : Table) (names : Names) (same : AreNamesOf table names) where
   unfolding init_step
   init_step_law at k text =
       ok_then (step at (origin.Init k) names text) _ (Lawful k) (λ s e.
-      ok_if (is_init_call s.call) (BadInitStep at) s (Lawful k) (λ _. IfOk-at_ok (Lawful k) e (step_law at (origin.Init k) names table same text)))
+      ok_if (is_init_call s.call) (BadInitStep (of_word at (origin.Init k) 0)) s (Lawful k) (λ _. IfOk-at_ok (Lawful k) e (step_law at (origin.Init k) names table same text)))
 
   steps_lawful : (ts : List (List ℕ)) → IfOk (init_steps names ts) (AllFrom Lawful 0)
   steps_lawful ts =

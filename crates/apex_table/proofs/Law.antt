@@ -1,28 +1,28 @@
 -- A table that is read is lawful.
 use Rattle.std.proofs.Common.{◌≡◌, ℕ, ◌≤◌, List, length, Ok, IfOk, sym, ap, subst, arith}
-use Rattle.std.specs.Prelude.{codes}
 use Rattle.std.specs.List.{IsDistinct}
 use Rattle.std.specs.Str.{bytes_eq}
 use Rattle.std.proofs.lemmas.List.{length-map}
 use Rattle.std.proofs.lemmas.List.Elements.{All-from_recursion}
 use Rattle.std.proofs.lemmas.Result.{IfOk-at_ok}
-use Rattle.toml.specs.Data.{Members, get_member}
+use Rattle.toml.specs.Data.{Members}
 use Rattle.apex_machine.specs.table.Profiles.{processes_of, profile_of}
 use Rattle.apex_machine.proofs.BothProfiles.{few_processes}
 use Rattle.apex_types.specs.declared.limits.TheConstants.{MOST_CORES, MOST_ENTRIES, MOST_PROFILE, USUAL_ENTRIES}
 use Rattle.apex_machine.specs.table.Table.{Table, ProcessConfig, SemaphoreConfig, BufferConfig, BlackboardConfig, EventFlagConfig, MutexConfig, no_process, no_semaphore, no_buffer, no_blackboard, no_event_flag, no_mutex, Step, no_step, IsLawfulStep, IsLawfulProcess, IsLawfulSemaphore, IsLawfulBuffer, IsLawfulBlackboard, IsLawfulEventFlag, IsLawfulMutex, IsLawful}
-use Rattle.apex_types.specs.declared.calls.Origin.TheVariants.{Init}
+use Rattle.apex_types.specs.declared.calls.Origin.TheVariants as origin
 use Rattle.apex_table.specs.Terms.{Profile}
-use Rattle.apex_table.specs.declared.fault.Section.TheVariants.{Top}
+use Rattle.apex_table.specs.declared.fault.Section.TheVariants.{Top, Init}
+use Rattle.apex_table.specs.declared.key.Key.TheVariants as key
 use Rattle.apex_table.specs.Outcome.{place}
-use Rattle.apex_table.specs.Keys.{known, number_at, number_or}
+use Rattle.apex_table.specs.Keys.{known, number_at, number_or, value_at}
 use Rattle.apex_table.specs.Processes.{ProcessDraft, process_names, some_process, processes}
 use Rattle.apex_table.specs.Sections.{section}
 use Rattle.apex_table.specs.Objects.{Objects, objects}
 use Rattle.apex_table.specs.Names.{names_of}
 use Rattle.apex_table.specs.Scripts.{with_scripts}
 use Rattle.apex_table.specs.Init.{init_texts, init_list}
-use Rattle.apex_table.specs.Reading.{top_keys, table_with, reading}
+use Rattle.apex_table.specs.Reading.{top_keys, table_with, TableDraft, IsRead, draft, with_steps}
 use Rattle.apex_table.proofs.Results.{ok_then, AllFrom, all_from_start}
 use Rattle.apex_table.proofs.KeyLaws.{number_at_law, number_or_law}
 use Rattle.apex_table.proofs.ProcessLaws.{some_process_law, IsSoundDraft, process_law}
@@ -67,7 +67,7 @@ module _ (profile : Profile) (cores limit : ℕ) (drafts : List ProcessDraft) (p
     blackboards = λ b below. All-from_recursion IsLawfulBlackboard things.blackboards sound.blackboards.all.each b no_blackboard below;
     event_flags = λ e below. All-from_recursion IsLawfulEventFlag things.event_flags sound.event_flags.all.each e no_event_flag below;
     mutexes = λ m below. All-from_recursion IsLawfulMutex things.mutexes sound.mutexes.all.each m no_mutex below;
-    init = λ k below. all_from_start (λ k step. IsLawfulStep Whole (Init k) step) steps init.lawful k no_step below;
+    init = λ k below. all_from_start (λ k step. IsLawfulStep Whole (origin.Init k) step) steps init.lawful k no_step below;
     process_names = distinct;
     semaphore_names = sound.semaphores.all.distinct;
     buffer_names = sound.buffers.all.distinct;
@@ -76,41 +76,65 @@ module _ (profile : Profile) (cores limit : ℕ) (drafts : List ProcessDraft) (p
     mutex_names = sound.mutexes.all.distinct;
   }
 
-pub reading_law : (tree : Members) → IfOk (reading tree) IsLawful
-unfolding reading
-reading_law tree =
-    ok_then (known (place Top 0) top_keys tree) _ IsLawful (λ ms _.
-    ok_then (number_or (place Top 0) 1 1 MOST_PROFILE (codes "profile") ms) _ IsLawful (λ number _.
-    ok_then (number_at (place Top 0) 1 MOST_CORES (codes "cores") ms) _ IsLawful (λ cores ec.
-    ok_then (number_or (place Top 0) USUAL_ENTRIES 1 MOST_ENTRIES (codes "history") ms) _ IsLawful (λ limit el.
-    ok_then (section (processes (profile_of number) cores) ms) _ IsLawful (λ read ep.
-    ok_then (some_process read) _ IsLawful (λ drafts es.
-    ok_then (objects ms) _ IsLawful (λ things eo.
-    ok_then (init_texts (get_member (codes "init") ms)) _ IsLawful (λ texts et.
-    ok_then (with_scripts (names_of drafts things) drafts) _ IsLawful (λ procs ew.
-    ok_then (init_list (names_of drafts things) procs things texts) _ IsLawful (λ steps ei.
+-- the facts about a table whose steps are still texts
+pub record IsSoundTable (drafted : TableDraft) : Type 0 where
+  pub cores : (1 ≤ drafted.cores) × (drafted.cores ≤ MOST_CORES)
+  pub limit : (1 ≤ drafted.limit) × (drafted.limit ≤ MOST_ENTRIES)
+  pub processes : IsSection (processes drafted.profile drafted.cores) (IsSoundDraft drafted.cores) drafted.processes
+  pub some : 1 ≤ length drafted.processes
+  pub objects : AreLawful drafted.objects
+  pub init : AreFew drafted.init
+
+draft_law : (tree : Members) → IfOk (draft tree) IsSoundTable
+unfolding draft
+draft_law tree =
+    ok_then (known (place Top 0) top_keys tree) _ IsSoundTable (λ ms _.
+    ok_then (number_or (place Top 0) 1 1 MOST_PROFILE key.Profile ms) _ IsSoundTable (λ number _.
+    ok_then (number_at (place Top 0) 1 MOST_CORES key.Cores ms) _ IsSoundTable (λ cores ec.
+    ok_then (number_or (place Top 0) USUAL_ENTRIES 1 MOST_ENTRIES key.History ms) _ IsSoundTable (λ limit el.
+    ok_then (section (processes (profile_of number) cores) ms) _ IsSoundTable (λ read ep.
+    ok_then (some_process read) _ IsSoundTable (λ drafts es.
+    ok_then (objects ms) _ IsSoundTable (λ things eo.
+    ok_then (init_texts (value_at (key.Entries Init) ms)) _ IsSoundTable (λ texts et.
     let profile = profile_of number in
-    let whole : Table = table_with profile cores limit procs things steps in
-    let in_cores : (1 ≤ cores) × (cores ≤ MOST_CORES) = IfOk-at_ok (λ n. (1 ≤ n) × (n ≤ MOST_CORES)) ec (number_at_law (place Top 0) 1 MOST_CORES (codes "cores") ms) in
-    let in_limit : (1 ≤ limit) × (limit ≤ MOST_ENTRIES) = IfOk-at_ok (λ n. (1 ≤ n) × (n ≤ MOST_ENTRIES)) el (number_or_law (place Top 0) USUAL_ENTRIES 1 MOST_ENTRIES (codes "history") ms (omega arith, omega arith)) in
+    let in_cores : (1 ≤ cores) × (cores ≤ MOST_CORES) = IfOk-at_ok (λ n. (1 ≤ n) × (n ≤ MOST_CORES)) ec (number_at_law (place Top 0) 1 MOST_CORES key.Cores ms) in
     let some : (read ≡ drafts) × (1 ≤ length drafts) = IfOk-at_ok (λ (xs : List ProcessDraft). (read ≡ xs) × (1 ≤ length xs)) es (some_process_law read) in
-    let sound : IsSection (processes profile cores) (IsSoundDraft cores) drafts =
-    subst (IsSection (processes profile cores) (IsSoundDraft cores)) some.0
-    (IfOk-at_ok (IsSection (processes profile cores) (IsSoundDraft cores)) ep (section_law (processes profile cores) (IsSoundDraft cores) (process_law profile cores in_cores.0) ms)) in
-    let few : length drafts ≤ processes_of profile = sound.few in
+    record {
+      cores = in_cores;
+      limit = IfOk-at_ok (λ n. (1 ≤ n) × (n ≤ MOST_ENTRIES)) el (number_or_law (place Top 0) USUAL_ENTRIES 1 MOST_ENTRIES key.History ms (omega arith, omega arith));
+      processes =
+          subst (IsSection (processes profile cores) (IsSoundDraft cores)) some.0
+          (IfOk-at_ok (IsSection (processes profile cores) (IsSoundDraft cores)) ep (section_law (processes profile cores) (IsSoundDraft cores) (process_law profile cores in_cores.0) ms));
+      some = some.1;
+      objects = IfOk-at_ok AreLawful eo (objects_law ms);
+      init = IfOk-at_ok AreFew et (init_texts_law (value_at (key.Entries Init) ms));
+    }))))))))
+
+with_steps_law : (drafted : TableDraft) → IsSoundTable drafted → IfOk (with_steps drafted) IsLawful
+unfolding with_steps
+with_steps_law drafted sound =
+    let cores = drafted.cores in
+    let limit = drafted.limit in
+    let drafts = drafted.processes in
+    let things = drafted.objects in
+    ok_then (with_scripts (names_of drafts things) drafts) _ IsLawful (λ procs ew.
+    ok_then (init_list (names_of drafts things) procs things drafted.init) _ IsLawful (λ steps ei.
+    let profile = drafted.profile in
+    let whole : Table = table_with profile cores limit procs things steps in
+    let few : length drafts ≤ processes_of profile = sound.processes.few in
+    let some : 1 ≤ length drafts = sound.some in
     let fewer = few_processes profile in
-    let objects_sound : AreLawful things = IfOk-at_ok AreLawful eo (objects_law ms) in
     let same : entry_names procs ≡ process_names drafts = IfOk-at_ok (λ ps. entry_names ps ≡ process_names drafts) ew (with_scripts_names (names_of drafts things) drafts) in
     let names : AreNamesOf whole (names_of drafts things) = names_law profile cores limit drafts procs things steps same in
     let kept : length (entry_names procs) ≡ length (process_names drafts) = ap length same in
     let procs_count : length (entry_names procs) ≡ length procs = length-map procs (λ (e : ProcessConfig). e.name) in
     let drafts_count : length (process_names drafts) ≡ length drafts = length-map drafts (λ (p : ProcessDraft). p.name) in
-    let each : AllFrom (IsLawfulProcess whole) 0 procs = IfOk-at_ok (AllFrom (IsLawfulProcess whole) 0) ew (with_scripts_law whole (names_of drafts things) names drafts sound.all.each) in
-    let given : AreFew texts = IfOk-at_ok AreFew et (init_texts_law (get_member (codes "init") ms)) in
-    let init : IsInitList whole steps = IfOk-at_ok (IsInitList whole) ei (init_list_law profile cores limit procs things steps (names_of drafts things) names (omega arith) objects_sound texts given) in
-    lawful profile cores limit drafts procs things steps in_cores in_limit (omega arith, omega arith)
-    (subst (λ (ns : List (List ℕ)). IsDistinct bytes_eq ns) (sym same) sound.all.distinct) each objects_sound init))))))))))
+    let each : AllFrom (IsLawfulProcess whole) 0 procs = IfOk-at_ok (AllFrom (IsLawfulProcess whole) 0) ew (with_scripts_law whole (names_of drafts things) names drafts sound.processes.all.each) in
+    let init : IsInitList whole steps = IfOk-at_ok (IsInitList whole) ei (init_list_law profile cores limit procs things steps (names_of drafts things) names (omega arith) sound.objects drafted.init sound.init) in
+    lawful profile cores limit drafts procs things steps sound.cores sound.limit (omega arith, omega arith)
+    (subst (λ (ns : List (List ℕ)). IsDistinct bytes_eq ns) (sym same) sound.processes.all.distinct) each sound.objects init))
 
--- the table that was read is lawful
-pub lawful_of : (tree : Members) (t : Table) → reading tree ≡ Ok t → IsLawful t
-lawful_of tree t e = IfOk-at_ok IsLawful e (reading_law tree)
+-- the table with the steps of one that was read is lawful
+pub lawful_of : (drafted : TableDraft) (t : Table) → IsRead drafted → with_steps drafted ≡ Ok t → IsLawful t
+lawful_of drafted t of e =
+    IfOk-at_ok IsLawful e (with_steps_law drafted (IfOk-at_ok IsSoundTable of.read (draft_law of.tree)))

@@ -6,12 +6,13 @@ use Rattle.std.proofs.lemmas.Cmp.{nat_list_eq_equiv}
 use Rattle.std.proofs.lemmas.List.{map-append}
 use Rattle.std.proofs.lemmas.Map.Keys.{IsDistinct-push}
 use Rattle.std.proofs.lemmas.Result.{IfOk-at_ok, IfOk-weaker}
-use Rattle.toml.specs.Data.{Data, Members, get_member}
+use Rattle.toml.specs.Data.{Data, Members}
 use Rattle.apex_types.specs.Name.{is_name}
 use Rattle.apex_table.specs.Terms.{Place}
-use Rattle.apex_table.specs.Fault.{section_word}
+use Rattle.apex_table.specs.declared.key.Key.TheVariants.{Entries}
+use Rattle.apex_table.specs.Subjects.{whole}
 use Rattle.apex_table.specs.Outcome.{each, place}
-use Rattle.apex_table.specs.Keys.{known, table, array, name_at}
+use Rattle.apex_table.specs.Keys.{value_at, known, table, array, name_at}
 use Rattle.apex_table.specs.Sections.{SectionHead, EntryKind, tables, entry, next_entry, section}
 use Rattle.apex_table.proofs.Results.{ok_then, both_ok, each_keeps, each_length, all_push}
 use Rattle.apex_table.proofs.KeyLaws.{optional_law, at_most_law, IsNew, name_law}
@@ -19,12 +20,12 @@ use Rattle.apex_table.proofs.KeyLaws.{optional_law, at_most_law, IsNew, name_law
 tables_law : (head : SectionHead) (o : Option Data) → IfOk (tables head o) (λ ds. length ds ≤ head.most)
 tables_law head =
     optional_law [] _ (λ ds. length ds ≤ head.most) (omega arith) (λ d.
-    ok_then (array (place head.section 0) d) _ (λ ds. length ds ≤ head.most) (λ ds _. at_most_law (place head.section 0) head.most ds))
+    ok_then (array (whole (place head.section 0)) d) _ (λ ds. length ds ≤ head.most) (λ ds _. at_most_law (whole (place head.section 0)) head.most ds))
 
 section_few : {A : Type 0} (kind : EntryKind A) (top : Members) → IfOk (section kind top) (λ xs. length xs ≤ kind.head.most)
 unfolding section
 section_few kind top =
-    let given : Option Data = get_member (section_word kind.head.section) top in
+    let given : Option Data = value_at (Entries kind.head.section) top in
     ok_then (tables kind.head given) _ (λ xs. length xs ≤ kind.head.most) (λ ds e.
     let few : length ds ≤ kind.head.most = IfOk-at_ok (λ ds. length ds ≤ kind.head.most) e (tables_law kind.head given) in
     IfOk-weaker (each (next_entry kind) [] ds) _ _ (λ xs h. omega arith) (each_length (next_entry kind) [] ds))
@@ -59,7 +60,7 @@ module _ {A : Type 0} (kind : EntryKind A) (IsSound : A → Type 0) (reads : Rea
       let at : Place = place kind.head.section (length before + 1) in
       let taken : List (List ℕ) = map kind.name_of before in
       let Sound : A → Type 0 = λ x. AreSound kind IsSound (before ++ x ∷ []) in
-      ok_then (table at d) _ Sound (λ t _.
+      ok_then (table (whole at) d) _ Sound (λ t _.
       ok_then (known at kind.head.keys t) _ Sound (λ ms _.
       ok_then (name_at at taken ms) _ Sound (λ name e.
       let new : IsNew taken name = IfOk-at_ok (IsNew taken) e (name_law at taken ms) in
@@ -72,7 +73,7 @@ module _ {A : Type 0} (kind : EntryKind A) (IsSound : A → Type 0) (reads : Rea
   section_sound : (top : Members) → IfOk (section kind top) (AreSound kind IsSound)
   unfolding section
   section_sound top =
-      ok_then (tables kind.head (get_member (section_word kind.head.section) top)) _ (AreSound kind IsSound) (λ ds e.
+      ok_then (tables kind.head (value_at (Entries kind.head.section) top)) _ (AreSound kind IsSound) (λ ds e.
       each_keeps (next_entry kind) (AreSound kind IsSound) next_entry_law [] ds (no_entry kind IsSound))
 
   pub section_law : (top : Members) → IfOk (section kind top) (IsSection kind IsSound)

@@ -1,6 +1,6 @@
 -- What each word says still holds at the end: the later words of a row fill other fields.
 use Rattle.std.proofs.lemmas.Bool.Decides.{nat_tests}
-use Rattle.std.proofs.Common.{◌≡◌, ℕ, ◌&&◌, ◌||◌, nat_le, if◌then◌else◌, arith, slice_index_or, Bool, true, false, List, [], ◌∷◌, length, Option, Some, None, Result, Ok, Err, refl, sym, ap, subst, ◌∙◌}
+use Rattle.std.proofs.Common.{◌≡◌, ℕ, ◌+◌, ◌&&◌, ◌||◌, nat_le, if◌then◌else◌, arith, slice_index_or, Bool, true, false, List, [], ◌∷◌, length, Option, Some, None, Result, Ok, Err, refl, sym, ap, subst, ◌∙◌}
 use Rattle.std.specs.Prelude.{not}
 use Rattle.std.specs.List.{list_all, list_any, position_from}
 use Rattle.std.specs.Str.{bytes_eq}
@@ -12,13 +12,13 @@ use Rattle.apex_calls.specs.Catalogue.{row_of}
 use Rattle.apex_calls.specs.CallText.{timeout_text, mode_text, named_text}
 use Rattle.apex_calls.specs.declared.catalogue.Service.TheVariants.{SetPartitionMode}
 use Rattle.apex_calls.specs.declared.catalogue.Shape.TheVariants.{Entry, Named, Number, Timeout, Message, Mode}
-use Rattle.apex_table.specs.Terms.{Kind, Message as MessageOf, Named as NameOf, Origin, Place, RequestedMode, Service, Shape, TableFault, Timeout as TimeoutOf}
+use Rattle.apex_table.specs.Terms.{Kind, Message as MessageOf, Named as NameOf, Origin, Place, RequestedMode, Service, Shape, Subject, TableFault, Timeout as TimeoutOf}
 use Rattle.apex_table.specs.declared.fault.TableFault.TheVariants.{BadName, BadStep}
 use Rattle.apex_table.specs.Outcome.{◌>>=◌}
 use Rattle.apex_table.specs.Keys.{well_formed}
 use Rattle.apex_table.specs.Names.{Names, names_in}
 use Rattle.apex_table.specs.Words.{is_empty}
-use Rattle.apex_table.specs.Steps.{Given, has_form, have_forms, with_entry, with_number, with_timeout, with_mode, with_name, with_message, with_word, with_words}
+use Rattle.apex_table.specs.Steps.{Given, of_word, has_form, have_forms, with_entry, with_number, with_timeout, with_mode, with_name, with_message, with_word, with_words}
 use Rattle.apex_table.proofs.Spelling.{some_or_ok, made_ok, true-false, IsNumber, number_law, timeout_law, mode_law, message_law, IsPlaceOf, place_law, entry_law}
 
 -- the two shapes fill the same field
@@ -158,38 +158,38 @@ AllSay origin names (s ∷ ss) [] given = ⊥
 AllSay origin names (s ∷ ss) (w ∷ ws) given = Says origin names s w (slot s given) × AllSay origin names ss ws given
 
 module _ (at : Place) (origin : Origin) (names : Names) where
-  kept : (s t : Shape) (w : List ℕ) (g more : Given) → clash s t ≡ false → with_word at origin names g t w ≡ Ok more → slot s more ≡ slot s g
+  kept : (subject : Subject) (s t : Shape) (w : List ℕ) (g more : Given) → clash s t ≡ false → with_word subject origin names g t w ≡ Ok more → slot s more ≡ slot s g
   unfolding with_word
-  kept s (Entry k) w g more apart e =
+  kept subject s (Entry k) w g more apart e =
       let m = made_ok (with_entry g) _ more e in
       subst (λ (h : Given). slot s h ≡ slot s g) m.2 (entry_kept s k apart g m.0)
-  kept s (Named k) w g more apart e =
+  kept subject s (Named k) w g more apart e =
       let m = made_ok (λ name. with_name g origin name (position_from (bytes_eq name) 0 (names_in names k))) _ more e in
       subst (λ (h : Given). slot s h ≡ slot s g) m.2 (name_kept s k apart g origin m.0 _)
-  kept s (Number low high) w g more apart e =
+  kept subject s (Number low high) w g more apart e =
       let m = made_ok (with_number g) _ more e in
       subst (λ (h : Given). slot s h ≡ slot s g) m.2 (number_kept s low high apart g m.0)
-  kept s Timeout w g more apart e =
+  kept subject s Timeout w g more apart e =
       let m = made_ok (with_timeout g) _ more e in
       subst (λ (h : Given). slot s h ≡ slot s g) m.2 (timeout_kept s apart g m.0)
-  kept s Message w g more apart e =
+  kept subject s Message w g more apart e =
       let m = made_ok (with_message g origin) _ more e in
       subst (λ (h : Given). slot s h ≡ slot s g) m.2 (message_kept s apart g origin m.0)
-  kept s Mode w g more apart e =
+  kept subject s Mode w g more apart e =
       let m = made_ok (with_mode g) _ more e in
       subst (λ (h : Given). slot s h ≡ slot s g) m.2 (mode_kept s apart g m.0)
 
-  all_kept : (s : Shape) (ss : List Shape) (ws : List (List ℕ)) (g done : Given) → list_any (clash s) ss ≡ false → with_words at origin names g ss ws ≡ Ok done → slot s done ≡ slot s g
-  all_kept s [] ws g done apart e = ap (slot s) (sym (cc e))
-  all_kept s (t ∷ ss) [] g done apart e = ap (slot s) (sym (cc e))
-  all_kept s (t ∷ ss) (w ∷ ws) g done apart e =
-      let m = then_ok (with_word at origin names g t w) _ done e in
+  all_kept : (n : ℕ) (s : Shape) (ss : List Shape) (ws : List (List ℕ)) (g done : Given) → list_any (clash s) ss ≡ false → with_words at n origin names g ss ws ≡ Ok done → slot s done ≡ slot s g
+  all_kept n s [] ws g done apart e = ap (slot s) (sym (cc e))
+  all_kept n s (t ∷ ss) [] g done apart e = ap (slot s) (sym (cc e))
+  all_kept n s (t ∷ ss) (w ∷ ws) g done apart e =
+      let m = then_ok (with_word (of_word at origin n) origin names g t w) _ done e in
       let a = or_false (clash s t) (list_any (clash s) ss) apart in
-      all_kept s ss ws m.0 done a.1 m.2 ∙ kept s t w g m.0 a.0 m.1
+      all_kept (n + 1) s ss ws m.0 done a.1 m.2 ∙ kept (of_word at origin n) s t w g m.0 a.0 m.1
 
-  name_of_word : (w : List ℕ) (name : List ℕ) (b : Bool) → (if b then Ok w else Err (BadName at)) ≡ Ok name → (w ≡ name) × (b ≡ true)
-  name_of_word w name true e = (cc e, refl)
-  name_of_word w name false e = absurd (cc e)
+  name_of_word : (subject : Subject) (w : List ℕ) (name : List ℕ) (b : Bool) → (if b then Ok w else Err (BadName subject)) ≡ Ok name → (w ≡ name) × (b ≡ true)
+  name_of_word subject w name true e = (cc e, refl)
+  name_of_word subject w name false e = absurd (cc e)
 
   name_said : (k : Kind) (w : List ℕ) (g : Given) (o : Option ℕ) → position_from (bytes_eq w) 0 (names_in names k) ≡ o → (literal : g.literal ≡ []) → is_name w ≡ true → Says origin names (Named k) w (slot (Named k) (with_name g origin w o))
   name_said k w g (Some i) found bare good =
@@ -197,71 +197,71 @@ module _ (at : Place) (origin : Origin) (names : Names) where
       (p.below, bare, p.text)
   name_said k w g None found bare good = (tt, (refl, good), refl)
 
-  said : (s : Shape) (w : List ℕ) (g more : Given) → (fills_literal s ≡ true → g.literal ≡ []) → is_narrow s ≡ true → has_form s w ≡ true → with_word at origin names g s w ≡ Ok more → Says origin names s w (slot s more)
+  said : (subject : Subject) (s : Shape) (w : List ℕ) (g more : Given) → (fills_literal s ≡ true → g.literal ≡ []) → is_narrow s ≡ true → has_form s w ≡ true → with_word subject origin names g s w ≡ Ok more → Says origin names s w (slot s more)
   unfolding with_word
-  said (Entry k) w g more bare narrow form e =
+  said subject (Entry k) w g more bare narrow form e =
       let m = made_ok (with_entry g) _ more e in
-      subst (λ (h : Given). Says origin names (Entry k) w (slot (Entry k) h)) m.2 (entry_law at (names_in names k) w m.0 m.1)
-  said (Named k) w g more bare narrow form e =
-      let m = made_ok (λ name. with_name g origin name (position_from (bytes_eq name) 0 (names_in names k))) (well_formed at w) more e in
-      let n = name_of_word w m.0 (is_name w) m.1 in
+      subst (λ (h : Given). Says origin names (Entry k) w (slot (Entry k) h)) m.2 (entry_law subject (names_in names k) w m.0 m.1)
+  said subject (Named k) w g more bare narrow form e =
+      let m = made_ok (λ name. with_name g origin name (position_from (bytes_eq name) 0 (names_in names k))) (well_formed subject w) more e in
+      let n = name_of_word subject w m.0 (is_name w) m.1 in
       let same : with_name g origin w (position_from (bytes_eq w) 0 (names_in names k)) ≡ more =
       subst (λ name. with_name g origin name (position_from (bytes_eq name) 0 (names_in names k)) ≡ more) (sym n.0) m.2 in
       subst (λ (h : Given). Says origin names (Named k) w (slot (Named k) h)) same (name_said k w g _ refl (bare refl) n.1)
-  said (Number low high) w g more bare narrow form e =
+  said subject (Number low high) w g more bare narrow form e =
       let m = made_ok (with_number g) _ more e in
-      subst (λ (h : Given). Says origin names (Number low high) w (slot (Number low high) h)) m.2 (number_law at low high (grind (arith, nat_tests, narrow)) w m.0 m.1)
-  said Timeout w g more bare narrow form e =
+      subst (λ (h : Given). Says origin names (Number low high) w (slot (Number low high) h)) m.2 (number_law subject low high (grind (arith, nat_tests, narrow)) w m.0 m.1)
+  said subject Timeout w g more bare narrow form e =
       let m = made_ok (with_timeout g) _ more e in
-      subst (λ (h : Given). Says origin names Timeout w (slot Timeout h)) m.2 (timeout_law at w m.0 m.1)
-  said Message w g more bare narrow form e =
+      subst (λ (h : Given). Says origin names Timeout w (slot Timeout h)) m.2 (timeout_law subject w m.0 m.1)
+  said subject Message w g more bare narrow form e =
       let m = made_ok (with_message g origin) _ more e in
-      let b = message_law at w m.0 m.1 (not_true (is_empty w) (and_true (not (is_empty w)) _ form).0) in
+      let b = message_law subject w m.0 m.1 (not_true (is_empty w) (and_true (not (is_empty w)) _ form).0) in
       subst (λ (h : Given). Says origin names Message w (slot Message h)) m.2 (record { given = refl; many = refl; few = b.few }, b.text)
-  said Mode w g more bare narrow form e =
+  said subject Mode w g more bare narrow form e =
       let m = made_ok (with_mode g) _ more e in
-      subst (λ (h : Given). Says origin names Mode w (slot Mode h)) m.2 (mode_law w m.0 (some_or_ok (BadStep at) _ m.0 m.1))
+      subst (λ (h : Given). Says origin names Mode w (slot Mode h)) m.2 (mode_law w m.0 (some_or_ok (BadStep subject) _ m.0 m.1))
 
   -- a shape that fills no literal leaves it
-  literal_kept : (s : Shape) (w : List ℕ) (g more : Given) → fills_literal s ≡ false → with_word at origin names g s w ≡ Ok more → more.literal ≡ g.literal
+  literal_kept : (subject : Subject) (s : Shape) (w : List ℕ) (g more : Given) → fills_literal s ≡ false → with_word subject origin names g s w ≡ Ok more → more.literal ≡ g.literal
   unfolding with_word
-  literal_kept (Entry k) w g more fills e = ap (λ (h : Given). h.literal) (sym (made_ok (with_entry g) _ more e).2)
-  literal_kept (Named k) w g more fills e = true-false fills
-  literal_kept (Number low high) w g more fills e = ap (λ (h : Given). h.literal) (sym (made_ok (with_number g) _ more e).2)
-  literal_kept Timeout w g more fills e = ap (λ (h : Given). h.literal) (sym (made_ok (with_timeout g) _ more e).2)
-  literal_kept Message w g more fills e = true-false fills
-  literal_kept Mode w g more fills e = ap (λ (h : Given). h.literal) (sym (made_ok (with_mode g) _ more e).2)
+  literal_kept subject (Entry k) w g more fills e = ap (λ (h : Given). h.literal) (sym (made_ok (with_entry g) _ more e).2)
+  literal_kept subject (Named k) w g more fills e = true-false fills
+  literal_kept subject (Number low high) w g more fills e = ap (λ (h : Given). h.literal) (sym (made_ok (with_number g) _ more e).2)
+  literal_kept subject Timeout w g more fills e = ap (λ (h : Given). h.literal) (sym (made_ok (with_timeout g) _ more e).2)
+  literal_kept subject Message w g more fills e = true-false fills
+  literal_kept subject Mode w g more fills e = ap (λ (h : Given). h.literal) (sym (made_ok (with_mode g) _ more e).2)
 
   -- no word fills the literal
-  pub bare_literal : (ss : List Shape) (ws : List (List ℕ)) (g done : Given) → list_any fills_literal ss ≡ false → with_words at origin names g ss ws ≡ Ok done → done.literal ≡ g.literal
-  bare_literal [] ws g done bare e =
+  pub bare_literal : (n : ℕ) (ss : List Shape) (ws : List (List ℕ)) (g done : Given) → list_any fills_literal ss ≡ false → with_words at n origin names g ss ws ≡ Ok done → done.literal ≡ g.literal
+  bare_literal n [] ws g done bare e =
       let same : g ≡ done = cc e in
       ap (λ (h : Given). h.literal) (sym same)
-  bare_literal (s ∷ ss) [] g done bare e =
+  bare_literal n (s ∷ ss) [] g done bare e =
       let same : g ≡ done = cc e in
       ap (λ (h : Given). h.literal) (sym same)
-  bare_literal (s ∷ ss) (w ∷ ws) g done bare e =
-      let m = then_ok (with_word at origin names g s w) _ done e in
+  bare_literal n (s ∷ ss) (w ∷ ws) g done bare e =
+      let m = then_ok (with_word (of_word at origin n) origin names g s w) _ done e in
       let a = or_false (fills_literal s) (list_any fills_literal ss) bare in
-      bare_literal ss ws m.0 done a.1 m.2 ∙ literal_kept s w g m.0 a.0 m.1
+      bare_literal (n + 1) ss ws m.0 done a.1 m.2 ∙ literal_kept (of_word at origin n) s w g m.0 a.0 m.1
 
   -- the words after one that fills the literal do not
-  free_after : (s : Shape) (ss : List Shape) (w : List ℕ) (g more : Given) (b : Bool) → fills_literal s ≡ b → list_any (clash s) ss ≡ false → (list_any fills_literal (s ∷ ss) ≡ true → g.literal ≡ []) → with_word at origin names g s w ≡ Ok more → list_any fills_literal ss ≡ true → more.literal ≡ []
-  free_after s ss w g more true fills apart free e some = true-false (sym some ∙ sym (same_fills s fills ss) ∙ apart)
-  free_after s ss w g more false fills apart free e some = literal_kept s w g more fills e ∙ free (rw (fills) some)
+  free_after : (subject : Subject) (s : Shape) (ss : List Shape) (w : List ℕ) (g more : Given) (b : Bool) → fills_literal s ≡ b → list_any (clash s) ss ≡ false → (list_any fills_literal (s ∷ ss) ≡ true → g.literal ≡ []) → with_word subject origin names g s w ≡ Ok more → list_any fills_literal ss ≡ true → more.literal ≡ []
+  free_after subject s ss w g more true fills apart free e some = true-false (sym some ∙ sym (same_fills s fills ss) ∙ apart)
+  free_after subject s ss w g more false fills apart free e some = literal_kept subject s w g more fills e ∙ free (rw (fills) some)
 
   -- what each of the words of a row says
-  pub all_said : (ss : List Shape) (ws : List (List ℕ)) (g done : Given) → are_apart ss ≡ true → list_all is_narrow ss ≡ true → (list_any fills_literal ss ≡ true → g.literal ≡ []) → have_forms ss ws ≡ true → with_words at origin names g ss ws ≡ Ok done → AllSay origin names ss ws done
-  all_said [] [] g done apart narrow free forms e = tt
-  all_said [] (w ∷ ws) g done apart narrow free forms e = absurd (cc forms)
-  all_said (s ∷ ss) [] g done apart narrow free forms e = absurd (cc forms)
-  all_said (s ∷ ss) (w ∷ ws) g done apart narrow free forms e =
-      let m = then_ok (with_word at origin names g s w) _ done e in
+  pub all_said : (n : ℕ) (ss : List Shape) (ws : List (List ℕ)) (g done : Given) → are_apart ss ≡ true → list_all is_narrow ss ≡ true → (list_any fills_literal ss ≡ true → g.literal ≡ []) → have_forms ss ws ≡ true → with_words at n origin names g ss ws ≡ Ok done → AllSay origin names ss ws done
+  all_said n [] [] g done apart narrow free forms e = tt
+  all_said n [] (w ∷ ws) g done apart narrow free forms e = absurd (cc forms)
+  all_said n (s ∷ ss) [] g done apart narrow free forms e = absurd (cc forms)
+  all_said n (s ∷ ss) (w ∷ ws) g done apart narrow free forms e =
+      let m = then_ok (with_word (of_word at origin n) origin names g s w) _ done e in
       let a = and_true (not (list_any (clash s) ss)) (are_apart ss) apart in
-      let n = and_true (is_narrow s) (list_all is_narrow ss) narrow in
+      let thin = and_true (is_narrow s) (list_all is_narrow ss) narrow in
       let f = and_true (has_form s w) (have_forms ss ws) forms in
       let clear : list_any (clash s) ss ≡ false = not_true _ a.0 in
-      let here : Says origin names s w (slot s m.0) = said s w g m.0 (λ fills. free (rw (fills) refl)) n.0 f.0 m.1 in (
-        subst (Says origin names s w) (sym (all_kept s ss ws m.0 done clear m.2)) here,
-        all_said ss ws m.0 done a.1 n.1 (free_after s ss w g m.0 (fills_literal s) refl clear free m.1) f.1 m.2,
+      let here : Says origin names s w (slot s m.0) = said (of_word at origin n) s w g m.0 (λ fills. free (rw (fills) refl)) thin.0 f.0 m.1 in (
+        subst (Says origin names s w) (sym (all_kept (n + 1) s ss ws m.0 done clear m.2)) here,
+        all_said (n + 1) ss ws m.0 done a.1 thin.1 (free_after (of_word at origin n) s ss w g m.0 (fills_literal s) refl clear free m.1) f.1 m.2,
       )

@@ -16,7 +16,7 @@ use Rattle.apex_machine.specs.text.Texts.{byte_text, bytes_text}
 use Rattle.apex_types.specs.declared.calls.RequestedMode.TheVariants.{Idle, Normal}
 use Rattle.apex_types.specs.declared.calls.Timeout.TheVariants.{Poll, Ticks, Infinite}
 use Rattle.apex_calls.specs.CallText.{timeout_text, mode_text}
-use Rattle.apex_table.specs.Terms.{Place, RequestedMode, TableFault, Timeout}
+use Rattle.apex_table.specs.Terms.{RequestedMode, Subject, TableFault, Timeout}
 use Rattle.apex_table.specs.declared.fault.TableFault.TheVariants.{OutOfRange, UnknownName}
 use Rattle.apex_table.specs.Outcome.{made, some_or}
 use Rattle.apex_table.specs.Words.{is_empty, is_digit, pairs_value, bytes_of, few_bytes, message_bytes, number, timeout, requested_mode, entry_of}
@@ -81,31 +81,31 @@ pub record IsNumber (low high : ℕ) (w : List ℕ) (n : ℕ) : Type 0 where
   pub most : n ≤ high
   pub text : decimal n ≡ w
 
-pub number_law : (at : Place) (low high : ℕ) → high ≤ 4294967295 → (w : List ℕ) (n : ℕ) → number at low high w ≡ Ok n → IsNumber low high w n
-number_law at low high narrow w n e =
-    let l = at_least_some low (at_most high (number_of w)) n (some_or_ok (OutOfRange at) _ n e) in
+pub number_law : (subject : Subject) (low high : ℕ) → high ≤ 4294967295 → (w : List ℕ) (n : ℕ) → number subject low high w ≡ Ok n → IsNumber low high w n
+number_law subject low high narrow w n e =
+    let l = at_least_some low (at_most high (number_of w)) n (some_or_ok (OutOfRange subject) _ n e) in
     let m = at_most_some high (number_of w) n l.0 in
     let most : n ≤ high = m.1 in
     record { least = l.1; most = most; text = number_text w n m.0 (omega arith) }
 
 -- timeouts
 
-infinite_text : (at : Place) (w : List ℕ) (b : Bool) (t : Timeout) → bytes_eq w (codes "infinite") ≡ b → (if b then Ok Infinite else made Ticks (number at 1 MOST_SPAN w)) ≡ Ok t → timeout_text t ≡ w
-infinite_text at w true t same e =
+infinite_text : (subject : Subject) (w : List ℕ) (b : Bool) (t : Timeout) → bytes_eq w (codes "infinite") ≡ b → (if b then Ok Infinite else made Ticks (number subject 1 MOST_SPAN w)) ≡ Ok t → timeout_text t ≡ w
+infinite_text subject w true t same e =
     let is : Infinite ≡ t = cc e in
     subst (λ t. timeout_text t ≡ w) is (sym (bytes_same w (codes "infinite") same))
-infinite_text at w false t same e =
-    let m = made_ok Ticks (number at 1 MOST_SPAN w) t e in
-    subst (λ t. timeout_text t ≡ w) m.2 (number_law at 1 MOST_SPAN (omega arith) w m.0 m.1).text
+infinite_text subject w false t same e =
+    let m = made_ok Ticks (number subject 1 MOST_SPAN w) t e in
+    subst (λ t. timeout_text t ≡ w) m.2 (number_law subject 1 MOST_SPAN (omega arith) w m.0 m.1).text
 
-poll_text : (at : Place) (w : List ℕ) (b : Bool) (t : Timeout) → bytes_eq w (codes "0") ≡ b → (if b then Ok Poll else if bytes_eq w (codes "infinite") then Ok Infinite else made Ticks (number at 1 MOST_SPAN w)) ≡ Ok t → timeout_text t ≡ w
-poll_text at w true t same e =
+poll_text : (subject : Subject) (w : List ℕ) (b : Bool) (t : Timeout) → bytes_eq w (codes "0") ≡ b → (if b then Ok Poll else if bytes_eq w (codes "infinite") then Ok Infinite else made Ticks (number subject 1 MOST_SPAN w)) ≡ Ok t → timeout_text t ≡ w
+poll_text subject w true t same e =
     let is : Poll ≡ t = cc e in
     subst (λ t. timeout_text t ≡ w) is (sym (bytes_same w (codes "0") same))
-poll_text at w false t same e = infinite_text at w (bytes_eq w (codes "infinite")) t refl e
+poll_text subject w false t same e = infinite_text subject w (bytes_eq w (codes "infinite")) t refl e
 
-pub timeout_law : (at : Place) (w : List ℕ) (t : Timeout) → timeout at w ≡ Ok t → timeout_text t ≡ w
-timeout_law at w t e = poll_text at w (bytes_eq w (codes "0")) t refl e
+pub timeout_law : (subject : Subject) (w : List ℕ) (t : Timeout) → timeout subject w ≡ Ok t → timeout_text t ≡ w
+timeout_law subject w t e = poll_text subject w (bytes_eq w (codes "0")) t refl e
 
 -- modes
 
@@ -173,9 +173,9 @@ pub record AreBytes (w bytes : List ℕ) : Type 0 where
   pub few : length bytes ≤ MOST_MESSAGE
   pub text : bytes_text bytes ≡ w
 
-pub message_law : (at : Place) (w bytes : List ℕ) → message_bytes at w ≡ Ok bytes → is_empty w ≡ false → AreBytes w bytes
-message_law at w bytes e some =
-    let f = few_bytes_some (bytes_of w) bytes (some_or_ok (OutOfRange at) _ bytes e) in
+pub message_law : (subject : Subject) (w bytes : List ℕ) → message_bytes subject w ≡ Ok bytes → is_empty w ≡ false → AreBytes w bytes
+message_law subject w bytes e some =
+    let f = few_bytes_some (bytes_of w) bytes (some_or_ok (OutOfRange subject) _ bytes e) in
     record { few = f.1; text = by_mark w bytes (bytes_eq w (codes "-")) refl f.0 some }
 
 -- entries
@@ -209,5 +209,5 @@ place_law name names i e =
     let same : p.0 ≡ i = omega (arith, p.1) in
     subst (λ j. IsPlaceOf names name j) same p.2
 
-pub entry_law : (at : Place) (names : List (List ℕ)) (name : List ℕ) (i : ℕ) → entry_of at names name ≡ Ok i → IsPlaceOf names name i
-entry_law at names name i e = place_law name names i (some_or_ok (UnknownName at) _ i e)
+pub entry_law : (subject : Subject) (names : List (List ℕ)) (name : List ℕ) (i : ℕ) → entry_of subject names name ≡ Ok i → IsPlaceOf names name i
+entry_law subject names name i e = place_law name names i (some_or_ok (UnknownName subject) _ i e)

@@ -25,7 +25,7 @@ use Rattle.apex_table.specs.declared.fault.TableFault.TheVariants.{BadStep}
 use Rattle.apex_table.specs.Outcome.{made, some_or}
 use Rattle.apex_table.specs.Names.{Names, names_in}
 use Rattle.apex_table.specs.Words.{words}
-use Rattle.apex_table.specs.Steps.{Given, nothing, have_forms, with_words, step_with, row_step, step_of, step}
+use Rattle.apex_table.specs.Steps.{Given, nothing, of_word, misfit, have_forms, with_words, step_with, row_step, step_of, step}
 use Rattle.apex_table.specs.Scripts.{script}
 use Rattle.apex_table.proofs.Results.{ok_then, AllFrom, all_any, each_from, each_length}
 use Rattle.apex_table.proofs.Spelling.{some_or_ok}
@@ -146,20 +146,20 @@ pub record IsReadStep (table : Table) (origin : Origin) (names : Names) (ws : Li
 
 module _ (at : Place) (origin : Origin) (names : Names) where
   -- what the words of a row say
-  row_said : (r : Row) → IsRow r → (ws : List (List ℕ)) (done : Given) → have_forms r.shapes ws ≡ true → with_words at origin names nothing r.shapes ws ≡ Ok done → AllSay origin names r.shapes ws done
+  row_said : (r : Row) → IsRow r → (ws : List (List ℕ)) (done : Given) → have_forms r.shapes ws ≡ true → with_words at 1 origin names nothing r.shapes ws ≡ Ok done → AllSay origin names r.shapes ws done
   row_said r own ws done forms e =
-      all_said at origin names r.shapes ws nothing done
+      all_said at origin names 1 r.shapes ws nothing done
       (subst (λ (r : Row). are_apart r.shapes ≡ true) own.own (apart_row r.service))
       (subst (λ (r : Row). list_all is_narrow r.shapes ≡ true) own.own (narrow_row r.service))
       (λ fills. refl) forms e
 
-  pub in_range : (r : Row) → IsRow r → (ws : List (List ℕ)) (done : Given) → have_forms r.shapes ws ≡ true → with_words at origin names nothing r.shapes ws ≡ Ok done → AllByRecursion (IsInRange done.arguments) (row_of r.service).shapes
+  pub in_range : (r : Row) → IsRow r → (ws : List (List ℕ)) (done : Given) → have_forms r.shapes ws ≡ true → with_words at 1 origin names nothing r.shapes ws ≡ Ok done → AllByRecursion (IsInRange done.arguments) (row_of r.service).shapes
   in_range r own ws done forms e =
       subst (λ (r : Row). AllByRecursion (IsInRange done.arguments) r.shapes) (sym own.own)
       (from_said origin names done (IsInRange done.arguments) (range_of origin names done) r.shapes ws (row_said r own ws done forms e))
 
   module _ (table : Table) (same : AreNamesOf table names) where
-    row_law : (r : Row) → IsRow r → (ws : List (List ℕ)) (done : Given) → have_forms r.shapes ws ≡ true → with_words at origin names nothing r.shapes ws ≡ Ok done → IsReadStep table origin names (r.word ∷ ws) (step_with r done)
+    row_law : (r : Row) → IsRow r → (ws : List (List ℕ)) (done : Given) → have_forms r.shapes ws ≡ true → with_words at 1 origin names nothing r.shapes ws ≡ Ok done → IsReadStep table origin names (r.word ∷ ws) (step_with r done)
     row_law r own ws done forms e =
         let said : AllSay origin names r.shapes ws done = row_said r own ws done forms e in
         let back : r ≡ row_of r.service = sym own.own in
@@ -170,7 +170,7 @@ module _ (at : Place) (origin : Origin) (names : Names) where
         subst (λ (r : Row). AllByRecursion (GivesLiteral origin done) r.shapes) back
         (from_said origin names done (GivesLiteral origin done) (gives_of origin names done) r.shapes ws said) in
         let bare : list_any fills_literal (row_of r.service).shapes ≡ false → done.literal ≡ [] =
-        λ none. bare_literal at origin names r.shapes ws nothing done (subst (λ (r : Row). list_any fills_literal r.shapes ≡ false) own.own none) e in
+        λ none. bare_literal at origin names 1 r.shapes ws nothing done (subst (λ (r : Row). list_any fills_literal r.shapes ≡ false) own.own none) e in
         record {
           lawful = record {
             known = known_call table done.arguments r.service known;
@@ -182,10 +182,10 @@ module _ (at : Place) (origin : Origin) (names : Names) where
               ∙ ap (λ rest. r.word ∷ rest) (texts_of origin names done literals same r.shapes ws said);
         }
 
-    by_forms : (r : Row) → IsRow r → (ws : List (List ℕ)) (b : Bool) → have_forms r.shapes ws ≡ b → IfOk (if b then made (step_with r) (with_words at origin names nothing r.shapes ws) else Err (BadStep at)) (IsReadStep table origin names (r.word ∷ ws))
-    by_forms r own ws true forms = of_words (with_words at origin names nothing r.shapes ws) refl
+    by_forms : (r : Row) → IsRow r → (ws : List (List ℕ)) (b : Bool) → have_forms r.shapes ws ≡ b → IfOk (if b then made (step_with r) (with_words at 1 origin names nothing r.shapes ws) else Err (BadStep (misfit at origin r.shapes ws))) (IsReadStep table origin names (r.word ∷ ws))
+    by_forms r own ws true forms = of_words (with_words at 1 origin names nothing r.shapes ws) refl
       where
-        of_words : (read : Result Given TableFault) → with_words at origin names nothing r.shapes ws ≡ read → IfOk (made (step_with r) read) (IsReadStep table origin names (r.word ∷ ws))
+        of_words : (read : Result Given TableFault) → with_words at 1 origin names nothing r.shapes ws ≡ read → IfOk (made (step_with r) read) (IsReadStep table origin names (r.word ∷ ws))
         of_words (Ok done) e = row_law r own ws done forms e
         of_words (Err fault) e = tt
     by_forms r own ws false forms = tt
@@ -197,8 +197,8 @@ module _ (at : Place) (origin : Origin) (names : Names) where
     step_of_law : (ws : List (List ℕ)) → IfOk (step_of at origin names ws) (IsReadStep table origin names ws)
     step_of_law [] = tt
     step_of_law (service ∷ ws) =
-        ok_then (some_or (BadStep at) (row_in rows service)) _ (IsReadStep table origin names (service ∷ ws)) (λ row e.
-        let found : row_in rows service ≡ Some row = some_or_ok (BadStep at) _ row e in
+        ok_then (some_or (BadStep (of_word at origin 0)) (row_in rows service)) _ (IsReadStep table origin names (service ∷ ws)) (λ row e.
+        let found : row_in rows service ≡ Some row = some_or_ok (BadStep (of_word at origin 0)) _ row e in
         let own : IsRow row = subst (λ o. IfSome o IsRow) found (row_of_word_law service) in
         subst (λ word. IfOk (row_step at origin names row ws) (IsReadStep table origin names (word ∷ ws))) (found_word rows service row found) (row_step_law row own ws))
 

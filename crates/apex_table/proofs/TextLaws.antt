@@ -1,14 +1,11 @@
 -- Each step of a table that is read has one text, which is its call as a line writes it.
 use Rattle.std.proofs.Common.{◌≡◌, ℕ, zero, suc, ◌+◌, ◌<◌, ◌≤◌, slice_index_or, true, List, [], ◌∷◌, length, map, Option, Some, None, Result, Ok, Err, IfOk, refl, sym, ap, subst, ◌∙◌, arith}
-use Rattle.std.specs.Prelude.{codes}
 use Rattle.std.specs.List.{AllByRecursion, IsDistinct, position_from}
 use Rattle.std.specs.Str.{bytes_eq}
 use Rattle.std.proofs.lemmas.List.{length-map}
 use Rattle.std.proofs.lemmas.Result.{IfOk-at_ok}
-use Rattle.toml.specs.Data.{Members, get_member}
-use Rattle.apex_types.specs.declared.limits.TheConstants.{MOST_CORES, MOST_ENTRIES, MOST_PROFILE, USUAL_ENTRIES}
+use Rattle.apex_types.specs.declared.limits.TheConstants.{MOST_CORES}
 use Rattle.apex_types.specs.Name.{is_name}
-use Rattle.apex_machine.specs.table.Profiles.{profile_of}
 use Rattle.apex_machine.specs.table.Table.{Table, ProcessConfig, SemaphoreConfig, BufferConfig, BlackboardConfig, EventFlagConfig, MutexConfig, no_process, no_semaphore, no_buffer, no_blackboard, no_event_flag, no_mutex, process_config, Step, step_at, no_step, literal_text, IsLawful}
 use Rattle.apex_types.specs.declared.calls.Origin.TheVariants as origin
 use Rattle.apex_calls.specs.CallText.{call_text, call_words, count_of, name_of, spaced}
@@ -17,17 +14,15 @@ use Rattle.apex_table.specs.declared.fault.Section.TheVariants as sections
 use Rattle.apex_table.specs.declared.fault.TableFault.TheVariants.{BadInitStep}
 use Rattle.apex_table.specs.Terms.{Kind, Origin, Place, Profile, TableFault}
 use Rattle.apex_table.specs.Outcome.{place, Gives}
-use Rattle.apex_table.specs.Keys.{known, number_at, number_or}
-use Rattle.apex_table.specs.Sections.{section}
-use Rattle.apex_table.specs.Processes.{ProcessDraft, process_names, some_process, processes}
-use Rattle.apex_table.specs.Objects.{Objects, objects}
+use Rattle.apex_table.specs.Processes.{ProcessDraft, process_names}
+use Rattle.apex_table.specs.Objects.{Objects}
 use Rattle.apex_table.specs.Names.{Names, names_in, names_of}
-use Rattle.apex_table.specs.Steps.{step}
+use Rattle.apex_table.specs.Steps.{of_word, step}
 use Rattle.apex_table.specs.StepTexts.{table_names, HasText, HaveTexts}
 use Rattle.apex_table.specs.Scripts.{script, next_entry, with_scripts}
 use Rattle.apex_table.specs.DefaultInit.{default_init}
-use Rattle.apex_table.specs.Init.{is_init_call, init_step, next_init_step, init_steps, init_texts, init_list}
-use Rattle.apex_table.specs.Reading.{top_keys, table_with, reading}
+use Rattle.apex_table.specs.Init.{is_init_call, init_step, next_init_step, init_steps, init_list}
+use Rattle.apex_table.specs.Reading.{table_with, TableDraft, IsRead, with_steps}
 use Rattle.apex_table.proofs.Results.{ok_then, ok_if, AllFrom, all_any, all_from_any, all_from_start, each_from}
 use Rattle.apex_table.proofs.Slots.{name_at}
 use Rattle.apex_table.proofs.StepLaws.{AreNamesOf, text_law}
@@ -156,7 +151,7 @@ module _ (names : Names) where
   unfolding init_step
   init_step_written at from text =
       ok_then (step at from names text) _ (IsWritten at from names) (λ s e.
-      ok_if (is_init_call s.call) (BadInitStep at) s (IsWritten at from names) (λ _. record { text = text; read = e }))
+      ok_if (is_init_call s.call) (BadInitStep (of_word at from 0)) s (IsWritten at from names) (λ _. record { text = text; read = e }))
 
   init_written : (texts : List (List ℕ)) → IfOk (init_steps names texts) InitWritten
   init_written texts =
@@ -206,26 +201,19 @@ module _ (profile : Profile) (cores limit : ℕ) (drafts : List ProcessDraft) (p
       (subst (λ names. Written names procs) same (IfOk-at_ok (Written (names_of drafts things)) ew (scripts_written (names_of drafts things) drafts)))
       (IfOk-at_ok (InitWritten (table_names Whole)) (subst (λ names. init_list names procs things texts ≡ Ok steps) same ei) (list_written lawful texts))
 
-reading_texts : (tree : Members) → IfOk (reading tree) (λ t. IsLawful t → HaveTexts t)
-unfolding reading
-reading_texts tree =
-    ok_then (known (place sections.Top 0) top_keys tree) _ (λ t. IsLawful t → HaveTexts t) (λ ms _.
-    ok_then (number_or (place sections.Top 0) 1 1 MOST_PROFILE (codes "profile") ms) _ (λ t. IsLawful t → HaveTexts t) (λ number _.
-    ok_then (number_at (place sections.Top 0) 1 MOST_CORES (codes "cores") ms) _ (λ t. IsLawful t → HaveTexts t) (λ cores _.
-    ok_then (number_or (place sections.Top 0) USUAL_ENTRIES 1 MOST_ENTRIES (codes "history") ms) _ (λ t. IsLawful t → HaveTexts t) (λ limit _.
-    ok_then (section (processes (profile_of number) cores) ms) _ (λ t. IsLawful t → HaveTexts t) (λ read _.
-    ok_then (some_process read) _ (λ t. IsLawful t → HaveTexts t) (λ drafts _.
-    ok_then (objects ms) _ (λ t. IsLawful t → HaveTexts t) (λ things _.
-    ok_then (init_texts (get_member (codes "init") ms)) _ (λ t. IsLawful t → HaveTexts t) (λ texts _.
-    ok_then (with_scripts (names_of drafts things) drafts) _ (λ t. IsLawful t → HaveTexts t) (λ procs ew.
-    ok_then (init_list (names_of drafts things) procs things texts) _ (λ t. IsLawful t → HaveTexts t) (λ steps ei lawful.
-    whole_texts (profile_of number) cores limit drafts procs things steps lawful texts ew ei))))))))))
+steps_texts : (drafted : TableDraft) → IfOk (with_steps drafted) (λ t. IsLawful t → HaveTexts t)
+unfolding with_steps
+steps_texts drafted =
+    let names = names_of drafted.processes drafted.objects in
+    ok_then (with_scripts names drafted.processes) _ (λ t. IsLawful t → HaveTexts t) (λ procs ew.
+    ok_then (init_list names procs drafted.objects drafted.init) _ (λ t. IsLawful t → HaveTexts t) (λ steps ei lawful.
+    whole_texts drafted.profile drafted.cores drafted.limit drafted.processes procs drafted.objects steps lawful drafted.init ew ei))
 
--- each step of the table that was read has one text
-pub texts_of_tree : (tree : Members) (t : Table) → reading tree ≡ Ok t → HaveTexts t
-texts_of_tree tree t e = IfOk-at_ok (λ t. IsLawful t → HaveTexts t) e (reading_texts tree) (lawful_of tree t e)
+-- each step of the table with the steps of one that was read has one text
+texts_of_draft : (drafted : TableDraft) (t : Table) → IsRead drafted → with_steps drafted ≡ Ok t → HaveTexts t
+texts_of_draft drafted t of e = IfOk-at_ok (λ t. IsLawful t → HaveTexts t) e (steps_texts drafted) (lawful_of drafted t of e)
 
--- and so it is with what a call gives, where it gives the reading's answer
-pub texts_given : (r : Result Table TableFault) (tree : Members) → Gives (λ (t : Table). t) r (reading tree) → IfOk r HaveTexts
-texts_given (Ok t) tree given = texts_of_tree tree t given
-texts_given (Err fault) tree given = tt
+-- and so it is with what a call gives, where it gives that table
+pub texts_given : (r : Result Table TableFault) (drafted : TableDraft) → IsRead drafted → Gives (λ (t : Table). t) r (with_steps drafted) → IfOk r HaveTexts
+texts_given (Ok t) drafted of given = texts_of_draft drafted t of given
+texts_given (Err fault) drafted of given = tt

@@ -1,9 +1,10 @@
 -- The kind of blackboards.
-use Rattle.std.specs.Prelude.{codes, ℕ, List, [], ◌∷◌, map, Result, Ok}
+use Rattle.std.specs.Prelude.{ℕ, List, [], ◌∷◌, map, Result, Ok}
 use Rattle.toml.specs.Data.{Members}
 use Rattle.apex_types.specs.declared.limits.TheConstants.{MOST_MESSAGE, MOST_OBJECTS}
 use Rattle.apex_machine.specs.table.Table.{BlackboardConfig}
 use Rattle.apex_table.specs.Terms.{Place, TableFault}
+use Rattle.apex_table.specs.declared.key.Key.TheVariants as key
 use Rattle.apex_table.specs.declared.fault.Section.TheVariants.{Blackboard}
 use Rattle.apex_table.specs.Outcome.{◌>>=◌}
 use Rattle.apex_table.specs.Keys.{number_at}
@@ -16,7 +17,7 @@ blackboard_names blackboards = map (λ (b : BlackboardConfig). b.name) blackboar
 -- a blackboard of a name
 unfoldable pub blackboard : Place → List ℕ → Members → Result BlackboardConfig TableFault
 blackboard at name ms = do
-  length ← number_at at 1 MOST_MESSAGE (codes "length") ms
+  length ← number_at at 1 MOST_MESSAGE key.Length ms
   Ok (record { name = name; length = length })
 
 -- the kind of blackboards
@@ -26,7 +27,7 @@ blackboards = record {
       record {
         section = Blackboard;
         most = MOST_OBJECTS;
-        keys = codes "name" ∷ codes "length" ∷ [];
+        keys = key.Name ∷ key.Length ∷ [];
       };
   name_of = λ b. b.name;
   read = blackboard;

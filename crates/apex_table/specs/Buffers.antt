@@ -1,9 +1,10 @@
 -- The kind of buffers.
-use Rattle.std.specs.Prelude.{codes, ℕ, List, [], ◌∷◌, map, Result, Ok}
+use Rattle.std.specs.Prelude.{ℕ, List, [], ◌∷◌, map, Result, Ok}
 use Rattle.toml.specs.Data.{Members}
 use Rattle.apex_types.specs.declared.limits.TheConstants.{MOST_MESSAGE, MOST_MESSAGES, MOST_OBJECTS}
 use Rattle.apex_machine.specs.table.Table.{BufferConfig}
 use Rattle.apex_table.specs.Terms.{Place, TableFault}
+use Rattle.apex_table.specs.declared.key.Key.TheVariants as key
 use Rattle.apex_table.specs.declared.fault.Section.TheVariants.{Buffer}
 use Rattle.apex_table.specs.Outcome.{◌>>=◌}
 use Rattle.apex_table.specs.Keys.{number_at, discipline_at}
@@ -16,8 +17,8 @@ buffer_names buffers = map (λ (b : BufferConfig). b.name) buffers
 -- a buffer of a name
 unfoldable pub buffer : Place → List ℕ → Members → Result BufferConfig TableFault
 buffer at name ms = do
-  length ← number_at at 1 MOST_MESSAGE (codes "length") ms
-  capacity ← number_at at 1 MOST_MESSAGES (codes "capacity") ms
+  length ← number_at at 1 MOST_MESSAGE key.Length ms
+  capacity ← number_at at 1 MOST_MESSAGES key.Capacity ms
   discipline ← discipline_at at ms
   Ok (record { name = name; length = length; capacity = capacity; discipline = discipline })
 
@@ -28,7 +29,7 @@ buffers = record {
       record {
         section = Buffer;
         most = MOST_OBJECTS;
-        keys = codes "name" ∷ codes "length" ∷ codes "capacity" ∷ codes "discipline" ∷ [];
+        keys = key.Name ∷ key.Length ∷ key.Capacity ∷ key.Discipline ∷ [];
       };
   name_of = λ b. b.name;
   read = buffer;

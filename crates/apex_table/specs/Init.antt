@@ -3,22 +3,23 @@ use Rattle.std.specs.Prelude.{ℕ, ◌+◌, Bool, if◌then◌else◌, List, [],
 use Rattle.toml.specs.Data.{Data}
 use Rattle.apex_types.specs.declared.limits.TheConstants.{MOST_INIT_STEPS}
 use Rattle.apex_machine.specs.table.Table.{ProcessConfig, Step}
-use Rattle.apex_table.specs.Terms.{Call, Origin, Place, TableFault}
+use Rattle.apex_table.specs.Terms.{Call, Origin, Place, Subject, TableFault}
 use Rattle.apex_types.specs.declared.calls.Origin.TheVariants as origin
 use Rattle.apex_calls.specs.Catalogue.{row_of}
 use Rattle.apex_calls.specs.Parts.{parts_of}
 use Rattle.apex_table.specs.declared.fault.Section.TheVariants.{Init}
 use Rattle.apex_table.specs.declared.fault.TableFault.TheVariants.{BadInitStep}
+use Rattle.apex_table.specs.Subjects.{whole, at_step}
 use Rattle.apex_table.specs.Outcome.{◌>>=◌, each, place}
 use Rattle.apex_table.specs.Keys.{text, array, at_most}
-use Rattle.apex_table.specs.Steps.{step}
+use Rattle.apex_table.specs.Steps.{of_word, step}
 use Rattle.apex_table.specs.Objects.{Objects}
 use Rattle.apex_table.specs.Names.{Names}
 use Rattle.apex_table.specs.DefaultInit.{default_init}
 
 -- the text of the step after those before
 abbrev pub next_text : List (List ℕ) → Data → Result (List ℕ) TableFault
-next_text before d = text (place Init (length before + 1)) d
+next_text before d = text (at_step (place Init (length before + 1)) (length before)) d
 
 -- the texts of the steps
 abbrev pub texts : List Data → Result (List (List ℕ)) TableFault
@@ -27,8 +28,8 @@ texts ds = each next_text [] ds
 -- the texts of an init list
 unfoldable pub given_texts : Data → Result (List (List ℕ)) TableFault
 given_texts d = do
-  ds ← array (place Init 0) d
-  few ← at_most (place Init 0) MOST_INIT_STEPS ds
+  ds ← array (whole (place Init 0)) d
+  few ← at_most (whole (place Init 0)) MOST_INIT_STEPS ds
   texts few
 
 -- the texts of the init list, if the table gives one
@@ -40,13 +41,13 @@ init_texts (Some d) = given_texts d >>= λ ts. Ok (Some ts)
 abbrev pub is_init_call : Call → Bool
 is_init_call call = (row_of (parts_of call).0).may_init
 
--- a step that an init list may have
-abbrev pub init_call : Place → Step → Result Step TableFault
-init_call at step = if is_init_call step.call then Ok step else Err (BadInitStep at)
+-- a step that an init list may have; otherwise its service is at fault
+abbrev pub init_call : Subject → Step → Result Step TableFault
+init_call subject step = if is_init_call step.call then Ok step else Err (BadInitStep subject)
 
 -- the step of this origin by its text; last it is tested whether an init list may have it
 unfoldable pub init_step : Place → Origin → Names → List ℕ → Result Step TableFault
-init_step at origin names text = step at origin names text >>= init_call at
+init_step at origin names text = step at origin names text >>= init_call (of_word at origin 0)
 
 -- the step after those before
 abbrev pub next_init_step : Names → List Step → List ℕ → Result Step TableFault

@@ -1,5 +1,6 @@
 pub mod Terms
 pub mod Fault
+pub mod Subjects
 pub mod Outcome
 pub mod Keys
 pub mod Sections

@@ -1,29 +1,30 @@
 -- *Reading*: the table of a text, or the first fault in the order of checks.
-use Rattle.std.specs.Prelude.{codes, ℕ, if◌then◌else◌, List, [], ◌∷◌, Option, None, Result, Ok}
+use Rattle.std.specs.Prelude.{◌≡◌, ℕ, if◌then◌else◌, List, [], ◌∷◌, Option, None, Result, Ok}
 use Rattle.std.specs.Str.{is_utf8}
-use Rattle.toml.specs.Data.{Members, get_member}
+use Rattle.toml.specs.Data.{Members}
 use Rattle.toml.specs.Parse.{parse_document}
 use Rattle.apex_types.specs.declared.limits.TheConstants.{MOST_CORES, MOST_ENTRIES, MOST_PROFILE, USUAL_ENTRIES}
 use Rattle.apex_machine.specs.table.Profiles.{profile_of}
 use Rattle.apex_machine.specs.table.Table.{ProcessConfig, Step, Table}
-use Rattle.apex_table.specs.declared.fault.Section.TheVariants.{Top}
-use Rattle.apex_table.specs.Terms.{Profile, TableFault}
+use Rattle.apex_table.specs.declared.fault.Section.TheVariants.{Top, Process, Semaphore, Buffer, Blackboard, EventFlag, Mutex, Init}
+use Rattle.apex_table.specs.declared.key.Key.TheVariants as key
+use Rattle.apex_table.specs.Terms.{Key, Profile, TableFault}
 use Rattle.apex_table.specs.declared.fault.TableFault.TheVariants.{NotToml}
 use Rattle.apex_table.specs.Outcome.{◌>>=◌, some_or, place}
-use Rattle.apex_table.specs.Keys.{known, number_at, number_or}
+use Rattle.apex_table.specs.Keys.{known, number_at, number_or, value_at}
 use Rattle.apex_table.specs.Sections.{section}
-use Rattle.apex_table.specs.Processes.{some_process, processes}
+use Rattle.apex_table.specs.Processes.{ProcessDraft, some_process, processes}
 use Rattle.apex_table.specs.Objects.{Objects, objects}
 use Rattle.apex_table.specs.Names.{names_of}
 use Rattle.apex_table.specs.Scripts.{with_scripts}
 use Rattle.apex_table.specs.Init.{init_texts, init_list}
 
 -- the keys of the table's top
-abbrev pub top_keys : List (List ℕ)
+abbrev pub top_keys : List Key
 top_keys =
-    codes "profile" ∷ codes "cores" ∷ codes "history" ∷ codes "process"
-    ∷ codes "semaphore" ∷ codes "buffer" ∷ codes "blackboard" ∷ codes "event"
-    ∷ codes "mutex" ∷ codes "init" ∷ []
+    key.Profile ∷ key.Cores ∷ key.History ∷ key.Entries Process
+    ∷ key.Entries Semaphore ∷ key.Entries Buffer ∷ key.Entries Blackboard ∷ key.Entries EventFlag
+    ∷ key.Entries Mutex ∷ key.Entries Init ∷ []
 
 -- the table of these parts
 abbrev pub table_with : Profile → ℕ → ℕ → List ProcessConfig → Objects → List Step → Table
@@ -40,20 +41,52 @@ table_with profile cores limit processes objects init = record {
   init = init;
 }
 
--- the table of TOML's tree
-unfoldable pub reading : Members → Result Table TableFault
-reading tree = do
+-- a table whose steps are still texts
+pub record TableDraft : Type 0 where
+  pub profile : Profile
+  pub cores : ℕ
+  pub limit : ℕ
+  pub processes : List ProcessDraft
+  pub objects : Objects
+  pub init : Option (List (List ℕ))
+
+-- the table of TOML's tree, its steps still as texts
+unfoldable pub draft : Members → Result TableDraft TableFault
+draft tree = do
   ms ← known (place Top 0) top_keys tree
-  number ← number_or (place Top 0) 1 1 MOST_PROFILE (codes "profile") ms
-  cores ← number_at (place Top 0) 1 MOST_CORES (codes "cores") ms
-  limit ← number_or (place Top 0) USUAL_ENTRIES 1 MOST_ENTRIES (codes "history") ms
+  number ← number_or (place Top 0) 1 1 MOST_PROFILE key.Profile ms
+  cores ← number_at (place Top 0) 1 MOST_CORES key.Cores ms
+  limit ← number_or (place Top 0) USUAL_ENTRIES 1 MOST_ENTRIES key.History ms
   drafts ← section (processes (profile_of number) cores) ms
   some ← some_process drafts
   things ← objects ms
-  texts ← init_texts (get_member (codes "init") ms)
-  procs ← with_scripts (names_of some things) some
-  steps ← init_list (names_of some things) procs things texts
-  Ok (table_with (profile_of number) cores limit procs things steps)
+  texts ← init_texts (value_at (key.Entries Init) ms)
+  Ok (record {
+    profile = profile_of number;
+    cores = cores;
+    limit = limit;
+    processes = some;
+    objects = things;
+    init = texts;
+  })
+
+-- the table that is drafted was read from a tree
+pub record IsRead (drafted : TableDraft) : Type 0 where
+  pub tree : Members
+  pub read : draft tree ≡ Ok drafted
+
+-- the table, with the steps of its scripts and its init list
+unfoldable pub with_steps : TableDraft → Result Table TableFault
+with_steps drafted = do
+  procs ← with_scripts (names_of drafted.processes drafted.objects) drafted.processes
+  steps ← init_list (names_of drafted.processes drafted.objects) procs drafted.objects drafted.init
+  Ok (table_with drafted.profile drafted.cores drafted.limit procs drafted.objects steps)
+
+-- the table of TOML's tree
+unfoldable pub reading : Members → Result Table TableFault
+reading tree = do
+  drafted ← draft tree
+  with_steps drafted
 
 -- TOML's tree of a text
 abbrev pub tree_of : List ℕ → Option Members

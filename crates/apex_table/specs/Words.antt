@@ -5,7 +5,7 @@ use Rattle.std.specs.Char.{digit_value, is_ascii_digit}
 use Rattle.std.specs.List.{list_all, slice_split, position_from}
 use Rattle.std.specs.Str.{bytes_eq}
 use Rattle.apex_types.specs.declared.limits.TheConstants.{MOST_MESSAGE, MOST_SPAN}
-use Rattle.apex_table.specs.Terms.{Place, RequestedMode, TableFault, Timeout}
+use Rattle.apex_table.specs.Terms.{RequestedMode, Subject, TableFault, Timeout}
 use Rattle.apex_types.specs.declared.calls.RequestedMode.TheVariants.{Idle, Normal}
 use Rattle.apex_types.specs.declared.calls.Timeout.TheVariants.{Poll, Ticks, Infinite}
 use Rattle.apex_types.specs.Numbers.{number_of, at_least, at_most}
@@ -30,15 +30,16 @@ abbrev pub is_timeout : List ℕ → Bool
 is_timeout word = bytes_eq word (codes "infinite") || is_number word
 
 -- a number from low to high
-abbrev pub number : Place → ℕ → ℕ → List ℕ → Result ℕ TableFault
-number at low high word = some_or (OutOfRange at) (at_least low (at_most high (number_of word)))
+abbrev pub number : Subject → ℕ → ℕ → List ℕ → Result ℕ TableFault
+number subject low high word =
+    some_or (OutOfRange subject) (at_least low (at_most high (number_of word)))
 
 -- a timeout: `0`, 1 to 4,294,967,295 ticks, or `infinite`
-abbrev pub timeout : Place → List ℕ → Result Timeout TableFault
-timeout at word =
+abbrev pub timeout : Subject → List ℕ → Result Timeout TableFault
+timeout subject word =
     if bytes_eq word (codes "0") then Ok Poll else
     if bytes_eq word (codes "infinite") then Ok Infinite else
-    made Ticks (number at 1 MOST_SPAN word)
+    made Ticks (number subject 1 MOST_SPAN word)
 
 -- the mode that a word asks for
 abbrev pub requested_mode : List ℕ → Option RequestedMode
@@ -71,9 +72,11 @@ abbrev pub few_bytes : List ℕ → Option (List ℕ)
 few_bytes bytes = if nat_le (length bytes) MOST_MESSAGE then Some bytes else None
 
 -- the bytes of a message, which are 64 at the most
-abbrev pub message_bytes : Place → List ℕ → Result (List ℕ) TableFault
-message_bytes at word = some_or (OutOfRange at) (option_and_then few_bytes (bytes_of word))
+abbrev pub message_bytes : Subject → List ℕ → Result (List ℕ) TableFault
+message_bytes subject word =
+    some_or (OutOfRange subject) (option_and_then few_bytes (bytes_of word))
 
 -- the place, counted from 0, of the entry of this name
-abbrev pub entry_of : Place → List (List ℕ) → List ℕ → Result ℕ TableFault
-entry_of at names name = some_or (UnknownName at) (position_from (bytes_eq name) 0 names)
+abbrev pub entry_of : Subject → List (List ℕ) → List ℕ → Result ℕ TableFault
+entry_of subject names name =
+    some_or (UnknownName subject) (position_from (bytes_eq name) 0 names)

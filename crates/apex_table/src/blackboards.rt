@@ -3,6 +3,7 @@ ghost use Rattle.apex_table.specs.Blackboards.{blackboards};
 
 use crate::configs::BlackboardConfig;
 use crate::fault::{Place, Section, TableFault};
+use crate::key::Key;
 use crate::keys;
 use crate::named::Named;
 use crate::sections::{EntryKind, Head};
@@ -33,7 +34,7 @@ impl<'a> EntryKind<'a> for Blackboards {
         Head {
             section: Section::Blackboard,
             most: MOST_OBJECTS,
-            keys: &["name", "length"],
+            keys: &[Key::Name, Key::Length],
         }
     }
 
@@ -45,7 +46,7 @@ impl<'a> EntryKind<'a> for Blackboards {
         name: Name,
         table: &'a Table,
     ) -> Result<BlackboardConfig, TableFault> {
-        let length = keys::number_at(at, 1, MOST_MESSAGE as u32, table, "length")?;
+        let length = keys::number_at(at, 1, MOST_MESSAGE as u32, table, Key::Length)?;
         Ok(BlackboardConfig::new(name, length as u8))
     }
 }

@@ -3,6 +3,7 @@ ghost use Rattle.apex_table.specs.Buffers.{buffers};
 
 use crate::configs::BufferConfig;
 use crate::fault::{Place, Section, TableFault};
+use crate::key::Key;
 use crate::keys;
 use crate::named::Named;
 use crate::sections::{EntryKind, Head};
@@ -33,7 +34,7 @@ impl<'a> EntryKind<'a> for Buffers {
         Head {
             section: Section::Buffer,
             most: MOST_OBJECTS,
-            keys: &["name", "length", "capacity", "discipline"],
+            keys: &[Key::Name, Key::Length, Key::Capacity, Key::Discipline],
         }
     }
 
@@ -45,8 +46,8 @@ impl<'a> EntryKind<'a> for Buffers {
         name: Name,
         table: &'a Table,
     ) -> Result<BufferConfig, TableFault> {
-        let length = keys::number_at(at, 1, MOST_MESSAGE as u32, table, "length")?;
-        let capacity = keys::number_at(at, 1, MOST_MESSAGES as u32, table, "capacity")?;
+        let length = keys::number_at(at, 1, MOST_MESSAGE as u32, table, Key::Length)?;
+        let capacity = keys::number_at(at, 1, MOST_MESSAGES as u32, table, Key::Capacity)?;
         let discipline = keys::discipline_at(at, table)?;
         Ok(BufferConfig::new(name, length as u8, capacity as u8, discipline))
     }

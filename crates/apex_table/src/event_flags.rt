@@ -3,6 +3,7 @@ ghost use Rattle.apex_table.specs.EventFlags.{event_flags};
 
 use crate::configs::EventFlagConfig;
 use crate::fault::{Place, Section, TableFault};
+use crate::key::Key;
 use crate::named::Named;
 use crate::sections::{EntryKind, Head};
 use apex_types::{MOST_OBJECTS, Name};
@@ -32,7 +33,7 @@ impl<'a> EntryKind<'a> for EventFlags {
         Head {
             section: Section::EventFlag,
             most: MOST_OBJECTS,
-            keys: &["name"],
+            keys: &[Key::Name],
         }
     }
 

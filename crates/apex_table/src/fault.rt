@@ -1,10 +1,11 @@
 //! The faults of a table's text, and their places.
-ghost use Rattle.std.specs.Prelude.{◌≡◌, ◌+◌, ◌<◌, ◌≤◌, ◌++◌, length, Some};
+ghost use Rattle.std.specs.Prelude.{◌≡◌, ◌+◌, ◌<◌, ◌≤◌, length, Some};
 ghost use Rattle.apex_types.specs.declared.limits.TheConstants.{MOST_INIT_STEPS};
-ghost use Rattle.apex_table.specs.Fault.{section_word, place_text, place_after, fault_text};
+ghost use Rattle.apex_table.specs.Fault.{section_word, place_text, parts_of, fault_text};
 ghost use Rattle.apex_table.specs.Outcome.{place};
 ghost use Rattle.apex_table.specs.declared.fault.TableFault.TheVariants.{Memory};
 
+use crate::subject::Subject;
 use std::alloc::{AllocError, AllocFailed};
 use std::error::Error;
 use std::fmt;
@@ -86,8 +87,8 @@ impl Place {
     }
 }
 
-/// The reason why a text is no table: the first of its faults in the order of the checks, or want
-/// of memory.
+/// The reason why a text is no table: the first of its faults in the order of the checks with what
+/// it is about, or want of memory.
 #[derive(Clone, Copy, Debug, PartialEq, Eq)]
 pub enum TableFault {
     /// A growth was refused.
@@ -95,48 +96,49 @@ pub enum TableFault {
     /// The text is no TOML, or no UTF-8.
     NotToml,
     /// A key without a default is absent, or there is no process.
-    MissingKey(Place),
+    MissingKey(Subject),
     /// A value has another type than its key's.
-    WrongType(Place),
+    WrongType(Subject),
     /// A number is out of its range, a text is none of its key's words, or a script that begins
     /// anew has no step.
-    OutOfRange(Place),
+    OutOfRange(Subject),
     /// A name has no byte, more than 30, or one that is not visible.
-    BadName(Place),
+    BadName(Subject),
     /// An earlier entry of the section has the name.
-    DoubleName(Place),
+    DoubleName(Subject),
     /// A step names no entry of its kind.
-    UnknownName(Place),
+    UnknownName(Subject),
     /// A key that the section does not have.
-    UnknownKey(Place),
+    UnknownKey(Subject),
     /// A step has no service's form.
-    BadStep(Place),
+    BadStep(Subject),
     /// A step of the init list that only a script may have.
-    BadInitStep(Place),
+    BadInitStep(Subject),
     /// A section, a script or the init list is too long.
-    TooMany(Place),
+    TooMany(Subject),
 }
 
 impl TableFault {
-    /// The fault's word, and its place. The fault's text is the word, or the word, ` in ` and the
-    /// place.
-    pub fn parts(self) -> (&'static str, Option<Place>)
-        ensures text { fault_text self ≡ result.0.now ++ place_after result.1 }
+    /// The fault's word, and what the fault is about. The fault's text is the word, or the word,
+    /// ` in ` and the subject's place.
+    pub fn parts(self) -> (&'static str, Option<Subject>)
+        ensures word { result.0.now ≡ (parts_of self).0 }
+        ensures subject { result.1 ≡ (parts_of self).1 }
         ensures short { length result.0.now ≤ 11 }
     {
         match self {
             TableFault::Memory => ("Memory", None),
             TableFault::NotToml => ("NotToml", None),
-            TableFault::MissingKey(place) => ("MissingKey", Some(place)),
-            TableFault::WrongType(place) => ("WrongType", Some(place)),
-            TableFault::OutOfRange(place) => ("OutOfRange", Some(place)),
-            TableFault::BadName(place) => ("BadName", Some(place)),
-            TableFault::DoubleName(place) => ("DoubleName", Some(place)),
-            TableFault::UnknownName(place) => ("UnknownName", Some(place)),
-            TableFault::UnknownKey(place) => ("UnknownKey", Some(place)),
-            TableFault::BadStep(place) => ("BadStep", Some(place)),
-            TableFault::BadInitStep(place) => ("BadInitStep", Some(place)),
-            TableFault::TooMany(place) => ("TooMany", Some(place)),
+            TableFault::MissingKey(subject) => ("MissingKey", Some(subject)),
+            TableFault::WrongType(subject) => ("WrongType", Some(subject)),
+            TableFault::OutOfRange(subject) => ("OutOfRange", Some(subject)),
+            TableFault::BadName(subject) => ("BadName", Some(subject)),
+            TableFault::DoubleName(subject) => ("DoubleName", Some(subject)),
+            TableFault::UnknownName(subject) => ("UnknownName", Some(subject)),
+            TableFault::UnknownKey(subject) => ("UnknownKey", Some(subject)),
+            TableFault::BadStep(subject) => ("BadStep", Some(subject)),
+            TableFault::BadInitStep(subject) => ("BadInitStep", Some(subject)),
+            TableFault::TooMany(subject) => ("TooMany", Some(subject)),
         }
     }
 }
@@ -145,10 +147,13 @@ impl fmt::Display for TableFault {
     ghost output = { λ fault. Some (fault_text fault) };
 
     fn fmt<W: fmt::Write>(&self, f: &mut fmt::Formatter<W>) -> fmt::Result {
-        let (word, place) = self.parts();
-        match place {
+        let (word, subject) = self.parts();
+        match subject {
             None => f.write_str(word),
-            Some(place) => write!(f, "{word} in {place}"),
+            Some(subject) => {
+                let place = subject.place;
+                write!(f, "{word} in {place}")
+            }
         }
     }
 }

@@ -11,7 +11,7 @@ use crate::fault::{Place, Section, TableFault};
 use crate::keys;
 use crate::names::Names;
 use crate::objects::Objects;
-use crate::steps::step;
+use crate::steps::{of_word, step};
 use apex_calls::{parts_of, row_of};
 use apex_machine::Step;
 use apex_types::{Call, MOST_INIT_STEPS, Origin};
@@ -23,7 +23,7 @@ fn next_text<'a>(before: &[&'a str], value: &'a Value) -> Result<&'a str, TableF
     ensures { Gives (λ t. t.now) result (next_text (map (λ t. t.now) before.now) (view value.now)) }
 {
     let at = Place::next(Section::Init, before.len());
-    keys::text(at, value)
+    keys::text(at.step(before.len()), value)
 }
 
 fn texts<'a>(alloc: Global, items: &'a [Value]) -> Result<Vec<&'a str>, TableFault>
@@ -43,9 +43,9 @@ fn given_texts<'a>(alloc: Global, value: &'a Value) -> Result<Vec<&'a str>, Tabl
     ensures gives { Gives (λ v. map (λ t. t.now) v.items) result (given_texts (view value.now)) }
     ensures count { IfOk result (λ v. length v.items ≤ MOST_INIT_STEPS) }
 {
-    let at = Place::of(Section::Init);
-    let items = keys::array(at, value)?;
-    keys::at_most(at, MOST_INIT_STEPS, items)?;
+    let here = Place::of(Section::Init).whole();
+    let items = keys::array(here, value)?;
+    keys::at_most(here, MOST_INIT_STEPS, items)?;
     texts(alloc, items)
 }
 
@@ -72,7 +72,8 @@ fn is_init_call(call: &Call) -> bool
     row_of(service).may_init
 }
 
-/// The step of this origin, by its text; last it is tested whether an init list may have it.
+/// The step of this origin, by its text; last it is tested whether an init list may have its
+/// service.
 #[tactic(auto, unfolding(crate::specs::Init::init_step))]
 fn init_step(
     alloc: Global,
@@ -87,7 +88,7 @@ fn init_step(
     if is_init_call(&step.call()) {
         Ok(step)
     } else {
-        Err(TableFault::BadInitStep(at))
+        Err(TableFault::BadInitStep(of_word(at, &origin, 0)))
     }
 }
 

@@ -8,6 +8,7 @@ mod default_init;
 mod event_flags;
 mod fault;
 mod init;
+mod key;
 mod keys;
 mod listed;
 mod mutexes;
@@ -20,6 +21,7 @@ mod scripts;
 mod sections;
 mod semaphores;
 mod steps;
+mod subject;
 mod table;
 mod texts;
 
@@ -27,5 +29,7 @@ pub use configs::{
     BlackboardConfig, BufferConfig, EventFlagConfig, MutexConfig, ProcessConfig, SemaphoreConfig,
 };
 pub use fault::{Place, Section, TableFault};
+pub use key::Key;
 pub use reading::read_table;
+pub use subject::{Part, Subject};
 pub use table::Table;

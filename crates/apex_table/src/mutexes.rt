@@ -3,6 +3,7 @@ ghost use Rattle.apex_table.specs.Mutexes.{mutexes};
 
 use crate::configs::MutexConfig;
 use crate::fault::{Place, Section, TableFault};
+use crate::key::Key;
 use crate::keys;
 use crate::named::Named;
 use crate::sections::{EntryKind, Head};
@@ -33,7 +34,7 @@ impl<'a> EntryKind<'a> for Mutexes {
         Head {
             section: Section::Mutex,
             most: MOST_OBJECTS,
-            keys: &["name", "ceiling", "discipline"],
+            keys: &[Key::Name, Key::Ceiling, Key::Discipline],
         }
     }
 
@@ -45,7 +46,7 @@ impl<'a> EntryKind<'a> for Mutexes {
         name: Name,
         table: &'a Table,
     ) -> Result<MutexConfig, TableFault> {
-        let ceiling = keys::number_at(at, 1, MOST_PRIORITY, table, "ceiling")?;
+        let ceiling = keys::number_at(at, 1, MOST_PRIORITY, table, Key::Ceiling)?;
         let discipline = keys::discipline_at(at, table)?;
         Ok(MutexConfig::new(name, ceiling as u8, discipline))
     }

@@ -7,9 +7,11 @@ ghost use Rattle.apex_table.specs.Sections.{head_of};
 ghost use Rattle.apex_table.specs.Processes.{some_process, texts, some_step, script_at, processes};
 
 use crate::fault::{Place, Section, TableFault};
+use crate::key::Key;
 use crate::keys;
 use crate::named::Named;
 use crate::sections::{EntryKind, Head};
+use crate::subject::Subject;
 use apex_machine::{Attributes, Profile};
 use apex_types::{CoreId, MOST_PRIORITY, MOST_STEPS, Name};
 use std::alloc::Global;
@@ -61,17 +63,17 @@ fn texts<'a>(alloc: Global, at: Place, items: &'a [Value]) -> Result<Vec<&'a str
 {
     let mut texts = Vec::new(alloc);
     for item in items {
-        texts.push(keys::text(at, item)?)?;
+        texts.push(keys::text(at.step(texts.len()), item)?)?;
     }
     Ok(texts)
 }
 
 /// Refuses a script without a step that is to begin anew.
-fn some_step(at: Place, loops: bool, items: &[Value]) -> Result<(), TableFault>
-    ensures { Gives (λ _. map view items.now) result (some_step at loops (map view items.now)) }
+fn some_step(subject: Subject, loops: bool, items: &[Value]) -> Result<(), TableFault>
+    ensures { Gives (λ _. map view items.now) result (some_step subject loops (map view items.now)) }
 {
     if loops && items.is_empty() {
-        return Err(TableFault::OutOfRange(at));
+        return Err(TableFault::OutOfRange(subject));
     }
     Ok(())
 }
@@ -87,14 +89,22 @@ fn script_at<'a>(
         (script_at at loops (table_view table.now)) }
     ensures few_steps { IfOk result (λ v. length v.items ≤ MOST_STEPS) }
 {
-    let items = keys::array_at(at, table, "script")?;
-    keys::at_most(at, MOST_STEPS, items)?;
-    some_step(at, loops, items)?;
+    let items = keys::array_at(at, table, Key::Script)?;
+    keys::at_most(at.key(Key::Script), MOST_STEPS, items)?;
+    some_step(at.key(Key::Script), loops, items)?;
     texts(alloc, at, items)
 }
 
-const PROCESS_KEYS: &[&str] = &[
-    "name", "priority", "core", "period", "capacity", "deadline", "loop", "start", "script",
+const PROCESS_KEYS: &[Key] = &[
+    Key::Name,
+    Key::Priority,
+    Key::Core,
+    Key::Period,
+    Key::Capacity,
+    Key::Deadline,
+    Key::Loop,
+    Key::Start,
+    Key::Script,
 ];
 
 /// The kind of processes, in a profile and on `cores` cores.
@@ -131,13 +141,13 @@ impl<'a> EntryKind<'a> for Processes {
         name: Name,
         table: &'a Table,
     ) -> Result<Draft<'a>, TableFault> {
-        let priority = keys::number_at(at, 1, MOST_PRIORITY, table, "priority")?;
-        let core = keys::number_or(at, 0, 0, self.cores - 1, table, "core")?;
-        let period = keys::span_or_infinite(at, table, "period")?;
-        let capacity = keys::span_or_infinite(at, table, "capacity")?;
+        let priority = keys::number_at(at, 1, MOST_PRIORITY, table, Key::Priority)?;
+        let core = keys::number_or(at, 0, 0, self.cores - 1, table, Key::Core)?;
+        let period = keys::span_or_infinite(at, table, Key::Period)?;
+        let capacity = keys::span_or_infinite(at, table, Key::Capacity)?;
         let deadline = keys::deadline_or_soft(at, table)?;
-        let loops = keys::truth_or(at, false, table, "loop")?;
-        let starts = keys::truth_or(at, false, table, "start")?;
+        let loops = keys::truth_or(at, false, table, Key::Loop)?;
+        let starts = keys::truth_or(at, false, table, Key::Start)?;
         let script = script_at(alloc, at, loops, table)?;
         Ok(Draft {
             name,
@@ -160,7 +170,7 @@ pub fn some_process(drafts: &[Draft]) -> Result<(), TableFault>
     ensures { Gives (λ _. drafts.now) result (some_process drafts.now) }
 {
     if drafts.is_empty() {
-        return Err(TableFault::MissingKey(Place::of(Section::Process)));
+        return Err(TableFault::MissingKey(Place::of(Section::Process).whole()));
     }
     Ok(())
 }

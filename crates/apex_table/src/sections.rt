@@ -7,6 +7,7 @@ ghost use Rattle.apex_table.specs.Outcome.{Gives};
 ghost use Rattle.apex_table.specs.Sections.{SectionHead, head_of, kind_of, tables, next_entry, section};
 
 use crate::fault::{Place, Section, TableFault};
+use crate::key::Key;
 use crate::keys;
 use crate::named::Named;
 use apex_types::Name;
@@ -18,7 +19,7 @@ use toml::{Table, Value};
 pub struct Head<'k> {
     pub section: Section,
     pub most: usize,
-    pub keys: &'k [&'k str],
+    pub keys: &'k [Key],
 }
 
 /// A kind of entries.
@@ -52,11 +53,11 @@ fn tables<'a>(head: Head<'_>, value: Option<&'a Value>) -> Result<&'a [Value], T
         (tables (head_of head.entry) (option_map (λ v. view v.now) value.entry)) }
     ensures few_entries { IfOk result (λ s. length s.now ≤ head.entry.most) }
 {
-    let at = Place::of(head.section);
+    let here = Place::of(head.section).whole();
     match value {
         Some(value) => {
-            let items = keys::array(at, value)?;
-            keys::at_most(at, head.most, items)?;
+            let items = keys::array(here, value)?;
+            keys::at_most(here, head.most, items)?;
             Ok(items)
         }
         None => Ok(&[]),
@@ -77,7 +78,7 @@ fn next_entry<'a, K: EntryKind<'a>>(
         (view value.now)) }
 {
     let at = Place::next(head.section, before.len());
-    let table = keys::table(at, value)?;
+    let table = keys::table(at.whole(), value)?;
     keys::only(at, head.keys, table)?;
     let name = keys::name_at(at, before, table)?;
     kind.entry(alloc, at, name, table)
@@ -96,7 +97,7 @@ pub fn read_section<'a, K: EntryKind<'a>>(
     ensures few_entries { IfOk result (λ v. length v.items ≤ (K.head kind.now).most) }
 {
     let head = kind.head();
-    let items = tables(head, keys::key(top, head.section.word()))?;
+    let items = tables(head, keys::value_at(top, Key::Entries(head.section)))?;
     let mut entries = Vec::new(alloc);
     for item in items {
         entries.push(next_entry(alloc, head, kind, &entries, item)?)?;

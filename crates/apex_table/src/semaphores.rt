@@ -3,6 +3,7 @@ ghost use Rattle.apex_table.specs.Semaphores.{semaphores};
 
 use crate::configs::SemaphoreConfig;
 use crate::fault::{Place, Section, TableFault};
+use crate::key::Key;
 use crate::keys;
 use crate::named::Named;
 use crate::sections::{EntryKind, Head};
@@ -33,7 +34,7 @@ impl<'a> EntryKind<'a> for Semaphores {
         Head {
             section: Section::Semaphore,
             most: MOST_OBJECTS,
-            keys: &["name", "maximum", "initial", "discipline"],
+            keys: &[Key::Name, Key::Maximum, Key::Initial, Key::Discipline],
         }
     }
 
@@ -45,8 +46,8 @@ impl<'a> EntryKind<'a> for Semaphores {
         name: Name,
         table: &'a Table,
     ) -> Result<SemaphoreConfig, TableFault> {
-        let maximum = keys::number_at(at, 1, MOST_VALUE, table, "maximum")?;
-        let initial = keys::number_at(at, 0, maximum, table, "initial")?;
+        let maximum = keys::number_at(at, 1, MOST_VALUE, table, Key::Maximum)?;
+        let initial = keys::number_at(at, 0, maximum, table, Key::Initial)?;
         let discipline = keys::discipline_at(at, table)?;
         Ok(SemaphoreConfig::new(name, maximum as u16, initial as u16, discipline))
     }

@@ -2,19 +2,44 @@
 ghost use Rattle.std.specs.Prelude.{◌≡◌, map};
 ghost use Rattle.apex_calls.specs.Catalogue.{IsRow, view};
 ghost use Rattle.apex_table.specs.Outcome.{Gives};
-ghost use Rattle.apex_table.specs.Steps.{has_form, have_forms, nothing, row_step, step_of, step, with_words};
+ghost use Rattle.apex_table.specs.Steps.{step_place, of_step, of_word, has_form, have_forms, ill_formed, misfit, nothing, row_step, step_of, step, with_words};
 
 mod given;
 mod words;
 
 use crate::fault::{Place, TableFault};
 use crate::names::Names;
+use crate::subject::Subject;
 use apex_calls::{Row, Shape, call_of, row_of_word};
 use apex_machine::Step;
 use apex_types::Origin;
 use given::{Given, with_word};
 use std::alloc::Global;
 use words::{is_message, is_number, is_timeout, requested_mode, words};
+
+/// The place of the step of this origin in its script, or in the init list, counted from 0.
+fn step_place(origin: &Origin) -> usize
+    ensures { result ≡ step_place origin.now }
+{
+    match origin {
+        Origin::Script(_, place) => usize::from(*place),
+        Origin::Init(place) => usize::from(*place),
+    }
+}
+
+/// The step of this origin as a whole.
+fn of_step(at: Place, origin: &Origin) -> Subject
+    ensures { result ≡ of_step at origin.now }
+{
+    at.step(step_place(origin))
+}
+
+/// A word of the step of this origin, by its place, counted from 0: the service is word 0.
+pub fn of_word(at: Place, origin: &Origin, word: usize) -> Subject
+    ensures { result ≡ of_word at origin.now word }
+{
+    at.word(step_place(origin), word)
+}
 
 /// Whether a word has the form of this shape, which may be out of range.
 fn has_form(shape: &Shape, word: &str) -> bool
@@ -51,6 +76,39 @@ fn have_forms(shapes: &[Shape], words: &[&str]) -> bool
     }
 }
 
+/// The first word that does not have the form of its shape, or else the whole step.
+fn ill_formed(at: Place, origin: &Origin, shapes: &[Shape], words: &[&str]) -> Subject
+    ensures { result ≡ ill_formed at origin.now 1 shapes.now (map (λ w. w.now) words.now) }
+{
+    let mut place = 1;
+    let mut shapes_left = shapes;
+    let mut words_left = words;
+    while let [shape, shapes @ ..] = shapes_left {
+        let [word, words @ ..] = words_left else {
+            return of_step(at, origin);
+        };
+        if !has_form(shape, word) {
+            return of_word(at, origin, place);
+        }
+        place += 1;
+        shapes_left = shapes;
+        words_left = words;
+    }
+    of_step(at, origin)
+}
+
+/// What is at fault in a step whose words do not have their forms: the whole step if the words are
+/// more or fewer than the shapes, else the first word without the form of its shape.
+fn misfit(at: Place, origin: &Origin, shapes: &[Shape], words: &[&str]) -> Subject
+    ensures { result ≡ misfit at origin.now shapes.now (map (λ w. w.now) words.now) }
+{
+    if shapes.len() == words.len() {
+        ill_formed(at, origin, shapes, words)
+    } else {
+        of_step(at, origin)
+    }
+}
+
 /// The values with those of all words, from left to right.
 fn with_words(
     at: Place,
@@ -60,16 +118,18 @@ fn with_words(
     words: &[&str],
 ) -> Result<Given, TableFault>
     ensures { Gives (λ g. g) result
-        (with_words at origin.now names.now nothing shapes.now (map (λ w. w.now) words.now)) }
+        (with_words at 1 origin.now names.now nothing shapes.now (map (λ w. w.now) words.now)) }
 {
     let mut given = Given::nothing();
+    let mut place = 1;
     let mut shapes_left = shapes;
     let mut words_left = words;
     while let [shape, shapes @ ..] = shapes_left {
         let [word, words @ ..] = words_left else {
             return Ok(given);
         };
-        given = with_word(at, origin, names, given, shape, word)?;
+        given = with_word(of_word(at, origin, place), origin, names, given, shape, word)?;
+        place += 1;
         shapes_left = shapes;
         words_left = words;
     }
@@ -91,7 +151,7 @@ fn row_step(
         (row_step at origin.now names.now (view row.now) (map (λ w. w.now) words.now)) }
 {
     if !have_forms(row.shapes, words) {
-        return Err(TableFault::BadStep(at));
+        return Err(TableFault::BadStep(misfit(at, origin, row.shapes, words)));
     }
     let given = with_words(at, origin, names, row.shapes, words)?;
     Ok(Step::new(call_of(row.service, &given.arguments), given.literal))
@@ -102,11 +162,11 @@ fn step_of(at: Place, origin: &Origin, names: &Names, words: &[&str]) -> Result<
     ensures { Gives (λ s. s) result (step_of at origin.now names.now (map (λ w. w.now) words.now)) }
 {
     let [service, words @ ..] = words else {
-        return Err(TableFault::BadStep(at));
+        return Err(TableFault::BadStep(of_step(at, origin)));
     };
     match row_of_word(service) {
         Some(row) => row_step(at, origin, names, row, words),
-        None => Err(TableFault::BadStep(at)),
+        None => Err(TableFault::BadStep(of_word(at, origin, 0))),
     }
 }
 

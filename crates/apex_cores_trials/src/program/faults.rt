@@ -2,12 +2,39 @@
 
 use apex_check::CheckFault;
 use apex_cli::{CliFault, Exit};
-use apex_table::{Place, Section, TableFault};
+use apex_table::{Key, Part, Place, Section, Subject, TableFault};
 use std::alloc::Global;
 use std::process::Abort;
 
 const USAGE: &str =
     "apex: usage: apex replay|status --schedule S, apex run --turns N --ticks K, apex check";
+
+/// The key `cores`, which is absent.
+const NO_CORES: Subject = Subject {
+    place: Place {
+        section: Section::Top,
+        number: 0,
+    },
+    part: Part::Key(Key::Cores),
+};
+
+/// The first argument of the third step of the first process.
+const STEP_ARGUMENT: Subject = Subject {
+    place: Place {
+        section: Section::Process,
+        number: 1,
+    },
+    part: Part::Word(2, 1),
+};
+
+/// The service of the last step of a longest init list.
+const INIT_SERVICE: Subject = Subject {
+    place: Place {
+        section: Section::Init,
+        number: 512,
+    },
+    part: Part::Word(511, 0),
+};
 
 const FAULTS: &[(CliFault, &str, u8)] = &[
     (CliFault::Usage, USAGE, 2),
@@ -17,26 +44,17 @@ const FAULTS: &[(CliFault, &str, u8)] = &[
         3,
     ),
     (
-        CliFault::Table(TableFault::MissingKey(Place {
-            section: Section::Top,
-            number: 0,
-        })),
+        CliFault::Table(TableFault::MissingKey(NO_CORES)),
         "apex: table refused: MissingKey in top 0",
         3,
     ),
     (
-        CliFault::Table(TableFault::UnknownName(Place {
-            section: Section::Process,
-            number: 1,
-        })),
+        CliFault::Table(TableFault::UnknownName(STEP_ARGUMENT)),
         "apex: table refused: UnknownName in process 1",
         3,
     ),
     (
-        CliFault::Table(TableFault::BadInitStep(Place {
-            section: Section::Init,
-            number: 512,
-        })),
+        CliFault::Table(TableFault::BadInitStep(INIT_SERVICE)),
         "apex: table refused: BadInitStep in init 512",
         3,
     ),

@@ -3,12 +3,13 @@ ghost use Rattle.std.specs.Prelude.{◌≡◌};
 ghost use Rattle.apex_table.specs.Outcome.{Gives};
 ghost use Rattle.apex_table.specs.Steps.{nothing, with_entry, with_message, with_mode, with_name, with_number, with_timeout, with_word};
 
-use crate::fault::{Place, TableFault};
+use crate::fault::TableFault;
 use crate::keys::well_formed;
 use crate::names::Names;
 use crate::steps::words::{
     entry_of, message_bytes, number, place_of_name, requested_mode, timeout,
 };
+use crate::subject::Subject;
 use apex_calls::{Arguments, Shape};
 use apex_machine::Literal;
 use apex_types::{Message, Name, Named, Origin, RequestedMode, Timeout};
@@ -123,28 +124,29 @@ impl Given {
 /// The values with that of a word of this shape, after those before it, in the step of this origin.
 #[tactic(auto, unfolding(crate::specs::Steps::with_word))]
 pub fn with_word(
-    at: Place,
+    subject: Subject,
     origin: &Origin,
     names: &Names,
     given: Given,
     shape: &Shape,
     word: &str,
 ) -> Result<Given, TableFault>
-    ensures { Gives (λ g. g) result (with_word at origin.now names.now given shape.now word.now) }
+    ensures { Gives (λ g. g) result 
+        (with_word subject origin.now names.now given shape.now word.now) }
 {
     match shape {
-        Shape::Entry(kind) => Ok(given.with_entry(entry_of(at, names.of_kind(kind), word)?)),
+        Shape::Entry(kind) => Ok(given.with_entry(entry_of(subject, names.of_kind(kind), word)?)),
         Shape::Named(kind) => {
-            let name = well_formed(at, word)?;
+            let name = well_formed(subject, word)?;
             let place = place_of_name(names.of_kind(kind), name.as_bytes());
             Ok(given.with_name(origin, &name, place))
         }
-        Shape::Number(low, high) => Ok(given.with_number(number(at, *low, *high, word)?)),
-        Shape::Timeout => Ok(given.with_timeout(timeout(at, word)?)),
-        Shape::Message => Ok(given.with_message(origin, message_bytes(at, word)?)),
+        Shape::Number(low, high) => Ok(given.with_number(number(subject, *low, *high, word)?)),
+        Shape::Timeout => Ok(given.with_timeout(timeout(subject, word)?)),
+        Shape::Message => Ok(given.with_message(origin, message_bytes(subject, word)?)),
         Shape::Mode => match requested_mode(word) {
             Some(mode) => Ok(given.with_mode(mode)),
-            None => Err(TableFault::BadStep(at)),
+            None => Err(TableFault::BadStep(subject)),
         },
     }
 }

@@ -6,8 +6,9 @@ ghost use Rattle.std.specs.List.{list_all, position_from};
 ghost use Rattle.std.specs.Str.{bytes_eq};
 ghost use Rattle.apex_table.specs.Words.{words, is_number, is_timeout, is_digit, pairs_value, is_message, message_bytes, number, timeout, requested_mode, entry_of};
 
-use crate::fault::{Place, TableFault};
+use crate::fault::TableFault;
 use crate::named::place_of;
+use crate::subject::Subject;
 use apex_machine::Literal;
 use apex_types::{
     MOST_LITERAL, MOST_MESSAGE, MOST_SPAN, Name, RequestedMode, Timeout, number_at_most,
@@ -37,23 +38,23 @@ pub fn is_timeout(word: &str) -> bool
 }
 
 /// The number that a word writes, from `low` to `high`.
-pub fn number(at: Place, low: u32, high: u32, word: &str) -> Result<u32, TableFault>
-    ensures { result ≡ number at low high word.now }
+pub fn number(subject: Subject, low: u32, high: u32, word: &str) -> Result<u32, TableFault>
+    ensures { result ≡ number subject low high word.now }
 {
     match number_at_most(word.as_bytes(), high) {
         Some(number) if low <= number => Ok(number),
-        _ => Err(TableFault::OutOfRange(at)),
+        _ => Err(TableFault::OutOfRange(subject)),
     }
 }
 
 /// The timeout that a word writes.
-pub fn timeout(at: Place, word: &str) -> Result<Timeout, TableFault>
-    ensures { result ≡ timeout at word.now }
+pub fn timeout(subject: Subject, word: &str) -> Result<Timeout, TableFault>
+    ensures { result ≡ timeout subject word.now }
 {
     match word {
         "0" => Ok(Timeout::Poll),
         "infinite" => Ok(Timeout::Infinite),
-        _ => Ok(Timeout::Ticks(number(at, 1, MOST_SPAN, word)?)),
+        _ => Ok(Timeout::Ticks(number(subject, 1, MOST_SPAN, word)?)),
     }
 }
 
@@ -123,18 +124,18 @@ fn decoded(digits: &[u8]) -> Literal
 
 /// The bytes of the message that a word writes, 64 at the most.
 #[tactic(auto, using(crate::proofs::Messages::count_of_pairs))]
-pub fn message_bytes(at: Place, word: &str) -> Result<Literal, TableFault>
-    ensures { result ≡ message_bytes at word.now }
+pub fn message_bytes(subject: Subject, word: &str) -> Result<Literal, TableFault>
+    ensures { result ≡ message_bytes subject word.now }
 {
     if word == "-" {
         return Ok(Literal::new());
     }
     let digits = word.as_bytes();
     if !is_pairs(digits) {
-        return Err(TableFault::OutOfRange(at));
+        return Err(TableFault::OutOfRange(subject));
     }
     if digits.len() / 2 > MOST_MESSAGE {
-        return Err(TableFault::OutOfRange(at));
+        return Err(TableFault::OutOfRange(subject));
     }
     Ok(decoded(digits))
 }
@@ -151,12 +152,12 @@ pub fn place_of_name(names: &[Name], name: &[u8]) -> Option<u8>
 }
 
 /// The place, counted from 0, of the entry of this name.
-pub fn entry_of(at: Place, names: &[Name], name: &str) -> Result<u8, TableFault>
+pub fn entry_of(subject: Subject, names: &[Name], name: &str) -> Result<u8, TableFault>
     requires { length names.now ≤ MOST_PROCESSES }
-    ensures { result ≡ entry_of at names.now name.now }
+    ensures { result ≡ entry_of subject names.now name.now }
 {
     match place_of_name(names, name.as_bytes()) {
         Some(place) => Ok(place),
-        None => Err(TableFault::UnknownName(at)),
+        None => Err(TableFault::UnknownName(subject)),
     }
 }

@@ -4,4 +4,4 @@ use Rattle.apex_table.proofs.steps.words.message_bytes.Goals as goal
 
 pub returns-then-digits-gt-MOST_MESSAGE : goal.returns-then-digits-gt-MOST_MESSAGE
 returns-then-digits-gt-MOST_MESSAGE c =
-    sym (too_many_bytes c.args.at c.args.word.now (search rules) (search rules) (omega arith))
+    sym (too_many_bytes c.args.subject c.args.word.now (search rules) (search rules) (omega arith))
