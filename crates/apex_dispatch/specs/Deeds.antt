@@ -1,15 +1,14 @@
 -- The results of a deed that was carried out.
-use Rattle.std.specs.Prelude.{◌≡◌, ℕ, ◌&&◌, ◌==◌, if◌then◌else◌, List, length, Option, None}
+use Rattle.std.specs.Prelude.{◌≡◌, List, length, Option}
 use Rattle.apex_laws.specs.Terms.{Call, Caller, Notice, Reply}
 use Rattle.apex_machine.specs.Deeds.{Deed, Objects, served}
 use Rattle.apex_machine.specs.processes.Periods.{HasNoFutureRelease}
-use Rattle.apex_types.specs.Modes.{is_cold_start}
 use Rattle.apex_machine.specs.processes.Roster.{Roster}
 use Rattle.apex_machine.specs.processes.Stamps.{HasOrderlyStarts}
 use Rattle.apex_machine.specs.services.Callers.{IsReadyCaller}
 use Rattle.apex_machine.specs.services.Premises.{CanServe}
 use Rattle.apex_machine.specs.services.Rows.{Leaves}
-use Rattle.apex_machine.specs.table.Table.{Table, IsKnown, call_in}
+use Rattle.apex_machine.specs.table.Table.{Table, IsKnown}
 
 -- the deed was done: its caller, its call, and its outcome
 pub record Does (deed : Deed) (who : Caller) (asked : Option Call) (answer : Reply) (left : Roster)
@@ -17,11 +16,6 @@ pub record Does (deed : Deed) (who : Caller) (asked : Option Call) (answer : Rep
   pub caller : who ≡ deed.caller
   pub call : asked ≡ deed.call
   pub outcome : Leaves deed.outcome left objects answer before after
-
--- the init step that is due in a turn of the core, after this many init steps
-abbrev pub due_after : Table → Roster → ℕ → ℕ → Option Call
-due_after table roster core made =
-    if is_cold_start roster.mode && core == 0 then call_in table.init made else None
 
 -- the deed is the service of this call, which can be carried out, for the roster that is left
 pub record Asks (table : Table) (deed : Objects → Deed) (before : Roster) (who : Caller) (call : Call)

@@ -1,4 +1,5 @@
 pub mod Deeds
 pub mod Works
+pub mod Situations
 pub mod Kernel
 pub mod Sections

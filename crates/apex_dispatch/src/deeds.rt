@@ -6,14 +6,15 @@ ghost use Rattle.std.specs.Option.{ForSome};
 ghost use Rattle.apex_machine.specs.services.Calls.{is_work};
 ghost use Rattle.apex_machine.specs.services.Callers.{IsReady, IsReadyCaller};
 ghost use Rattle.apex_machine.specs.services.Premises.{CanServe};
-ghost use Rattle.apex_types.specs.declared.entries.Caller.TheVariants.{Nobody, Process as ByProcess};
-ghost use Rattle.apex_types.specs.declared.entries.Reply.TheVariants.{Begun, Idle};
+ghost use Rattle.apex_types.specs.declared.entries.Caller.TheVariants.{Process as ByProcess};
+ghost use Rattle.apex_types.specs.declared.entries.Reply.TheVariants.{Begun};
 ghost use Rattle.apex_machine.specs.Deeds.{chosen_deed, move_on, next_place, served, step_deed, turn_deed};
 ghost use Rattle.apex_machine.specs.processes.Running.{chosen};
 ghost use Rattle.apex_machine.specs.processes.Periods.{HasNoFutureRelease};
 ghost use Rattle.apex_machine.specs.processes.Stamps.{HasOrderlyStarts};
+ghost use Rattle.apex_machine.specs.table.Table.{IsKnown};
 ghost use Rattle.apex_machine.specs.Works.{work_begun};
-ghost use Rattle.apex_dispatch.specs.Deeds.{due_after, Asks, Does};
+ghost use Rattle.apex_dispatch.specs.Deeds.{Asks, Does};
 ghost use Rattle.apex_laws.specs.Premises.{AreOf, IsKnownTo};
 
 use crate::objects::Objects;
@@ -21,26 +22,28 @@ use crate::services::serve;
 use apex_machine::{OpenWork, Work};
 use apex_store::Store;
 use apex_table::{ProcessConfig, Table};
-use apex_types::{Call, Caller, CallerCall, CoreId, Mode, Notices, ProcessId, Reply};
+use apex_types::{Call, Caller, CallerCall, CoreId, Notices, ProcessId, Reply};
 
-/// A call that was carried out, and its reply.
+/// The deed of an event that was carried out: its caller and its call, if any, and the reply.
+///
+/// The notices are handed out beside it.
 #[derive(Drop)]
-pub(crate) struct Deed {
-    pub(crate) caller: Caller,
-    pub(crate) call: Call,
-    pub(crate) reply: Reply,
+pub struct Deed {
+    pub caller: Caller,
+    pub call: Option<Call>,
+    pub reply: Reply,
 }
 
 /// The work that the caller asks for, if it does.
 // In a function of its own, so that only a turn that begins work looks at its caller and call.
 #[inline(never)]
-fn work_asked(caller: &Caller, call: &Call) -> Option<Work>
-    ensures { result ≡ work_begun caller.now (Some call.now) Begun }
+fn work_asked(caller: &Caller, call: &Option<Call>) -> Option<Work>
+    ensures { result ≡ work_begun caller.now call.now Begun }
 {
     let Caller::Process(process) = *caller else {
         return None;
     };
-    let Call::Work(amount) = *call else {
+    let Some(Call::Work(amount)) = *call else {
         return None;
     };
     Some(Work { process, amount })
@@ -50,7 +53,7 @@ impl Deed {
     /// The work that the call began.
     #[inline(always)]
     pub(crate) fn begun(&self) -> Option<Work>
-        ensures { result ≡ work_begun self.now.caller (Some self.now.call) self.now.reply }
+        ensures { result ≡ work_begun self.now.caller self.now.call self.now.reply }
     {
         match self.reply {
             Reply::Begun => {
@@ -80,13 +83,13 @@ fn ask<S: Store>(
     requires can { CanServe (S.roster store.old) notices.old }
     requires releases { HasNoFutureRelease (S.roster store.old) }
     ensures { Does (served (S.roster store.old) objects.old caller call)
-        result.caller (Some result.call) result.reply
+        result.caller result.call result.reply
         (S.roster store.new) objects.new notices.old notices.new }
 {
     let reply = serve(store, objects, &caller, &call, notices);
     Deed {
         caller,
-        call,
+        call: Some(call),
         reply,
     }
 }
@@ -156,39 +159,26 @@ fn take_step<S: Store>(table: &Table, store: &mut S, process: ProcessId) -> Call
     }
 }
 
-/// The init step that is due in a turn of the core, after `init_made` init steps.
-fn due_call<S: Store>(table: &Table, store: &S, core: CoreId, init_made: usize) -> Option<Call>
-    ensures { result ≡ due_after table.now (S.roster store.now) core init_made }
-{
-    if store.mode() == Mode::ColdStart && core.number() == 0 {
-        table.init_call(init_made)
-    } else {
-        None
-    }
-}
-
-/// The init step that is due after `init_made` of them, else the step of the core's chosen process,
-/// else nothing.
+/// The init step that is due, else the step of the core's chosen process, else nothing.
 #[inline(always)]
 fn next_call<S: Store>(
     table: &Table,
     store: &mut S,
     core: CoreId,
-    init_made: usize,
+    due: Option<Call>,
 ) -> Option<Asked>
+    requires due { ForSome due (IsKnown table.now) }
     requires records { length (S.roster store.old).records ≡ length table.now.processes }
     requires starts { HasOrderlyStarts (S.roster store.old) }
     requires releases { HasNoFutureRelease (S.roster store.old) }
     ensures asked { IfSome result (λ asked. Asks table.now
-        (λ objects. step_deed table.now (S.roster store.old) objects core
-        (due_after table.now (S.roster store.old) core init_made))
+        (λ objects. step_deed table.now (S.roster store.old) objects core due)
         (S.roster store.old) asked.caller asked.call (S.roster store.new)) }
-    ensures due { IfNone result (due_after table.now (S.roster store.old) core init_made ≡ None) }
+    ensures due { IfNone result (due ≡ None) }
     ensures idle { IfNone result (chosen (S.roster store.old) core ≡ None) }
     ensures same { IfNone result (S.roster store.new ≡ S.roster store.old) }
 {
-    if let Some(call) = due_call(table, store, core, init_made) {
-        table.lawful();
+    if let Some(call) = due {
         return Some(Asked {
             caller: Caller::Init,
             call,
@@ -202,8 +192,8 @@ fn next_call<S: Store>(
     })
 }
 
-/// Ends the work that the core has begun; else carries out the init step that is due after
-/// `init_made` of them, else the step of the core's chosen process, else nothing.
+/// Ends the work that the core has begun; else carries out the init step that is due, else the step
+/// of the core's chosen process; else the turn is idle.
 #[inline(always)]
 pub(crate) fn carry_out<S: Store>(
     table: &Table,
@@ -211,42 +201,40 @@ pub(crate) fn carry_out<S: Store>(
     objects: &mut Objects,
     core: CoreId,
     begun: Option<OpenWork>,
-    init_made: usize,
+    due: Option<Call>,
     notices: &mut Notices,
-) -> Option<Deed>
+) -> Deed
     requires begun { ForSome begun (λ o. o.work.process < length (S.roster store.old).records) }
+    requires due { ForSome due (IsKnown table.now) }
     requires records { length (S.roster store.old).records ≡ length table.now.processes }
     requires objects { AreOf table.now objects.old }
     requires starts { HasOrderlyStarts (S.roster store.old) }
     requires can { CanServe (S.roster store.old) notices.old }
     requires releases { HasNoFutureRelease (S.roster store.old) }
-    ensures done { IfSome result (λ deed. Does
-        (turn_deed table.now (S.roster store.old) objects.old core begun
-        (due_after table.now (S.roster store.old) core init_made))
-        deed.caller (Some deed.call) deed.reply
-        (S.roster store.new) objects.new notices.old notices.new) }
-    ensures idle { IfNone result (Does (turn_deed table.now (S.roster store.old) objects.old core
-        begun (due_after table.now (S.roster store.old) core init_made))
-        Nobody None Idle (S.roster store.new) objects.new notices.old notices.new) }
+    ensures { Does (turn_deed table.now (S.roster store.old) objects.old core begun due)
+        result.caller result.call result.reply
+        (S.roster store.new) objects.new notices.old notices.new }
 {
     if let Some(begun) = begun {
         let process = begun.work.process;
-        let caller = Caller::Process(process);
-        let call = Call::Work(begun.work.amount);
-        if begun.unbroken {
+        let reply = if begun.unbroken {
             move_on(table, store, process);
-            return Some(Deed {
-                caller,
-                call,
-                reply: Reply::Done,
-            });
-        }
-        return Some(Deed {
-            caller,
-            call,
-            reply: Reply::Lost,
-        });
+            Reply::Done
+        } else {
+            Reply::Lost
+        };
+        return Deed {
+            caller: Caller::Process(process),
+            call: Some(Call::Work(begun.work.amount)),
+            reply,
+        };
     }
-    let asked = next_call(table, store, core, init_made)?;
-    Some(ask(store, objects, asked.caller, asked.call, notices))
+    match next_call(table, store, core, due) {
+        Some(Asked { caller, call }) => ask(store, objects, caller, call, notices),
+        None => Deed {
+            caller: Caller::Nobody,
+            call: None,
+            reply: Reply::Idle,
+        },
+    }
 }

@@ -2,7 +2,6 @@
 ghost use Rattle.std.specs.Prelude.{◌≡◌, ◌<◌, ◌≤◌, ◌↔◌, ◌+◌, ◌^◌, [], ◌∷◌, ◌++◌, length, ◌&&◌, ◌==◌, if◌then◌else◌, None, Some, option_map, slice_get, All, IfOk, IfErr, OnOk, OnErr, IsOk};
 ghost use Rattle.std.specs.Io.KnownBytes.{Appends};
 ghost use Rattle.apex_machine.specs.services.BufferServices.{BufferObject};
-ghost use Rattle.apex_machine.specs.services.Callers.{is_by_init};
 ghost use Rattle.apex_types.specs.declared.limits.TheConstants.{MOST_ENTRIES, MOST_TICKS};
 ghost use Rattle.apex_types.specs.Limits.{latest};
 ghost use Rattle.apex_machine.specs.processes.Roster.{opening_roster};
@@ -16,30 +15,22 @@ ghost use Rattle.apex_history.specs.Counted.{inner_of, failures_of, CountsFailur
 ghost use Rattle.apex_machine.specs.Events.{IsWithin};
 ghost use Rattle.apex_dispatch.specs.Kernel.{kernel_in};
 
-use crate::deeds::carry_out;
+use crate::deeds::Deed;
 use crate::listing::Listing;
-use crate::objects::Objects;
-use crate::ticks::pass_time;
-use crate::works::Works;
+use crate::situations::Situation;
 use apex_history::{Counted, Entries, Log, Page, Sink};
 use apex_store::Store;
 use apex_table::Table;
-use apex_types::{
-    BufferId, Call, Caller, CoreId, Event, Full, LentEntry, Mode, Notices, Reply, SemaphoreId, Who,
-};
+use apex_types::{BufferId, CoreId, Event, Full, LentEntry, Notices, SemaphoreId, Who};
 use std::alloc::{AllocError, Global};
 use std::io;
 use std::marker::Model;
 
-/// The kernel of one partition, over any store of its processes.
+/// The kernel of one partition, over any store of its processes: its situation, and a log.
 #[derive(Drop)]
 pub struct Kernel<S: Store> {
     table: Table,
-    store: S,
-    objects: Objects,
-    /// The number of init steps that were carried out.
-    init_made: usize,
-    works: Works,
+    situation: Situation<S>,
     log: Log,
     /// The notices of the latest event.
     notices: Notices,
@@ -50,21 +41,12 @@ impl<S: Store> Model for Kernel<S> {
 
     ghost Value = { KernelState S };
 
-    ghost view = { λ k. kernel_with k.table k.objects (S.roster k.store) k.log.entries k.store };
+    ghost view = { λ k. kernel_with k.table k.situation.situation k.log.entries
+        k.situation.store };
 
     ghost invariant = { λ k. IsKept
-        (kernel_with k.table k.objects (S.roster k.store) k.log.entries k.store)
-        k.init_made k.log.limit k.works };
-}
-
-/// The number of init steps that a turn with this caller carries out.
-fn steps_by(caller: &Caller) -> usize
-    ensures { result ≡ (if is_by_init caller.now then 1 else 0) }
-{
-    match caller {
-        Caller::Init => 1,
-        Caller::Process(_) | Caller::Nobody => 0,
-    }
+        (kernel_with k.table k.situation.situation k.log.entries k.situation.store)
+        k.situation.situation k.log.limit };
 }
 
 /// Refuses an event if the history has no room for its entry.
@@ -82,26 +64,18 @@ fn refuse_full(log: &Log) -> Result<(), Full>
     }
 }
 
-/// Adds the entry of an event.
+/// Adds the entry of a deed that was done at this time.
 #[inline(always)]
-fn append<S: Store>(
-    log: &mut Log,
-    store: &S,
-    who: Who,
-    process: Caller,
-    call: Option<Call>,
-    reply: Reply,
-    notices: &Notices,
-)
+fn append(log: &mut Log, now: u64, who: Who, deed: Deed, notices: &Notices)
     requires room { length log.old.entries < log.old.limit }
     requires few_entries { log.old.limit ≤ MOST_ENTRIES }
     ensures entries { log.new.entries ≡ log.old.entries ++ record {
       number = length log.old.entries + 1;
-      now = (S.roster store.now).now;
+      now = now;
       who = who;
-      process = process;
-      call = call;
-      reply = reply;
+      process = deed.caller;
+      call = deed.call;
+      reply = deed.reply;
       notices = notices.now;
     } ∷ [] }
     ensures limit { log.new.limit ≡ log.old.limit }
@@ -109,11 +83,11 @@ fn append<S: Store>(
     let number = log.len() as u32 + 1;
     log.push(&LentEntry {
         number,
-        now: store.now(),
+        now,
         who,
-        process,
-        call,
-        reply,
+        process: deed.caller,
+        call: deed.call,
+        reply: deed.reply,
         notices: notices.as_slice(),
     });
 }
@@ -126,14 +100,11 @@ impl<S: Store> Kernel<S> {
         ensures { IfOk result (λ kernel. kernel ≡ kernel_in table (opening table) kernel.store) }
     {
         table.lawful();
-        let objects = Objects::new(alloc, &table)?;
+        let situation = Situation::opening(alloc, &table, store)?;
         let log = Log::new(alloc, table.limit())?;
         Ok(Kernel {
             table,
-            store,
-            objects,
-            init_made: 0,
-            works: Works::new(),
+            situation,
             log,
             notices: Notices::new(),
         })
@@ -152,45 +123,9 @@ impl<S: Store> Kernel<S> {
             × (e.entries ≡ self.old.table.limit)) }
     {
         refuse_full(&self.log)?;
-        self.notices.clear();
-        let who = Who::Core(core);
-        match carry_out(
-            &self.table,
-            &mut self.store,
-            &mut self.objects,
-            core,
-            self.works.at(core),
-            self.init_made,
-            &mut self.notices,
-        ) {
-            Some(deed) => {
-                self.init_made += steps_by(&deed.caller);
-                self.works.begin(core, deed.begun());
-                self.works.watch(&self.store);
-                append(
-                    &mut self.log,
-                    &self.store,
-                    who,
-                    deed.caller,
-                    Some(deed.call),
-                    deed.reply,
-                    &self.notices,
-                );
-            }
-            None => {
-                self.works.begin(core, None);
-                self.works.watch(&self.store);
-                append(
-                    &mut self.log,
-                    &self.store,
-                    who,
-                    Caller::Nobody,
-                    None,
-                    Reply::Idle,
-                    &self.notices,
-                );
-            }
-        }
+        let deed = self.situation.turn(&self.table, core, &mut self.notices);
+        let (now, who) = (self.situation.now(), Who::Core(core));
+        append(&mut self.log, now, who, deed, &self.notices);
         Ok(())
     }
 
@@ -208,18 +143,9 @@ impl<S: Store> Kernel<S> {
             × (e.entries ≡ self.old.table.limit)) }
     {
         refuse_full(&self.log)?;
-        self.notices.clear();
-        let went = pass_time(&mut self.store, n, &mut self.notices);
-        self.works.watch(&self.store);
-        append(
-            &mut self.log,
-            &self.store,
-            Who::Ticker,
-            Caller::Nobody,
-            None,
-            Reply::Advanced(n, went),
-            &self.notices,
-        );
+        let deed = self.situation.tick(&self.table, n, &mut self.notices);
+        let now = self.situation.now();
+        append(&mut self.log, now, Who::Ticker, deed, &self.notices);
         Ok(())
     }
 
@@ -301,11 +227,12 @@ impl<S: Store> Kernel<S> {
         ensures { listing_of result.table result.roster result.objects result.entries
             ≡ listing self.now.table self.now.machine }
     {
-        let _cores = self.store.cores();
+        let store = self.situation.store();
+        let _cores = store.cores();
         Listing {
             table: &self.table,
-            store: &self.store,
-            objects: &self.objects,
+            store,
+            objects: self.situation.objects(),
             entries: self.log.len() as u32,
         }
     }
@@ -332,7 +259,7 @@ impl<S: Store> Kernel<S> {
     pub fn now(&self) -> u64
         ensures { result ≡ self.now.machine.roster.now }
     {
-        self.store.now()
+        self.situation.now()
     }
 
     /// The value of the semaphore, created or not. None if the table has no such semaphore.
@@ -340,7 +267,7 @@ impl<S: Store> Kernel<S> {
         ensures { result ≡ option_map (λ (s : SemaphoreObject). s.value)
             (slice_get self.now.objects.semaphores semaphore) }
     {
-        match self.objects.semaphores.get(semaphore.place()) {
+        match self.situation.objects().semaphores.get(semaphore.place()) {
             Some(semaphore) => Some(semaphore.value()),
             None => None,
         }
@@ -351,7 +278,7 @@ impl<S: Store> Kernel<S> {
         ensures { result ≡ option_map (λ (b : BufferObject). length b.messages)
             (slice_get self.now.objects.buffers buffer) }
     {
-        match self.objects.buffers.get(buffer.place()) {
+        match self.situation.objects().buffers.get(buffer.place()) {
             Some(buffer) => Some(buffer.messages().len()),
             None => None,
         }
@@ -362,7 +289,7 @@ impl<S: Store> Kernel<S> {
         ensures value { result.now ≡ self.now.store }
         ensures roster { S.roster result.now ≡ self.now.machine.roster }
     {
-        &self.store
+        self.situation.store()
     }
 
     pub fn table(&self) -> &Table

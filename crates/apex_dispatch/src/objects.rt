@@ -12,16 +12,16 @@ use apex_types::{BlackboardId, BufferId, SemaphoreId};
 use std::alloc::{AllocError, Global};
 use std::marker::Model;
 
-/// The objects, which the services see besides the processes' records: running values, which the
-/// history gives too.
+/// The objects, which the services see besides the processes' records: one for each entry of the
+/// table, with its running value, which the history gives too.
 #[derive(Drop)]
-pub(crate) struct Objects {
-    pub(crate) processes: Vec<ProcessObject>,
-    pub(crate) semaphores: Vec<Semaphore>,
-    pub(crate) buffers: Vec<Buffer>,
-    pub(crate) blackboards: Vec<Blackboard>,
-    pub(crate) event_flags: Vec<EventFlag>,
-    pub(crate) mutexes: Vec<Mutex>,
+pub struct Objects {
+    pub processes: Vec<ProcessObject>,
+    pub semaphores: Vec<Semaphore>,
+    pub buffers: Vec<Buffer>,
+    pub blackboards: Vec<Blackboard>,
+    pub event_flags: Vec<EventFlag>,
+    pub mutexes: Vec<Mutex>,
 }
 
 impl Model for Objects {
@@ -104,8 +104,8 @@ fn mutexes_before(alloc: Global, table: &Table) -> Result<Vec<Mutex>, AllocError
 }
 
 impl Objects {
-    /// The objects of a partition with an empty history.
-    pub(crate) fn new(alloc: Global, table: &Table) -> Result<Objects, AllocError>
+    /// The objects of a partition with an empty history. Fails only for want of memory.
+    pub fn new(alloc: Global, table: &Table) -> Result<Objects, AllocError>
         ensures { IfOk result (λ o. o ≡ objects_after table.now []) }
     {
         let processes = processes_before(alloc, table)?;

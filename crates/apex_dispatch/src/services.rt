@@ -18,7 +18,7 @@ mod partition;
 mod process;
 mod time;
 
-pub(crate) use process::ProcessObject;
+pub use process::ProcessObject;
 
 /// Carries out a call of any service.
 // Inlined at its one call, so that neither the call nor the reply is copied.

@@ -13,7 +13,7 @@ const CORES: usize = MOST_CORES as usize;
 
 /// The work that each core has begun and not ended.
 #[derive(Drop)]
-pub(crate) struct Works {
+pub struct Works {
     of_core: [Option<OpenWork>; CORES],
     /// Whether any core has begun work so far. If none has, no event looks at the cores' work.
     has_begun: bool,
@@ -35,7 +35,7 @@ impl Model for Works {
 
 impl Works {
     /// No core has begun any.
-    pub(crate) fn new() -> Works
+    pub fn new() -> Works
         ensures { (core : ℕ) → work_at result core ≡ None }
     {
         Works {
@@ -44,8 +44,16 @@ impl Works {
         }
     }
 
+    /// The work of each core, by its number.
+    pub fn of(of_core: [Option<OpenWork>; CORES]) -> Works
+        ensures { result ≡ of_core }
+    {
+        let has_begun = of_core.iter().any(|begun| begun.is_some());
+        Works { of_core, has_begun }
+    }
+
     /// The work that the core has begun and not ended.
-    pub(crate) fn at(&self, core: CoreId) -> Option<OpenWork>
+    pub fn at(&self, core: CoreId) -> Option<OpenWork>
         ensures { result ≡ work_at self.now core }
     {
         if !self.has_begun {

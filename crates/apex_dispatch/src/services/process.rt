@@ -20,7 +20,7 @@ use std::marker::Model;
 
 /// A process as its services see it, besides its record.
 #[derive(Clone, Copy)]
-pub(crate) struct ProcessObject {
+pub struct ProcessObject {
     created: bool,
 }
 

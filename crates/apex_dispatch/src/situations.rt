@@ -1,0 +1,206 @@
+//! The situation of a partition: all on which its future depends, and what each event does to it. It
+//! knows no history.
+ghost use Rattle.std.specs.Prelude.{◌≡◌, ℕ, ◌+◌, ◌<◌, ◌≤◌, [], IfOk};
+ghost use Rattle.apex_types.specs.declared.entries.Event.TheVariants.{Turn, Tick};
+ghost use Rattle.apex_types.specs.declared.limits.TheConstants.{MOST_ENTRIES, MOST_TICKS};
+ghost use Rattle.apex_machine.specs.Machine.{opening, situation_of};
+ghost use Rattle.apex_machine.specs.Situations.{deed, due_call, step};
+ghost use Rattle.apex_machine.specs.processes.Roster.{opening_roster};
+ghost use Rattle.apex_machine.specs.services.Callers.{is_by_init};
+ghost use Rattle.apex_dispatch.specs.Deeds.{Does};
+ghost use Rattle.apex_dispatch.specs.Situations.{CanGoOn, situation_with};
+
+use crate::deeds::{Deed, carry_out};
+use crate::objects::Objects;
+use crate::ticks::pass_time;
+use crate::works::Works;
+use apex_machine::OpenWork;
+use apex_store::Store;
+use apex_table::Table;
+use apex_types::{Call, Caller, CoreId, Mode, Notices, Reply};
+use std::alloc::{AllocError, Global};
+use std::marker::Model;
+
+/// The situation of a partition, over any store of its processes: all on which its future depends.
+///
+/// It has no history. A [`Kernel`](crate::Kernel) is a situation with a log.
+#[derive(Drop)]
+pub struct Situation<S: Store> {
+    store: S,
+    objects: Objects,
+    works: Works,
+    /// The number of init steps that were carried out.
+    made: usize,
+}
+
+impl<S: Store> Model for Situation<S> {
+    ghost use Rattle.apex_dispatch.specs.Situations.{StoredSituation, situation_with};
+
+    ghost Value = { StoredSituation S };
+
+    ghost view = { λ s. record {
+      situation = situation_with (S.roster s.store) s.objects s.works s.made;
+      store = s.store;
+    } };
+}
+
+/// The number of init steps that a turn with this caller carries out.
+fn steps_by(caller: &Caller) -> usize
+    ensures { result ≡ (if is_by_init caller.now then 1 else 0) }
+{
+    match caller {
+        Caller::Init => 1,
+        Caller::Process(_) | Caller::Nobody => 0,
+    }
+}
+
+impl<S: Store> Situation<S> {
+    /// The situation before any event, which takes all the memory that events will fill but a log's.
+    /// It fails only for want of memory.
+    pub fn opening(alloc: Global, table: &Table, store: S) -> Result<Situation<S>, AllocError>
+        requires { S.roster store ≡ opening_roster table.now }
+        ensures situation { IfOk result (λ s. s.situation
+            ≡ situation_of table.now (opening table.now)) }
+        ensures goes_on { IfOk result (λ s. (left : ℕ) → left ≤ MOST_ENTRIES
+            → CanGoOn table.now left s.situation) }
+    {
+        table.lawful();
+        Ok(Situation {
+            store,
+            objects: Objects::new(alloc, table)?,
+            works: Works::new(),
+            made: 0,
+        })
+    }
+
+    /// The situation of these parts: `made` is the number of init steps that were carried out.
+    pub fn new(store: S, objects: Objects, works: Works, made: usize) -> Situation<S>
+        ensures situation { result.situation
+            ≡ situation_with (S.roster store) objects works made }
+        ensures store { result.store ≡ store }
+    {
+        Situation {
+            store,
+            objects,
+            works,
+            made,
+        }
+    }
+
+    /// Its parts, of which [`Situation::new`] makes it again.
+    pub fn into_parts(self) -> (S, Objects, Works, usize)
+        ensures situation { self.situation
+            ≡ situation_with (S.roster result.0) result.1 result.2 result.3 }
+        ensures store { result.0 ≡ self.store }
+    {
+        let Situation {
+            store,
+            objects,
+            works,
+            made,
+        } = self;
+        (store, objects, works, made)
+    }
+
+    /// The store of its processes.
+    pub fn store(&self) -> &S
+        ensures value { result.now ≡ self.now.store }
+        ensures roster { S.roster result.now ≡ self.now.situation.roster }
+    {
+        &self.store
+    }
+
+    /// The objects, with their running values.
+    pub fn objects(&self) -> &Objects
+        ensures { result.now ≡ self.now.situation.objects }
+    {
+        &self.objects
+    }
+
+    /// The work that is open on the core.
+    pub fn work(&self, core: CoreId) -> Option<OpenWork>
+        ensures { result ≡ self.now.situation.works core }
+    {
+        self.works.at(core)
+    }
+
+    /// The number of init steps that were carried out.
+    pub fn init_steps_made(&self) -> usize
+        ensures { result ≡ self.now.situation.made }
+    {
+        self.made
+    }
+
+    /// The time in ticks.
+    pub fn now(&self) -> u64
+        ensures { result ≡ self.now.situation.roster.now }
+    {
+        self.store.now()
+    }
+
+    /// The init step that is due in a turn of the core: in COLD_START core 0 carries out the next one.
+    fn due_call(&self, table: &Table, core: CoreId) -> Option<Call>
+        ensures { result ≡ due_call table.now self.now.situation core }
+    {
+        if self.store.mode() == Mode::ColdStart && core.number() == 0 {
+            table.init_call(self.made)
+        } else {
+            None
+        }
+    }
+
+    /// One turn of the core, whole. Answers its deed, and leaves its notices alone in `notices`.
+    // Inlined, so that no deed is copied on its way to a log.
+    #[inline(always)]
+    pub fn turn(&mut self, table: &Table, core: CoreId, notices: &mut Notices) -> Deed
+        requires { CanGoOn table.now 1 self.old.situation }
+        ensures situation { self.new.situation ≡ step table.now self.old.situation (Turn core) }
+        ensures answer { Does (deed table.now self.old.situation (Turn core))
+            result.caller result.call result.reply
+            self.new.situation.roster self.new.situation.objects [] notices.new }
+        ensures goes_on { (left : ℕ) → CanGoOn table.now (left + 1) self.old.situation
+            → CanGoOn table.now left self.new.situation }
+    {
+        table.lawful();
+        notices.clear();
+        let due = self.due_call(table, core);
+        let deed = carry_out(
+            table,
+            &mut self.store,
+            &mut self.objects,
+            core,
+            self.works.at(core),
+            due,
+            notices,
+        );
+        self.made += steps_by(&deed.caller);
+        self.works.begin(core, deed.begun());
+        self.works.watch(&self.store);
+        deed
+    }
+
+    /// One tick, whole: time goes on by `n` ticks, but not past the next instant at which a wait
+    /// ends by itself or a deadline passes. Answers its deed, and leaves its notices alone in
+    /// `notices`.
+    #[inline(always)]
+    pub fn tick(&mut self, table: &Table, n: u32, notices: &mut Notices) -> Deed
+        requires range { (1 ≤ n) × (n ≤ MOST_TICKS) }
+        requires can { CanGoOn table.now 1 self.old.situation }
+        ensures situation { self.new.situation ≡ step table.now self.old.situation (Tick n) }
+        ensures answer { Does (deed table.now self.old.situation (Tick n))
+            result.caller result.call result.reply
+            self.new.situation.roster self.new.situation.objects [] notices.new }
+        ensures goes_on { (left : ℕ) → CanGoOn table.now (left + 1) self.old.situation
+            → CanGoOn table.now left self.new.situation }
+    {
+        table.lawful();
+        notices.clear();
+        let went = pass_time(&mut self.store, n, notices);
+        self.works.watch(&self.store);
+        Deed {
+            caller: Caller::Nobody,
+            call: None,
+            reply: Reply::Advanced(n, went),
+        }
+    }
+}
