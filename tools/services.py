@@ -3,16 +3,15 @@
 A row of crates/apex_calls/src/catalogue.rt has the word of a service, the shapes of its arguments, and
 whether an init list may have it. The tables of the services have the same words and arguments, each in
 the section of its kind, and the section of steps the ranges of the numbers; the section of the init
-list names the same services; and each service has a row of cases in crates/apex_cases/stdin, with a
-line of its word, so that exchanged services are seen.
+list names the same services; and each service has a row of cases in a file `.rows` of crates/apex_cases/data,
+with a line of its word, so that exchanged services are seen.
 """
 import re
 
-from common import HOME
+from common import DATA, HOME
 
 CATALOGUE = "crates/apex_calls/src/catalogue.rt"
 FORMATS = "docs/FORMATS.md"
-CASES = "crates/apex_cases/stdin"
 LIMITS = "crates/apex_types/src/limits.rt"
 ROW = re.compile(r'    \w+ "(\w+)" \[(.*)\] (true|false);')
 SHAPE = re.compile(r"(\w+)(?:\(([^)]*)\))?")
@@ -96,9 +95,10 @@ def faults_of_init_list(shapes, init):
 
 def faults_of_cases(shapes):
     """The services without a row of cases, or without a line of their word in it."""
-    parts = dict(re.findall(r"^row (\S+)(.*?)(?=^row |\Z)", (HOME / CASES).read_text(), re.DOTALL | re.MULTILINE))
+    text = "\n".join(file.read_text() for file in sorted((HOME / DATA).glob("*.rows")))
+    parts = dict(re.findall(r"^row (\S+)(.*?)(?=^row |\Z)", text, re.DOTALL | re.MULTILINE))
     return [
-        f"{CASES}: no row of {word} with a line of it"
+        f"{DATA}: no row of {word} with a line of it"
         for word in shapes
         if not re.search(rf"^\d+ \d+ core\d \S+ {word}\b.* -> ", parts.get(word, ""), re.MULTILINE)
     ]

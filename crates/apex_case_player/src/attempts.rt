@@ -8,7 +8,7 @@ use crate::requests::Request;
 use crate::rows::cut_line;
 use std::alloc::Global;
 
-/// The words that ask for a check.
+/// The arguments that ask for a check.
 const CHECK: &[&str] = &["check"];
 
 /// The calls that fail in turn.
@@ -32,7 +32,7 @@ pub enum Part {
 }
 
 impl Part {
-    /// The part of this byte, which is behind `spaces` spaces of its line.
+    /// The part of this byte, which comes after `spaces` spaces of its line.
     fn of(spaces: u64, byte: u8) -> Part {
         if spaces == 2 && byte.is_ascii_digit() {
             Part::Core
@@ -44,7 +44,7 @@ impl Part {
     }
 }
 
-/// A change of one byte in a line behind the separator.
+/// A change of one byte in a line after the separator.
 #[derive(Clone, Copy)]
 pub struct Change {
     /// The place of the byte in what the program reads.
@@ -65,7 +65,7 @@ pub enum Attempt {
     Fail(Calls, u64),
     /// The call of this number would fail, and the program makes no such call.
     Pass(Calls, u64),
-    /// The table is cut behind this number of bytes.
+    /// The table is cut after this number of bytes.
     Cut(usize),
     Change(Change),
 }
@@ -163,16 +163,16 @@ impl<'a> Case<'a> {
         attempts
     }
 
-    /// The table is cut behind each of its bytes but the last.
+    /// The table is cut after each of its bytes but the last.
     fn put_cuts(&self, report: &mut Report, attempts: &mut Vec<Attempt>) {
         for (end, _) in self.table.as_str().char_indices() {
             put(report, attempts, Attempt::Cut(end));
         }
     }
 
-    /// Each byte of the first `wanted` lines behind the separator is changed in turn.
+    /// Each byte of the first `wanted` lines after the separator is changed in turn.
     fn put_changes(&self, report: &mut Report, attempts: &mut Vec<Attempt>, wanted: usize) {
-        let (separator, lines) = cut_line(self.behind.as_str());
+        let (separator, lines) = cut_line(self.after.as_str());
         let before = self.table.as_str().len().saturating_add(separator.len());
         let mut begins = before.saturating_add(1);
         for (line, text) in lines.lines().enumerate() {
@@ -187,20 +187,20 @@ impl<'a> Case<'a> {
     pub fn request(&self, attempt: Attempt) -> Request<'_> {
         let table = self.table.as_str();
         let given = Request {
-            words: self.given_words(),
-            texts: [table, self.behind.as_str(), ""],
+            arguments: self.given_arguments(),
+            texts: [table, self.after.as_str(), ""],
             changed: None,
             devices: attempt.devices(self.devices),
         };
         match attempt {
             Attempt::Check => Request {
-                words: Some(CHECK),
+                arguments: Some(CHECK),
                 texts: [table, "\n%%\n", self.written.as_str()],
                 changed: None,
                 devices: Devices::sound(BRIEF),
             },
             Attempt::Cut(end) => Request {
-                texts: [table.get(..end).unwrap_or(table), self.behind.as_str(), ""],
+                texts: [table.get(..end).unwrap_or(table), self.after.as_str(), ""],
                 ..given
             },
             Attempt::Change(change) => Request {

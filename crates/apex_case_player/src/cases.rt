@@ -1,4 +1,4 @@
-//! A case: the table, the text behind it, the words, the devices, and the output of `apex`. A case
+//! A case: the table, the text after it, the arguments, the devices, and the output of `apex`. A case
 //! of an example edits the example's table, and has the whole output; a case of a row has a table
 //! in short, and the last lines of the output; a reading has a changed table, and its fault.
 use crate::devices::{AMPLE, BRIEF, Devices};
@@ -31,10 +31,10 @@ pub(crate) struct Trials {
     pub(crate) reads: Option<u64>,
     /// Each of the writes on standard output fails in turn, up to this one.
     pub(crate) writes: Option<u64>,
-    /// The table is cut behind each byte. This number of prefixes are answered as the whole table
+    /// The table is cut after each byte. This number of prefixes are answered as the whole table
     /// is; each other one is refused.
     pub(crate) cuts: Option<u64>,
-    /// Each byte of this number of lines behind the separator is changed in turn.
+    /// Each byte of this number of lines after the separator is changed in turn.
     pub(crate) changes: Option<usize>,
 }
 
@@ -47,13 +47,13 @@ pub struct Case<'a> {
     pub(crate) lines: &'a str,
     /// The table, with the case's edits.
     pub(crate) table: Text,
-    /// The text behind the table.
-    pub(crate) behind: Text,
-    /// The words behind the program's name.
-    words: Vec<&'a str>,
-    /// Whether the case gives the words.
+    /// The text after the table.
+    pub(crate) after: Text,
+    /// The arguments of the program, without its name.
+    arguments: Vec<&'a str>,
+    /// Whether the case gives the arguments.
     is_asked: bool,
-    /// Whether the program had no memory to fetch its words.
+    /// Whether the program had no memory to fetch its arguments.
     is_unfetched: bool,
     pub(crate) devices: Devices,
     pub(crate) trials: Trials,
@@ -114,8 +114,8 @@ impl<'a> Case<'a> {
             kind,
             lines,
             table: table_for(alloc, kind, lines),
-            behind: Text::new(alloc),
-            words: Vec::new(alloc),
+            after: Text::new(alloc),
+            arguments: Vec::new(alloc),
             is_asked: false,
             is_unfetched: false,
             devices: Devices::sound(AMPLE),
@@ -149,13 +149,13 @@ impl<'a> Case<'a> {
             _ => self.put_all()?,
         }
         self.table.whole()?;
-        self.behind.whole()?;
+        self.after.whole()?;
         self.expected.output.whole()?;
         self.expected.error.whole()?;
         Ok(())
     }
 
-    /// Takes the lines of a case of a row or an example, which have to give words and an outcome.
+    /// Takes the lines of a case of a row or an example, which have to give arguments and an outcome.
     fn put_all(&mut self) -> Result<(), CaseFault> {
         for line in self.lines.lines() {
             if !is_silent(line) {
@@ -165,7 +165,7 @@ impl<'a> Case<'a> {
         let expected = &self.expected;
         let is_nothing = expected.output.as_str().is_empty() && expected.error.as_str().is_empty();
         if !self.is_asked {
-            return Err(CaseFault::Words);
+            return Err(CaseFault::Arguments);
         }
         if is_nothing && expected.verdict.is_none() {
             return Err(CaseFault::NoLines);
@@ -207,15 +207,15 @@ impl<'a> Case<'a> {
             _ if is_of_row && is_of_table(field) => {}
             _ if is_of_row => self.expected.output.put_line(line),
             "edit" => return self.edit(rest),
-            "given" => self.behind.put_line(rest),
+            "given" => self.after.put_line(rest),
             "return" => {
-                self.behind.put(rest);
-                self.behind.put("\r\n");
+                self.after.put(rest);
+                self.after.put("\r\n");
             }
-            "cut" => self.behind.put(rest),
+            "cut" => self.after.put(rest),
             "listing" => return self.ask_over("status", rest),
-            "words" => return self.ask(rest),
-            "word" => return self.ask_further(rest),
+            "arguments" => return self.ask(rest),
+            "argument" => return self.ask_further(rest),
             _ => return self.put_device(field, rest, line),
         }
         Ok(())
@@ -239,7 +239,7 @@ impl<'a> Case<'a> {
             "status" => self.expected.status = number_of(rest)?,
             "verdict" => self.expected.verdict = Some(rest),
             "apex:" => self.expected.error.put_line(line),
-            "lines" | "stands" => {}
+            "lines" | "contains" => {}
             _ => self.expected.output.put_line(line),
         }
         Ok(())
@@ -255,15 +255,15 @@ impl<'a> Case<'a> {
         Ok(())
     }
 
-    /// Asks for the words between spaces; `Words` if some were asked for before.
-    fn ask(&mut self, words: &'a str) -> Result<(), CaseFault> {
+    /// Asks with the arguments between spaces; `Arguments` if there were some before.
+    fn ask(&mut self, arguments: &'a str) -> Result<(), CaseFault> {
         if self.is_asked {
-            return Err(CaseFault::Words);
+            return Err(CaseFault::Arguments);
         }
         self.is_asked = true;
-        for word in words.split(' ') {
-            if !word.is_empty() {
-                self.ask_further(word)?;
+        for argument in arguments.split(' ') {
+            if !argument.is_empty() {
+                self.ask_further(argument)?;
             }
         }
         Ok(())
@@ -276,10 +276,10 @@ impl<'a> Case<'a> {
         self.ask_further(schedule)
     }
 
-    /// Asks for one more word.
-    fn ask_further(&mut self, word: &'a str) -> Result<(), CaseFault> {
+    /// Asks with one more argument.
+    fn ask_further(&mut self, argument: &'a str) -> Result<(), CaseFault> {
         self.is_asked = true;
-        if self.words.push(word).is_err() {
+        if self.arguments.push(argument).is_err() {
             return Err(CaseFault::Memory);
         }
         Ok(())
@@ -287,14 +287,14 @@ impl<'a> Case<'a> {
 
     /// Whether the program is asked for this.
     pub(crate) fn is_for(&self, command: &str) -> bool {
-        matches!(self.words.first(), Some(word) if *word == command)
+        matches!(self.arguments.first(), Some(first) if *first == command)
     }
 
-    /// The words that the program is given; none if it had no memory to fetch them.
-    pub(crate) fn given_words(&self) -> Option<&[&'a str]> {
+    /// The arguments that the program is given; none if it had no memory to fetch them.
+    pub(crate) fn given_arguments(&self) -> Option<&[&'a str]> {
         if self.is_unfetched {
             return None;
         }
-        Some(self.words.as_slice())
+        Some(self.arguments.as_slice())
     }
 }

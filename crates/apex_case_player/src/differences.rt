@@ -10,7 +10,7 @@ const USAGE: &str =
 
 /// An outcome whose bytes are text.
 #[derive(Clone, Copy)]
-pub(crate) struct Told<'a> {
+pub(crate) struct TextOutcome<'a> {
     pub(crate) output: &'a str,
     pub(crate) error: &'a str,
     pub(crate) status: u64,
@@ -18,14 +18,14 @@ pub(crate) struct Told<'a> {
     pub(crate) failed_writes: u64,
 }
 
-impl<'a> Told<'a> {
+impl<'a> TextOutcome<'a> {
     /// The outcome as text; `Text` if it is none.
-    pub(crate) fn of(outcome: &Outcome<'a>) -> Result<Told<'a>, CaseFault> {
+    pub(crate) fn of(outcome: &Outcome<'a>) -> Result<TextOutcome<'a>, CaseFault> {
         match (
             str::from_utf8(outcome.output),
             str::from_utf8(outcome.error),
         ) {
-            (Ok(output), Ok(error)) => Ok(Told {
+            (Ok(output), Ok(error)) => Ok(TextOutcome {
                 output,
                 error,
                 status: outcome.status as u64,
@@ -36,12 +36,12 @@ impl<'a> Told<'a> {
         }
     }
 
-    /// Whether the program refuses its words or the bytes that it reads, and writes nothing else.
+    /// Whether the program refuses its arguments or the bytes that it reads, and writes nothing else.
     pub(crate) fn is_refused(&self) -> bool {
         let is_of_table = self.error.starts_with("apex: table refused: ");
         let is_of_text = is_of_table || self.error == "apex: no separator\n";
-        let is_of_words = self.status == 2 && self.error == USAGE;
-        (is_of_words || (self.status == 3 && is_of_text)) && self.output.is_empty()
+        let is_of_arguments = self.status == 2 && self.error == USAGE;
+        (is_of_arguments || (self.status == 3 && is_of_text)) && self.output.is_empty()
     }
 }
 
@@ -56,7 +56,7 @@ fn lines_of(history: &str, word: &str) -> u64 {
     count
 }
 
-/// Compares the number of lines of a word with the one behind the word.
+/// Compares the number of lines of a word with the one after the word.
 fn compare_count(report: &mut Report, count: &str, lines: &str) {
     let (word, number) = count.split_once(' ').unwrap_or((count, ""));
     match number_of(number) {
@@ -66,22 +66,27 @@ fn compare_count(report: &mut Report, count: &str, lines: &str) {
 }
 
 /// Compares lines with what the lines of a case expect of them in part: the number of each core's
-/// and of the ticker's, as `lines core0 3`, and the texts in them, as `stands TEXT`.
+/// and of the ticker's, as `lines core0 3`, and the texts in them, as `contains TEXT`.
 pub(crate) fn compare_parts(report: &mut Report, case: &str, lines: &str) {
     for expected in case.lines() {
         match expected.split_once(' ') {
             Some(("lines", count)) => compare_count(report, count, lines),
-            Some(("stands", text)) => report.require(lines.contains(text), expected),
+            Some(("contains", text)) => report.require(lines.contains(text), expected),
             _ => {}
         }
     }
 }
 
 /// Compares the program's outcome with this fault and this status, and nothing on standard output.
-pub(crate) fn compare_refusal(report: &mut Report, told: &Told<'_>, status: u64, fault: &str) {
-    report.compare_numbers("status", status, told.status);
-    report.compare(fault, told.error);
-    report.compare("", told.output);
+pub(crate) fn compare_refusal(
+    report: &mut Report,
+    outcome: &TextOutcome<'_>,
+    status: u64,
+    fault: &str,
+) {
+    report.compare_numbers("status", status, outcome.status);
+    report.compare(fault, outcome.error);
+    report.compare("", outcome.output);
 }
 
 /// The whole lines at the head of a text.

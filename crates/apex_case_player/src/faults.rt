@@ -21,7 +21,7 @@ pub enum CaseFault {
     Edit,
     Reading,
     Number,
-    Words,
+    Arguments,
     Fold,
     /// A kernel over a store without lists, which `check` has, makes another history than the
     /// program, whose lists are linked.
@@ -39,11 +39,11 @@ impl CaseFault {
             CaseFault::Text => "the text is no UTF-8",
             CaseFault::Outline => "ill-formed outline",
             CaseFault::NoLines => "no line of a history",
-            CaseFault::NoFolder => "no folder of examples",
+            CaseFault::NoFolder => "no folder of cases",
             CaseFault::Edit => "no such edit",
             CaseFault::Reading => "ill-formed reading",
             CaseFault::Number => "no number",
-            CaseFault::Words => "no words, or words twice",
+            CaseFault::Arguments => "no arguments, or arguments twice",
             CaseFault::Fold => "ill-formed fold",
             CaseFault::Plain => "another history without lists",
         }

@@ -4,7 +4,7 @@ use crate::texts::Text;
 use std::alloc::Global;
 use std::mem::drop;
 
-/// How often, and which part, the fold repeats that a piece begins in, and what is behind it.
+/// How often, and which part, the fold repeats that a piece begins in, and what comes after it.
 fn fold_of(piece: &str) -> Option<(u16, &str, &str)> {
     let (fold, after) = piece.split_once(">>")?;
     let (times, part) = fold.split_once(" * ")?;

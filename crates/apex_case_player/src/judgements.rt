@@ -1,7 +1,7 @@
 //! The judgement on each attempt of a case: its outcome beside the expected one.
 use crate::attempts::{Attempt, Calls, Change, Part};
 use crate::cases::Case;
-use crate::differences::{Told, compare_parts, compare_refusal, whole_lines};
+use crate::differences::{TextOutcome, compare_parts, compare_refusal, whole_lines};
 use crate::faults::CaseFault;
 use crate::plans::{Kind, Written};
 use crate::reports::Report;
@@ -14,51 +14,51 @@ impl<'a> Case<'a> {
     pub fn judge(&mut self, report: &mut Report, attempt: Attempt, outcome: &Outcome<'_>) -> bool {
         attempt.begin(report);
         self.is_to_check = false;
-        match Told::of(outcome) {
-            Ok(told) => self.judge_told(report, attempt, &told),
+        match TextOutcome::of(outcome) {
+            Ok(outcome) => self.judge_text(report, attempt, &outcome),
             Err(fault) => report.blame(fault),
         }
         self.is_to_check
     }
 
-    fn judge_told(&mut self, report: &mut Report, attempt: Attempt, told: &Told<'_>) {
+    fn judge_text(&mut self, report: &mut Report, attempt: Attempt, outcome: &TextOutcome<'_>) {
         match attempt {
-            Attempt::Whole => self.judge_whole(report, told),
-            Attempt::Check => self.judge_check(report, told),
+            Attempt::Whole => self.judge_whole(report, outcome),
+            Attempt::Check => self.judge_check(report, outcome),
             Attempt::Fail(Calls::Reads, _) => {
-                report.compare_numbers("calls that fail", 1, told.failed_reads);
-                compare_refusal(report, told, 6, "apex: read failed\n");
+                report.compare_numbers("calls that fail", 1, outcome.failed_reads);
+                compare_refusal(report, outcome, 6, "apex: read failed\n");
             }
-            Attempt::Fail(Calls::Writes, _) => self.judge_failure(report, told),
+            Attempt::Fail(Calls::Writes, _) => self.judge_failure(report, outcome),
             Attempt::Pass(calls, _) => {
                 let failed = match calls {
-                    Calls::Reads => told.failed_reads,
-                    Calls::Writes => told.failed_writes,
+                    Calls::Reads => outcome.failed_reads,
+                    Calls::Writes => outcome.failed_writes,
                 };
                 report.compare_numbers("calls that fail", 0, failed);
-                self.compare_told(report, told);
+                self.compare_outcome(report, outcome);
             }
-            Attempt::Cut(end) => self.judge_cut(report, end, told),
-            Attempt::Change(change) => self.judge_change(report, change, told),
+            Attempt::Cut(end) => self.judge_cut(report, end, outcome),
+            Attempt::Change(change) => self.judge_change(report, change, outcome),
         }
     }
 
     /// Compares an outcome with the expected one.
-    fn compare_told(&mut self, report: &mut Report, told: &Told<'_>) {
-        report.compare(self.expected.error.as_str(), told.error);
-        report.compare_numbers("status", self.expected.status, told.status);
+    fn compare_outcome(&mut self, report: &mut Report, outcome: &TextOutcome<'_>) {
+        report.compare(self.expected.error.as_str(), outcome.error);
+        report.compare_numbers("status", self.expected.status, outcome.status);
         if let Some(verdict) = self.expected.verdict {
-            compare_parts(report, self.lines, told.output);
-            self.ask_check(told.output);
+            compare_parts(report, self.lines, outcome.output);
+            self.ask_check(outcome.output);
             return report.compare(verdict, self.wanted.as_str());
         }
         let output = self.expected.output.as_str();
         match self.kind {
-            Kind::Row => report.compare_end(output, told.output),
+            Kind::Row => report.compare_end(output, outcome.output),
             Kind::Example(_) => {
                 report.compare(
                     output.get(..self.devices.room).unwrap_or(output),
-                    told.output,
+                    outcome.output,
                 )
             }
             Kind::Reading { .. } => {}
@@ -77,22 +77,22 @@ impl<'a> Case<'a> {
 
     /// Judges the outcome of the case as it is. The lines of a replay are legal: `check` makes them
     /// by a kernel over the other store.
-    fn judge_whole(&mut self, report: &mut Report, told: &Told<'_>) {
-        self.whole.put(told.output);
-        if self.is_for("replay") && told.failed_writes == 0 && !told.output.is_empty() {
-            self.ask_check(told.output);
+    fn judge_whole(&mut self, report: &mut Report, outcome: &TextOutcome<'_>) {
+        self.whole.put(outcome.output);
+        if self.is_for("replay") && outcome.failed_writes == 0 && !outcome.output.is_empty() {
+            self.ask_check(outcome.output);
         }
-        self.compare_told(report, told);
+        self.compare_outcome(report, outcome);
     }
 
     /// Judges the verdict of `check` on the lines that the program wrote.
-    fn judge_check(&self, report: &mut Report, told: &Told<'_>) {
+    fn judge_check(&self, report: &mut Report, outcome: &TextOutcome<'_>) {
         let wanted = self.wanted.as_str();
-        let verdict = told.output.trim_end();
+        let verdict = outcome.output.trim_end();
         if self.expected.verdict.is_some() {
             report.compare(wanted, verdict);
-            report.compare_numbers("status of check", 0, told.status);
-        } else if verdict != wanted || told.status != 0 {
+            report.compare_numbers("status of check", 0, outcome.status);
+        } else if verdict != wanted || outcome.status != 0 {
             report.blame(CaseFault::Plain);
         }
     }
@@ -100,31 +100,31 @@ impl<'a> Case<'a> {
     /// Judges the outcome if a write fails: it fails alone, the program says so, and what it wrote
     /// is a prefix of the whole output, and not all. The lines of a run by threads differ from run
     /// to run: the whole ones among those that were written are legal, and not all.
-    fn judge_failure(&mut self, report: &mut Report, told: &Told<'_>) {
-        report.compare_numbers("calls that fail", 1, told.failed_writes);
-        report.compare_numbers("status", 6, told.status);
-        report.compare("apex: write failed\n", told.error);
+    fn judge_failure(&mut self, report: &mut Report, outcome: &TextOutcome<'_>) {
+        report.compare_numbers("calls that fail", 1, outcome.failed_writes);
+        report.compare_numbers("status", 6, outcome.status);
+        report.compare("apex: write failed\n", outcome.error);
         if self.expected.verdict.is_some() && self.is_for("run") {
-            let lines = whole_lines(told.output);
+            let lines = whole_lines(outcome.output);
             let is_shorter = lines.lines().count() < self.whole.as_str().lines().count();
             report.require(is_shorter, "the output is shorter than the whole one");
             return self.ask_check(lines);
         }
         let whole = self.whole.as_str();
-        let is_beginning = whole.starts_with(told.output) && told.output.len() < whole.len();
-        report.require(is_beginning, "the output is a prefix of the whole one");
+        let is_prefix = whole.starts_with(outcome.output) && outcome.output.len() < whole.len();
+        report.require(is_prefix, "the output is a prefix of the whole one");
     }
 
-    /// Judges the answer to the table cut behind this number of bytes, which is that to the whole
+    /// Judges the answer to the table cut after this number of bytes, which is that to the whole
     /// one, or a refusal.
-    fn judge_cut(&mut self, report: &mut Report, end: usize, told: &Told<'_>) {
-        self.compare_told(report, told);
+    fn judge_cut(&mut self, report: &mut Report, end: usize, outcome: &TextOutcome<'_>) {
+        self.compare_outcome(report, outcome);
         match report.fault() {
             None => {
                 self.accepted = self.accepted.saturating_add(1);
                 self.shortest = self.shortest.min(end);
             }
-            Some(CaseFault::Differs) if told.is_refused() => {
+            Some(CaseFault::Differs) if outcome.is_refused() => {
                 self.is_to_check = false;
                 report.clear_fault();
             }
@@ -134,17 +134,17 @@ impl<'a> Case<'a> {
 
     /// Judges the verdict on a history of which this byte was changed: on standard output if its
     /// line departs, and else on standard error.
-    fn judge_change(&mut self, report: &mut Report, change: Change, told: &Told<'_>) {
-        let (_, lines) = cut_line(self.behind.as_str());
+    fn judge_change(&mut self, report: &mut Report, change: Change, outcome: &TextOutcome<'_>) {
+        let (_, lines) = cut_line(self.after.as_str());
         let number = (change.line as u64).saturating_add(1);
         self.wanted.clear();
         match change.part {
-            Part::Core => report.compare("", told.error),
+            Part::Core => report.compare("", outcome.error),
             Part::Name => {
                 self.wanted.put("apex: history refused: BadLine at line ");
                 self.wanted.put_number(number);
                 self.wanted.put("\n");
-                return compare_refusal(report, told, 3, self.wanted.as_str());
+                return compare_refusal(report, outcome, 3, self.wanted.as_str());
             }
             Part::Rest => {
                 self.wanted.put("departs at ");
@@ -152,10 +152,10 @@ impl<'a> Case<'a> {
                 self.wanted.put("\nexpected: ");
                 self.wanted
                     .put_line(lines.lines().nth(change.line).unwrap_or(""));
-                report.compare(self.wanted.as_str(), told.output);
+                report.compare(self.wanted.as_str(), outcome.output);
             }
         }
-        report.compare_numbers("status", 1, told.status);
+        report.compare_numbers("status", 1, outcome.status);
     }
 
     /// Ends the case, all attempts of which were made, and reports how it is as it should be, or
@@ -166,7 +166,7 @@ impl<'a> Case<'a> {
             self.compare_cuts(report, wanted);
         }
         if let Some(wanted) = self.trials.changes {
-            let (_, lines) = cut_line(self.behind.as_str());
+            let (_, lines) = cut_line(self.after.as_str());
             let got = lines.lines().count().min(wanted);
             report.compare_numbers("lines", wanted as u64, got as u64);
         }

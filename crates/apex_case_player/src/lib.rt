@@ -1,6 +1,6 @@
 //! Reads cases, gives the requests by which a program plays them, and reports each difference in
-//! its outcomes: the cases of the services by their rows, and the examples of a folder, each a
-//! table with its cases and its readings.
+//! its outcomes: the cases of the services by their rows, and the examples, each a table
+//! with its cases and its readings.
 #![tactic(auto)]
 
 mod attempts;
@@ -22,7 +22,7 @@ pub use attempts::{Attempt, Calls, Change, Part};
 pub use cases::Case;
 pub use devices::Devices;
 pub use faults::CaseFault;
-pub use folders::{ExampleFile, read_folder};
+pub use folders::{CaseFile, read_folder};
 pub use folds::unfolded;
 pub use plans::{Entry, Kind, Plan, Written};
 pub use reports::Report;

@@ -105,7 +105,7 @@ fn put_process(table: &mut Text, keys: &[&str], words: &str) {
     table.put("]\n");
 }
 
-/// Writes the head of a section: the values of these keys, and behind them `KEY=VALUE`, or a key
+/// Writes the head of a section: the values of these keys, and after them `KEY=VALUE`, or a key
 /// that is true.
 fn put_keys(table: &mut Text, kind: &str, keys: &[&str], values: &str) {
     let mut words = values.split(' ');

@@ -1,9 +1,9 @@
 //! What is played, one after the other: the cases of the rows and those of the examples, and the
 //! readings of the tables.
 use crate::faults::CaseFault;
-use crate::folders::{ExampleFile, text_in};
+use crate::folders::{CaseFile, text_in};
 use crate::reports::Report;
-use crate::rows::{cases_of, cut_line, is_silent, tells};
+use crate::rows::{cases_of, cut_line, has_clause, is_silent};
 use std::alloc::Global;
 
 /// What a case is of.
@@ -46,19 +46,14 @@ pub struct Plan<'a> {
 }
 
 impl<'a> Plan<'a> {
-    /// The cases of these rows, and the cases and the readings of these files. Complains of what
-    /// is no case, and of what has none.
-    pub fn of(
-        alloc: Global,
-        report: &mut Report,
-        rows: &'a str,
-        files: &'a [ExampleFile],
-    ) -> Plan<'a> {
+    /// The rows, the cases and the readings of these files. Complains of what is no case, and of
+    /// what has none.
+    pub fn of(alloc: Global, report: &mut Report, files: &'a [CaseFile]) -> Plan<'a> {
         let mut plan = Plan {
             entries: Vec::new(alloc),
             is_short: false,
         };
-        plan.put_rows(report, rows);
+        plan.put_services(report, files);
         plan.put_examples(report, files);
         plan.put_readings(report, files);
         plan
@@ -88,14 +83,23 @@ impl<'a> Plan<'a> {
         }));
     }
 
-    /// Takes the cases of all rows of the data.
-    fn put_rows(&mut self, report: &mut Report, data: &'a str) {
-        let mut rows = data.split("\nrow ");
-        report.complain_of_lines("before the first row", rows.next().unwrap_or(""), "no row");
+    /// Takes the rows of each file `NAME.rows` of a folder.
+    fn put_services(&mut self, report: &mut Report, files: &'a [CaseFile]) {
+        for file in files {
+            if let (name, "rows") = file.split_name() {
+                self.put_rows(report, name, file.text());
+            }
+        }
+        report.total();
+    }
+
+    /// Takes the cases of all rows of the file of this name.
+    fn put_rows(&mut self, report: &mut Report, name: &str, text: &'a str) {
+        let mut rows = text.split("\nrow ");
+        report.complain_of_lines(name, rows.next().unwrap_or(""), "no row");
         for row in rows {
             self.put_row(report, row);
         }
-        report.total();
     }
 
     /// Takes the cases of the row of this text, which begins with its name.
@@ -106,7 +110,7 @@ impl<'a> Plan<'a> {
         let mut count: u64 = 0;
         for case in cases {
             let (name, _) = cut_line(case);
-            if !tells(lines, name) {
+            if !has_clause(lines, name) {
                 report.complain(row, name, "no guard and no effect of the row");
             }
             self.put_case(Kind::Row, row, case);
@@ -117,7 +121,7 @@ impl<'a> Plan<'a> {
 
     /// Takes the cases of each table of a folder. A file `NAME.toml` is a table, and `NAME.cases`
     /// has its cases; neither may be there without the other one.
-    fn put_examples(&mut self, report: &mut Report, files: &'a [ExampleFile]) {
+    fn put_examples(&mut self, report: &mut Report, files: &'a [CaseFile]) {
         for file in files {
             let (example, ending) = file.split_name();
             let cases = text_in(files, example, "cases");
@@ -155,7 +159,7 @@ impl<'a> Plan<'a> {
     }
 
     /// Takes the readings of each file `NAME.readings` of a folder, over the table `NAME.toml`.
-    fn put_readings(&mut self, report: &mut Report, files: &'a [ExampleFile]) {
+    fn put_readings(&mut self, report: &mut Report, files: &'a [CaseFile]) {
         for file in files {
             if let (example, "readings") = file.split_name() {
                 match text_in(files, example, "toml") {
@@ -195,16 +199,16 @@ impl<'a> Plan<'a> {
 
 /// Counts a guard or an effect of a row, and complains if it has no case of its own, or several.
 fn check_line(report: &mut Report, row: &str, text: &str, line: &str) {
-    let (word, told) = line.split_once(' ').unwrap_or((line, ""));
+    let (word, name) = line.split_once(' ').unwrap_or((line, ""));
     match word {
         "guard" => report.guards = report.guards.saturating_add(1),
         "effect" => report.effects = report.effects.saturating_add(1),
         _ => return report.complain(row, line, "no guard and no effect"),
     }
-    match cases_of(text, told) {
-        0 => report.complain(row, told, "no case"),
+    match cases_of(text, name) {
+        0 => report.complain(row, name, "no case"),
         1 => {}
-        _ => report.complain(row, told, "several cases"),
+        _ => report.complain(row, name, "several cases"),
     }
 }
 

@@ -99,16 +99,16 @@ impl Report {
         ensures { self.new.is_clean ≡ self.old.is_clean }
     {
         self.put_name(example);
-        self.put_count(self.readings, " readings as told\n");
+        self.put_count(self.readings, " readings as expected\n");
         self.readings = 0;
     }
 
     /// Reports the complaint about a guard, an effect, a case or a reading.
-    pub(crate) fn complain(&mut self, row: &str, told: &str, what: &str)
+    pub(crate) fn complain(&mut self, group: &str, name: &str, what: &str)
         ensures { self.new.is_clean ≡ false }
     {
         self.is_clean = false;
-        self.confirm(row, told, what);
+        self.confirm(group, name, what);
     }
 
     /// Complains of a case or a reading by its fault, or by the last difference.
@@ -181,7 +181,7 @@ impl Report {
     pub(crate) fn end_case(&mut self, written: &Written<'_>, differs: bool) {
         let how = match self.fault {
             None if differs => return self.complain_of(written, CaseFault::Alike),
-            None => "as told",
+            None => "as expected",
             Some(CaseFault::Differs) if differs => "differs, as it must",
             Some(fault) => return self.complain_of(written, fault),
         };

@@ -4,9 +4,9 @@ use crate::devices::Devices;
 /// A call of the program.
 #[derive(Clone, Copy)]
 pub struct Request<'a> {
-    /// The words behind the program's name; none if it had no memory to fetch them.
-    pub words: Option<&'a [&'a str]>,
-    /// The texts that it reads, one behind the other.
+    /// The arguments, without the program's name; none if it had no memory to fetch them.
+    pub arguments: Option<&'a [&'a str]>,
+    /// The texts that it reads, one after the other.
     pub texts: [&'a str; 3],
     /// The place in them of the byte of which one bit is changed, if one is.
     pub changed: Option<usize>,

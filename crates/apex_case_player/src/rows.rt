@@ -1,4 +1,4 @@
-//! The rows of the data, each with its guards, its effects and its cases.
+//! The rows of the services, each with its guards, its effects and its cases.
 
 /// The first line of a text, and the rest.
 pub(crate) fn cut_line(text: &str) -> (&str, &str) {
@@ -24,7 +24,7 @@ pub(crate) fn cases_of(row: &str, name: &str) -> u64 {
 }
 
 /// Whether a guard or an effect of these lines has this text.
-pub(crate) fn tells(lines: &str, name: &str) -> bool {
+pub(crate) fn has_clause(lines: &str, name: &str) -> bool {
     for line in lines.lines() {
         match line.split_once(' ') {
             Some(("guard" | "effect", text)) if text == name => return true,

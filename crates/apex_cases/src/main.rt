@@ -1,22 +1,22 @@
-//! The program that plays the cases of the services, which it reads on standard input, and those of
-//! the examples, which are in the folder that its argument names, and reports each difference.
+//! The program that plays the cases of the services and of the examples, in the folder that its
+//! argument names, and reports each difference.
 #![tactic(auto)]
 
 mod plays;
 
-use apex_case_player::{CaseFault, ExampleFile, Plan, Report, read_folder};
+use apex_case_player::{CaseFault, CaseFile, Plan, Report, read_folder};
 use plays::play_all;
 use std::alloc::AllocGlobal;
+use std::env;
 use std::env::Env;
 use std::fs::Files;
 use std::mem::drop;
 use std::process::ExitCode;
 use std::sync::Wait;
 use std::thread::Threads;
-use std::{env, io};
 
-/// Reads the folder of the examples, which the first argument names.
-fn read_examples<R>(rt: &R, files: &mut Vec<ExampleFile>) -> Result<(), CaseFault>
+/// Reads the folder that the first argument names.
+fn read_cases<R>(rt: &R, files: &mut Vec<CaseFile>) -> Result<(), CaseFault>
 where
     R: Env + Files + AllocGlobal + Clone + Drop,
 {
@@ -27,18 +27,12 @@ where
     read
 }
 
-/// Plays the cases of these rows and those of the examples, writes the report, and answers whether
-/// all is as it should be.
-fn report_all<R>(
-    rt: &R,
-    report: &mut Report,
-    rows: &str,
-    files: &[ExampleFile],
-) -> Result<bool, CaseFault>
+/// Plays the cases of these files, writes the report, and answers whether all is as it should be.
+fn report_all<R>(rt: &R, report: &mut Report, files: &[CaseFile]) -> Result<bool, CaseFault>
 where
     R: Print + AllocGlobal + Threads + Wait + Sync,
 {
-    let plan = Plan::of(rt.alloc(), report, rows, files);
+    let plan = Plan::of(rt.alloc(), report, files);
     let played = play_all(rt, rt.alloc(), report, &plan);
     drop(plan);
     played?;
@@ -46,16 +40,13 @@ where
     Ok(report.is_clean())
 }
 
-/// Reads the rows and the examples, and does what `report_all` does.
-fn checked<R>(rt: &R, report: &mut Report, files: &mut Vec<ExampleFile>) -> Result<bool, CaseFault>
+/// Reads the cases, and does what `report_all` does.
+fn checked<R>(rt: &R, report: &mut Report, files: &mut Vec<CaseFile>) -> Result<bool, CaseFault>
 where
-    R: Env + Files + Input + Print + AllocGlobal + Threads + Wait + Sync + Clone + Drop,
+    R: Env + Files + Print + AllocGlobal + Threads + Wait + Sync + Clone + Drop,
 {
-    read_examples(rt, files)?;
-    let rows = io::read_to_string(rt.alloc(), rt.reader())?;
-    let is_clean = report_all(rt, report, rows.as_str(), files.as_slice());
-    drop(rows);
-    is_clean
+    read_cases(rt, files)?;
+    report_all(rt, report, files.as_slice())
 }
 
 fn main(rt: HostRuntime) -> ExitCode {

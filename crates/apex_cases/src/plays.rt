@@ -13,7 +13,7 @@ use std::thread::Threads;
 /// Room on standard error for each line of a fault, in bytes.
 const FAULT_ROOM: usize = 256;
 
-/// A reader over memory that gives `gives` bytes at a time at the most.
+/// A reader over memory that gives `gives` bytes at a time at most.
 #[derive(Drop)]
 struct Narrow {
     device: FailAt,
@@ -41,20 +41,20 @@ fn bytes_of(alloc: Global, request: &Request<'_>) -> Result<Vec<u8>, AllocError>
     Ok(bytes)
 }
 
-/// The program's words, its name first.
-fn words_behind_name(alloc: Global, given: &[&str]) -> Result<Vec<String>, AllocError> {
-    let mut words = Vec::new(alloc);
-    words.push(String::from_str(alloc, "apex")?)?;
-    for word in given {
-        words.push(String::from_str(alloc, word)?)?;
+/// The program's name and these arguments.
+fn arguments_with_name(alloc: Global, given: &[&str]) -> Result<Vec<String>, AllocError> {
+    let mut arguments = Vec::new(alloc);
+    arguments.push(String::from_str(alloc, "apex")?)?;
+    for argument in given {
+        arguments.push(String::from_str(alloc, argument)?)?;
     }
-    Ok(words)
+    Ok(arguments)
 }
 
-/// The program's words, its name first; `Memory` if it had no memory to fetch them.
-fn words_of(alloc: Global, request: &Request<'_>) -> Result<Vec<String>, CliFault> {
-    match request.words {
-        Some(given) => Ok(words_behind_name(alloc, given)?),
+/// The program's name and its arguments; `Memory` if it had no memory to fetch them.
+fn arguments_of(alloc: Global, request: &Request<'_>) -> Result<Vec<String>, CliFault> {
+    match request.arguments {
+        Some(given) => Ok(arguments_with_name(alloc, given)?),
         None => Err(CliFault::Memory),
     }
 }
@@ -120,7 +120,7 @@ fn attempt_once<R: Threads + Wait + Sync>(
     let status = serve(
         rt,
         alloc,
-        words_of(alloc, &request),
+        arguments_of(alloc, &request),
         &mut desk.reader,
         &mut desk.writer,
         &mut desk.error_writer,
