@@ -315,9 +315,9 @@ def check_form(parts: list[str], at: Place) -> None:
         kinds = ", ".join(f"a {it.form}" for it in wanted) or "nothing"
         raise at.refuse("BadStep", f"it has {len(given)} words behind {service}, and {kinds} is wanted there")
     for number, (part, word) in enumerate(zip(given, wanted), 2):
-        form, required = FORMS[word.form]
+        form, told = FORMS[word.form]
         if not re.fullmatch(form, part):
-            raise at.refuse("BadStep", f"word {number}, {shown(part)}, is not {required}")
+            raise at.refuse("BadStep", f"word {number}, {shown(part)}, is not {told}")
 
 
 def check_word(part: str, word: Word, number: int, at: Place, names: dict[str, list[str]]) -> None:

@@ -3,7 +3,7 @@
 An indented block whose first word is a command is run with bash, the blocks of a page one after the
 other in one shell, in a new folder that has links to the files at the top. The blocks without a language
 that follow it, up to the next command, are lines of what it prints, in that order; standard error counts
-too, but for the line that a program is not proved. The commands in NOT_RUN are not run, and are counted.
+too. The commands in NOT_RUN are not run, and are counted.
 It is a fault if a block differs, if a block of output has no command, or if a page shows none.
 """
 import os
@@ -20,7 +20,6 @@ PAGES = ["README.md", "docs/TOUR.md"]
 NOT_RUN = ["rt ci", "./apex prove"]
 BUILTINS = {"for", "while", "if", "export", "cd", "test", "time"}
 MARK = "== tools/commands: end of block"
-NOTICE = "apex: this program is not proved"
 
 
 @dataclass
@@ -72,9 +71,10 @@ def printed_by(commands: list[Command]) -> list[list[str]]:
     with tempfile.TemporaryDirectory() as folder:
         for file in HOME.iterdir():
             os.symlink(file, f"{folder}/{file.name}")
-        done = subprocess.run(["bash", "-c", f"exec 2>&1\n{script}"], cwd=folder, stdin=subprocess.DEVNULL, stdout=subprocess.PIPE, text=True, check=False)
-    parts = done.stdout.split(f"{MARK}\n")[:-1]
-    return [[it for it in part.splitlines() if not it.startswith(NOTICE)] for part in parts]
+        quiet = {**os.environ, "APEX_QUIET": "1"}
+        words = ["bash", "-c", f"exec 2>&1\n{script}"]
+        done = subprocess.run(words, cwd=folder, env=quiet, stdin=subprocess.DEVNULL, stdout=subprocess.PIPE, text=True, check=False)
+    return [part.splitlines() for part in done.stdout.split(f"{MARK}\n")[:-1]]
 
 
 def place_in(lines: list[str], block: list[str], begin: int) -> int:

@@ -1,4 +1,4 @@
-"""The figure of the crates, as SVG, drawn from crates.txt: a row for each level, lines to what stands on a crate directly."""
+"""The figure of the crates, as SVG, drawn from crates.txt: a row for each level, and lines to the crates that use a crate directly."""
 from common import crates
 
 FILE = "docs/pictures/crates.svg"
@@ -17,7 +17,7 @@ def levels(uses: dict[str, list[str]]) -> dict[str, int]:
 
 
 def direct(uses: dict[str, list[str]]) -> dict[str, list[str]]:
-    """What each crate stands on directly: the crates below it that no other one below it uses."""
+    """What each crate uses directly: the crates below it that no other one below it uses."""
     return {crate: [it for it in below if not any(it in uses[other] for other in below)] for crate, below in uses.items()}
 
 
