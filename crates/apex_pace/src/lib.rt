@@ -1,0 +1,11 @@
+//! The pace, which says what schedules are meant if a table comes without one: how many turns a core
+//! has before time may pass, and how many ticks work takes.
+#![tactic(auto)]
+
+mod laws;
+mod paces;
+
+pub use laws::{
+    first_schedule_keeps_the_pace, no_turn_is_idle, tighter_paces_allow_no_more, time_goes_on,
+};
+pub use paces::{Pace, USUAL_TURNS};
