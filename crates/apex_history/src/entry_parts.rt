@@ -4,8 +4,8 @@ ghost use Rattle.std.specs.Prelude.{◌≡◌};
 use apex_types::{Call, Caller, LentEntry, Notice, Reply, Who};
 use std::marker::Model;
 
-/// An entry each part of which lies where it is kept, so that no call is copied on its way into a
-/// line.
+/// An entry each part of which lies where it is kept, so that nothing is copied on its way into a
+/// line. The library lends it as a [`LentEntry`].
 #[derive(Drop)]
 pub(crate) struct EntryParts<'a> {
     pub(crate) number: u32,
@@ -52,6 +52,22 @@ impl<'a> EntryParts<'a> {
             call: entry.call.as_ref(),
             reply: &entry.reply,
             notices: entry.notices,
+        }
+    }
+
+    /// The entry, lent with a copy of its call and its reply.
+    #[inline(always)]
+    pub(crate) fn lent(&self) -> LentEntry<'a>
+        ensures { result ≡ self.entry.now }
+    {
+        LentEntry {
+            number: self.number,
+            now: self.now,
+            who: *self.who,
+            process: self.process,
+            call: self.call.copied(),
+            reply: *self.reply,
+            notices: self.notices,
         }
     }
 }

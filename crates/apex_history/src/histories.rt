@@ -115,7 +115,9 @@ impl Log {
         requires { place < length self.now.entries }
         ensures { slice_get self.now.entries place ≡ Some result }
     {
-        self.rows[place].lent(place as u32, self.calls.as_slice(), self.notices.as_slice())
+        self.rows[place]
+            .parts(place as u32, self.calls.as_slice(), self.notices.as_slice())
+            .lent()
     }
 
     /// The entries so far, the oldest first.

@@ -11,31 +11,6 @@ use crate::rows::Row;
 use apex_types::{LentEntry, Notice};
 use std::marker::Model;
 
-/// The entries of a history that are left, the oldest first.
-#[derive(Drop)]
-pub struct Entries<'a> {
-    rows: &'a [Row],
-    calls: &'a [Link],
-    notices: &'a [Notice],
-    /// The place of the first of them, counted from 0.
-    place: u32,
-}
-
-impl<'a> Model for Entries<'a> {
-    ghost use Rattle.std.specs.Prelude.{◌+◌, ◌≤◌, List, length};
-    ghost use Rattle.std.specs.List.{AllByRecursion};
-    ghost use Rattle.apex_types.specs.declared.limits.TheConstants.{MOST_ENTRIES};
-    ghost use Rattle.apex_types.specs.declared.entries.Entry.{Entry};
-    ghost use Rattle.apex_history.specs.RowEntries.{entries_from, IsWithin};
-
-    ghost Value = { List Entry };
-
-    ghost view = { λ e. entries_from e.calls.now e.notices.now e.place e.rows.now };
-
-    ghost invariant = { λ e. AllByRecursion (IsWithin (length e.calls.now)
-        (length e.notices.now)) e.rows.now × (e.place + length e.rows.now ≤ MOST_ENTRIES) };
-}
-
 /// The entries of a history that are left, the oldest first, each by its parts.
 #[derive(Drop)]
 pub(crate) struct EntriesByParts<'a> {
@@ -61,6 +36,26 @@ impl<'a> Model for EntriesByParts<'a> {
         (length e.notices.now)) e.rows.now × (e.place + length e.rows.now ≤ MOST_ENTRIES) };
 }
 
+impl<'a> EntriesByParts<'a> {
+    /// The last of the entries, if there is one.
+    #[inline(always)]
+    #[tactic(auto, using(crate::proofs::EntriesOf::last_entry, crate::proofs::EntriesOf::within_last))]
+    fn latest(&self) -> Option<EntryParts<'a>>
+        ensures { result ≡ last_or None self.now }
+    {
+        let (row, before) = self.rows.split_last()?;
+        Some(row.parts(self.place + before.len() as u32, self.calls, self.notices))
+    }
+
+    /// The number of the entries.
+    #[tactic(auto, using(crate::proofs::EntriesOf::length_entries))]
+    fn entry_count(&self) -> usize
+        ensures { result ≡ length self.now }
+    {
+        self.rows.len()
+    }
+}
+
 #[tactic(auto, using(crate::proofs::EntriesOf::length_entries))]
 impl<'a> Iterator for EntriesByParts<'a> {
     type Item = EntryParts<'a>;
@@ -79,19 +74,22 @@ impl<'a> Iterator for EntriesByParts<'a> {
     }
 }
 
-impl<'a> Entries<'a> {
-    /// The entries, each by its parts.
-    pub(crate) fn by_parts(self) -> EntriesByParts<'a>
-        ensures { result ≡ self.entry }
-    {
-        EntriesByParts {
-            rows: self.rows,
-            calls: self.calls,
-            notices: self.notices,
-            place: self.place,
-        }
-    }
+/// The entries of a history that are left, the oldest first.
+#[derive(Drop)]
+pub struct Entries<'a> {
+    left: EntriesByParts<'a>,
+}
 
+impl<'a> Model for Entries<'a> {
+    ghost use Rattle.std.specs.Prelude.{List};
+    ghost use Rattle.apex_types.specs.declared.entries.Entry.{Entry};
+
+    ghost Value = { List Entry };
+
+    ghost view = { λ e. e.left };
+}
+
+impl<'a> Entries<'a> {
     /// The entries of these rows.
     pub(crate) fn new(rows: &'a [Row], calls: &'a [Link], notices: &'a [Notice]) -> Entries<'a>
         requires within { AllByRecursion (IsWithin (length calls.now) (length notices.now)) rows.now }
@@ -99,24 +97,31 @@ impl<'a> Entries<'a> {
         ensures { result ≡ entries_from calls.now notices.now 0 rows.now }
     {
         Entries {
-            rows,
-            calls,
-            notices,
-            place: 0,
+            left: EntriesByParts {
+                rows,
+                calls,
+                notices,
+                place: 0,
+            },
         }
     }
 
+    /// The entries, each by its parts.
+    pub(crate) fn by_parts(self) -> EntriesByParts<'a>
+        ensures { result ≡ self.entry }
+    {
+        self.left
+    }
+
     /// The last of the entries, if there is one. It stays among them.
-    #[tactic(auto, using(crate::proofs::EntriesOf::last_entry, crate::proofs::EntriesOf::within_last))]
     pub fn latest(&self) -> Option<LentEntry<'a>>
         ensures { result ≡ last_or None self.now }
     {
-        let (row, before) = self.rows.split_last()?;
-        Some(row.lent(self.place + before.len() as u32, self.calls, self.notices))
+        let entry = self.left.latest()?;
+        Some(entry.lent())
     }
 }
 
-#[tactic(auto, using(crate::proofs::EntriesOf::length_entries))]
 impl<'a> Iterator for Entries<'a> {
     type Item = LentEntry<'a>;
 
@@ -125,11 +130,8 @@ impl<'a> Iterator for Entries<'a> {
     ghost remaining = { item_count (λ left. left) };
 
     fn next(&mut self) -> Option<LentEntry<'a>> {
-        let (row, others) = self.rows.split_first()?;
-        let entry = row.lent(self.place, self.calls, self.notices);
-        self.rows = others;
-        self.place += 1;
-        Some(entry)
+        let entry = self.left.next()?;
+        Some(entry.lent())
     }
 
     fn size_hint(&self) -> (usize, Option<usize>) {
@@ -139,8 +141,7 @@ impl<'a> Iterator for Entries<'a> {
 }
 
 impl<'a> ExactSizeIterator for Entries<'a> {
-    #[tactic(auto, using(crate::proofs::EntriesOf::length_entries))]
     fn len(&self) -> usize {
-        self.rows.len()
+        self.left.entry_count()
     }
 }

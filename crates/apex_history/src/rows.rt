@@ -5,7 +5,7 @@ ghost use Rattle.apex_history.specs.RowEntries.{caller_in, call_in, entry_of, Is
 
 use crate::calls::Link;
 use crate::entry_parts::EntryParts;
-use apex_types::{Call, Caller, LentEntry, Notice, Reply, Who};
+use apex_types::{Call, Caller, Notice, Reply, Who};
 use std::marker::Model;
 
 /// The caller of an entry, and the place of the call in the log's calls, if there is one. One enum
@@ -17,6 +17,7 @@ pub(crate) enum Asked {
 }
 
 impl Asked {
+    #[inline(always)]
     fn caller(&self) -> Caller
         ensures { result ≡ caller_in self.now }
     {
@@ -25,22 +26,9 @@ impl Asked {
         }
     }
 
-    fn call(&self, calls: &[Link]) -> Option<Call>
-        requires { IsAmong (length calls.now) self.now }
-        ensures { result ≡ call_in calls.now self.now }
-    {
-        match self {
-            Asked::For(_, place) => {
-                let link = &calls[*place as usize];
-                Some(link.call)
-            }
-            Asked::Nothing(_) => None,
-        }
-    }
-
     /// The call, where the log keeps it.
     #[inline(always)]
-    fn kept_call<'a>(&self, calls: &'a [Link]) -> Option<&'a Call>
+    fn call<'a>(&self, calls: &'a [Link]) -> Option<&'a Call>
         requires { IsAmong (length calls.now) self.now }
         ensures { option_map (λ call. call.now) result ≡ call_in calls.now self.now }
     {
@@ -87,29 +75,6 @@ impl Model for Row {
 }
 
 impl Row {
-    /// The entry of this row at this place, counted from 0.
-    pub(crate) fn lent<'a>(
-        &self,
-        place: u32,
-        calls: &[Link],
-        notices: &'a [Notice],
-    ) -> LentEntry<'a>
-        requires within { IsWithin (length calls.now) (length notices.now) self.now }
-        requires place { place < MOST_ENTRIES }
-        ensures { result ≡ entry_of calls.now notices.now place self.entry.now }
-    {
-        let start = self.start as usize;
-        LentEntry {
-            number: place + 1,
-            now: self.now,
-            who: self.who,
-            process: self.asked.caller(),
-            call: self.asked.call(calls),
-            reply: self.reply,
-            notices: &notices[start..start + usize::from(self.count)],
-        }
-    }
-
     /// The parts of the entry of this row at this place, counted from 0.
     #[inline(always)]
     pub(crate) fn parts<'a>(
@@ -128,7 +93,7 @@ impl Row {
             now: self.now,
             who: &self.who,
             process: self.asked.caller(),
-            call: self.asked.kept_call(calls),
+            call: self.asked.call(calls),
             reply: &self.reply,
             notices: &notices[start..start + usize::from(self.count)],
         }
