@@ -21,7 +21,9 @@ fn is_one_of(keys: &[Key], name: &str) -> bool
 fn other_key(keys: &[Key], table: &Table) -> Option<usize>
     ensures { result ≡ other_key keys.now (table_view table.now) }
 {
-    table.keys().position(|name| !is_one_of(keys, name.as_str()))
+    table
+        .keys()
+        .position(|name| !is_one_of(keys, name.as_str()))
 }
 
 /// Refuses a key that is none of these.
@@ -114,13 +116,7 @@ fn number(subject: Subject, low: u32, high: u32, value: &Value) -> Result<u32, T
 }
 
 /// The whole number at a key without a default.
-pub fn number_at(
-    at: Place,
-    low: u32,
-    high: u32,
-    table: &Table,
-    key: Key,
-) -> Result<u32, TableFault>
+pub fn number_at(at: Place, low: u32, high: u32, table: &Table, key: Key) -> Result<u32, TableFault>
     ensures gives { Gives (λ n. n) result (number_at at low high key (table_view table.now)) }
     ensures range { IfOk result (λ n. (low ≤ n) × (n ≤ high)) }
 {

@@ -138,7 +138,7 @@ fn document(alloc: Global, text: &[u8]) -> Result<toml::Table, TableFault>
 ///
 /// Each step of the table has one text: its call, as a line writes it, is read as the step, and no
 /// other text is.
-#[tactic(auto, using(crate::proofs::TextLaws::texts_given), unfolding(crate::specs::Reading::table_of),)]
+#[tactic(auto, using(crate::proofs::TextLaws::texts_given), unfolding(crate::specs::Reading::table_of, crate::specs::Reading::reading),)]
 pub fn read_table(alloc: Global, text: &[u8]) -> Result<Table, TableFault>
     ensures table { Gives (λ t. t) result (table_of text.now) }
     ensures texts { IfOk result HaveTexts }

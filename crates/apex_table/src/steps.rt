@@ -128,7 +128,14 @@ fn with_words(
         let [word, words @ ..] = words_left else {
             return Ok(given);
         };
-        given = with_word(of_word(at, origin, place), origin, names, given, shape, word)?;
+        given = with_word(
+            of_word(at, origin, place),
+            origin,
+            names,
+            given,
+            shape,
+            word,
+        )?;
         place += 1;
         shapes_left = shapes;
         words_left = words;

@@ -131,7 +131,7 @@ pub fn with_word(
     shape: &Shape,
     word: &str,
 ) -> Result<Given, TableFault>
-    ensures { Gives (λ g. g) result 
+    ensures { Gives (λ g. g) result
         (with_word subject origin.now names.now given shape.now word.now) }
 {
     match shape {
