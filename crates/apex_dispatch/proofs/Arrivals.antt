@@ -22,7 +22,7 @@ use Rattle.apex_laws.specs.Premises.{AreOf, most_given}
 use Rattle.apex_laws.specs.Terms.{BlackboardService, BufferService, Call, Caller, Entry, EventFlagService, Message, MutexService, ObjectCall, ProcessService, ReturnCode, SemaphoreService, Timeout, Wait}
 use Rattle.apex_machine.specs.declared.records.Queue.TheVariants as queues
 use Rattle.apex_machine.specs.declared.records.Wait.TheVariants as wait
-use Rattle.apex_machine.specs.Deeds.{Objects, service}
+use Rattle.apex_machine.specs.Deeds.{Objects, service, with_processes, with_semaphores, with_buffers, with_blackboards, with_event_flags, with_mutexes}
 use Rattle.apex_machine.specs.History.{is_created}
 use Rattle.apex_machine.specs.processes.Owners.{is_waiting_owner}
 use Rattle.apex_machine.specs.processes.Roster.{Roster, record_at}
@@ -238,6 +238,19 @@ module _ (roster : Roster) (caller : Caller) (scene : Scene roster caller) where
     pub objects : AreOf table outcome.object
 
   module _ (table : Table) (objects : Objects) (all : AreOf table objects) where
+    -- as many objects as before
+    are_of : (new : Objects) → length new.processes ≡ length objects.processes → length new.semaphores ≡ length objects.semaphores
+        → length new.buffers ≡ length objects.buffers → length new.blackboards ≡ length objects.blackboards
+        → length new.event_flags ≡ length objects.event_flags → length new.mutexes ≡ length objects.mutexes → AreOf table new
+    are_of new processes semaphores buffers blackboards event_flags mutexes = record {
+      processes = processes ∙ all.processes;
+      semaphores = semaphores ∙ all.semaphores;
+      buffers = buffers ∙ all.buffers;
+      blackboards = blackboards ∙ all.blackboards;
+      event_flags = event_flags ∙ all.event_flags;
+      mutexes = mutexes ∙ all.mutexes;
+    }
+
     abbrev Serves : Call → Type 0
     Serves asked = ServesOf table (service roster objects caller asked)
 
@@ -254,19 +267,19 @@ module _ (roster : Roster) (caller : Caller) (scene : Scene roster caller) where
     call_arrives records (call.Work amount) known = record { arrives = same; objects = all }
     call_arrives records (call.Process asked) known =
         let one = kind_arrives process_kind (length table.processes) (λ x p here. process_arrives x p (rw records here)) objects.processes asked known in
-        record { arrives = one.arrives; objects = record all { processes = one.many ∙ all.processes } }
+        record { arrives = one.arrives; objects = are_of (with_processes objects _) one.many refl refl refl refl refl }
     call_arrives records (call.Semaphore asked) known =
         let one = kind_arrives semaphore_kind (length table.semaphores) (λ x i here. semaphore_arrives x i) objects.semaphores asked known in
-        record { arrives = one.arrives; objects = record all { semaphores = one.many ∙ all.semaphores } }
+        record { arrives = one.arrives; objects = are_of (with_semaphores objects _) refl one.many refl refl refl refl }
     call_arrives records (call.Buffer asked) known =
         let one = kind_arrives buffer_kind (length table.buffers) (λ x i here. buffer_arrives x i) objects.buffers asked known in
-        record { arrives = one.arrives; objects = record all { buffers = one.many ∙ all.buffers } }
+        record { arrives = one.arrives; objects = are_of (with_buffers objects _) refl refl one.many refl refl refl }
     call_arrives records (call.Blackboard asked) known =
         let one = kind_arrives blackboard_kind (length table.blackboards) (λ x i here. blackboard_arrives x i) objects.blackboards asked known in
-        record { arrives = one.arrives; objects = record all { blackboards = one.many ∙ all.blackboards } }
+        record { arrives = one.arrives; objects = are_of (with_blackboards objects _) refl refl refl one.many refl refl }
     call_arrives records (call.EventFlag asked) known =
         let one = kind_arrives event_flag_kind (length table.event_flags) (λ x i here. event_flag_arrives x i) objects.event_flags asked known in
-        record { arrives = one.arrives; objects = record all { event_flags = one.many ∙ all.event_flags } }
+        record { arrives = one.arrives; objects = are_of (with_event_flags objects _) refl refl refl refl one.many refl }
     call_arrives records (call.Mutex asked) known =
         let one = kind_arrives mutex_kind (length table.mutexes) (λ x i here. mutex_arrives x i) objects.mutexes asked known in
-        record { arrives = one.arrives; objects = record all { mutexes = one.many ∙ all.mutexes } }
+        record { arrives = one.arrives; objects = are_of (with_mutexes objects _) refl refl refl refl refl one.many }

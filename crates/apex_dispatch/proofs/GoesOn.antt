@@ -1,5 +1,5 @@
 -- A situation that can go on can go on after each event.
-use Rattle.std.proofs.Common.{◌≡◌, ◌∙◌, ℕ, ◌+◌, ◌*◌, ◌<◌, ◌≤◌, ◌==◌, ◌&&◌, Bool, true, false, cond, if◌then◌else◌, List, [], length, slice_get, Option, None, Some, lit≤, option_map, refl, sym, ap, subst, inl, inr, arith}
+use Rattle.std.proofs.Common.{◌≡◌, ◌∙◌, ℕ, ◌+◌, ◌*◌, ◌<◌, ◌≤◌, ◌==◌, ◌&&◌, ◌⊎◌, Bool, true, false, cond, if◌then◌else◌, List, [], length, slice_get, Option, None, Some, lit≤, option_map, refl, sym, ap, subst, inl, inr, arith}
 use Rattle.std.specs.Option.{ForSome}
 use Rattle.std.proofs.lemmas.Bool.{both_ways, cases_lt, cond_both}
 use Rattle.std.proofs.lemmas.Int.{ints}
@@ -24,9 +24,10 @@ use Rattle.apex_machine.specs.processes.Stamps.{HasManyStamps, HasOrderlyStarts,
 use Rattle.apex_machine.specs.services.Callers.{IsReady, IsReadyCaller, is_by_init}
 use Rattle.apex_machine.specs.services.Calls.{is_work}
 use Rattle.apex_machine.specs.services.Premises.{CanServe}
-use Rattle.apex_machine.specs.table.Table.{Step, Table, IsKnown, IsLawful, call_in, process_config}
+use Rattle.apex_machine.specs.table.Table.{ProcessConfig, Step, Table, IsKnown, no_process, IsLawful, call_in, process_config}
 use Rattle.apex_machine.proofs.BothProfiles.{lawful_count}
 use Rattle.apex_machine.proofs.Dues.{goal_before_deadlines, goal_before_dues, goal_forward, goal_near}
+use Rattle.apex_machine.proofs.Periods.{HasSomeTicks}
 use Rattle.apex_machine.proofs.Reaches.{Arrives, arrives_of, arrives_then, in_time_later, reaches_more, reaches_none, reaches_set_step, started_step}
 use Rattle.apex_machine.proofs.Starts.{chosen_ready, ready_step, runnable}
 use Rattle.apex_laws.specs.Premises.{AreOf, most_given}
@@ -36,13 +37,20 @@ use Rattle.apex_laws.proofs.Known.{known_due, known_script_step, objects_are}
 use Rattle.apex_laws.proofs.Serving.{Scene}
 use Rattle.apex_laws.proofs.Sound.{sound_opening}
 use Rattle.apex_laws.proofs.TickTold.{reach_serve_instant}
-use Rattle.apex_laws.proofs.Turns.{spans_of}
 use Rattle.apex_dispatch.specs.Situations.{CanGoOn}
 use Rattle.apex_dispatch.proofs.Arrivals.{ServesOf, call_arrives}
 
 -- a situation that can go on for some events can do so for fewer
 pub goes_less : {table : Table} {s : Situation} (few many : ℕ) → few ≤ many → CanGoOn table many s → CanGoOn table few s
-goes_less few many fewer can = record can {
+goes_less few many fewer can = record {
+  records = can.records;
+  attributes = can.attributes;
+  objects = can.objects;
+  workers = can.workers;
+  made = can.made;
+  one = can.one;
+  starts = can.starts;
+  times = can.times;
   stamps = record { young = omega (arith, ints, can.stamps.young, fewer); old = omega (arith, ints, can.stamps.old, fewer) };
   ticks = omega (arith, can.ticks, fewer);
 }
@@ -60,6 +68,20 @@ call_within steps k call is = found (slice_get steps k) refl where
   found : (o : Option Step) → slice_get steps k ≡ o → k < length steps
   found None none = absurd (none-some call (ap (option_map (λ (s : Step). s.call)) (sym none) ∙ is))
   found (Some step) some = slice_get_within steps k step some
+
+-- the periods of the processes of a table are at least 1
+spans_of : (table : Table) → IsLawful table → (roster : Roster)
+    → ((p : ℕ) → (record_at roster p).attributes ≡ (process_config table p).attributes)
+    → (p : ℕ) → HasSomeTicks (record_at roster p).attributes.period
+spans_of table lawful roster same p n is =
+    let own : (process_config table p).attributes.period ≡ Some n =
+    sym (ap (λ (attributes : Attributes). attributes.period) (same p)) ∙ is in
+    elim (cases_lt p (length table.processes)) [
+      | inl within ↦ ((lawful.processes p within).period n own).0
+      | inr past ↦
+          let none : process_config table p ≡ no_process = get_or_past table.processes p no_process past in
+          absurd (none-some n (sym (ap (λ (entry : ProcessConfig). entry.attributes.period) none) ∙ own))
+    ]
 
 -- an init step that is due is the table's, and due in COLD_START alone
 pub record IsDue (table : Table) (s : Situation) (call : Call) : Type 0 where
@@ -85,7 +107,7 @@ record IsReadyFor (table : Table) (roster : Roster) (objects : Objects) : Type 0
   attributes : (p : ℕ) → (record_at roster p).attributes ≡ (process_config table p).attributes
   one : WaitsForOne roster
   starts : HasOrderlyStarts roster
-  objects : AreOf table objects
+  all : AreOf table objects
 
 -- what a deed then leaves: it arrives at its roster, there is an object for each entry of the
 -- table, and the work that it begins is that of a process; it makes an init step only if one is due
@@ -121,7 +143,7 @@ module _ (table : Table) (lawful : IsLawful table) (objects : Objects) where
         ready = ready;
         called = called;
       } in
-      let serves = call_arrives roster caller scene table objects is.objects is.records call known in
+      let serves = call_arrives roster caller scene table objects is.all is.records call known in
       record {
         arrives = serves.arrives;
         objects = serves.objects;
@@ -153,7 +175,7 @@ module _ (table : Table) (lawful : IsLawful table) (objects : Objects) where
           attributes = λ q. (reaches.periods q).attributes ∙ is.attributes q;
           one = moves.one is.one;
           starts = moves.starts is.starts;
-          objects = is.objects;
+          all = is.all;
         })
         (Process p) (ready_step roster p next ready)
         (λ _. (runnable roster.mode (record_at roster p) ready.eligible).normal) due (none_made (Process p) refl) call known in
@@ -183,7 +205,7 @@ module _ (table : Table) (lawful : IsLawful table) (objects : Objects) where
         })
     still_leads caller other call reply none new arrives = record {
       arrives = arrives;
-      objects = is.objects;
+      objects = is.all;
       begun = λ work begun. absurd (none work begun);
       made = none_made caller other;
     }
@@ -246,7 +268,7 @@ module _ (table : Table) (lawful : IsLawful table) (s : Situation) (left : ℕ) 
   unfolding pass_time
   goes (Turn core) range =
       let ready : IsReadyFor table roster s.objects =
-      record { records = can.records; attributes = can.attributes; one = can.one; starts = can.starts; objects = can.objects } in
+      record { records = can.records; attributes = can.attributes; one = can.one; starts = can.starts; all = can.objects } in
       record {
         instant = roster.now;
         near = omega arith;

@@ -41,11 +41,11 @@ room_of table history = table.limit - length history
 -- the facts that each kernel keeps: its table is lawful; its log's limit is the table's; its
 -- situation is the machine's, and can go on for as many events as the history has room for; and the
 -- events that its history records are in range and, run anew, give the machine's very state
-pub record IsKept {S : Type 0} (kernel : KernelState S) (situation : Situation) (log_limit : ℕ) :
+pub record IsKept {S : Type 0} (kernel : KernelState S) (held : Situation) (log_limit : ℕ) :
     Type 0 where
   pub lawful : IsLawful kernel.table
   pub limit : log_limit ≡ kernel.table.limit
-  pub situation : situation ≡ situation_of kernel.table kernel.machine
-  pub goes_on : CanGoOn kernel.table (room_of kernel.table kernel.machine.history) situation
+  pub situation : held ≡ situation_of kernel.table kernel.machine
+  pub goes_on : CanGoOn kernel.table (room_of kernel.table kernel.machine.history) held
   pub events : All (IsWithin kernel.table.cores) (events_of kernel.machine.history)
   pub replays : replay kernel.table kernel.machine.history ≡ kernel.machine

@@ -13,15 +13,22 @@ use Rattle.apex_machine.specs.processes.Stamps.{HasOrderlyStarts, HasStampsFor, 
 use Rattle.apex_machine.specs.table.Table.{Table, process_config}
 use Rattle.apex_dispatch.specs.Works.{work_at}
 
--- a situation, and its store, with all that a contract sees of that
+-- the parts of a situation, and its store, with all that a contract sees of that
 pub record StoredSituation (S : Type 0) : Type 0 where
-  pub situation : Situation
+  pub roster : Roster
+  pub objects : Objects
+  pub works : List (Option OpenWork)
+  pub made : ℕ
   pub store : S
 
 -- the situation of this roster and these parts
 abbrev pub situation_with : Roster → Objects → List (Option OpenWork) → ℕ → Situation
 situation_with roster objects works made =
     record { roster = roster; objects = objects; works = work_at works; made = made }
+
+-- the situation that is stored
+abbrev pub situation_in : {S : Type 0} → StoredSituation S → Situation
+situation_in stored = situation_with stored.roster stored.objects stored.works stored.made
 
 -- the situation is one of the table, from which `left` events can be carried out: it has a record
 -- and an object for each entry of the table, with the attributes that the table gives, and made no

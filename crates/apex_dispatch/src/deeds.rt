@@ -66,26 +66,28 @@ impl Deed {
     }
 }
 
+/// A call that is to be carried out, and its caller.
+#[derive(Drop)]
+struct Asked {
+    caller: Caller,
+    call: Call,
+}
+
 /// Carries out the caller's call.
 // Inlined, as its callers are, so that no deed is copied on its way to the log.
 #[inline(always)]
-fn ask<S: Store>(
-    store: &mut S,
-    objects: &mut Objects,
-    caller: Caller,
-    call: Call,
-    notices: &mut Notices,
-) -> Deed
+fn ask<S: Store>(store: &mut S, objects: &mut Objects, asked: Asked, notices: &mut Notices) -> Deed
     requires many { length objects.old.processes ≡ length (S.roster store.old).records }
-    requires caller { IsReadyCaller (S.roster store.old) caller }
-    requires known { IsKnownTo objects.old call }
+    requires caller { IsReadyCaller (S.roster store.old) asked.caller }
+    requires known { IsKnownTo objects.old asked.call }
     requires starts { HasOrderlyStarts (S.roster store.old) }
     requires can { CanServe (S.roster store.old) notices.old }
     requires releases { HasNoFutureRelease (S.roster store.old) }
-    ensures { Does (served (S.roster store.old) objects.old caller call)
+    ensures { Does (served (S.roster store.old) objects.old asked.caller asked.call)
         result.caller result.call result.reply
         (S.roster store.new) objects.new notices.old notices.new }
 {
+    let Asked { caller, call } = asked;
     let reply = serve(store, objects, &caller, &call, notices);
     Deed {
         caller,
@@ -124,13 +126,6 @@ fn is_work(call: &Call) -> bool
     ensures { result ≡ is_work call.now }
 {
     matches!(call, Call::Work(_))
-}
-
-/// A call that is to be carried out, and its caller.
-#[derive(Drop)]
-struct Asked {
-    caller: Caller,
-    call: Call,
 }
 
 /// The call of the process's step, before which the process moves on, except for work, which two
@@ -217,20 +212,24 @@ pub(crate) fn carry_out<S: Store>(
 {
     if let Some(begun) = begun {
         let process = begun.work.process;
-        let reply = if begun.unbroken {
+        let caller = Caller::Process(process);
+        let call = Some(Call::Work(begun.work.amount));
+        if begun.unbroken {
             move_on(table, store, process);
-            Reply::Done
-        } else {
-            Reply::Lost
-        };
+            return Deed {
+                caller,
+                call,
+                reply: Reply::Done,
+            };
+        }
         return Deed {
-            caller: Caller::Process(process),
-            call: Some(Call::Work(begun.work.amount)),
-            reply,
+            caller,
+            call,
+            reply: Reply::Lost,
         };
     }
     match next_call(table, store, core, due) {
-        Some(Asked { caller, call }) => ask(store, objects, caller, call, notices),
+        Some(asked) => ask(store, objects, asked, notices),
         None => Deed {
             caller: Caller::Nobody,
             call: None,

@@ -38,15 +38,16 @@ pub struct Kernel<S: Store> {
 
 impl<S: Store> Model for Kernel<S> {
     ghost use Rattle.apex_dispatch.specs.Kernel.{KernelState, kernel_with, IsKept};
+    ghost use Rattle.apex_dispatch.specs.Situations.{situation_in};
 
     ghost Value = { KernelState S };
 
-    ghost view = { λ k. kernel_with k.table k.situation.situation k.log.entries
+    ghost view = { λ k. kernel_with k.table (situation_in k.situation) k.log.entries
         k.situation.store };
 
     ghost invariant = { λ k. IsKept
-        (kernel_with k.table k.situation.situation k.log.entries k.situation.store)
-        k.situation.situation k.log.limit };
+        (kernel_with k.table (situation_in k.situation) k.log.entries k.situation.store)
+        (situation_in k.situation) k.log.limit };
 }
 
 /// Refuses an event if the history has no room for its entry.

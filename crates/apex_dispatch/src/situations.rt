@@ -1,6 +1,6 @@
 //! The situation of a partition: all on which its future depends, and what each event does to it. It
 //! knows no history.
-ghost use Rattle.std.specs.Prelude.{◌≡◌, ℕ, ◌+◌, ◌<◌, ◌≤◌, [], IfOk};
+ghost use Rattle.std.specs.Prelude.{◌≡◌, ℕ, ◌+◌, ◌<◌, ◌≤◌, [], IfOk, if◌then◌else◌};
 ghost use Rattle.apex_types.specs.declared.entries.Event.TheVariants.{Turn, Tick};
 ghost use Rattle.apex_types.specs.declared.limits.TheConstants.{MOST_ENTRIES, MOST_TICKS};
 ghost use Rattle.apex_machine.specs.Machine.{opening, situation_of};
@@ -8,7 +8,7 @@ ghost use Rattle.apex_machine.specs.Situations.{deed, due_call, step};
 ghost use Rattle.apex_machine.specs.processes.Roster.{opening_roster};
 ghost use Rattle.apex_machine.specs.services.Callers.{is_by_init};
 ghost use Rattle.apex_dispatch.specs.Deeds.{Does};
-ghost use Rattle.apex_dispatch.specs.Situations.{CanGoOn, situation_with};
+ghost use Rattle.apex_dispatch.specs.Situations.{CanGoOn, situation_in, situation_with};
 
 use crate::deeds::{Deed, carry_out};
 use crate::objects::Objects;
@@ -34,12 +34,15 @@ pub struct Situation<S: Store> {
 }
 
 impl<S: Store> Model for Situation<S> {
-    ghost use Rattle.apex_dispatch.specs.Situations.{StoredSituation, situation_with};
+    ghost use Rattle.apex_dispatch.specs.Situations.{StoredSituation};
 
     ghost Value = { StoredSituation S };
 
     ghost view = { λ s. record {
-      situation = situation_with (S.roster s.store) s.objects s.works s.made;
+      roster = S.roster s.store;
+      objects = s.objects;
+      works = s.works;
+      made = s.made;
       store = s.store;
     } };
 }
@@ -59,10 +62,10 @@ impl<S: Store> Situation<S> {
     /// It fails only for want of memory.
     pub fn opening(alloc: Global, table: &Table, store: S) -> Result<Situation<S>, AllocError>
         requires { S.roster store ≡ opening_roster table.now }
-        ensures situation { IfOk result (λ s. s.situation
+        ensures situation { IfOk result (λ s. situation_in s
             ≡ situation_of table.now (opening table.now)) }
         ensures goes_on { IfOk result (λ s. (left : ℕ) → left ≤ MOST_ENTRIES
-            → CanGoOn table.now left s.situation) }
+            → CanGoOn table.now left (situation_in s)) }
     {
         table.lawful();
         Ok(Situation {
@@ -75,7 +78,7 @@ impl<S: Store> Situation<S> {
 
     /// The situation of these parts: `made` is the number of init steps that were carried out.
     pub fn new(store: S, objects: Objects, works: Works, made: usize) -> Situation<S>
-        ensures situation { result.situation
+        ensures situation { situation_in result
             ≡ situation_with (S.roster store) objects works made }
         ensures store { result.store ≡ store }
     {
@@ -89,7 +92,7 @@ impl<S: Store> Situation<S> {
 
     /// Its parts, of which [`Situation::new`] makes it again.
     pub fn into_parts(self) -> (S, Objects, Works, usize)
-        ensures situation { self.situation
+        ensures situation { situation_in self
             ≡ situation_with (S.roster result.0) result.1 result.2 result.3 }
         ensures store { result.0 ≡ self.store }
     {
@@ -105,42 +108,42 @@ impl<S: Store> Situation<S> {
     /// The store of its processes.
     pub fn store(&self) -> &S
         ensures value { result.now ≡ self.now.store }
-        ensures roster { S.roster result.now ≡ self.now.situation.roster }
+        ensures roster { S.roster result.now ≡ self.now.roster }
     {
         &self.store
     }
 
     /// The objects, with their running values.
     pub fn objects(&self) -> &Objects
-        ensures { result.now ≡ self.now.situation.objects }
+        ensures { result.now ≡ self.now.objects }
     {
         &self.objects
     }
 
     /// The work that is open on the core.
     pub fn work(&self, core: CoreId) -> Option<OpenWork>
-        ensures { result ≡ self.now.situation.works core }
+        ensures { result ≡ (situation_in self.now).works core }
     {
         self.works.at(core)
     }
 
     /// The number of init steps that were carried out.
     pub fn init_steps_made(&self) -> usize
-        ensures { result ≡ self.now.situation.made }
+        ensures { result ≡ self.now.made }
     {
         self.made
     }
 
     /// The time in ticks.
     pub fn now(&self) -> u64
-        ensures { result ≡ self.now.situation.roster.now }
+        ensures { result ≡ self.now.roster.now }
     {
         self.store.now()
     }
 
     /// The init step that is due in a turn of the core: in COLD_START core 0 carries out the next one.
     fn due_call(&self, table: &Table, core: CoreId) -> Option<Call>
-        ensures { result ≡ due_call table.now self.now.situation core }
+        ensures { result ≡ due_call table.now (situation_in self.now) core }
     {
         if self.store.mode() == Mode::ColdStart && core.number() == 0 {
             table.init_call(self.made)
@@ -153,13 +156,13 @@ impl<S: Store> Situation<S> {
     // Inlined, so that no deed is copied on its way to a log.
     #[inline(always)]
     pub fn turn(&mut self, table: &Table, core: CoreId, notices: &mut Notices) -> Deed
-        requires { CanGoOn table.now 1 self.old.situation }
-        ensures situation { self.new.situation ≡ step table.now self.old.situation (Turn core) }
-        ensures answer { Does (deed table.now self.old.situation (Turn core))
+        requires { CanGoOn table.now 1 (situation_in self.old) }
+        ensures situation { situation_in self.new ≡ step table.now (situation_in self.old) (Turn core) }
+        ensures answer { Does (deed table.now (situation_in self.old) (Turn core))
             result.caller result.call result.reply
-            self.new.situation.roster self.new.situation.objects [] notices.new }
-        ensures goes_on { (left : ℕ) → CanGoOn table.now (left + 1) self.old.situation
-            → CanGoOn table.now left self.new.situation }
+            self.new.roster self.new.objects [] notices.new }
+        ensures goes_on { (left : ℕ) → CanGoOn table.now (left + 1) (situation_in self.old)
+            → CanGoOn table.now left (situation_in self.new) }
     {
         table.lawful();
         notices.clear();
@@ -185,13 +188,13 @@ impl<S: Store> Situation<S> {
     #[inline(always)]
     pub fn tick(&mut self, table: &Table, n: u32, notices: &mut Notices) -> Deed
         requires range { (1 ≤ n) × (n ≤ MOST_TICKS) }
-        requires can { CanGoOn table.now 1 self.old.situation }
-        ensures situation { self.new.situation ≡ step table.now self.old.situation (Tick n) }
-        ensures answer { Does (deed table.now self.old.situation (Tick n))
+        requires can { CanGoOn table.now 1 (situation_in self.old) }
+        ensures situation { situation_in self.new ≡ step table.now (situation_in self.old) (Tick n) }
+        ensures answer { Does (deed table.now (situation_in self.old) (Tick n))
             result.caller result.call result.reply
-            self.new.situation.roster self.new.situation.objects [] notices.new }
-        ensures goes_on { (left : ℕ) → CanGoOn table.now (left + 1) self.old.situation
-            → CanGoOn table.now left self.new.situation }
+            self.new.roster self.new.objects [] notices.new }
+        ensures goes_on { (left : ℕ) → CanGoOn table.now (left + 1) (situation_in self.old)
+            → CanGoOn table.now left (situation_in self.new) }
     {
         table.lawful();
         notices.clear();

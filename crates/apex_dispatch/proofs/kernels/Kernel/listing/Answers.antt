@@ -18,7 +18,7 @@ pub returns : goal.returns
 unfolding listing
 returns g c =
     let inside = c.self.inside in
-    let situation = inside.situation.situation in
+    let situation = inside.situation in
     let history = inside.log.entries in
     rw (← c.self.view_is, c.objects.ensures, c.store.ensures.roster, c.len.ensures.value)
     (ap (λ (o : Objects). listing_of inside.table situation.roster o (length history)) (kept_values _ _ _ _ c.self.invariant))

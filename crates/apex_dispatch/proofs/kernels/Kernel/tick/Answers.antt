@@ -2,6 +2,7 @@ use Rattle.std.proofs.Common.{◌<◌, length, refl, arith}
 use Rattle.apex_types.specs.declared.entries.Event.TheVariants.{Tick}
 use Rattle.apex_machine.specs.Machine.{machine_with}
 use Rattle.apex_dispatch.specs.Kernel.{kernel_with}
+use Rattle.apex_dispatch.specs.Situations.{situation_in}
 use Rattle.apex_dispatch.proofs.Replays.{IsAfter, after_step, goes_once}
 use Rattle.apex_dispatch.proofs.kernels.Kernel.tick.Given.{Over}
 use Rattle.apex_dispatch.proofs.kernels.Kernel.tick.Goals.{After-append}
@@ -17,13 +18,13 @@ tick-deed-requires g c =
 ticked : (g : Over) (c : After-append g) →
     let inside = c.self.inside in
     let new = c.tick-deed.new.self in
-    IsAfter inside.table (machine_with inside.table inside.situation.situation.roster inside.log.entries) (Tick c.args.n)
-    (kernel_with inside.table new.situation c.append.new.log.entries new.store) new.situation c.append.new.log.limit
+    IsAfter inside.table (machine_with inside.table inside.situation.roster inside.log.entries) (Tick c.args.n)
+    (kernel_with inside.table (situation_in new) c.append.new.log.entries new.store) (situation_in new) c.append.new.log.limit
 ticked g c =
     let room : length c.self.inside.log.entries < c.self.inside.table.limit =
     omega (arith, c.self.invariant.limit, c.in_ok-refuse_full.ensures.accepted.0 refl) in
     let done = c.tick-deed.ensures in
-    after_step _ _ _ _ _ c.self.invariant room (Tick c.args.n) c.tick-deed.new.self.situation done.situation done.goes_on done.answer
+    after_step _ _ _ _ _ c.self.invariant room (Tick c.args.n) (situation_in c.tick-deed.new.self) done.situation done.goes_on done.answer
     _ (rw c.now.ensures at c.append.ensures.entries) _ c.append.ensures.limit c.requires.range _
 
 pub invariant_of-self : goal.invariant_of-self

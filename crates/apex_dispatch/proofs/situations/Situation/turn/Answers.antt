@@ -12,9 +12,12 @@ use Rattle.apex_dispatch.proofs.situations.Situation.turn.Goals as goal
 pub carry_out-deed-requires : goal.carry_out-deed-requires
 carry_out-deed-requires g c =
     let can = rw (← c.self.view_is) at c.requires in
+    let inside = c.self.inside in
+    let s = situation_with (g.S.Store.roster inside.store) inside.objects inside.works inside.made in
+    let found = rw (← c.self.view_is) at c.due_call-due.ensures in
     record {
       begun = λ o e. rw can.records (can.workers c.args.core o (sym c.at.ensures ∙ e));
-      due = λ call e. (due_is c.args.table.now c.lawful.ensures _ c.args.core call (sym c.due_call-due.ensures ∙ e)).known;
+      due = λ call e. (due_is c.args.table.now c.lawful.ensures s c.args.core call (sym found ∙ e)).known;
       records = can.records;
       objects = can.objects;
       starts = can.starts;
