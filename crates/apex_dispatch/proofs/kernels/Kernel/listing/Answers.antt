@@ -10,7 +10,7 @@ pub invariant_of-result : goal.invariant_of-result
 invariant_of-result g c = record {
   lawful = c.self.invariant.lawful;
   cores = omega (arith, c.cores-cores.ensures.value, c.cores-cores.ensures.range);
-  records = rw c.store.ensures.roster c.self.invariant.goes_on.records;
+  records = rw c.store-store.ensures.roster c.self.invariant.goes_on.records;
   objects = rw c.objects.ensures c.self.invariant.goes_on.objects;
 }
 
@@ -20,5 +20,5 @@ returns g c =
     let inside = c.self.inside in
     let situation = inside.situation in
     let history = inside.log.entries in
-    rw (← c.self.view_is, c.objects.ensures, c.store.ensures.roster, c.len.ensures.value)
+    rw (← c.self.view_is, c.objects.ensures, c.store-store.ensures.roster, c.len.ensures.value)
     (ap (λ (o : Objects). listing_of inside.table situation.roster o (length history)) (kept_values _ _ _ _ c.self.invariant))

@@ -12,7 +12,7 @@ pub tick-deed-requires : goal.tick-deed-requires
 tick-deed-requires g c =
     let room : length c.self.inside.log.entries < c.self.inside.table.limit =
     omega (arith, c.self.invariant.limit, c.in_ok-refuse_full.ensures.accepted.0 refl) in
-    goes_once _ _ _ _ _ c.self.invariant room (Tick c.args.n)
+    record { range = c.requires.range; can = goes_once _ _ _ _ _ c.self.invariant room (Tick c.args.n) }
 
 -- the kernel afterwards is the one after the tick
 ticked : (g : Over) (c : After-append g) →
@@ -25,7 +25,7 @@ ticked g c =
     omega (arith, c.self.invariant.limit, c.in_ok-refuse_full.ensures.accepted.0 refl) in
     let done = c.tick-deed.ensures in
     after_step _ _ _ _ _ c.self.invariant room (Tick c.args.n) (situation_in c.tick-deed.new.self) done.situation done.goes_on done.answer
-    _ (rw c.now.ensures at c.append.ensures.entries) _ c.append.ensures.limit c.requires.range _
+    _ (rw c.now-now.ensures at c.append.ensures.entries) _ c.append.ensures.limit c.requires.range _
 
 pub invariant_of-self : goal.invariant_of-self
 invariant_of-self g c = (ticked g c).kept

@@ -25,7 +25,7 @@ turned g c =
     omega (arith, c.self.invariant.limit, c.in_ok-refuse_full.ensures.accepted.0 refl) in
     let done = c.turn-deed.ensures in
     after_step _ _ _ _ _ c.self.invariant room (Turn c.args.core) (situation_in c.turn-deed.new.self) done.situation done.goes_on done.answer
-    _ (rw c.now.ensures at c.append.ensures.entries) _ c.append.ensures.limit (rw (← c.self.view_is) at c.requires) _
+    _ (rw c.now-now.ensures at c.append.ensures.entries) _ c.append.ensures.limit (rw (← c.self.view_is) at c.requires) _
 
 pub invariant_of-self : goal.invariant_of-self
 invariant_of-self g c = (turned g c).kept
