@@ -7,13 +7,14 @@ ghost use Rattle.apex_types.specs.Limits.{latest};
 ghost use Rattle.apex_machine.specs.processes.Roster.{opening_roster};
 ghost use Rattle.apex_calls.specs.Lines.{IsPrintable};
 ghost use Rattle.apex_machine.specs.text.Listing.{listing, listing_of};
-ghost use Rattle.apex_machine.specs.Machine.{opening, accept, turn, tick, run, replay, events_of};
+ghost use Rattle.apex_machine.specs.Machine.{opening, accept, turn, tick, run, replay, events_of, situation_of};
 ghost use Rattle.apex_machine.specs.services.SemaphoreServices.{SemaphoreObject};
 ghost use Rattle.apex_machine.specs.table.Table.{IsLawful};
 ghost use Rattle.apex_machine.specs.processes.Distinct.{HasDistinctStamps};
 ghost use Rattle.apex_history.specs.Counted.{inner_of, failures_of, CountsFailure, AppendsBeginning};
 ghost use Rattle.apex_machine.specs.Events.{IsWithin};
 ghost use Rattle.apex_dispatch.specs.Kernel.{kernel_in};
+ghost use Rattle.apex_dispatch.specs.Situations.{situation_in};
 
 use crate::deeds::Deed;
 use crate::listing::Listing;
@@ -291,6 +292,13 @@ impl<S: Store> Kernel<S> {
         ensures roster { S.roster result.now ≡ self.now.machine.roster }
     {
         self.situation.store()
+    }
+
+    /// The situation that the history has led to.
+    pub fn situation(&self) -> &Situation<S>
+        ensures { situation_in result.now ≡ situation_of self.now.table self.now.machine }
+    {
+        &self.situation
     }
 
     pub fn table(&self) -> &Table

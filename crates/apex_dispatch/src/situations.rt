@@ -142,7 +142,7 @@ impl<S: Store> Situation<S> {
     }
 
     /// The init step that is due in a turn of the core: in COLD_START core 0 carries out the next one.
-    fn due_call(&self, table: &Table, core: CoreId) -> Option<Call>
+    pub fn due_call(&self, table: &Table, core: CoreId) -> Option<Call>
         ensures { result ≡ due_call table.now (situation_in self.now) core }
     {
         if self.store.mode() == Mode::ColdStart && core.number() == 0 {
