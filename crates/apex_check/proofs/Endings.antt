@@ -1,7 +1,8 @@
 -- The ways in which a check ends, by the fault and by the verdict.
-use Rattle.std.proofs.Common.{◌≡◌, ℕ, List, [], ◌∷◌, ◌++◌, length, Option, None, Some, Ok, Err, refl}
+use Rattle.std.proofs.Common.{◌≡◌, ℕ, List, [], ◌∷◌, ◌++◌, length, Option, None, Some, Ok, Err, refl, sym}
 use Rattle.std.specs.Io.KnownBytes.{Appends, Consumes, Keeps, prepend_known}
 use Rattle.apex_machine.specs.table.Table.{Table}
+use Rattle.apex_machine.specs.Machine.{Machine, events_of, replay}
 use Rattle.apex_table.specs.Reading.{table_of}
 use Rattle.apex_history.specs.Counted.{AppendsBeginning}
 use Rattle.apex_history.specs.Ports.{AWriteFails, NoneFails, Ports}
@@ -13,7 +14,7 @@ use Rattle.apex_check.specs.Checks.{Checks, no_memory, refused, unread, unwritte
 use Rattle.apex_check.specs.Faults.{CountsRead, IsFaultOf}
 use Rattle.apex_check.specs.Steps.{IsLineFaultOf}
 use Rattle.apex_check.specs.Texts.{IsTableText, ended, separator}
-use Rattle.apex_check.specs.Verdicts.{JudgesLines, at_line, verdict_text}
+use Rattle.apex_check.specs.Verdicts.{HasFollowed, JudgesLines, at_line, verdict_text}
 use Rattle.apex_check.proofs.Coming.{ahead_more}
 
 -- nothing was read ahead
@@ -31,26 +32,34 @@ ends_early Read found counts same held = unread held (counts, same)
 ends_early fault (text, ahead, at) counts same held = refused text ahead at held (counts, same)
 
 -- behind this table
-module _ (front : List ℕ) (table : Table) (mid : Option (List ℕ)) (lines : IsTableText front) (reads : table_of front ≡ Ok table) where
-  pub ends_at_line : {before after : Ports} → (fault : CheckFault) → Consumes before.left mid (front ++ ended separator)
-      → IsLineFaultOf table mid fault
-      → CountsRead fault before.failed_reads after.failed_reads → after.failed_writes ≡ before.failed_writes
-      → Keeps before.held after.held → Checks before (Err fault) after
-  ends_at_line Read taken found counts same held = unread held (counts, same)
-  ends_at_line {before} fault taken (behind, ahead, at) counts same held =
-      refused (front ++ ended separator ++ behind) (ahead_more before.left mid (front ++ ended separator) behind taken ahead)
-      (at_line table behind (front, (lines, refl), reads) at) held (counts, same)
+module _ (front : List ℕ) (table : Table) (known mid : Option (List ℕ)) (lines : IsTableText front) (reads : table_of front ≡ Ok table)
+    (taken : Consumes known mid (front ++ ended separator)) where
+  whole_text : (behind : List ℕ) → IsAhead behind mid → IsAhead (front ++ ended separator ++ behind) known
+  whole_text behind ahead = ahead_more known mid (front ++ ended separator) behind taken ahead
 
-  pub ends_written : {before after : Ports} → (verdict : Verdict) → Consumes before.left mid (front ++ ended separator)
-      → ((text : List ℕ) × IsAhead text mid × JudgesLines table text verdict)
+  -- a line at fault
+  pub fault_ahead : (fault : CheckFault) → IsLineFaultOf table mid fault → IsFaultOf known fault
+  fault_ahead Memory found = tt
+  fault_ahead Read found = tt
+  fault_ahead fault (behind, ahead, at) =
+      (front ++ ended separator ++ behind, whole_text behind ahead, at_line table behind (front, (lines, refl), reads) at)
+
+  -- a verdict, and the machine that gave it
+  pub followed : (verdict : Verdict) (machine : Machine) → replay table machine.history ≡ machine
+      → ((text : List ℕ) × IsAhead text mid × JudgesLines table text verdict (events_of machine.history))
+      → (text : List ℕ) × IsAhead text known × HasFollowed text table verdict machine
+  followed verdict machine again (behind, ahead, judged) = (
+    front ++ ended separator ++ behind,
+    whole_text behind ahead,
+    record { events = events_of machine.history; judges = (behind, (front, (lines, refl), reads), judged); ran = sym again },
+  )
+
+-- a verdict that was written, or not to its end
+module _ (table : Table) (machine : Machine) (verdict : Verdict) where
+  pub ends_written : {before after : Ports} → ((text : List ℕ) × IsAhead text before.left × HasFollowed text table verdict machine)
       → Appends before.held after.held (verdict_text table verdict) → NoneFails before after → Checks before (Ok verdict) after
-  ends_written {before} verdict taken (behind, ahead, judged) appends fails =
-      written (front ++ ended separator ++ behind) table (ahead_more before.left mid (front ++ ended separator) behind taken ahead)
-      (behind, (front, (lines, refl), reads), judged) appends fails
+  ends_written (text, ahead, found) appends fails = written text table ahead (found.events, found.judges) appends fails
 
-  pub ends_unwritten : {before after : Ports} → (verdict : Verdict) → Consumes before.left mid (front ++ ended separator)
-      → ((text : List ℕ) × IsAhead text mid × JudgesLines table text verdict)
+  pub ends_unwritten : {before after : Ports} → ((text : List ℕ) × IsAhead text before.left × HasFollowed text table verdict machine)
       → AppendsBeginning before.held after.held (verdict_text table verdict) → AWriteFails before after → Checks before (Err Write) after
-  ends_unwritten {before} verdict taken (behind, ahead, judged) appends fails =
-      unwritten (front ++ ended separator ++ behind) table verdict (ahead_more before.left mid (front ++ ended separator) behind taken ahead)
-      (behind, (front, (lines, refl), reads), judged) appends fails
+  ends_unwritten (text, ahead, found) appends fails = unwritten text table verdict ahead (found.events, found.judges) appends fails

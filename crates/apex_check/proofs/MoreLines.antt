@@ -176,24 +176,24 @@ module _ (table : Table) (entries : List Entry) (bytes : List ℕ) (are : AreLin
   pub differs : (found behind : List ℕ) (event : Event) (entry : Entry) → IsOneLine found → event_named table.cores found ≡ Ok event
       → history_of table (events_of entries ++ event ∷ []) ≡ history_of table (events_of entries) ++ entry ∷ []
       → (ended found ≢ line_of table entry)
-      → JudgesLines table (bytes ++ (ended found ++ behind)) (DepartsAt (length entries + 1) (Some entry))
+      → JudgesLines table (bytes ++ (ended found ++ behind)) (DepartsAt (length entries + 1) (Some entry)) (events_of entries ++ event ∷ [])
   differs found behind event entry one named next other =
-      subst (λ n. JudgesLines table (bytes ++ (ended found ++ behind)) (DepartsAt (n + 1) (Some entry))) (counted entries)
+      subst (λ n. JudgesLines table (bytes ++ (ended found ++ behind)) (DepartsAt (n + 1) (Some entry)) (events_of entries ++ event ∷ [])) (counted entries)
       (departs behind found event entry (follows table bytes (ended found ++ behind) (events_of entries) are) one named next other)
 
   pub full : (found behind : List ℕ) (event : Event) → IsOneLine found → event_named table.cores found ≡ Ok event
       → table.limit ≤ length entries
-      → JudgesLines table (bytes ++ (ended found ++ behind)) (DepartsAt (length entries + 1) None)
+      → JudgesLines table (bytes ++ (ended found ++ behind)) (DepartsAt (length entries + 1) None) (events_of entries)
   full found behind event one named many =
       let all : length (events_of entries) ≡ table.limit = omega (arith, counted entries, are.fits, many) in
-      subst (λ n. JudgesLines table (bytes ++ (ended found ++ behind)) (DepartsAt (n + 1) None)) (counted entries)
+      subst (λ n. JudgesLines table (bytes ++ (ended found ++ behind)) (DepartsAt (n + 1) None) (events_of entries)) (counted entries)
       (beyond behind found event (follows table bytes (ended found ++ behind) (events_of entries) are) one named all)
 
-  pub ends : (pending left : List ℕ) → pending ≡ [] → left ≡ [] → JudgesLines table (bytes ++ (pending ++ left)) (Legal (length entries))
+  pub ends : (pending left : List ℕ) → pending ≡ [] → left ≡ [] → JudgesLines table (bytes ++ (pending ++ left)) (Legal (length entries)) (events_of entries)
   ends pending left none end =
       let nothing : pending ++ left ≡ [] = ap (λ l. l ++ left) none ∙ end in
       let whole : bytes ++ (pending ++ left) ≡ bytes ++ [] = ap (λ l. bytes ++ l) nothing in
-      subst (λ n. JudgesLines table (bytes ++ (pending ++ left)) (Legal n)) (counted entries)
+      subst (λ n. JudgesLines table (bytes ++ (pending ++ left)) (Legal n) (events_of entries)) (counted entries)
       (legal (bytes, whole, are))
 
   pub rests : (pending left : List ℕ) → IsOneLine pending → 0 < length pending → length pending ≤ MOST_LINE → left ≡ []
@@ -232,7 +232,8 @@ judged table machine new bytes found line event are one named e ran again replay
     let grown : new.history ≡ machine.history ++ entry ∷ [] = ran ∙ adds.0 in
     let count : length new.history ≡ length machine.history + 1 = omega (arith, ap length grown, length-append machine.history (entry ∷ [])) in
     let last : last_or None new.history ≡ Some entry = ap (last_or None) grown ∙ last_put None machine.history entry in
-    rw (count, last) (differs table machine.history bytes are found behind event entry one named
+    let events : events_of new.history ≡ events_of machine.history ++ event ∷ [] = ap events_of grown ∙ events_more machine.history entry event adds.1 in
+    rw (count, last, events) (differs table machine.history bytes are found behind event entry one named
     (next_is table machine new bytes found event entry grown adds.1 again replays) (λ same. other (e ∙ same)))
 judged table machine new bytes found line event are one named e ran again replays fits Beyond many = λ behind.
     let kept : new.history ≡ machine.history = ran ∙ ap (λ (m : Machine). m.history) (accept-full table machine event many) in

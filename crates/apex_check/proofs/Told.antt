@@ -3,6 +3,7 @@ use Rattle.std.proofs.Common.{◌≡◌, ◌∙◌, ℕ, List, [], ◌∷◌, Op
 use Rattle.std.specs.Prelude.{IfSome}
 use Rattle.apex_check.specs.Terms.{Event}
 use Rattle.apex_machine.specs.table.Table.{Table}
+use Rattle.apex_machine.specs.Machine.{Machine, opening, run}
 use Rattle.apex_history.specs.Ports.{Ports}
 use Rattle.apex_check.specs.declared.verdicts.Verdict.{Verdict}
 use Rattle.apex_check.specs.declared.verdicts.Verdict.TheVariants.{Legal}
@@ -10,19 +11,19 @@ use Rattle.apex_check.specs.declared.verdicts.CheckFault.{CheckFault}
 use Rattle.apex_check.specs.Checks.{Checks, no_memory, refused, unread, unwritten, written}
 use Rattle.apex_check.specs.Histories.{Follows}
 use Rattle.apex_check.specs.Legal.{IsLegal, TellsLegal}
-use Rattle.apex_check.specs.Verdicts.{IsAtFault, Judges, JudgesLines, LineIsAtFault, at_line, bad, beyond, departs, legal, no_separator, no_table, too_long, unended}
+use Rattle.apex_check.specs.Verdicts.{HasFollowed, IsAtFault, Judges, JudgesLines, LineIsAtFault, at_line, bad, beyond, departs, legal, no_separator, no_table, too_long, unended}
 use Rattle.apex_check.proofs.Apart.{begins_once, parts_nowhere, reads_once}
 use Rattle.apex_check.proofs.GoesOn.{goes_on, next_named, none_behind, not_too_long, not_unended, same_line}
 
 -- ---- the lines of a whole history
 
 module _ (table : Table) (text : List ℕ) (all : List Event) (whole : Follows table text all []) where
-  only_legal : (verdict : Verdict) → JudgesLines table text verdict → verdict ≡ Legal (length all)
-  only_legal verdict (legal {events} follows) =
+  only_legal : (verdict : Verdict) (made : List Event) → JudgesLines table text verdict made → verdict ≡ Legal (length all)
+  only_legal verdict made (legal {events} follows) =
       ap (λ (l : List Event). Legal (length l)) (sym (none_behind (goes_on table text [] all events whole follows)))
-  only_legal verdict (departs {events} behind line event entry follows one named next other) =
+  only_legal verdict made (departs {events} behind line event entry follows one named next other) =
       absurd (other (same_line table text behind line all events event entry whole follows one named next))
-  only_legal verdict (beyond {events} behind line event follows one named full) =
+  only_legal verdict made (beyond {events} behind line event follows one named full) =
       let on = goes_on table text _ all events whole follows in
       let (found, later, names, is) = next_named table events all line behind on one in
       absurd (omega (arith, full, whole.2.fits, ap length is, length-append events (found ∷ later)))
@@ -41,11 +42,11 @@ module _ (table : Table) (text : List ℕ) (all : List Event) (whole : Follows t
 
 module _ (text : List ℕ) (n : ℕ) (is : IsLegal text n) where
   pub one_verdict : (table : Table) (verdict : Verdict) → Judges text table verdict → verdict ≡ Legal n
-  one_verdict table verdict (behind, begins, judges) =
+  one_verdict table verdict (made, (behind, begins, judges)) =
       let (same, ends) = begins_once text table is.table behind is.behind begins is.begins in
-      let judged : JudgesLines is.table behind verdict = subst (λ (t : Table). JudgesLines t behind verdict) same judges in
-      let here : JudgesLines is.table is.behind verdict = subst (λ b. JudgesLines is.table b verdict) ends judged in
-      only_legal is.table is.behind is.events is.follows verdict here ∙ ap Legal is.many
+      let judged : JudgesLines is.table behind verdict made = subst (λ (t : Table). JudgesLines t behind verdict made) same judges in
+      let here : JudgesLines is.table is.behind verdict made = subst (λ b. JudgesLines is.table b verdict made) ends judged in
+      only_legal is.table is.behind is.events is.follows verdict made here ∙ ap Legal is.many
 
   pub no_fault : (fault : CheckFault) → IsAtFault text fault → ⊥
   no_fault fault (no_separator none) =
@@ -60,19 +61,19 @@ module _ (text : List ℕ) (n : ℕ) (is : IsLegal text n) where
       no_line_fault is.table is.behind is.events is.follows fault here
 
 -- a text whose verdict is legal is legal
-legal_lines : (table : Table) (text : List ℕ) (n : ℕ) (verdict : Verdict) → JudgesLines table text verdict → verdict ≡ Legal n
-    → (events : List Event) × Follows table text events [] × (length events ≡ n)
-legal_lines table text n verdict (legal {events} follows) e = (events, follows, cc)
-legal_lines table text n verdict (departs {events} behind line event entry follows one named next other) e =
+legal_lines : (table : Table) (text : List ℕ) (n : ℕ) (verdict : Verdict) (made : List Event) → JudgesLines table text verdict made
+    → verdict ≡ Legal n → Follows table text made [] × (length made ≡ n)
+legal_lines table text n verdict made (legal follows) e = (follows, cc)
+legal_lines table text n verdict made (departs {events} behind line event entry follows one named next other) e =
     let no : ⊥ = cc in
     absurd no
-legal_lines table text n verdict (beyond {events} behind line event follows one named full) e =
+legal_lines table text n verdict made (beyond {events} behind line event follows one named full) e =
     let no : ⊥ = cc in
     absurd no
 
 legal_told : (text : List ℕ) (table : Table) (n : ℕ) (verdict : Verdict) → Judges text table verdict → verdict ≡ Legal n → IsLegal text n
-legal_told text table n verdict (behind, begins, judges) e =
-    let (events, follows, many) = legal_lines table behind n verdict judges e in
+legal_told text table n verdict (events, (behind, begins, judges)) e =
+    let (follows, many) = legal_lines table behind n verdict events judges e in
     record { table = table; behind = behind; events = events; begins = begins; follows = follows; many = many }
 
 -- ---- the answer of a check
@@ -96,3 +97,16 @@ is_told {before} answer (written found table {verdict} left judges appends fails
     let here : Judges text table verdict = subst (λ t. Judges t table verdict) (known_text before.left text found known left) judges in
     (λ told. legal_told text table n verdict here (one_answer (Ok verdict) verdict (Legal n) refl told), λ is. ap Ok (one_verdict text n is table verdict here))
 is_told answer (unwritten found table verdict left judges appends fails) = λ text n known asked. absurd asked
+
+-- ---- a history that was followed
+
+-- a legal history, and the machine after its events
+pub legal_machine : (text : List ℕ) (table : Table) (n : ℕ) (machine : Machine) → HasFollowed text table (Legal n) machine
+    → (is : IsLegal text n) × (is.table ≡ table) × (run is.table (opening is.table) is.events ≡ machine)
+legal_machine text table n machine found =
+    let (behind, begins, judges) = found.judges in
+    let (follows, many) = legal_lines table behind n (Legal n) found.events judges refl in (
+      record { table = table; behind = behind; events = found.events; begins = begins; follows = follows; many = many },
+      refl,
+      sym found.ran,
+    )

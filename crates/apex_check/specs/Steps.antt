@@ -41,10 +41,12 @@ departure history = DepartsAt (length history) (last_or None history)
 abbrev pub Judged : Table → List ℕ → List ℕ → List Entry → Result Answer CheckFault → Type 0
 Judged table bytes line history (Ok Same) = AreLines table (bytes ++ ended line) (events_of history)
 Judged table bytes line history (Ok Differs) =
-    (behind : List ℕ) → JudgesLines table (bytes ++ (ended line ++ behind)) (departure history)
+    (behind : List ℕ)
+    → JudgesLines table (bytes ++ (ended line ++ behind)) (departure history) (events_of history)
 Judged table bytes line history (Ok Beyond) =
     (behind : List ℕ)
     → JudgesLines table (bytes ++ (ended line ++ behind)) (DepartsAt (length history + 1) None)
+    (events_of history)
 Judged table bytes line history (Err fault) =
     (behind : List ℕ) → LineIsAtFault table (bytes ++ (ended line ++ behind)) fault
 

@@ -1,8 +1,9 @@
 -- The verdict on the history of a text, or the first fault.
-use Rattle.std.specs.Prelude.{◌≡◌, ◌≢◌, ℕ, ◌+◌, ◌<◌, ◌≤◌, List, [], ◌++◌, length, codes, decimal, Option, None, Some, Ok, Err}
+use Rattle.std.specs.Prelude.{◌≡◌, ◌≢◌, ℕ, ◌+◌, ◌<◌, ◌≤◌, List, [], ◌∷◌, ◌++◌, length, codes, decimal, Option, None, Some, Ok, Err}
 use Rattle.apex_types.specs.declared.limits.TheConstants.{MOST_LINE}
 use Rattle.apex_check.specs.Terms.{Entry, Event}
 use Rattle.apex_machine.specs.table.Table.{Table}
+use Rattle.apex_machine.specs.Machine.{Machine, opening, run}
 use Rattle.apex_calls.specs.Lines.{line_of}
 use Rattle.apex_table.specs.Reading.{table_of}
 use Rattle.apex_table.specs.declared.TableFault.{TableFault}
@@ -26,28 +27,42 @@ verdict_text table (Legal n) = codes "legal " ++ decimal n ++ codes "\n"
 verdict_text table (DepartsAt n expected) =
     codes "departs at " ++ decimal n ++ codes "\nexpected: " ++ expected_text table expected
 
--- The verdict on the lines of a history. The lines before the one that decides are those of *run*
--- for the events that they name.
-pub data JudgesLines (table : Table) (text : List ℕ) : Verdict → Type 0 where
+-- The verdict on the lines of a history, and the events that were made for it: those of the lines
+-- before the one that decides, which are the lines of *run* for them, and that of a line which
+-- departs from its entry.
+pub data JudgesLines (table : Table) (text : List ℕ) : Verdict → List Event → Type 0 where
   -- all lines are
   legal : {events : List Event} → Follows table text events []
-      → JudgesLines table text (Legal (length events))
+      → JudgesLines table text (Legal (length events)) events
   -- the next line names an event, and is not the line of the machine's entry
   departs : {events : List Event} (behind line : List ℕ) (event : Event) (entry : Entry)
       → Follows table text events (ended line ++ behind) → IsOneLine line
       → event_named table.cores line ≡ Ok event → IsNext table events event entry
       → ended line ≢ line_of table entry
-      → JudgesLines table text (DepartsAt (length events + 1) (Some entry))
+      → JudgesLines table text (DepartsAt (length events + 1) (Some entry)) (events ++ event ∷ [])
   -- the next line names an event, and the history is full
   beyond : {events : List Event} (behind line : List ℕ) (event : Event)
       → Follows table text events (ended line ++ behind) → IsOneLine line
       → event_named table.cores line ≡ Ok event → length events ≡ table.limit
-      → JudgesLines table text (DepartsAt (length events + 1) None)
+      → JudgesLines table text (DepartsAt (length events + 1) None) events
+
+-- the verdict on a text that begins with this table, and the events that were made for it
+abbrev pub JudgesBy : List ℕ → Table → Verdict → List Event → Type 0
+JudgesBy text table verdict events =
+    (behind : List ℕ) × BeginsWithTable text table behind
+    × JudgesLines table behind verdict events
 
 -- the verdict on a text that begins with this table
 abbrev pub Judges : List ℕ → Table → Verdict → Type 0
-Judges text table verdict =
-    (behind : List ℕ) × BeginsWithTable text table behind × JudgesLines table behind verdict
+Judges text table verdict = (events : List Event) × JudgesBy text table verdict events
+
+-- the verdict on a text that begins with this table, and the machine after the events that were
+-- made for it
+pub record HasFollowed (text : List ℕ) (table : Table) (verdict : Verdict) (machine : Machine)
+    : Type 0 where
+  pub events : List Event
+  pub judges : JudgesBy text table verdict events
+  pub ran : machine ≡ run table (opening table) events
 
 -- The first line at fault. The lines before it are those of *run* for the events that they name.
 pub data LineIsAtFault (table : Table) (text : List ℕ) : CheckFault → Type 0 where

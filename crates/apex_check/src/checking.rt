@@ -1,12 +1,18 @@
 //! The check of a text: its verdict, read and written.
-ghost use Rattle.std.specs.Prelude.{OnErr, OnOk};
+ghost use Rattle.std.specs.Prelude.{◌≡◌, IfErr, IfOk, List, OnErr, OnOk, Result, ℕ};
+ghost use Rattle.std.specs.Fn.{FnOnceReturnsAt};
 ghost use Rattle.std.specs.Io.KnownBytes.{Appends};
+ghost use Rattle.std.specs.declared.alloc.AllocError.{AllocError as AllocErrorOf};
+ghost use Rattle.apex_machine.specs.processes.Roster.{opening_roster};
+ghost use Rattle.apex_machine.specs.table.Table as tables;
 ghost use Rattle.apex_history.specs.Counted.{inner_of, failures_of, CountsFailure, AppendsBeginning};
 ghost use Rattle.apex_history.specs.Ports.{ports};
+ghost use Rattle.apex_check.specs.Ahead.{IsAhead};
 ghost use Rattle.apex_check.specs.Checks.{Checks};
+ghost use Rattle.apex_check.specs.Faults.{CountsCheck, IsFaultOf};
 ghost use Rattle.apex_check.specs.Legal.{TellsLegal};
 ghost use Rattle.apex_check.specs.Steps.{IsTellable};
-ghost use Rattle.apex_check.specs.Verdicts.{verdict_text};
+ghost use Rattle.apex_check.specs.Verdicts.{HasFollowed, verdict_text};
 
 use crate::following::judge;
 use crate::pending::Pending;
@@ -14,10 +20,52 @@ use crate::tables::leading_table;
 use crate::verdicts::{CheckFault, Verdict, verdict_text};
 use apex_dispatch::Kernel;
 use apex_history::{Counted, Sink, Source};
-use apex_store::PlainStore;
+use apex_store::{PlainStore, Store};
 use apex_table::Table;
-use std::alloc::Global;
+use std::alloc::{AllocError, Global};
 use std::io::{self, Write};
+
+/// A history that was followed: the verdict on it, and the kernel that gave it.
+#[derive(Drop)]
+pub struct Followed<S: Store> {
+    pub verdict: Verdict,
+    /// The kernel after the events of the lines that are the machine's, and of the line that
+    /// departs from its entry.
+    pub kernel: Kernel<S>,
+}
+
+/// Follows a printed history: the text has a table, the line `%%`, and then lines, which are
+/// compared with those that the machine prints for the events that they name. They are made by a
+/// kernel over the store that `store_of` makes of the table.
+///
+/// It stops at the first departure or fault. Memory is taken for the table's text, for the table,
+/// its store and its history, and not for the lines. The errors in the order of the text: `Read`
+/// where a read fails, `NoSeparator`, `Table`, `BadLine` or `TooLong`; `Memory` if memory is
+/// refused.
+pub fn follow<S: Store, R: Source, F: FnOnce(&Table) -> Result<S, AllocError>>(
+    alloc: Global,
+    store_of: F,
+    reader: &mut Counted<R>,
+) -> Result<Followed<S>, CheckFault>
+    requires callable { F.IsAlwaysCallable store_of }
+    requires opening { (table : tables.Table) (made : Result S AllocErrorOf)
+        → FnOnceReturnsAt F.FnOnce store_of table made
+        → IfOk made (λ store. S.roster store ≡ opening_roster table) }
+    ensures ok { IfOk result (λ found. (text : List ℕ)
+        × IsAhead text (R.remaining (inner_of reader.old))
+        × HasFollowed text found.kernel.table found.verdict found.kernel.machine) }
+    ensures tellable { IfOk result (λ found. IsTellable found.kernel.table found.verdict) }
+    ensures err { IfErr result (IsFaultOf (R.remaining (inner_of reader.old))) }
+    ensures counted { CountsCheck result (failures_of reader.old) (failures_of reader.new) }
+{
+    let mut pending = Pending::new();
+    let table = leading_table(alloc, &mut pending, reader)?;
+    let store = store_of(&table)?;
+    let mut kernel = Kernel::boot(alloc, table, store)?;
+    let verdict = judge(&mut kernel, &mut pending, reader)?;
+    kernel.holds();
+    Ok(Followed { verdict, kernel })
+}
 
 /// Writes the text of the verdict on a history of the table.
 fn tell<W: Sink>(table: &Table, verdict: &Verdict, writer: &mut Counted<W>) -> io::Result<()>
@@ -33,15 +81,10 @@ fn tell<W: Sink>(table: &Table, verdict: &Verdict, writer: &mut Counted<W>) -> i
     writer.write_all(verdict_text(table, verdict).as_slice())
 }
 
-/// Checks a printed history: the text has a table, the line `%%`, and then lines, which are
-/// compared with those that the machine prints for the events that they name.
-///
-/// It stops at the first departure or fault, and writes the verdict: `legal` with the number of
-/// lines, or `departs at` with the number of the line, and then `expected: ` with the machine's
-/// line, or with `nothing` if the history is full. With a fault nothing is written, except for
-/// `Write`, which leaves a prefix of the verdict's text.
-///
-/// Memory is taken for the table's text, for the table and for its history, and not for the lines.
+/// Checks a printed history, as [`follow`] does over a [`PlainStore`], and writes the verdict:
+/// `legal` with the number of lines, or `departs at` with the number of the line, and then
+/// `expected: ` with the machine's line, or with `nothing` if the history is full. With a fault
+/// nothing is written, except for `Write`, which leaves a prefix of the verdict's text.
 pub fn check<R: Source, W: Sink>(
     alloc: Global,
     reader: &mut Counted<R>,
@@ -55,11 +98,8 @@ pub fn check<R: Source, W: Sink>(
         (failures_of reader.new) (failures_of writer.new)) }
     ensures legal { TellsLegal (R.remaining (inner_of reader.old)) result }
 {
-    let mut pending = Pending::new();
-    let table = leading_table(alloc, &mut pending, reader)?;
-    let store = PlainStore::new(alloc, &table)?;
-    let mut kernel = Kernel::boot(alloc, table, store)?;
-    let verdict = judge(&mut kernel, &mut pending, reader)?;
+    let followed = follow(alloc, |table| PlainStore::new(alloc, table), reader)?;
+    let Followed { verdict, kernel } = followed;
     match tell(kernel.table(), &verdict, writer) {
         Ok(()) => Ok(verdict),
         Err(_) => Err(CheckFault::Write),

@@ -20,7 +20,7 @@ use crate::pending::{Next, Pending};
 use crate::verdicts::{CheckFault, Verdict};
 use apex_dispatch::Kernel;
 use apex_history::{Counted, LineFault, Source, read_line};
-use apex_store::PlainStore;
+use apex_store::Store;
 use apex_types::Event;
 
 /// The comparison of the machine's line for an event with a line.
@@ -73,8 +73,8 @@ pub fn event_named(cores: u8, line: &[u8]) -> Result<Event, LineFault>
 }
 
 /// Makes the event, and compares the machine's line with this one, which has its line feed.
-fn compare(
-    kernel: &mut Kernel<PlainStore>,
+fn compare<S: Store>(
+    kernel: &mut Kernel<S>,
     expected: &mut ExpectedLines,
     event: Event,
     line: &[u8],
@@ -100,7 +100,7 @@ fn compare(
 }
 
 /// The number of entries that the history has.
-fn count(kernel: &Kernel<PlainStore>) -> u32
+fn count<S: Store>(kernel: &Kernel<S>) -> u32
     ensures value { result ≡ length kernel.now.machine.history }
     ensures range { result ≤ MOST_ENTRIES }
 {
@@ -121,8 +121,8 @@ fn fault_at(line: u32, fault: LineFault) -> CheckFault
 
 /// Makes the event that the first line of the bytes names, which has `end` bytes and its line feed,
 /// and compares the machine's line with this one.
-fn judge_line(
-    kernel: &mut Kernel<PlainStore>,
+fn judge_line<S: Store>(
+    kernel: &mut Kernel<S>,
     expected: &mut ExpectedLines,
     bytes: &[u8],
     end: usize,
@@ -149,7 +149,7 @@ fn judge_line(
 }
 
 /// The verdict on a history whose latest line is the first that is not the machine's.
-fn departure(kernel: &Kernel<PlainStore>) -> Verdict
+fn departure<S: Store>(kernel: &Kernel<S>) -> Verdict
     ensures value { result ≡ departure kernel.now.machine.history }
     ensures tellable { IsTellable kernel.now.table result }
 {
@@ -161,9 +161,10 @@ fn departure(kernel: &Kernel<PlainStore>) -> Verdict
     }
 }
 
-/// The verdict on the lines that are still to come, by a kernel before any event.
-pub(crate) fn judge<R: Source>(
-    kernel: &mut Kernel<PlainStore>,
+/// The verdict on the lines that are still to come, by a kernel before any event, which makes the
+/// events that they name up to the line that decides.
+pub(crate) fn judge<S: Store, R: Source>(
+    kernel: &mut Kernel<S>,
     pending: &mut Pending,
     reader: &mut Counted<R>,
 ) -> Result<Verdict, CheckFault>
@@ -171,7 +172,7 @@ pub(crate) fn judge<R: Source>(
     ensures table { kernel.new.table ≡ kernel.old.table }
     ensures ok { IfOk result (λ verdict. (text : List ℕ)
         × IsAhead text (prepend_known pending.old (R.remaining (inner_of reader.old)))
-        × JudgesLines kernel.old.table text verdict) }
+        × JudgesLines kernel.old.table text verdict (events_of kernel.new.machine.history)) }
     ensures tellable { IfOk result (IsTellable kernel.old.table) }
     ensures err { IfErr result
         (IsLineFaultOf kernel.old.table

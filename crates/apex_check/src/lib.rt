@@ -10,6 +10,6 @@ mod pending;
 mod tables;
 mod verdicts;
 
-pub use checking::check;
+pub use checking::{Followed, check, follow};
 pub use following::event_named;
-pub use verdicts::{CheckFault, Verdict};
+pub use verdicts::{CheckFault, Verdict, verdict_text};

@@ -105,7 +105,7 @@ fn put_number(text: &mut Lines, number: u32)
 
 /// The text of the verdict on a history of the table.
 #[tactic(auto, using(std::proofs::Common::append_assoc))]
-pub(crate) fn verdict_text(table: &Table, verdict: &Verdict) -> Lines
+pub fn verdict_text(table: &Table, verdict: &Verdict) -> Lines
     requires { IsTellable table.now verdict.now }
     ensures { result.items ≡ verdict_text table.now verdict.now }
 {

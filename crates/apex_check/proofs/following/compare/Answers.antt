@@ -6,7 +6,7 @@ use Rattle.apex_check.proofs.MoreLines.{latest_adds, latest_holds, latest_some}
 use Rattle.apex_check.proofs.following.compare.Goals as goal
 
 pub returns-in_default-latest-clause-answers : goal.returns-in_default-latest-clause-answers
-returns-in_default-latest-clause-answers c =
+returns-in_default-latest-clause-answers g c =
     let old = c.args.kernel.now in
     let room : length old.machine.history < old.table.limit = search rules in
     let none : last_or None c.accept.new.self.machine.history ≡ None = search rules in
@@ -14,7 +14,7 @@ returns-in_default-latest-clause-answers c =
     (ap (λ (k : KernelState _). k.machine.history) c.accept.ensures.done) none)
 
 pub line-requires : goal.line-requires
-line-requires c =
+line-requires g c =
     let old = c.args.kernel.now in
     let new = c.accept.new.self in
     let room : length old.machine.history < old.table.limit = search rules in
@@ -23,7 +23,7 @@ line-requires c =
     (ap (λ (k : KernelState _). k.machine.history) c.accept.ensures.done) (IsPrintable new.table) c.in-Some.entry is c.holds.ensures.printable)
 
 pub returns-then-eq-clause-answers : goal.returns-then-eq-clause-answers
-returns-then-eq-clause-answers c =
+returns-then-eq-clause-answers g c =
     let old = c.args.kernel.now in
     let new = c.accept.new.self in
     let room : length old.machine.history < old.table.limit = search rules in
@@ -35,7 +35,7 @@ returns-then-eq-clause-answers c =
     )
 
 pub returns-else-eq-clause-answers : goal.returns-else-eq-clause-answers
-returns-else-eq-clause-answers c =
+returns-else-eq-clause-answers g c =
     let old = c.args.kernel.now in
     let new = c.accept.new.self in
     let room : length old.machine.history < old.table.limit = search rules in

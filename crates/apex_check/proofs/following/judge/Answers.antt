@@ -59,7 +59,7 @@ returns-in-End-clause-ok g c =
     let left = g.R.Source.remaining (inner_of c.next.new.reader) in
     let pending = c.next.new.self in
     let (none, end) : Comes End pending left = rw c.in-End.is at c.in-Ok.ensures.comes in
-    text_ahead (λ (t : List ℕ). JudgesLines table t (Legal c.count-in-End.result)) old before left bytes pending taken c.in-Ok.ensures.kept
+    text_ahead (λ (t : List ℕ). JudgesLines table t (Legal c.count-in-End.result) (events_of c.loop-next.kernel.machine.history)) old before left bytes pending taken c.in-Ok.ensures.kept
     (rw c.count-in-End.ensures.value
     (ends table c.loop-next.kernel.machine.history bytes are pending (or_nothing left) none (none_left left end)))
 
@@ -98,7 +98,7 @@ returns-in-Differs-clause-ok g c =
     let judged : Judged table bytes (take end pending) history (Ok Differs) =
     judged_by bytes (take end pending) history c.loop-next.invariant.table c.in-Differs.is (c.in_ok-judge_line.ensures.judged bytes (take end pending) here first.0 e) in
     rw c.departure.ensures.value
-    (line_ahead (λ (t : List ℕ). JudgesLines table t (departure history)) old before left bytes pending end taken c.in-Ok.ensures.kept first judged)
+    (line_ahead (λ (t : List ℕ). JudgesLines table t (departure history) (events_of history)) old before left bytes pending end taken c.in-Ok.ensures.kept first judged)
 
 pub returns-in-Beyond-clause-ok : goal.returns-in-Beyond-clause-ok
 returns-in-Beyond-clause-ok g c =
@@ -116,7 +116,7 @@ returns-in-Beyond-clause-ok g c =
     let judged : Judged table bytes (take end pending) history (Ok Beyond) =
     judged_by bytes (take end pending) history c.loop-next.invariant.table c.in-Beyond.is (c.in_ok-judge_line.ensures.judged bytes (take end pending) here first.0 e) in
     rw c.count-in-Beyond.ensures.value
-    (line_ahead (λ (t : List ℕ). JudgesLines table t (DepartsAt (length history + 1) None)) old before left bytes pending end taken c.in-Ok.ensures.kept first
+    (line_ahead (λ (t : List ℕ). JudgesLines table t (DepartsAt (length history + 1) None) (events_of history)) old before left bytes pending end taken c.in-Ok.ensures.kept first
     judged)
 
 pub loop-next-smaller : goal.loop-next-smaller

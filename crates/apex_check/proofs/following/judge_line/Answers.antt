@@ -6,7 +6,7 @@ use Rattle.apex_check.proofs.MoreLines.{faulty, judged, unended_is}
 use Rattle.apex_check.proofs.following.judge_line.Goals as goal
 
 pub returns-in-Err-clause-judged : goal.returns-in-Err-clause-judged
-returns-in-Err-clause-judged c = λ before found are one e behind.
+returns-in-Err-clause-judged g c = λ before found are one e behind.
     let old = c.args.kernel.now in
     let bytes = c.args.bytes.now in
     let cores : c.cores.result ≡ old.table.cores = search rules in
@@ -15,7 +15,7 @@ returns-in-Err-clause-judged c = λ before found are one e behind.
     rw (c.fault_at.ensures, c.count-number.ensures.value) (faulty old.table old.machine.history before are found behind c.in-Err.fault one named)
 
 pub returns-clause-judged : goal.returns-clause-judged
-returns-clause-judged c = λ before found are one e.
+returns-clause-judged g c = λ before found are one e.
     let old = c.args.kernel.now in
     let bytes = c.args.bytes.now in
     let line = take (c.args.end + 1) bytes in
