@@ -8,7 +8,7 @@ ROOT := $(DESTDIR)$(PREFIX)
 all: ## build the program, not proved, unless there is a proved one (a minute or two)
 	tools/program apex
 
-test: ## play all cases and run all tests, not proved
+test: ## run all cases and tests, not proved
 	tools/test
 
 prove: ## prove and build both programs
