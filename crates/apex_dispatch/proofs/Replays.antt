@@ -15,8 +15,8 @@ use Rattle.apex_laws.proofs.Runs.{length-happen}
 use Rattle.apex_laws.proofs.Sound.{IsSound, sound_run, sound_happen, told}
 use Rattle.apex_dispatch.specs.Deeds.{Does}
 use Rattle.apex_dispatch.specs.Kernel.{KernelState, IsKept, kernel_in, kernel_with, room_of}
-use Rattle.apex_dispatch.specs.Situations.{CanGoOn}
-use Rattle.apex_dispatch.proofs.GoesOn.{goes_less}
+use Rattle.apex_laws.specs.GoesOn.{CanGoOn}
+use Rattle.apex_laws.proofs.GoesOn.{goes_less}
 use Rattle.apex_dispatch.proofs.MachineSteps.{steps_situation}
 
 -- the machine of a kernel is sound

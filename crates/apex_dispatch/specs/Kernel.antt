@@ -6,7 +6,7 @@ use Rattle.apex_machine.specs.Deeds.{Objects}
 use Rattle.apex_machine.specs.Machine.{Machine, objects_after, events_of, machine_with, replay, situation_of}
 use Rattle.apex_machine.specs.Situations.{Situation}
 use Rattle.apex_machine.specs.Events.{IsWithin}
-use Rattle.apex_dispatch.specs.Situations.{CanGoOn}
+use Rattle.apex_laws.specs.GoesOn.{CanGoOn}
 
 -- a kernel: its table, the machine's state, the running values of its objects, and its store, with
 -- all that a contract sees of that

@@ -8,7 +8,8 @@ ghost use Rattle.apex_machine.specs.Situations.{deed, due_call, step};
 ghost use Rattle.apex_machine.specs.processes.Roster.{opening_roster};
 ghost use Rattle.apex_machine.specs.services.Callers.{is_by_init};
 ghost use Rattle.apex_dispatch.specs.Deeds.{Does};
-ghost use Rattle.apex_dispatch.specs.Situations.{CanGoOn, situation_in, situation_with};
+ghost use Rattle.apex_laws.specs.GoesOn.{CanGoOn};
+ghost use Rattle.apex_dispatch.specs.Situations.{situation_in, situation_with};
 
 use crate::deeds::{Deed, carry_out};
 use crate::objects::Objects;

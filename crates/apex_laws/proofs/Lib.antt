@@ -34,3 +34,5 @@ pub mod OwnedInOrder
 pub mod States
 pub mod Queued
 pub mod Kept
+pub mod Arrivals
+pub mod GoesOn

@@ -6,3 +6,4 @@ pub mod Unbroken
 pub mod AskedWaits
 pub mod Premises
 pub mod Worked
+pub mod GoesOn

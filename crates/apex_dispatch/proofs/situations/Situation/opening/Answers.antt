@@ -1,7 +1,8 @@
 use Rattle.std.proofs.Common.{◌∙◌, ap, sym, subst}
 use Rattle.apex_machine.specs.processes.Roster.{Roster}
-use Rattle.apex_dispatch.specs.Situations.{CanGoOn, situation_with}
-use Rattle.apex_dispatch.proofs.GoesOn.{opening_goes_on}
+use Rattle.apex_laws.specs.GoesOn.{CanGoOn}
+use Rattle.apex_dispatch.specs.Situations.{situation_with}
+use Rattle.apex_laws.proofs.GoesOn.{opening_goes_on}
 use Rattle.apex_dispatch.proofs.MachineSteps.{opened}
 use Rattle.apex_dispatch.proofs.situations.Situation.opening.Goals as goal
 

@@ -7,8 +7,9 @@ use Rattle.apex_machine.specs.Deeds.{tick_deed}
 use Rattle.apex_machine.specs.Situations.{Situation, step}
 use Rattle.apex_machine.proofs.BothProfiles.{lawful_count}
 use Rattle.apex_dispatch.specs.Deeds.{Does}
-use Rattle.apex_dispatch.specs.Situations.{CanGoOn, situation_with}
-use Rattle.apex_dispatch.proofs.GoesOn.{goes_on, many_stamps}
+use Rattle.apex_laws.specs.GoesOn.{CanGoOn}
+use Rattle.apex_dispatch.specs.Situations.{situation_with}
+use Rattle.apex_laws.proofs.GoesOn.{goes_on, many_stamps}
 use Rattle.apex_dispatch.proofs.MachineSteps.{after_does}
 use Rattle.apex_dispatch.proofs.situations.Situation.tick.Given.{Over}
 use Rattle.apex_dispatch.proofs.situations.Situation.tick.Goals.{After-watch}

@@ -2,8 +2,9 @@ use Rattle.std.proofs.Common.{◌≡◌, ◌∙◌, ◌+◌, refl, sym, subst, a
 use Rattle.apex_types.specs.declared.entries.Event.TheVariants.{Turn}
 use Rattle.apex_types.specs.declared.entries.Who.TheVariants.{Core}
 use Rattle.apex_machine.specs.Situations.{Situation, step}
-use Rattle.apex_dispatch.specs.Situations.{CanGoOn, situation_with}
-use Rattle.apex_dispatch.proofs.GoesOn.{can_serve, due_is, goes_on}
+use Rattle.apex_laws.specs.GoesOn.{CanGoOn}
+use Rattle.apex_dispatch.specs.Situations.{situation_with}
+use Rattle.apex_laws.proofs.GoesOn.{can_serve, due_is, goes_on}
 use Rattle.apex_dispatch.proofs.MachineSteps.{after_does}
 use Rattle.apex_dispatch.proofs.situations.Situation.turn.Given.{Over}
 use Rattle.apex_dispatch.proofs.situations.Situation.turn.Goals.{After-watch}

@@ -37,8 +37,8 @@ use Rattle.apex_laws.proofs.Known.{known_due, known_script_step, objects_are}
 use Rattle.apex_laws.proofs.Serving.{Scene}
 use Rattle.apex_laws.proofs.Sound.{sound_opening}
 use Rattle.apex_laws.proofs.TickTold.{reach_serve_instant}
-use Rattle.apex_dispatch.specs.Situations.{CanGoOn}
-use Rattle.apex_dispatch.proofs.Arrivals.{ServesOf, call_arrives}
+use Rattle.apex_laws.specs.GoesOn.{CanGoOn}
+use Rattle.apex_laws.proofs.Arrivals.{ServesOf, call_arrives}
 
 -- a situation that can go on for some events can do so for fewer
 pub goes_less : {table : Table} {s : Situation} (few many : ℕ) → few ≤ many → CanGoOn table many s → CanGoOn table few s
