@@ -29,6 +29,10 @@ pub(crate) struct Ends {
     pub(crate) last: Option<ProcessId>,
 }
 
+/// A process that joins or leaves a list touches its node and two more, or an end of the list in
+/// place of one of these.
+const TOUCHED: usize = 3;
+
 /// The nodes and the ends, which are linked by index.
 #[derive(Drop)]
 pub(crate) struct Chains {
@@ -63,7 +67,8 @@ impl Chains {
         self.nodes.len()
     }
 
-    /// The number of nodes that have been read or written so far.
+    /// The number of nodes that have been read or written so far; a join or a leave counts each end
+    /// of a list that it writes, too.
     pub(crate) fn visits(&self) -> u64 {
         self.visits.count()
     }
@@ -94,10 +99,7 @@ impl Chains {
         ensures ends { self.new.ends.items ≡ led self.old.ends.items list before after }
     {
         match before {
-            Some(process) => {
-                self.visits.note();
-                self.nodes[process.place()].after = after;
-            }
+            Some(process) => self.nodes[process.place()].after = after,
             None => self.ends[list.place()].first = after,
         }
     }
@@ -111,10 +113,7 @@ impl Chains {
         ensures ends { self.new.ends.items ≡ trailed self.old.ends.items list after before }
     {
         match after {
-            Some(process) => {
-                self.visits.note();
-                self.nodes[process.place()].before = before;
-            }
+            Some(process) => self.nodes[process.place()].before = before,
             None => self.ends[list.place()].last = before,
         }
     }
@@ -128,9 +127,9 @@ impl Chains {
         ensures nodes { self.new.nodes.items ≡ nodes_with self.old.nodes.items process place }
         ensures ends { self.new.ends.items ≡ ends_with self.old.ends.items list process place }
     {
+        self.visits.note_all(TOUCHED);
         self.follow(list, place.before, Some(process));
         self.precede(list, place.after, Some(process));
-        self.visits.note();
         self.nodes[process.place()] = place;
     }
 
@@ -146,7 +145,7 @@ impl Chains {
         ensures ends { self.new.ends.items
             ≡ ends_without self.old.ends.items list (node_at self.old.nodes.items process) }
     {
-        self.visits.note();
+        self.visits.note_all(TOUCHED);
         let place = self.nodes[process.place()];
         self.follow(list, place.before, place.after);
         self.precede(list, place.after, place.before);

@@ -5,7 +5,11 @@ use std::cell::Cell;
 /// of it.
 #[derive(Drop)]
 pub struct Visits {
+    /// The number of visits, less 2^64 each time that it went past the greatest `u64`: a sum that
+    /// stays there takes more instructions.
     count: Cell<u64>,
+    /// It went past the greatest `u64`.
+    is_past: Cell<bool>,
 }
 
 impl Visits {
@@ -13,6 +17,7 @@ impl Visits {
     pub fn new() -> Visits {
         Visits {
             count: Cell::new(0),
+            is_past: Cell::new(false),
         }
     }
 
@@ -23,12 +28,19 @@ impl Visits {
 
     /// As many visits more.
     pub fn note_all(&self, count: usize) {
-        self.count
-            .set(self.count.get().saturating_add(count as u64));
+        let (sum, wraps) = self.count.get().overflowing_add(count as u64);
+        self.count.set(sum);
+        if wraps {
+            self.is_past.set(true);
+        }
     }
 
     /// The number of visits.
     pub fn count(&self) -> u64 {
-        self.count.get()
+        if self.is_past.get() {
+            u64::MAX
+        } else {
+            self.count.get()
+        }
     }
 }
