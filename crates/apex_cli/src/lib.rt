@@ -14,10 +14,10 @@ mod schedule;
 mod tasks;
 mod words;
 
-pub use events::repeated;
+pub use events::{repeated, run_items};
 pub use faults::{CliFault, line_told};
 pub use given::given_words;
 pub use kernels::{kernel_for, ran, table_for};
 pub use program::{Ending, Exit, run_on, serve, write_error};
-pub use schedule::{Item, read_positive, read_schedule};
+pub use schedule::{Item, are_cores_below, read_positive, read_schedule};
 pub use words::{matches_of, option};

@@ -1,4 +1,5 @@
 pub mod Words
 pub mod Tasks
-pub mod Plans
+pub mod Answers
+pub mod Histories
 pub mod Exits

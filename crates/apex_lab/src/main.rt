@@ -1,9 +1,10 @@
-//! The program `apex_lab`: shows the run that a schedule gives, or a history that is legal, as SVG or
-//! as a trace.
+//! The program `apex_lab`: draws the history that a partition has for a schedule, or a history
+//! that is legal, as SVG or as a trace.
 #![tactic(auto)]
 
-mod plans;
+mod histories;
 mod program;
+mod schedules;
 mod tasks;
 mod words;
 
