@@ -1,0 +1,82 @@
+//! Rows of words, all equally long, one behind the other in one piece of memory.
+ghost use Rattle.std.specs.Prelude.{◌≡◌, ◌<◌, true, false, [], ◌∷◌, ◌++◌, length, slice_get, Some, IfOk};
+ghost use Rattle.apex_explore.specs.Rows.{no_rows};
+
+use std::alloc::{AllocError, Global};
+use std::marker::Model;
+
+/// Rows of `width` words each, with room for `room` of them, which is taken when they are made.
+#[derive(Drop)]
+pub(crate) struct Rows {
+    width: usize,
+    room: usize,
+    count: usize,
+    words: Vec<u64>,
+}
+
+impl Model for Rows {
+    ghost use Rattle.std.specs.Prelude.{vec_capacity};
+    ghost use Rattle.apex_explore.specs.Rows.{Packed, rows_in, IsPacked};
+
+    ghost Value = { Packed };
+
+    ghost view = { λ r. record {
+      width = r.width;
+      room = r.room;
+      rows = rows_in r.width r.count r.words.items;
+    } };
+
+    ghost invariant = { λ r. IsPacked r.width r.room r.count r.words.items (vec_capacity r.words) };
+}
+
+impl Rows {
+    /// No rows, with room for `room` of them. Fails only for want of memory.
+    pub(crate) fn new(alloc: Global, width: usize, room: u32) -> Result<Rows, AllocError>
+        ensures { IfOk result (λ rows. rows ≡ no_rows width room) }
+    {
+        let room = room as usize;
+        let Some(words) = room.checked_mul(width) else {
+            return Err(AllocError);
+        };
+        Ok(Rows {
+            width,
+            room,
+            count: 0,
+            words: Vec::with_capacity(alloc, words)?,
+        })
+    }
+
+    pub(crate) fn len(&self) -> usize
+        ensures { result ≡ length self.now.rows }
+    {
+        self.count
+    }
+
+    pub(crate) fn is_full(&self) -> bool
+        ensures full { result ≡ true → length self.now.rows ≡ self.now.room }
+        ensures room { result ≡ false → length self.now.rows < self.now.room }
+    {
+        self.count == self.room
+    }
+
+    pub(crate) fn row(&self, place: usize) -> &[u64]
+        requires { place < length self.now.rows }
+        ensures row { slice_get self.now.rows place ≡ Some result.now }
+        ensures width { length result.now ≡ self.now.width }
+    {
+        let start = place * self.width;
+        &self.words.as_slice()[start..start + self.width]
+    }
+
+    /// Puts a row behind the others.
+    pub(crate) fn push(&mut self, row: &[u64])
+        requires width { length row.now ≡ self.old.width }
+        requires room { length self.old.rows < self.old.room }
+        ensures { self.new ≡ record self.old { rows = self.old.rows ++ row.now ∷ [] } }
+    {
+        match self.words.extend_from_slice(row) {
+            Ok(()) => self.count += 1,
+            Err(AllocError) => unreachable!(),
+        }
+    }
+}
