@@ -1,8 +1,6 @@
 //! Which states are there already: their places, by a hash of their words.
-ghost use Rattle.std.specs.Prelude.{◌≡◌, ◌<◌, ◌+◌, ◌*◌, length, map, replicate, None, Some, slice_set, IfOk, MatchOption};
-ghost use Rattle.std.specs.List.{fold};
+ghost use Rattle.std.specs.Prelude.{◌≡◌, ◌<◌, ◌+◌, ◌*◌, length, replicate, None, Some, slice_set, IfOk};
 ghost use Rattle.apex_explore.specs.Index.{after, cells_of, home_of, mixed, place_in, IsIndexed, IsSlotFor};
-ghost use Rattle.apex_explore.specs.declared.index.TheConstants.{FACTOR};
 
 use crate::rows::Rows;
 use std::alloc::{AllocError, Global};

@@ -1,5 +1,5 @@
 //! The search.
-ghost use Rattle.std.specs.Prelude.{◌≡◌, ℕ, ◌^◌, ◌<◌, [], length, IfOk};
+ghost use Rattle.std.specs.Prelude.{◌≡◌, ◌^◌, ◌<◌, [], length, IfOk};
 ghost use Rattle.apex_explore.specs.Answers.{Says};
 ghost use Rattle.apex_explore.specs.Levels.{AllAre, Comes, GoesOn};
 ghost use Rattle.apex_explore.specs.Systems.{step_within};
@@ -61,7 +61,7 @@ fn expand<S: System>(
     Expanded::All
 }
 
-/// Searches from the first state, for which `states` has nothing yet.
+/// Searches from the first state; `states` has none yet.
 fn search<S: System>(
     alloc: Global,
     system: &S,
