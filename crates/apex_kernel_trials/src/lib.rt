@@ -1,10 +1,12 @@
 //! The tests of the kernel and of the printing of lines that no stored case can show: how many
 //! records a turn looks at, lines that no run prints, a writer that fails, and the counters of a
-//! trace. It has no code of its own.
+//! trace; and a search of a small system. It has no code of its own.
 #![tactic(auto)]
 
 #[cfg(test)]
 mod devices;
+#[cfg(test)]
+mod jugs;
 #[cfg(test)]
 mod lines;
 #[cfg(test)]

@@ -1,0 +1,2 @@
+-- What the systems of the tests do.
+pub mod Jugs
