@@ -5,7 +5,7 @@ use Rattle.apex_explore.specs.declared.answers.Answer.TheVariants.{Found, Closed
 use Rattle.apex_explore.specs.Paths.{IsShortestHit, NoHit, NoHitWithin, ReachesExactly, ReachesWithin}
 use Rattle.apex_explore.specs.Systems.{Step}
 
--- what the answer says of a search from the state k that has room for so many states
+-- the statement of an answer about a search from the state k, with room for this many states
 abbrev pub Says : {K : Type 0} → (K → ℕ → Step K) → K → ℕ → Answer → Type 0
 Says step k room (Found path) = IsShortestHit step k path.items
 Says step k room (Closed states) = NoHit step k × ReachesExactly step k states

@@ -23,7 +23,7 @@ mixed hash word =
 unfoldable pub home_of : ℕ → List ℕ → ℕ
 home_of size words = fold mixed 0 words % size
 
--- the slot so many steps behind this one; behind the last slot comes the first
+-- the slot a number of steps after this one; after the last slot comes the first
 abbrev pub after : ℕ → ℕ → ℕ → ℕ
 after size slot steps =
     if nat_lt steps (size - slot) then slot + steps else steps - (size - slot)
@@ -39,11 +39,11 @@ abbrev pub IsKnown : List (List ℕ) → List ℕ → Type 0
 IsKnown states k = (place : ℕ) × (slice_get states place ≡ Some k)
 
 module _ (cells : List (Option ℕ)) where
-  -- the cell so many steps behind the home of the state
+  -- the cell a number of steps after the home of the state
   abbrev pub cell_after : List ℕ → ℕ → ℕ
   cell_after k steps = after (length cells) (home_of (length cells) k) steps
 
-  -- whoever goes from the home of the state over taken cells comes to its place
+  -- a walk over taken cells from the home of the state comes to its place
   pub record IsFound (k : List ℕ) (place : ℕ) : Type 0 where
     pub steps : ℕ
     pub short : steps < length cells

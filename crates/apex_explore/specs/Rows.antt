@@ -11,7 +11,7 @@ pub record Packed : Type 0 where
 abbrev pub no_rows : ℕ → ℕ → Packed
 no_rows width room = record { width = width; room = room; rows = [] }
 
--- the rows in these words, so many of them, each of so many words
+-- the rows of this width in the words, as many as this count
 abbrev pub rows_in : ℕ → ℕ → List ℕ → List (List ℕ)
 rows_in width zero words = []
 rows_in width (suc count) words = take width words ∷ rows_in width count (drop width words)

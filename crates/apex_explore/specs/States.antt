@@ -31,12 +31,12 @@ pub record IsStored (rows : Packed) (cells : List (Option ℕ)) (origins : List 
   pub reserved : rows.room ≤ capacity
   pub few : rows.room < 2 ^ 32
 
--- the state is put behind the others
+-- the state is put after the others
 abbrev pub with_state : Reached → List ℕ → Origin → Reached
 with_state old k origin =
     record old { states = old.states ++ k ∷ []; origins = old.origins ++ origin ∷ [] }
 
--- a state that is there already is kept, and so is a new one, which is put behind the others, unless
+-- a state that is there already is kept, and so is a new one, which is put after the others, unless
 -- there is no room
 abbrev pub IsKept : Reached → List ℕ → Origin → Bool → Reached → Type 0
 IsKept old k origin true new =

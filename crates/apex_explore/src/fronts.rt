@@ -3,7 +3,7 @@ ghost use Rattle.std.specs.Prelude.{◌≡◌, ◌<◌};
 ghost use Rattle.apex_explore.specs.Levels.{turned};
 
 /// The place of the state that is next, how many choices it is away from the first one, and the
-/// first place behind the states that are as far away.
+/// first place after the states that are as far away.
 #[derive(Clone, Copy)]
 pub(crate) struct Front {
     pub(crate) at: usize,

@@ -55,7 +55,7 @@ fn home(state: &[u64], size: usize) -> usize
     (hash % size as u64) as usize
 }
 
-/// The slot so many steps behind this one; behind the last slot comes the first.
+/// The slot a number of steps after this one; after the last slot comes the first.
 fn slot_after(size: usize, slot: usize, steps: usize) -> usize
     requires slot { slot < size }
     requires steps { steps < size }

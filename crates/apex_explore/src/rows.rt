@@ -1,4 +1,4 @@
-//! Rows of words, all equally long, one behind the other in one piece of memory.
+//! Rows of words, all equally long, one after the other in one piece of memory.
 ghost use Rattle.std.specs.Prelude.{◌≡◌, ◌<◌, true, false, [], ◌∷◌, ◌++◌, length, slice_get, Some, IfOk};
 ghost use Rattle.apex_explore.specs.Rows.{no_rows};
 
@@ -68,7 +68,7 @@ impl Rows {
         &self.words.as_slice()[start..start + self.width]
     }
 
-    /// Puts a row behind the others.
+    /// Puts a row after the others.
     pub(crate) fn push(&mut self, row: &[u64])
         requires width { length row.now ≡ self.old.width }
         requires room { length self.old.rows < self.old.room }
