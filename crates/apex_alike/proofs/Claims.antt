@@ -9,7 +9,7 @@ use Rattle.apex_machine.specs.processes.Dues.{next_instant}
 use Rattle.apex_machine.specs.table.Table.{IsLawful, Table}
 use Rattle.apex_machine.specs.Situations.{Situation, deed, maker}
 use Rattle.apex_alike.proofs.Choices.{same_chosen, same_next}
-use Rattle.apex_alike.specs.Claims.{NoRunMisses, NoRunStandsStill, ReportsNoMiss, reports_miss}
+use Rattle.apex_alike.specs.Claims.{NoRunMisses, NoRunIsAtStandstill, ReportsNoMiss, reports_miss}
 use Rattle.apex_alike.specs.Closed.{HasClosed, IsAmong, IsSeen}
 use Rattle.apex_machine.specs.Machine.{situation_of}
 use Rattle.apex_laws.proofs.Runs.{accept-full, accept-room}
@@ -48,8 +48,8 @@ no_run_misses table lawful asked seen closed none events all =
     all_told table lawful asked seen closed none (opening table) (sound_opening table lawful) (opens table lawful asked seen closed) events all
     (All-nil (λ (e : Entry). reports_miss e.notices ≡ false))
 
-pub no_run_stands_still : (table : Table) → IsLawful table → NoRunStandsStill table
-no_run_stands_still table lawful asked seen closed none events all p still =
+pub no_run_is_at_standstill : (table : Table) → IsLawful table → NoRunIsAtStandstill table
+no_run_is_at_standstill table lawful asked seen closed none events all p still =
     let is = closed_search table lawful asked seen closed events all in
     let rosters = is.stands.rosters in
     none is.place is.situation is.here p (record {

@@ -19,7 +19,7 @@ use Rattle.apex_alike.proofs.Chains.{alike_itself}
 use Rattle.apex_alike.proofs.Complete.{same_canonical}
 use Rattle.apex_alike.specs.Forms.{ComeToAll, ComesTo, DoTheSame, FormsDecide, HaveOneForm, RunsComeToAll, form, timeless}
 use Rattle.apex_alike.specs.Closed.{IsAmong, IsSameSituation}
-use Rattle.apex_alike.specs.StandIns.{StandsFor, StepsAlike}
+use Rattle.apex_alike.specs.StandIns.{Represents, StepsAlike}
 use Rattle.apex_machine.specs.Machine.{situation_of}
 use Rattle.apex_laws.proofs.Runs.{accept-full, accept-room}
 use Rattle.apex_alike.proofs.SingleTicks.{same_alike, same_back, same_then}
@@ -59,7 +59,7 @@ module _ (table : Table) (lawful : IsLawful table) where
 
   -- the situation of a machine stands for it
   abbrev IsItself : Machine → Type 0
-  IsItself machine = StandsFor table 0 (situation_of table machine) machine
+  IsItself machine = Represents table 0 (situation_of table machine) machine
 
   itself : (machine : Machine) → IsFit machine.roster → IsItself machine
   itself machine facts = record { rosters = alike_itself machine.roster facts; objects = refl; works = λ core. refl; made = refl }
@@ -94,11 +94,11 @@ module _ (table : Table) (lawful : IsLawful table) where
 
   -- its canonical form stands for it
   module _ (machine : Machine) (sound : IsSound table machine) (is : IsItself machine) where
-    formed : StandsFor table (machine.roster.now - (canonical_roster machine.roster).now) (form table machine) machine
+    formed : Represents table (machine.roster.now - (canonical_roster machine.roster).now) (form table machine) machine
     formed = canonical_situation (situation_of table machine) (fit_itself machine sound is)
 
     formed_as : (other : Machine) → HaveOneForm table other machine
-        → StandsFor table (machine.roster.now - (canonical_roster machine.roster).now) (form table other) machine
+        → Represents table (machine.roster.now - (canonical_roster machine.roster).now) (form table other) machine
     formed_as other same = same_alike same formed
 
   -- two machines of one form

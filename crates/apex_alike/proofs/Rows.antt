@@ -61,7 +61,7 @@ module _ {d : ℕ} {first second : Roster} (alike : AreAlike d first second) whe
     pub alike_refused : (code : ReturnCode) → Alike (refused first object code) (refused second object code)
     alike_refused code = record { rosters = alike; object = refl; reply = refl; notices = refl }
 
-    -- one guard, and the rest of the row if it does not hold
+    -- one guard, and the rest of the fields if it does not hold
     pub alike_guard : (holds holds2 : Bool) (code : ReturnCode) → holds2 ≡ holds → (rest rest2 : Outcome X)
         → (holds ≡ false → Alike rest rest2)
         → Alike (cond holds (refused first object code) rest) (cond holds2 (refused second object code) rest2)

@@ -22,7 +22,7 @@ use Rattle.apex_machine.specs.Situations.{Situation, deed, maker, step}
 use Rattle.apex_alike.proofs.Chains.{alike_itself, situations_then}
 use Rattle.apex_alike.proofs.Turns.{alike_steps}
 use Rattle.apex_alike.specs.Closed.{ClosedSearchSeesAll, ClosedSeesAll, HasClosed, Holds, IsAmong, IsClosed, IsSeen}
-use Rattle.apex_alike.specs.StandIns.{SituationsStepAlike, StandsFor, StepsAlike}
+use Rattle.apex_alike.specs.StandIns.{SituationsStepAlike, Represents, StepsAlike}
 use Rattle.apex_machine.specs.Machine.{situation_of}
 use Rattle.apex_laws.proofs.OpenWorks.{open_after}
 use Rattle.apex_laws.proofs.Runs.{accept-full, accept-room}
@@ -51,7 +51,7 @@ one_more n = omega arith
 
 module _ (table : Table) (lawful : IsLawful table) (machine : Machine) (sound : IsSound table machine) where
   -- a situation that stands for a machine has the facts that the machine has
-  situated : (d : ℕ) (s : Situation) → StandsFor table d s machine → IsSituated table s
+  situated : (d : ℕ) (s : Situation) → Represents table d s machine → IsSituated table s
   situated d s stands = record {
     many = sym stands.rosters.many ∙ sound.orderly.many;
     one = λ p by.
@@ -81,7 +81,7 @@ module _ (table : Table) (lawful : IsLawful table) (machine : Machine) (sound : 
 
   -- the situation of the machine after an event
   pub stepped : (d : ℕ) (s : Situation) (event : Event)
-      → AreAlikeSituations d s (step table (situation_of table machine) event) → StandsFor table d s (happen table machine event)
+      → AreAlikeSituations d s (step table (situation_of table machine) event) → Represents table d s (happen table machine event)
   stepped d s event alike =
       let done = deed table (situation_of table machine) event in
       let is = same_deed table machine event in
@@ -95,7 +95,7 @@ module _ (table : Table) (lawful : IsLawful table) (machine : Machine) (sound : 
             ∙ ap (λ (n : ℕ). init_count machine.history + n) (one_more (if is_by_init done.caller then 1 else 0)) ∙ alike.made;
       }
 
-  pub steps_alike : (d : ℕ) (s : Situation) → StandsFor table d s machine → (event : Event) → StepsAlike table d s machine event
+  pub steps_alike : (d : ℕ) (s : Situation) → Represents table d s machine → (event : Event) → StepsAlike table d s machine event
   steps_alike d s stands event =
       let steps = alike_steps table lawful d s (situation_of table machine) (situated d s stands) stands event in
       record { deeds = steps.deeds; happens = same_deed table machine event; stands = stepped d (step table s event) event steps.situations }
@@ -136,7 +136,7 @@ closed_sees table lawful Asked seen closed events all =
 -- searches that have closed
 module _ (table : Table) (lawful : IsLawful table) (asked : List Event) (seen : List Situation) (closed : HasClosed table asked seen) where
   -- a situation that stands for a sound machine has a canonical form
-  fit : (machine : Machine) (sound : IsSound table machine) (d : ℕ) (s : Situation) → StandsFor table d s machine → IsFit s.roster
+  fit : (machine : Machine) (sound : IsSound table machine) (d : ℕ) (s : Situation) → Represents table d s machine → IsFit s.roster
   fit machine sound d s stands =
       let facts = situated table lawful machine sound d s stands in
       record {
@@ -149,7 +149,7 @@ module _ (table : Table) (lawful : IsLawful table) (asked : List Event) (seen : 
       }
 
   -- a situation that is held stands for the machine, if its canonical form does
-  held : (machine : Machine) (d : ℕ) (s : Situation) → Holds seen s → StandsFor table d s machine → IsSeen table seen machine
+  held : (machine : Machine) (d : ℕ) (s : Situation) → Holds seen s → Represents table d s machine → IsSeen table seen machine
   held machine d s holds stands = record {
     place = holds.place;
     situation = holds.situation;
@@ -163,7 +163,7 @@ module _ (table : Table) (lawful : IsLawful table) (asked : List Event) (seen : 
     };
   }
 
-  held_canonical : (machine : Machine) → IsSound table machine → (d : ℕ) (s : Situation) → StandsFor table d s machine
+  held_canonical : (machine : Machine) → IsSound table machine → (d : ℕ) (s : Situation) → Represents table d s machine
       → Holds seen (canonical s) → IsSeen table seen machine
   held_canonical machine sound d s stands holds =
       held machine _ (canonical s) holds (situations_then (canonical_situation s (fit machine sound d s stands)) stands)

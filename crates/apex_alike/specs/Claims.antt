@@ -38,15 +38,15 @@ NoRunMisses table =
     (run table (opening table) events).history
 
 -- process p is started, no core has a process to run, and no instant is awaited
-pub record StandsStill (roster : Roster) (p : ℕ) : Type 0 where
+pub record IsAtStandstill (roster : Roster) (p : ℕ) : Type 0 where
   pub started : (record_at roster p).started ≡ true
   pub idle : (core : ℕ) → chosen roster core ≡ None
   pub silent : next_instant roster ≡ None
 
 -- if a search has closed and none of its situations stands still, no machine does
-abbrev pub NoRunStandsStill : Table → Type 0
-NoRunStandsStill table =
+abbrev pub NoRunIsAtStandstill : Table → Type 0
+NoRunIsAtStandstill table =
     (asked : List Event) (seen : List Situation) → HasClosed table asked seen
-    → ((k : ℕ) (s : Situation) → slice_get seen k ≡ Some s → (p : ℕ) → ¬ (StandsStill s.roster p))
+    → ((k : ℕ) (s : Situation) → slice_get seen k ≡ Some s → (p : ℕ) → ¬ (IsAtStandstill s.roster p))
     → (events : List Event) → All (IsAmong asked) events
-    → (p : ℕ) → ¬ (StandsStill (run table (opening table) events).roster p)
+    → (p : ℕ) → ¬ (IsAtStandstill (run table (opening table) events).roster p)

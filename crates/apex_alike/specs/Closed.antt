@@ -6,7 +6,7 @@ use Rattle.apex_machine.specs.Situations.{Situation, step}
 use Rattle.apex_machine.specs.table.Table.{Table}
 use Rattle.apex_alike.specs.AlikeSteps.{AreAlikeSituations}
 use Rattle.apex_alike.specs.Canonical.{canonical}
-use Rattle.apex_alike.specs.StandIns.{StandsFor}
+use Rattle.apex_alike.specs.StandIns.{Represents}
 use Rattle.apex_alike.specs.Terms.{Event}
 
 -- one of these situations stands for the machine
@@ -15,7 +15,7 @@ pub record IsSeen (table : Table) (seen : List Situation) (machine : Machine) : 
   pub situation : Situation
   pub later : ℕ
   pub here : slice_get seen place ≡ Some situation
-  pub stands : StandsFor table later situation machine
+  pub stands : Represents table later situation machine
 
 -- one of these situations is alike to this one, and not later
 pub record HasAlike (seen : List Situation) (s : Situation) : Type 0 where

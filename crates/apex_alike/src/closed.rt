@@ -1,10 +1,10 @@
 //! Lists of situations that are closed under events, as a search of every order leaves them.
 ghost use Rattle.apex_laws.specs.Laws.{OfEachTable};
-ghost use Rattle.apex_alike.specs.Claims.{NoRunMisses, NoRunStandsStill};
+ghost use Rattle.apex_alike.specs.Claims.{NoRunMisses, NoRunIsAtStandstill};
 ghost use Rattle.apex_alike.specs.Closed.{ClosedSearchSeesAll, ClosedSeesAll, SingleTicksSeeAll};
 ghost use Rattle.apex_alike.specs.Forms.{RunsComeToAll};
 
-/// A list of situations that is closed under some events has a situation that stands for the
+/// A list of situations that is closed under some events has a situation that represents the
 /// machine after every run of such events.
 pub fn closed_situations_see_all()
     ensures { OfEachTable ClosedSeesAll }
@@ -33,8 +33,8 @@ pub fn closed_search_finds_misses()
     ensures { OfEachTable NoRunMisses }
 {}
 
-/// If a search has closed, and none of its situations stands still, no machine does: none that has a
+/// If a search has closed, and none of its situations is at a standstill, no machine is: none that has a
 /// started process, but no process to run and no instant to wait for.
 pub fn closed_search_finds_standstills()
-    ensures { OfEachTable NoRunStandsStill }
+    ensures { OfEachTable NoRunIsAtStandstill }
 {}

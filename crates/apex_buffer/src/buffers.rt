@@ -247,7 +247,7 @@ impl Object for Buffer {
 
     ghost kind = { buffer_kind };
 
-    ghost Stands = { λ roster b. Unit {0} };
+    ghost IsThere = { λ roster b. Unit {0} };
 
     fn is_created(&self) -> bool {
         self.created

@@ -10,7 +10,7 @@ use Rattle.apex_check.specs.declared.verdicts.Verdict.TheVariants.{Legal}
 use Rattle.apex_check.specs.declared.verdicts.CheckFault.{CheckFault}
 use Rattle.apex_check.specs.Checks.{Checks, no_memory, refused, unread, unwritten, written}
 use Rattle.apex_check.specs.Histories.{Follows}
-use Rattle.apex_check.specs.Legal.{IsLegal, TellsLegal}
+use Rattle.apex_check.specs.Legal.{IsLegal, SaysLegal}
 use Rattle.apex_check.specs.Verdicts.{HasFollowed, IsAtFault, Judges, JudgesLines, LineIsAtFault, at_line, bad, beyond, departs, legal, no_separator, no_table, too_long, unended}
 use Rattle.apex_check.proofs.Apart.{begins_once, parts_nowhere, reads_once}
 use Rattle.apex_check.proofs.GoesOn.{goes_on, next_named, none_behind, not_too_long, not_unended, same_line}
@@ -87,7 +87,7 @@ one_answer answer one other e f = cc
 known_text : (known : Option (List ℕ)) (text found : List ℕ) → known ≡ Some text → IfSome known (λ xs. found ≡ xs) → found ≡ text
 known_text known text found e left = subst (λ (o : Option (List ℕ)). IfSome o (λ xs. found ≡ xs)) e left
 
-pub is_told : {before after : Ports} → (answer : Result Verdict CheckFault) → Checks before answer after → TellsLegal before.left answer
+pub is_told : {before after : Ports} → (answer : Result Verdict CheckFault) → Checks before answer after → SaysLegal before.left answer
 is_told answer (no_memory held fails) = λ text n known asked. absurd asked
 is_told answer (unread held fails) = λ text n known asked. absurd asked
 is_told {before} answer (refused found {fault} left at held fails) = λ text n known asked.

@@ -28,7 +28,7 @@ IsOfText answer = Unit {0}
 
 -- the verdict on a known text is legal exactly if the text is, unless memory was refused, or a read
 -- or a write failed
-abbrev pub TellsLegal : Option (List ℕ) → Result Verdict CheckFault → Type 0
-TellsLegal known answer =
+abbrev pub SaysLegal : Option (List ℕ) → Result Verdict CheckFault → Type 0
+SaysLegal known answer =
     (text : List ℕ) (n : ℕ) → known ≡ Some text → IsOfText answer → (answer ≡ Ok (Legal n))
     ↔ IsLegal text n

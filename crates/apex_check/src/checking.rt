@@ -10,7 +10,7 @@ ghost use Rattle.apex_history.specs.Ports.{ports};
 ghost use Rattle.apex_check.specs.Ahead.{IsAhead};
 ghost use Rattle.apex_check.specs.Checks.{Checks};
 ghost use Rattle.apex_check.specs.Faults.{CountsCheck, IsFaultOf};
-ghost use Rattle.apex_check.specs.Legal.{TellsLegal};
+ghost use Rattle.apex_check.specs.Legal.{SaysLegal};
 ghost use Rattle.apex_check.specs.Steps.{IsTellable};
 ghost use Rattle.apex_check.specs.Verdicts.{HasFollowed, verdict_text};
 
@@ -68,7 +68,11 @@ pub fn follow<S: Store, R: Source, F: FnOnce(&Table) -> Result<S, AllocError>>(
 }
 
 /// Writes the text of the verdict on a history of the table.
-fn tell<W: Sink>(table: &Table, verdict: &Verdict, writer: &mut Counted<W>) -> io::Result<()>
+fn write_verdict<W: Sink>(
+    table: &Table,
+    verdict: &Verdict,
+    writer: &mut Counted<W>,
+) -> io::Result<()>
     requires { IsTellable table.now verdict.now }
     ensures bytes { OnOk result
         (Appends (W.contents (inner_of writer.old)) (W.contents (inner_of writer.new))
@@ -96,11 +100,11 @@ pub fn check<R: Source, W: Sink>(
         result
         (ports (R.remaining (inner_of reader.new)) (W.contents (inner_of writer.new))
         (failures_of reader.new) (failures_of writer.new)) }
-    ensures legal { TellsLegal (R.remaining (inner_of reader.old)) result }
+    ensures legal { SaysLegal (R.remaining (inner_of reader.old)) result }
 {
     let followed = follow(alloc, |table| PlainStore::new(alloc, table), reader)?;
     let Followed { verdict, kernel } = followed;
-    match tell(kernel.table(), &verdict, writer) {
+    match write_verdict(kernel.table(), &verdict, writer) {
         Ok(()) => Ok(verdict),
         Err(_) => Err(CheckFault::Write),
     }

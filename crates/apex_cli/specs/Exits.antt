@@ -2,7 +2,7 @@
 use Rattle.std.specs.Prelude.{◌≡◌, ◌⊎◌, ℕ, Bool, List, Option, None, Some, Result}
 use Rattle.std.specs.Io.KnownBytes.{Appends, Keeps}
 use Rattle.apex_check.specs.Checks.{Checks}
-use Rattle.apex_check.specs.Legal.{TellsLegal}
+use Rattle.apex_check.specs.Legal.{SaysLegal}
 use Rattle.apex_check.specs.declared.CheckFault.{CheckFault}
 use Rattle.apex_check.specs.declared.Verdict.{Verdict}
 use Rattle.apex_history.specs.Counted.{AppendsBeginning, one_more}
@@ -58,7 +58,7 @@ pub data Ends (asked : Option Asked) (before : Ports) : ℕ → Option CliFault 
       → Ends asked before (status_of fault) fault after
   -- a history is checked
   checked : {answer : Result Verdict CheckFault} {after : Ports} → asked ≡ Some a_check
-      → Checks before answer after → TellsLegal before.left answer
+      → Checks before answer after → SaysLegal before.left answer
       → Ends asked before (status_of_check answer) (fault_of_check answer) after
   -- threads run
   ran : {turns ticks : ℕ} {with_front : Bool} {fault : Option CliFault} {after : Ports}

@@ -110,6 +110,6 @@ fault_text Read = codes "apex: read failed"
 fault_text Write = codes "apex: write failed"
 
 -- the line that reports the fault at the end, with its line feed; nothing if all was done
-abbrev pub line_told : Option CliFault → List ℕ
-line_told None = []
-line_told (Some fault) = fault_text fault ++ (10 ∷ [])
+abbrev pub fault_line : Option CliFault → List ℕ
+fault_line None = []
+fault_line (Some fault) = fault_text fault ++ (10 ∷ [])

@@ -2,7 +2,7 @@
 ghost use Rattle.std.specs.Prelude.{◌≡◌, ◌+◌, ◌≤◌, ◌++◌, Some, decimal};
 ghost use Rattle.arrayvec.specs.ArrayString.{array_string_len};
 ghost use Rattle.apex_table.specs.Fault as tables;
-ghost use Rattle.apex_cli.specs.Faults.{fault_of_checking, fault_of_read, fault_of_run, fault_of_table, fault_text, line_told, status_of_fault};
+ghost use Rattle.apex_cli.specs.Faults.{fault_of_checking, fault_of_read, fault_of_run, fault_of_table, fault_text, fault_line, status_of_fault};
 ghost use Rattle.apex_cli.specs.declared.faults.CliFault.TheVariants.{Memory};
 ghost use Rattle.apex_cli.specs.declared.faults.TheConstants.{FAULT_ROOM};
 
@@ -102,8 +102,8 @@ impl CliFault {
 }
 
 /// The line that reports the fault, with its line feed; nothing if there is no fault.
-pub fn line_told(fault: Option<CliFault>) -> Line
-    ensures { result.bytes ≡ line_told fault }
+pub fn fault_line(fault: Option<CliFault>) -> Line
+    ensures { result.bytes ≡ fault_line fault }
 {
     let Some(fault) = fault else {
         return Line::new();

@@ -14,7 +14,7 @@ mod tasks;
 mod words;
 
 pub use events::{repeated, run_items};
-pub use faults::{CliFault, line_told};
+pub use faults::{CliFault, fault_line};
 pub use given::given_words;
 pub use program::{Ending, Exit, run_on, serve};
 pub use schedule::{Item, are_cores_below, read_schedule};

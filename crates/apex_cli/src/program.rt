@@ -2,12 +2,12 @@
 ghost use Rattle.std.specs.Prelude.{◌≡◌, MatchResult, Option, map, string_bytes};
 ghost use Rattle.apex_history.specs.Counted.{inner_of, failures_of};
 ghost use Rattle.apex_cli.specs.declared.faults.CliFault.{CliFault};
-ghost use Rattle.apex_cli.specs.Faults.{fault_in, line_told, status_in};
+ghost use Rattle.apex_cli.specs.Faults.{fault_in, fault_line, status_in};
 ghost use Rattle.apex_cli.specs.Requests.{asked_by};
 ghost use Rattle.apex_cli.specs.Exits.{Ends, EndsAtOnce, Reports, Told};
 ghost use Rattle.apex_cli.specs.Streams.{ports_of};
 
-use crate::faults::{CliFault, line_told};
+use crate::faults::{CliFault, fault_line};
 use crate::reports::{run_of, write_report};
 use crate::runs::run_threads;
 use crate::schedule::Item;
@@ -142,11 +142,11 @@ pub fn run_on<T: Threads + Wait + Sync, R: Source, W: Sink>(
 
 /// Writes the line of the fault, if there is one, on the error writer.
 fn tell<E: Sink>(fault: Option<CliFault>, error_writer: &mut Counted<E>)
-    ensures { Told (line_told fault)
+    ensures { Told (fault_line fault)
         (E.contents (inner_of error_writer.old)) (E.contents (inner_of error_writer.new))
         (failures_of error_writer.old) (failures_of error_writer.new) }
 {
-    let line = line_told(fault);
+    let line = fault_line(fault);
     // The status shows the fault even if its line cannot be written.
     let _ = error_writer.write_all(line.as_str().as_bytes());
 }
@@ -163,7 +163,7 @@ pub fn serve<T: Threads + Wait + Sync, R: Source, W: Sink, E: Sink>(
 ) -> u8
     ensures { let before = ports_of R.remaining W.contents reader.old writer.old in
         let after = ports_of R.remaining W.contents reader.new writer.new in
-        (fault : Option CliFault) × Told (line_told fault)
+        (fault : Option CliFault) × Told (fault_line fault)
         (E.contents (inner_of error_writer.old)) (E.contents (inner_of error_writer.new))
         (failures_of error_writer.old) (failures_of error_writer.new)
         × MatchResult words

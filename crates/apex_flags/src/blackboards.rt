@@ -140,7 +140,7 @@ impl Object for Blackboard {
 
     ghost kind = { blackboard_kind };
 
-    ghost Stands = { λ roster b. Unit {0} };
+    ghost IsThere = { λ roster b. Unit {0} };
 
     fn is_created(&self) -> bool {
         self.created

@@ -128,7 +128,7 @@ impl Object for EventFlag {
 
     ghost kind = { event_flag_kind };
 
-    ghost Stands = { λ roster e. Unit {0} };
+    ghost IsThere = { λ roster e. Unit {0} };
 
     fn is_created(&self) -> bool {
         self.created

@@ -1,4 +1,4 @@
--- The entries of a log's rows.
+-- The entries of what a log stores.
 use Rattle.std.proofs.Common.{◌≡◌, ℕ, zero, suc, ◌+◌, ◌-◌, ◌≤◌, ◌<◌, List, [], ◌∷◌, ◌++◌, length, drop, get_or, slice_get, Option, None, Some, refl, ap, ◌∙◌, arith, add-zero, length-append, length-drop}
 use Rattle.std.specs.List.{AllByRecursion, last_or, slice_range}
 use Rattle.std.proofs.lemmas.List.{drop-append-le, take-append-le, take_all}
@@ -7,14 +7,14 @@ use Rattle.std.proofs.Math.Seq.{drop-append_seam}
 use Rattle.apex_types.specs.declared.limits.TheConstants.{MOST_NOTICES}
 use Rattle.apex_history.specs.Terms.{Call, Entry, Notice}
 use Rattle.apex_types.proofs.Places.{length-map_places, get_or-map_places}
-use Rattle.apex_history.specs.declared.rows.Asked.{Asked}
-use Rattle.apex_history.specs.declared.rows.Asked.TheVariants.{For, Nothing}
-use Rattle.apex_history.specs.RowEntries.{RowEntry, caller_in, call_in, entry_of, entries_from, GrowsTo, IsAmong, IsWithin, IsKept}
+use Rattle.apex_history.specs.declared.stored.Asked.{Asked}
+use Rattle.apex_history.specs.declared.stored.Asked.TheVariants.{For, Nothing}
+use Rattle.apex_history.specs.StoredEntries.{StoredParts, caller_in, call_in, entry_of, entries_from, GrowsTo, IsAmong, IsWithin, IsKept}
 
--- as many as there are rows
-pub length_entries : (calls : List Call) (notices : List Notice) (place : ℕ) (rows : List RowEntry)
-    → length (entries_from calls notices place rows) ≡ length rows
-length_entries calls notices place rows = length-map_places (entry_of calls notices) place rows
+-- as many as the log stores
+pub length_entries : (calls : List Call) (notices : List Notice) (place : ℕ) (stored : List StoredParts)
+    → length (entries_from calls notices place stored) ≡ length stored
+length_entries calls notices place stored = length-map_places (entry_of calls notices) place stored
 
 -- more notices leave a part of the first ones as it is
 part_kept : (notices more : List Notice) (start end : ℕ) → start ≤ end → end ≤ length notices
@@ -46,110 +46,110 @@ among_more many more (For caller place) le among = omega (arith, among, le)
 among_more many more (Nothing caller) le among = tt
 
 -- more calls and notices leave the entries as they are
-entries_kept : (calls called : List Call) (notices noted : List Notice) (place : ℕ) (rows : List RowEntry)
-    → AllByRecursion (IsWithin (length calls) (length notices)) rows
-    → entries_from (calls ++ called) (notices ++ noted) place rows ≡ entries_from calls notices place rows
+entries_kept : (calls called : List Call) (notices noted : List Notice) (place : ℕ) (stored : List StoredParts)
+    → AllByRecursion (IsWithin (length calls) (length notices)) stored
+    → entries_from (calls ++ called) (notices ++ noted) place stored ≡ entries_from calls notices place stored
 entries_kept calls called notices noted place [] within = refl
-entries_kept calls called notices noted place (row ∷ rows) (here, others) =
-    rw (call_kept calls called row.asked here.call, part_kept notices noted row.start row.end here.order here.within, entries_kept calls called notices noted (place + 1) rows others) refl
+entries_kept calls called notices noted place (item ∷ stored) (here, others) =
+    rw (call_kept calls called item.asked here.call, part_kept notices noted item.first_notice item.notices_end here.order here.within, entries_kept calls called notices noted (place + 1) stored others) refl
 
--- one row more
-entries_more : (calls : List Call) (notices : List Notice) (place : ℕ) (rows : List RowEntry) (row : RowEntry)
-    → entries_from calls notices place (rows ++ row ∷ []) ≡ entries_from calls notices place rows ++ entry_of calls notices (place + length rows) row ∷ []
-entries_more calls notices place [] row = rw (add-zero place) refl
-entries_more calls notices place (x ∷ rows) row =
-    let e : place + 1 + length rows ≡ place + length (x ∷ rows) = omega arith in
-    rw (entries_more calls notices (place + 1) rows row, e) refl
+-- one item more
+entries_more : (calls : List Call) (notices : List Notice) (place : ℕ) (stored : List StoredParts) (item : StoredParts)
+    → entries_from calls notices place (stored ++ item ∷ []) ≡ entries_from calls notices place stored ++ entry_of calls notices (place + length stored) item ∷ []
+entries_more calls notices place [] item = rw (add-zero place) refl
+entries_more calls notices place (x ∷ stored) item =
+    let e : place + 1 + length stored ≡ place + length (x ∷ stored) = omega arith in
+    rw (entries_more calls notices (place + 1) stored item, e) refl
 
--- a row stays within more calls and notices
-row_more : (calls more_calls notices more_notices : ℕ) (row : RowEntry) → calls ≤ more_calls → notices ≤ more_notices
-    → IsWithin calls notices row → IsWithin more_calls more_notices row
-row_more calls more_calls notices more_notices row le_calls le_notices within = record {
-  call = among_more calls more_calls row.asked le_calls within.call;
+-- an item stays within more calls and notices
+item_more : (calls more_calls notices more_notices : ℕ) (item : StoredParts) → calls ≤ more_calls → notices ≤ more_notices
+    → IsWithin calls notices item → IsWithin more_calls more_notices item
+item_more calls more_calls notices more_notices item le_calls le_notices within = record {
+  call = among_more calls more_calls item.asked le_calls within.call;
   order = within.order;
   few = within.few;
   within = omega (arith, within.within, le_notices);
 }
 
--- rows stay within more calls and notices, and one more is within them
-within_more : (calls more_calls notices more_notices : ℕ) (rows : List RowEntry) (row : RowEntry) → calls ≤ more_calls → notices ≤ more_notices
-    → AllByRecursion (IsWithin calls notices) rows → IsWithin more_calls more_notices row
-    → AllByRecursion (IsWithin more_calls more_notices) (rows ++ row ∷ [])
-within_more calls more_calls notices more_notices [] row le_calls le_notices within here = (here, tt)
-within_more calls more_calls notices more_notices (x ∷ rows) row le_calls le_notices (first, others) here = (
-  row_more calls more_calls notices more_notices x le_calls le_notices first,
-  within_more calls more_calls notices more_notices rows row le_calls le_notices others here,
+-- stored items stay within more calls and notices, and one more is within them
+within_more : (calls more_calls notices more_notices : ℕ) (stored : List StoredParts) (item : StoredParts) → calls ≤ more_calls → notices ≤ more_notices
+    → AllByRecursion (IsWithin calls notices) stored → IsWithin more_calls more_notices item
+    → AllByRecursion (IsWithin more_calls more_notices) (stored ++ item ∷ [])
+within_more calls more_calls notices more_notices [] item le_calls le_notices within here = (here, tt)
+within_more calls more_calls notices more_notices (x ∷ stored) item le_calls le_notices (first, others) here = (
+  item_more calls more_calls notices more_notices x le_calls le_notices first,
+  within_more calls more_calls notices more_notices stored item le_calls le_notices others here,
 )
 
--- the row of an entry that comes after these notices
-abbrev pub row_of : List Notice → Asked → Entry → RowEntry
-row_of notices asked entry = record {
+-- the item of an entry that comes after these notices
+abbrev pub item_of : List Notice → Asked → Entry → StoredParts
+item_of notices asked entry = record {
   now = entry.now;
   who = entry.who;
   asked = asked;
   reply = entry.reply;
-  start = length notices;
-  end = length notices + length entry.notices;
+  first_notice = length notices;
+  notices_end = length notices + length entry.notices;
 }
 
 -- the entries with one that is put last
-pub entries_put : (calls all : List Call) (notices : List Notice) (rows : List RowEntry) (asked : Asked) (entry : Entry) → GrowsTo calls all
-    → caller_in asked ≡ entry.process → call_in all asked ≡ entry.call → entry.number ≡ length rows + 1
-    → AllByRecursion (IsWithin (length calls) (length notices)) rows
-    → entries_from all (notices ++ entry.notices) 0 (rows ++ row_of notices asked entry ∷ []) ≡ entries_from calls notices 0 rows ++ entry ∷ []
-entries_put calls all notices rows asked entry (more, e, few) caller call number within =
-    let z : 0 + length rows + 1 ≡ entry.number = omega (arith, number) in
-    let kept : entries_from all (notices ++ entry.notices) 0 rows ≡ entries_from calls notices 0 rows = rw e (entries_kept calls more notices entry.notices 0 rows within) in
-    rw (entries_more all (notices ++ entry.notices) 0 rows (row_of notices asked entry), kept, part_put notices entry.notices, caller, call, z) refl
+pub entries_put : (calls all : List Call) (notices : List Notice) (stored : List StoredParts) (asked : Asked) (entry : Entry) → GrowsTo calls all
+    → caller_in asked ≡ entry.process → call_in all asked ≡ entry.call → entry.number ≡ length stored + 1
+    → AllByRecursion (IsWithin (length calls) (length notices)) stored
+    → entries_from all (notices ++ entry.notices) 0 (stored ++ item_of notices asked entry ∷ []) ≡ entries_from calls notices 0 stored ++ entry ∷ []
+entries_put calls all notices stored asked entry (more, e, few) caller call number within =
+    let z : 0 + length stored + 1 ≡ entry.number = omega (arith, number) in
+    let kept : entries_from all (notices ++ entry.notices) 0 stored ≡ entries_from calls notices 0 stored = rw e (entries_kept calls more notices entry.notices 0 stored within) in
+    rw (entries_more all (notices ++ entry.notices) 0 stored (item_of notices asked entry), kept, part_put notices entry.notices, caller, call, z) refl
 
 -- a log that has room for one more is kept with it
-pub kept_put : (limit row_room call_room notice_room more_room : ℕ) (rows : List RowEntry) (calls all : List Call) (notices : List Notice) (asked : Asked) (entry : Entry)
-    → IsKept limit row_room call_room notice_room rows calls notices → GrowsTo calls all → IsAmong (length all) asked
-    → length rows < limit → length entry.notices ≤ MOST_NOTICES → notice_room ≤ more_room
-    → IsKept limit row_room call_room more_room (rows ++ row_of notices asked entry ∷ []) all (notices ++ entry.notices)
-kept_put limit row_room call_room notice_room more_room rows calls all notices asked entry kept (added, e, one_call) among room few more =
+pub kept_put : (limit stored_room call_room notice_room more_room : ℕ) (stored : List StoredParts) (calls all : List Call) (notices : List Notice) (asked : Asked) (entry : Entry)
+    → IsKept limit stored_room call_room notice_room stored calls notices → GrowsTo calls all → IsAmong (length all) asked
+    → length stored < limit → length entry.notices ≤ MOST_NOTICES → notice_room ≤ more_room
+    → IsKept limit stored_room call_room more_room (stored ++ item_of notices asked entry ∷ []) all (notices ++ entry.notices)
+kept_put limit stored_room call_room notice_room more_room stored calls all notices asked entry kept (added, e, one_call) among room few more =
     let longer = length-append notices entry.notices in
     let called : length all ≡ length calls + length added = rw e (length-append calls added) in
-    let one = length-append rows (row_of notices asked entry ∷ []) in
+    let one = length-append stored (item_of notices asked entry ∷ []) in
     record {
       limits = kept.limits;
       many = omega (arith, one, room);
       called = omega (arith, one, called, one_call, kept.called);
       noted = omega (arith, one, longer, kept.noted, few);
       rooms = (kept.rooms.0, kept.rooms.1, omega (arith, kept.rooms.2, more));
-      within = within_more _ _ _ _ rows (row_of notices asked entry) (omega (arith, called)) (omega (arith, longer)) kept.within
+      within = within_more _ _ _ _ stored (item_of notices asked entry) (omega (arith, called)) (omega (arith, longer)) kept.within
           (record { call = among; order = omega arith; few = omega (arith, few); within = omega (arith, longer) });
     }
 
--- the row at a place is within
-pub within_at : (calls notices : ℕ) (rows : List RowEntry) (place : ℕ) (row : RowEntry) → place < length rows → AllByRecursion (IsWithin calls notices) rows
-    → IsWithin calls notices (get_or rows place row)
-within_at calls notices [] place row lt within = absurd (omega (arith, lt))
-within_at calls notices (x ∷ rows) zero row lt (here, others) = here
-within_at calls notices (x ∷ rows) (suc place) row lt (here, others) = within_at calls notices rows place row (omega (arith, lt)) others
+-- the item at a place is within
+pub within_at : (calls notices : ℕ) (stored : List StoredParts) (place : ℕ) (item : StoredParts) → place < length stored → AllByRecursion (IsWithin calls notices) stored
+    → IsWithin calls notices (get_or stored place item)
+within_at calls notices [] place item lt within = absurd (omega (arith, lt))
+within_at calls notices (x ∷ stored) zero item lt (here, others) = here
+within_at calls notices (x ∷ stored) (suc place) item lt (here, others) = within_at calls notices stored place item (omega (arith, lt)) others
 
 -- the entry at a place
-pub entry_at : (calls : List Call) (notices : List Notice) (rows : List RowEntry) (place : ℕ) (row : RowEntry) → place < length rows
-    → slice_get (entries_from calls notices 0 rows) place ≡ Some (entry_of calls notices place (get_or rows place row))
-entry_at calls notices rows place row lt =
-    let entries = entries_from calls notices 0 rows in
+pub entry_at : (calls : List Call) (notices : List Notice) (stored : List StoredParts) (place : ℕ) (item : StoredParts) → place < length stored
+    → slice_get (entries_from calls notices 0 stored) place ≡ Some (entry_of calls notices place (get_or stored place item))
+entry_at calls notices stored place item lt =
+    let entries = entries_from calls notices 0 stored in
     let z : 0 + place ≡ place = omega arith in
-    let some = entry_of calls notices 0 row in
-    slice_get-get_or entries place some (omega (arith, length_entries calls notices 0 rows, lt))
-    ∙ ap Some (get_or-map_places (entry_of calls notices) 0 rows place row some lt ∙ rw z refl)
+    let some = entry_of calls notices 0 item in
+    slice_get-get_or entries place some (omega (arith, length_entries calls notices 0 stored, lt))
+    ∙ ap Some (get_or-map_places (entry_of calls notices) 0 stored place item some lt ∙ rw z refl)
 
 -- the last one of a list
 last_put : {A : Type 0} (o : Option A) (xs : List A) (x : A) → last_or o (xs ++ x ∷ []) ≡ Some x
 last_put o [] x = refl
 last_put o (y ∷ xs) x = last_put (Some y) xs x
 
--- the entry of the last row
-pub last_entry : (calls : List Call) (notices : List Notice) (place : ℕ) (rows : List RowEntry) (row : RowEntry)
-    → last_or None (entries_from calls notices place (rows ++ row ∷ [])) ≡ Some (entry_of calls notices (place + length rows) row)
-last_entry calls notices place rows row =
-    rw (entries_more calls notices place rows row) (last_put None (entries_from calls notices place rows) (entry_of calls notices (place + length rows) row))
+-- the entry of the last item
+pub last_entry : (calls : List Call) (notices : List Notice) (place : ℕ) (stored : List StoredParts) (item : StoredParts)
+    → last_or None (entries_from calls notices place (stored ++ item ∷ [])) ≡ Some (entry_of calls notices (place + length stored) item)
+last_entry calls notices place stored item =
+    rw (entries_more calls notices place stored item) (last_put None (entries_from calls notices place stored) (entry_of calls notices (place + length stored) item))
 
--- the last row is within
-pub within_last : (calls notices : ℕ) (rows : List RowEntry) (row : RowEntry) → AllByRecursion (IsWithin calls notices) (rows ++ row ∷ []) → IsWithin calls notices row
-within_last calls notices [] row (here, others) = here
-within_last calls notices (x ∷ rows) row (first, others) = within_last calls notices rows row others
+-- the last item is within
+pub within_last : (calls notices : ℕ) (stored : List StoredParts) (item : StoredParts) → AllByRecursion (IsWithin calls notices) (stored ++ item ∷ []) → IsWithin calls notices item
+within_last calls notices [] item (here, others) = here
+within_last calls notices (x ∷ stored) item (first, others) = within_last calls notices stored item others

@@ -5,6 +5,6 @@ pub mod Log
 pub mod Page
 pub mod Ports
 pub mod ReadLines
-pub mod RowEntries
+pub mod StoredEntries
 pub mod StatusRows
 pub mod Words

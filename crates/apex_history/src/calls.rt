@@ -1,7 +1,7 @@
 //! The calls of a log's entries.
 ghost use Rattle.std.specs.Prelude.{◌≡◌, ◌<◌, ◌≤◌, [], length, slice_get, Some, IfOk, IfSome};
 ghost use Rattle.apex_types.specs.declared.limits.TheConstants.{MOST_ENTRIES};
-ghost use Rattle.apex_history.specs.RowEntries.{GrowsTo};
+ghost use Rattle.apex_history.specs.StoredEntries.{GrowsTo};
 
 use crate::steps::is_same;
 use apex_types::{Call, Caller, MOST_PROCESSES, MOST_STEPS, ProcessId};
@@ -58,7 +58,7 @@ pub(crate) struct Calls {
 
 impl Model for Calls {
     ghost use Rattle.std.specs.Prelude.{vec_capacity};
-    ghost use Rattle.apex_history.specs.RowEntries.{CallList};
+    ghost use Rattle.apex_history.specs.StoredEntries.{CallList};
 
     ghost Value = { CallList };
 

@@ -1,11 +1,11 @@
 //! The log of a partition's entries.
 ghost use Rattle.std.specs.Prelude.{◌≡◌, ◌+◌, ◌<◌, ◌≤◌, ◌↔◌, [], ◌∷◌, ◌++◌, length, vec_capacity, slice_get, Some, false, IsTrue, IfOk};
 ghost use Rattle.apex_types.specs.declared.limits.TheConstants.{MOST_ENTRIES};
-ghost use Rattle.apex_history.specs.RowEntries.{caller_in, call_in, GrowsTo, IsAmong};
+ghost use Rattle.apex_history.specs.StoredEntries.{caller_in, call_in, GrowsTo, IsAmong};
 
 use crate::calls::Calls;
 use crate::lent::Entries;
-use crate::rows::{Asked, Row};
+use crate::stored::{Asked, StoredEntry};
 use apex_types::{Call, Caller, LentEntry, MOST_NOTICES, Notice};
 use std::alloc::{AllocError, Global};
 use std::marker::Model;
@@ -13,7 +13,7 @@ use std::marker::Model;
 /// The entries of one history, the oldest first, up to a limit that is set beforehand.
 #[derive(Drop)]
 pub struct Log {
-    rows: Vec<Row>,
+    stored: Vec<StoredEntry>,
     calls: Calls,
     /// The notices of all entries, one behind the other.
     notices: Vec<Notice>,
@@ -23,17 +23,17 @@ pub struct Log {
 impl Model for Log {
     ghost use Rattle.std.specs.Prelude.{vec_capacity};
     ghost use Rattle.apex_history.specs.Log.{History};
-    ghost use Rattle.apex_history.specs.RowEntries.{entries_from, IsKept};
+    ghost use Rattle.apex_history.specs.StoredEntries.{entries_from, IsKept};
 
     ghost Value = { History };
 
     ghost view = { λ a. record {
-      entries = entries_from a.calls.calls a.notices.items 0 a.rows.items;
+      entries = entries_from a.calls.calls a.notices.items 0 a.stored.items;
       limit = a.limit;
     } };
 
-    ghost invariant = { λ a. IsKept a.limit (vec_capacity a.rows) a.calls.room
-        (vec_capacity a.notices) a.rows.items a.calls.calls a.notices.items };
+    ghost invariant = { λ a. IsKept a.limit (vec_capacity a.stored) a.calls.room
+        (vec_capacity a.notices) a.stored.items a.calls.calls a.notices.items };
 }
 
 /// Puts the notices behind all others. There is room for them.
@@ -75,11 +75,11 @@ impl Log {
         ensures entries { IfOk result (λ log. log.entries ≡ []) }
         ensures limit { IfOk result (λ log. log.limit ≡ limit) }
     {
-        let rows = Vec::with_capacity(alloc, limit as usize)?;
+        let stored = Vec::with_capacity(alloc, limit as usize)?;
         let calls = Calls::new(alloc, limit)?;
         let notices = Vec::with_capacity(alloc, MOST_NOTICES * limit as usize)?;
         Ok(Log {
-            rows,
+            stored,
             calls,
             notices,
             limit,
@@ -87,7 +87,7 @@ impl Log {
     }
 
     /// Puts the entry last. Takes no memory.
-    // Inlined, so that no entry is copied on its way into the row.
+    // Inlined, so that no entry is copied on its way into the log.
     #[inline(always)]
     pub fn push(&mut self, entry: &LentEntry<'_>)
         requires room { length self.old.entries < self.old.limit }
@@ -98,13 +98,13 @@ impl Log {
         } }
     {
         let asked = put_call(&mut self.calls, &entry.process, entry.call);
-        let start = self.notices.len() as u32;
+        let first_notice = self.notices.len() as u32;
         put_notices(&mut self.notices, entry.notices);
-        self.rows.push_reserved(Row {
+        self.stored.push_reserved(StoredEntry {
             now: entry.now,
             reply: entry.reply,
             asked,
-            start,
+            first_notice,
             who: entry.who,
             count: entry.notices.len() as u8,
         });
@@ -115,7 +115,7 @@ impl Log {
         requires { place < length self.now.entries }
         ensures { slice_get self.now.entries place ≡ Some result }
     {
-        self.rows[place]
+        self.stored[place]
             .parts(place as u32, self.calls.as_slice(), self.notices.as_slice())
             .lent()
     }
@@ -126,7 +126,7 @@ impl Log {
         ensures range { length result ≤ self.now.limit }
     {
         Entries::new(
-            self.rows.as_slice(),
+            self.stored.as_slice(),
             self.calls.as_slice(),
             self.notices.as_slice(),
         )
@@ -137,7 +137,7 @@ impl Log {
         ensures value { result ≡ length self.now.entries }
         ensures range { result ≤ self.now.limit }
     {
-        self.rows.len()
+        self.stored.len()
     }
 
     /// Whether there is no entry.

@@ -3,18 +3,18 @@ ghost use Rattle.std.specs.Prelude.{◌≡◌, ◌+◌, ◌≤◌, None, length}
 ghost use Rattle.apex_types.specs.declared.limits.TheConstants.{MOST_ENTRIES};
 ghost use Rattle.std.specs.Iterator.{YieldsFirst, item_count};
 ghost use Rattle.std.specs.List.{AllByRecursion, last_or};
-ghost use Rattle.apex_history.specs.RowEntries.{entries_from, IsWithin};
+ghost use Rattle.apex_history.specs.StoredEntries.{entries_from, IsWithin};
 
 use crate::calls::Link;
 use crate::entry_parts::EntryParts;
-use crate::rows::Row;
+use crate::stored::StoredEntry;
 use apex_types::{LentEntry, Notice};
 use std::marker::Model;
 
 /// The entries of a history that are left, the oldest first, each by its parts.
 #[derive(Drop)]
 pub(crate) struct EntriesByParts<'a> {
-    rows: &'a [Row],
+    stored: &'a [StoredEntry],
     calls: &'a [Link],
     notices: &'a [Notice],
     /// The place of the first of them, counted from 0.
@@ -26,14 +26,14 @@ impl<'a> Model for EntriesByParts<'a> {
     ghost use Rattle.std.specs.List.{AllByRecursion};
     ghost use Rattle.apex_types.specs.declared.limits.TheConstants.{MOST_ENTRIES};
     ghost use Rattle.apex_types.specs.declared.entries.Entry.{Entry};
-    ghost use Rattle.apex_history.specs.RowEntries.{entries_from, IsWithin};
+    ghost use Rattle.apex_history.specs.StoredEntries.{entries_from, IsWithin};
 
     ghost Value = { List Entry };
 
-    ghost view = { λ e. entries_from e.calls.now e.notices.now e.place e.rows.now };
+    ghost view = { λ e. entries_from e.calls.now e.notices.now e.place e.stored.now };
 
     ghost invariant = { λ e. AllByRecursion (IsWithin (length e.calls.now)
-        (length e.notices.now)) e.rows.now × (e.place + length e.rows.now ≤ MOST_ENTRIES) };
+        (length e.notices.now)) e.stored.now × (e.place + length e.stored.now ≤ MOST_ENTRIES) };
 }
 
 impl<'a> EntriesByParts<'a> {
@@ -43,8 +43,8 @@ impl<'a> EntriesByParts<'a> {
     fn latest(&self) -> Option<EntryParts<'a>>
         ensures { result ≡ last_or None self.now }
     {
-        let (row, before) = self.rows.split_last()?;
-        Some(row.parts(self.place + before.len() as u32, self.calls, self.notices))
+        let (item, before) = self.stored.split_last()?;
+        Some(item.parts(self.place + before.len() as u32, self.calls, self.notices))
     }
 
     /// The number of the entries.
@@ -52,7 +52,7 @@ impl<'a> EntriesByParts<'a> {
     fn entry_count(&self) -> usize
         ensures { result ≡ length self.now }
     {
-        self.rows.len()
+        self.stored.len()
     }
 }
 
@@ -66,9 +66,9 @@ impl<'a> Iterator for EntriesByParts<'a> {
 
     #[inline(always)]
     fn next(&mut self) -> Option<EntryParts<'a>> {
-        let (row, others) = self.rows.split_first()?;
-        let entry = row.parts(self.place, self.calls, self.notices);
-        self.rows = others;
+        let (item, others) = self.stored.split_first()?;
+        let entry = item.parts(self.place, self.calls, self.notices);
+        self.stored = others;
         self.place += 1;
         Some(entry)
     }
@@ -90,15 +90,19 @@ impl<'a> Model for Entries<'a> {
 }
 
 impl<'a> Entries<'a> {
-    /// The entries of these rows.
-    pub(crate) fn new(rows: &'a [Row], calls: &'a [Link], notices: &'a [Notice]) -> Entries<'a>
-        requires within { AllByRecursion (IsWithin (length calls.now) (length notices.now)) rows.now }
-        requires many { length rows.now ≤ MOST_ENTRIES }
-        ensures { result ≡ entries_from calls.now notices.now 0 rows.now }
+    /// The entries that these are stored as.
+    pub(crate) fn new(
+        stored: &'a [StoredEntry],
+        calls: &'a [Link],
+        notices: &'a [Notice],
+    ) -> Entries<'a>
+        requires within { AllByRecursion (IsWithin (length calls.now) (length notices.now)) stored.now }
+        requires many { length stored.now ≤ MOST_ENTRIES }
+        ensures { result ≡ entries_from calls.now notices.now 0 stored.now }
     {
         Entries {
             left: EntriesByParts {
-                rows,
+                stored,
                 calls,
                 notices,
                 place: 0,

@@ -13,11 +13,11 @@ mod pages;
 mod printing;
 mod puts;
 mod reading;
-mod rows;
 mod sources;
 mod status;
 mod status_rows;
 mod steps;
+mod stored;
 mod words;
 
 pub use counting::Counted;

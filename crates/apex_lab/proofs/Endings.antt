@@ -9,10 +9,10 @@ use Rattle.apex_history.specs.Ports.{IsLeft, NoneFails, Ports}
 use Rattle.apex_history.specs.declared.ReadFault.{ReadFault}
 use Rattle.apex_history.specs.declared.ReadFault.TheVariants as read
 use Rattle.apex_check.specs.Checks.{Checks, written}
-use Rattle.apex_check.specs.Legal.{TellsLegal}
+use Rattle.apex_check.specs.Legal.{SaysLegal}
 use Rattle.apex_check.specs.declared.Verdict.{Verdict}
 use Rattle.apex_check.specs.declared.Verdict.TheVariants.{Legal, DepartsAt}
-use Rattle.apex_cli.specs.Faults.{IsUsageOrMemory, fault_of_read, line_told}
+use Rattle.apex_cli.specs.Faults.{IsUsageOrMemory, fault_of_read, fault_line}
 use Rattle.apex_cli.specs.declared.CliFault.{CliFault}
 use Rattle.apex_cli.specs.declared.CliFault.TheVariants.{Usage, Table, NoSeparator, BadLine, TooLong, HistoryFull, Memory, NoThread, Read, Write}
 use Rattle.apex_cli.specs.declared.Item.{Item}
@@ -128,7 +128,7 @@ ends_history task is none shows = a_history is none shows
 
 -- the verdict on a text and the verdict's text, by its check
 pub verdict_is : {before after : Ports} → (text : List ℕ) (verdict : Verdict) (report : List ℕ)
-    → Checks before (Ok verdict) after → TellsLegal before.left (Ok verdict) → before.left ≡ Some text
+    → Checks before (Ok verdict) after → SaysLegal before.left (Ok verdict) → before.left ≡ Some text
     → before.held ≡ Some [] → after.held ≡ Some report → IsVerdictOn text verdict report
 verdict_is text (Legal n) report checks tells left empty holds = (tells text n left tt).0 refl
 verdict_is text (DepartsAt n expected) report (written bytes table is_left judges appends none_fails) tells left empty holds =
@@ -136,7 +136,7 @@ verdict_is text (DepartsAt n expected) report (written bytes table is_left judge
     (table, rw same at judges, rw (empty, holds) at appends)
 
 -- the line of a fault other than ill-formed words
-pub other_line : (fault : CliFault) → (fault ≡ Usage → ⊥) → line_told (Some fault) ≡ fault_line fault
+pub other_line : (fault : CliFault) → (fault ≡ Usage → ⊥) → fault_line (Some fault) ≡ fault_line fault
 other_line Usage other = absurd (other refl)
 other_line (Table fault) other = refl
 other_line NoSeparator other = refl

@@ -12,7 +12,7 @@ use Rattle.apex_check.specs.Verdicts.{IsAtFault, Judges, verdict_text}
 use Rattle.apex_check.specs.declared.CheckFault.{CheckFault}
 use Rattle.apex_check.specs.declared.Verdict.{Verdict}
 use Rattle.apex_check.specs.declared.Verdict.TheVariants.{Legal, DepartsAt}
-use Rattle.apex_cli.specs.Faults.{fault_of_checking, line_told, status_of_fault}
+use Rattle.apex_cli.specs.Faults.{fault_of_checking, fault_line, status_of_fault}
 use Rattle.apex_cli.specs.declared.CliFault.{CliFault}
 use Rattle.apex_cli.specs.declared.CliFault.TheVariants.{Memory, Read, Usage, Write}
 use Rattle.apex_cli.specs.declared.Item.{Item}
@@ -135,7 +135,7 @@ usage_line =
 -- the line that reports a fault; all others are lines of the program `apex`
 abbrev pub fault_line : CliFault → List ℕ
 fault_line Usage = usage_line
-fault_line fault = line_told (Some fault)
+fault_line fault = fault_line (Some fault)
 
 -- what is reported at the end
 abbrev pub report_of : End → List ℕ

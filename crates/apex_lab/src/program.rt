@@ -12,7 +12,7 @@ ghost use Rattle.apex_lab.specs.Tasks.{IsOfEntries, asked_by, task_said};
 use crate::schedules::{Plan, draw_events, plan_of, plan_of_history};
 use crate::tasks::{Task, task_asked};
 use apex_check::{CheckFault, Verdict, check};
-use apex_cli::{CliFault, Item, line_told};
+use apex_cli::{CliFault, Item, fault_line};
 use apex_history::{Counted, Sink, Source, read_all};
 use apex_pictures::DrawFault;
 use std::alloc::Global;
@@ -217,7 +217,7 @@ fn tell<E: Sink>(outcome: &Result<Ending, CliFault>, error_writer: &mut Counted<
         Ok(Ending::Drawn) => {}
         Ok(Ending::Departed(verdict)) => say(verdict.as_slice(), error_writer),
         Err(CliFault::Usage) => say(USAGE.as_bytes(), error_writer),
-        Err(fault) => say(line_told(Some(*fault)).as_str().as_bytes(), error_writer),
+        Err(fault) => say(fault_line(Some(*fault)).as_str().as_bytes(), error_writer),
     }
 }
 

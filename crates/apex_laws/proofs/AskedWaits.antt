@@ -43,33 +43,33 @@ wait_after records p q r w h = elim (cases_eq q p) [
 ]
 
 -- a process in the queue of an object, and its wait, which it asked for
-pub record StandsFor (queue : Queue) (r : Record) (w : Wait) : Type 0 where
+pub record IsWaitAt (queue : Queue) (r : Record) (w : Wait) : Type 0 where
   pub waits : r.wait ≡ Some w
   pub asked : awaited r ≡ Some w
   pub queued : queue_of w ≡ Some queue
 
-stands_for : (queue : Queue) (r : Record) (w : Wait) → asked_of (Some w) ≡ Some w → r.wait ≡ Some w → queue_of w ≡ Some queue
-    → (v : Wait) × StandsFor queue r v
-stands_for queue r w plain is queued =
+wait_at : (queue : Queue) (r : Record) (w : Wait) → asked_of (Some w) ≡ Some w → r.wait ≡ Some w → queue_of w ≡ Some queue
+    → (v : Wait) × IsWaitAt queue r v
+wait_at queue r w plain is queued =
     (w, record { waits = is; asked = rw is (ap (λ asked. or_suspended asked (is_by_itself r.suspended)) plain); queued = queued })
 
 stands_by : (queue : Queue) → is_same_queue queues.Normal queue ≡ false → (r : Record) (wait : Option Wait) → r.wait ≡ wait
-    → option_and_then queue_of wait ≡ Some queue → (w : Wait) × StandsFor queue r w
+    → option_and_then queue_of wait ≡ Some queue → (w : Wait) × IsWaitAt queue r w
 stands_by queue apart r None is h = absurd (none-some queue h)
 stands_by queue apart r (Some (Normal delay)) is h =
     absurd (both_ways _ apart (ap (is_same_queue queues.Normal) (sym (same_Some queues.Normal queue h))))
 stands_by queue apart r (Some Start) is h = absurd (none-some queue h)
 stands_by queue apart r (Some Time) is h = absurd (none-some queue h)
 stands_by queue apart r (Some Period) is h = absurd (none-some queue h)
-stands_by queue apart r (Some w) is h = stands_for queue r w refl is h
+stands_by queue apart r (Some w) is h = wait_at queue r w refl is h
 
 -- the first waiter for an object waits for it
 pub first_awaits : (roster : Roster) (queue : Queue) (p : ℕ) → is_same_queue queues.Normal queue ≡ false
-    → first_waiter roster queue ≡ Some p → (w : Wait) × StandsFor queue (record_at roster p) w
+    → first_waiter roster queue ≡ Some p → (w : Wait) × IsWaitAt queue (record_at roster p) w
 first_awaits roster queue p apart e =
     stands_by queue apart (record_at roster p) (record_at roster p).wait refl (first_stands roster queue p e)
 
-pub awaits_at : {queue : Queue} {r : Record} {w : Wait} → StandsFor queue r w → AwaitsAt (Some queue) r
+pub awaits_at : {queue : Queue} {r : Record} {w : Wait} → IsWaitAt queue r w → AwaitsAt (Some queue) r
 awaits_at {queue} {r} {w} stands = (w, stands.asked, stands.queued)
 
 -- a process whose wait it asked for, and has this queue, waits in it

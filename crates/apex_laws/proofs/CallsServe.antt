@@ -192,7 +192,7 @@ module _ (table : Table) (history : List Entry) (roster : Roster) (kept : AreKep
           ((j i : ℕ) → is_near (queue_at k j) (laws.queue i) ≡ false)
           × ((j i : ℕ) → is_near (queue_at k j) (laws.at i) ≡ false) × (created_by k call ≡ None)
 
-      serves_kind : Scene roster caller → ((i : ℕ) → i < length configs → laws.Stands roster i)
+      serves_kind : Scene roster caller → ((i : ℕ) → i < length configs → laws.IsThere roster i)
           → (call : ObjectCall ℕ W) → IsKnownObject (length configs) call → (put : List X → Objects)
           → ((new : Roster) (e : Entry) (xs : List X) → AreReadOf kind laws history roster configs keeps new e xs
           → ((k : Kind) → IsOther (laws.to call) k → AreRead k new e before) → (k : Kind) → AreRead k new e (put xs))

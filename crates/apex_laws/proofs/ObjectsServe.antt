@@ -107,7 +107,7 @@ pub record LawsOf {C X W : Type 0} (kind : ObjectKind C X W) : Type 1 where
   -- the facts that are kept of an object, and of its waiters
   pub Keeps : Roster → List Entry → ℕ → C → Type 0
   -- the premise of its own services about the processes
-  pub Stands : Roster → ℕ → Type 0
+  pub IsThere : Roster → ℕ → Type 0
   pub created : (call : ObjectCall ℕ W) → creation (to call) ≡ creation_of call
   pub named : (call : ObjectCall ℕ W) → queue_named (to call) ≡ option_and_then queue (object_of call)
   pub differs : (j i : ℕ) → j ≢ i → (is_near (at j) (queue i) ≡ false) × (is_near (at j) (at i) ≡ false)
@@ -120,7 +120,7 @@ pub record LawsOf {C X W : Type 0} (kind : ObjectKind C X W) : Type 1 where
       → satisfied_by history e ≡ to (Create (Known i)) ∷ [] → creates creation i e ≡ true
       → IsRead kind.after Keeps roster history e i c (kind.made (kind.after history i c))
   pub service : (history : List Entry) (roster : Roster) (caller : Caller) (i : ℕ) (c : C) (service : W)
-      → Keeps roster history i c → AreAsked roster history → Scene roster caller → Stands roster i
+      → Keeps roster history i c → AreAsked roster history → Scene roster caller → IsThere roster i
       → ServesOne kind.after Keeps history roster caller (to (KindService i service)) (at i) i c
       (kind.service roster (kind.after history i c) i caller service)
 
@@ -211,7 +211,7 @@ module _ {C X W : Type 0} (kind : ObjectKind C X W) (laws : LawsOf kind) (histor
               (rw (laws.created (Create (Known i)), eq-eqb i i refl) refl);
         }))
 
-    served_object : (call : ObjectCall ℕ W) → object_of call ≡ Some i → Scene roster caller → laws.Stands roster i
+    served_object : (call : ObjectCall ℕ W) → object_of call ≡ Some i → Scene roster caller → laws.IsThere roster i
         → Served call i c (object_service kind roster x i caller call)
     served_object (Create (Known j)) is scene stands = rw (same_Some j i is) served_create
     served_object (Create (Unknown name)) is scene stands = absurd (none-some i is)
@@ -318,7 +318,7 @@ module _ {C X W : Type 0} (kind : ObjectKind C X W) (laws : LawsOf kind) (histor
     all_unknown (GetStatus i) at = all_refused (GetStatus i) at InvalidConfig refl
     all_unknown (KindService i service) at = all_refused (KindService i service) at InvalidConfig refl
 
-    module _ (scene : Scene roster caller) (stands : (i : ℕ) → i < length configs → laws.Stands roster i) where
+    module _ (scene : Scene roster caller) (stands : (i : ℕ) → i < length configs → laws.IsThere roster i) where
       pub all_served : (call : ObjectCall ℕ W) (target : Option ℕ) → object_of call ≡ target → IsKnownObject (length configs) call
           → ServesAll call (queue_at laws target) (deed_at kind roster objects caller call target)
       all_served call None is known = all_unknown call None

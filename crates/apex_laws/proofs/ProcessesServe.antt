@@ -170,7 +170,7 @@ module _ (history : List Entry) (roster : Roster) (caller : Caller) (p : ℕ) (e
   served_refused : (service : ProcessService) (code : ReturnCode) → is_no_error code ≡ false → Served service (refused roster process code)
   served_refused service code bad = served service roster (Code code) [] (serves_same roster caller (asks_for service) None)
 
-  -- one guard of a row
+  -- one guard of a fields
   guard : (service : ProcessService) (holds : Bool) (code : ReturnCode) (rest : Outcome ProcessObject) → is_no_error code ≡ false
       → (holds ≡ false → Served service rest) → Served service (cond holds (refused roster process code) rest)
   guard service = by_guard roster process (Served service) (served_refused service)
@@ -239,7 +239,7 @@ process_laws = record {
   at = λ p. None;
   queue = λ p. None;
   Keeps = KeepsProcess;
-  Stands = λ roster p. p < length roster.records;
+  IsThere = λ roster p. p < length roster.records;
   created = λ call. refl;
   named = λ call. then_none (object_of call);
   differs = λ j i apart. (refl, refl);

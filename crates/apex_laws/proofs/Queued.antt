@@ -10,16 +10,16 @@ use Rattle.apex_machine.proofs.Choice.{place_passes}
 use Rattle.apex_machine.proofs.Starts.{first_waits}
 
 -- a process that is found waits in the queue
-abbrev pub StandsIn : Roster → Queue → Option ℕ → Type 0
-StandsIn roster queue found = IfSome found (λ p. waits_in queue (record_at roster p) ≡ true)
+abbrev pub WaitsIn : Roster → Queue → Option ℕ → Type 0
+WaitsIn roster queue found = IfSome found (λ p. waits_in queue (record_at roster p) ≡ true)
 
 pub first_stands : (roster : Roster) (queue : Queue) (found : Option ℕ) → found ≡ first_waiter roster queue
-    → StandsIn roster queue found
+    → WaitsIn roster queue found
 first_stands roster queue None e = tt
 first_stands roster queue (Some p) e = first_waits roster queue p (sym e)
 
 pub next_stands : (roster : Roster) (queue : Queue) (ahead : ℕ) (found : Option ℕ) → found ≡ next_waiter roster queue ahead
-    → StandsIn roster queue found
+    → WaitsIn roster queue found
 unfolding waits_behind
 next_stands roster queue ahead None e = tt
 next_stands roster queue ahead (Some p) e =

@@ -35,16 +35,16 @@ pub record IsFirst (passes : Record → Bool) (before : Record → Record → Bo
 
 -- the result of a scan of the first n records: if a place is found, its record is the first of the
 -- least; if none is found, none of them passes
-abbrev pub Stands : (Record → Bool) → (Record → Record → Bool) → List Record → ℕ → Option ℕ → Type 0
-Stands passes before rs n found = MatchOption found (NonePasses passes rs n) (IsFirst passes before rs n)
+abbrev pub IsFound : (Record → Bool) → (Record → Record → Bool) → List Record → ℕ → Option ℕ → Type 0
+IsFound passes before rs n found = MatchOption found (NonePasses passes rs n) (IsFirst passes before rs n)
 
 irreflexive : (before : Record → Record → Bool) → IsStrictWeakOrder before → (r : Record) → before r r ≡ false
 irreflexive before order r = elim (cases_Bool (before r r)) [ inl e ↦ order.one_way r r e | inr e ↦ e ]
 
 module _ (passes : Record → Bool) (before : Record → Record → Bool) (rs : List Record) where
   -- a scan of one record more has a result too
-  more : (n : ℕ) → IsStrictWeakOrder before → (found : Option ℕ) → Stands passes before rs n found
-      → (next : Option ℕ) × Stands passes before rs (n + 1) next
+  more : (n : ℕ) → IsStrictWeakOrder before → (found : Option ℕ) → IsFound passes before rs n found
+      → (next : Option ℕ) × IsFound passes before rs (n + 1) next
   more n order None others =
       elim (cases_Bool (passes (at_place rs n))) [
         | inl passing ↦ (Some n, search rules)
@@ -56,7 +56,7 @@ module _ (passes : Record → Bool) (before : Record → Record → Bool) (rs : 
         | inr behind ↦ (Some p, search rules)
       ]
 
-  stands : IsStrictWeakOrder before → (n : ℕ) → (found : Option ℕ) × Stands passes before rs n found
+  stands : IsStrictWeakOrder before → (n : ℕ) → (found : Option ℕ) × IsFound passes before rs n found
   stands order zero = (None, record { none = λ q below. absurd (omega arith) })
   stands order (suc n) =
       let z : n + 1 ≡ suc n = omega arith in
@@ -95,22 +95,22 @@ module _ (passes : Record → Bool) (before : Record → Record → Bool) (rs : 
       rw (e, le-ltb (length rs) (length rs) (omega arith))
 
   -- the result of a scan of all records is the place of the least
-  pub place_found : (found : Option ℕ) → Stands passes before rs (length rs) found
+  pub place_found : (found : Option ℕ) → IsFound passes before rs (length rs) found
       → place_of_least passes before rs ≡ found
   place_found None others = place_nowhere others
   place_found (Some p) is = place_some p is
 
-  place_stands : IsStrictWeakOrder before → Stands passes before rs (length rs) (place_of_least passes before rs)
-  place_stands order = let all = stands order (length rs) in rw (place_found all.0 all.1) all.1
+  place_is_found : IsStrictWeakOrder before → IsFound passes before rs (length rs) (place_of_least passes before rs)
+  place_is_found order = let all = stands order (length rs) in rw (place_found all.0 all.1) all.1
 
   -- if none is found, none passes
   pub place_none : IsStrictWeakOrder before → place_of_least passes before rs ≡ None → NonePasses passes rs (length rs)
-  place_none order e = rw e at (place_stands order)
+  place_none order e = rw e at (place_is_found order)
 
   -- the record that is found is the first of the least
   pub place_first : IsStrictWeakOrder before → (p : ℕ) → place_of_least passes before rs ≡ Some p
       → IsFirst passes before rs (length rs) p
-  place_first order p e = rw e at (place_stands order)
+  place_first order p e = rw e at (place_is_found order)
 
   -- the place that is found is one of a record
   pub place_within : (p : ℕ) → place_of_least passes before rs ≡ Some p → p < length rs

@@ -35,25 +35,25 @@ impl Model for Mutex {
 }
 
 /// The process owns another mutex than this one and not this one, and would wait.
-fn may_not_wait(row: &Record, mutex: MutexId, timeout: Timeout) -> bool
-    ensures { result ≡ may_not_wait mutex timeout row.now }
+fn may_not_wait(fields: &Record, mutex: MutexId, timeout: Timeout) -> bool
+    ensures { result ≡ may_not_wait mutex timeout fields.now }
 {
-    !row.owns(mutex) && row.owns_some() && timeout != Timeout::Poll
+    !fields.owns(mutex) && fields.owns_some() && timeout != Timeout::Poll
 }
 
 /// The process owns as many mutexes as it may, and not this one.
-fn owns_most<S: Store>(store: &S, row: &Record, mutex: MutexId) -> bool
-    ensures value { result ≡ owns_most (S.roster store.now) mutex row.now }
-    ensures room { result ≡ false → owns mutex row.now ≡ false → length row.now.owned < MOST_OWNED }
+fn owns_most<S: Store>(store: &S, fields: &Record, mutex: MutexId) -> bool
+    ensures value { result ≡ owns_most (S.roster store.now) mutex fields.now }
+    ensures room { result ≡ false → owns mutex fields.now ≡ false → length fields.now.owned < MOST_OWNED }
 {
-    !row.owns(mutex) && row.owned.len() >= store.most_owned()
+    !fields.owns(mutex) && fields.owned.len() >= store.most_owned()
 }
 
 /// The process owns this mutex, and may not go deeper.
-fn is_deepest(row: &Record, mutex: MutexId) -> bool
-    ensures { result ≡ is_deepest mutex row.now }
+fn is_deepest(fields: &Record, mutex: MutexId) -> bool
+    ensures { result ≡ is_deepest mutex fields.now }
 {
-    match row.owned.holding_of(mutex) {
+    match fields.owned.holding_of(mutex) {
         Some(holding) => holding.depth >= MOST_DEPTH,
         None => false,
     }
@@ -198,7 +198,7 @@ impl Object for Mutex {
 
     ghost kind = { mutex_kind };
 
-    ghost Stands = { λ roster m. Unit {0} };
+    ghost IsThere = { λ roster m. Unit {0} };
 
     fn is_created(&self) -> bool {
         self.created

@@ -24,7 +24,7 @@ use Rattle.apex_process.specs.Queued.{Queued}
 use Rattle.apex_process.specs.State.{AreListsOfState, AreReadyLists}
 use Rattle.apex_process.proofs.Places.{no_queue}
 use Rattle.apex_process.proofs.Top.{found_chosen}
-use Rattle.apex_partition.specs.Standing.{IsInItsReadyList, IsInNoReadyList, IsInOneQueue, RunsByLists, StandsAs}
+use Rattle.apex_partition.specs.Standing.{IsInItsReadyList, IsInNoReadyList, IsInOneQueue, RunsByLists, IsQueuedAs}
 
 -- each core's running process is the most urgent
 pub urgent_runs : (roster : Roster) (core : ℕ) → HasDistinctStamps roster → RunsMostUrgent roster core
@@ -71,20 +71,20 @@ module _ (roster : Roster) (links : Links) (are : AreReadyLists roster links) (p
       ]
 
 module _ (store : Queued) (are : AreListsOfState store) where
-  stands_by : (p : ℕ) → ((record_at store.roster p).started ≡ false → queue_in (record_at store.roster p) ≡ None)
+  queued_by : (p : ℕ) → ((record_at store.roster p).started ≡ false → queue_in (record_at store.roster p) ≡ None)
       → (started eligible runs : Bool) → (record_at store.roster p).started ≡ started
       → is_eligible store.roster.mode (record_at store.roster p) ≡ eligible
-      → StandsAs store.standings.links p (record_at store.roster p) (state_by started eligible runs)
-  stands_by p dormant false false runs s e = are.outside p e (dormant s)
-  stands_by p dormant false true runs s e = absurd (both_ways _ s (eligible_started store.roster.mode (record_at store.roster p) e))
-  stands_by p dormant true false runs s e = in_no_list store.roster store.standings.links are.ready are.places p e
-  stands_by p dormant true true true s e = in_its_list store.roster store.standings.links are.ready are.places p e
-  stands_by p dormant true true false s e = in_its_list store.roster store.standings.links are.ready are.places p e
+      → IsQueuedAs store.standings.links p (record_at store.roster p) (state_by started eligible runs)
+  queued_by p dormant false false runs s e = are.outside p e (dormant s)
+  queued_by p dormant false true runs s e = absurd (both_ways _ s (eligible_started store.roster.mode (record_at store.roster p) e))
+  queued_by p dormant true false runs s e = in_no_list store.roster store.standings.links are.ready are.places p e
+  queued_by p dormant true true true s e = in_its_list store.roster store.standings.links are.ready are.places p e
+  queued_by p dormant true true false s e = in_its_list store.roster store.standings.links are.ready are.places p e
 
   -- each process, which waits in no queue if it is dormant, is in the lists of its state
-  pub stands_as : (p : ℕ) → ((record_at store.roster p).started ≡ false → queue_in (record_at store.roster p) ≡ None)
-      → StandsAs store.standings.links p (record_at store.roster p) (process_state store.roster p)
-  stands_as p dormant = stands_by p dormant _ _ (is_process p (chosen store.roster (record_at store.roster p).core)) refl refl
+  pub queued_as : (p : ℕ) → ((record_at store.roster p).started ≡ false → queue_in (record_at store.roster p) ≡ None)
+      → IsQueuedAs store.standings.links p (record_at store.roster p) (process_state store.roster p)
+  queued_as p dormant = queued_by p dormant _ _ (is_process p (chosen store.roster (record_at store.roster p).core)) refl refl
 
   -- and in one queue at the most
   pub in_one_queue : (p : ℕ) → IsInOneQueue store.standings.links p (record_at store.roster p)

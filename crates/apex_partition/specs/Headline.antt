@@ -12,7 +12,7 @@ use Rattle.apex_process.specs.Queued.{Queued}
 use Rattle.apex_process.specs.State.{AreListsOfState}
 use Rattle.apex_laws.specs.AskedWaits.{IsAccounted}
 use Rattle.apex_dispatch.specs.Kernel.{KernelState}
-use Rattle.apex_partition.specs.Standing.{IsInOneQueue, RunsByLists, StandsAs}
+use Rattle.apex_partition.specs.Standing.{IsInOneQueue, RunsByLists, IsQueuedAs}
 
 -- a partition as contracts see it: the state of its kernel, and all that its store keeps of the
 -- processes: their lists, the marks and counts of these, the timers and the owners
@@ -38,7 +38,7 @@ pub record Headline (partition : PartitionState) : Type 0 where
       → RunsByLists partition.store.standings.links core (chosen partition.machine.roster core)
   -- every process is in exactly one state
   pub state : (p : ℕ) → p < length partition.table.processes
-      → StandsAs partition.store.standings.links p (record_at partition.machine.roster p)
+      → IsQueuedAs partition.store.standings.links p (record_at partition.machine.roster p)
       (process_state partition.machine.roster p)
   -- and at most one queue
   pub queue : (p : ℕ)

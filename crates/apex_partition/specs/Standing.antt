@@ -31,11 +31,11 @@ IsInNoReadyList links p = (core priority : ℕ) → core < MOST_CORES → priori
 
 -- process p, which has this record, is in the lists of this state: dormant in no list, ready and
 -- running in the ready list of its core and current priority, and waiting in no ready list
-abbrev pub StandsAs : Links → ℕ → Record → State → Type 0
-StandsAs links p r Dormant = IsFree links p
-StandsAs links p r Ready = IsInItsReadyList links p r
-StandsAs links p r Running = IsInItsReadyList links p r
-StandsAs links p r Waiting = IsInNoReadyList links p
+abbrev pub IsQueuedAs : Links → ℕ → Record → State → Type 0
+IsQueuedAs links p r Dormant = IsFree links p
+IsQueuedAs links p r Ready = IsInItsReadyList links p r
+IsQueuedAs links p r Running = IsInItsReadyList links p r
+IsQueuedAs links p r Waiting = IsInNoReadyList links p
 
 -- process p, which has this record, is in one list at the most, and if it waits in a queue, in that
 -- one's

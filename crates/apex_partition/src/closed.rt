@@ -3,7 +3,7 @@ ghost use Rattle.std.specs.Prelude.{◌≡◌, ◌≤◌, All, length};
 ghost use mathlib.Core.List.{IsPrefix};
 ghost use Rattle.apex_board.specs.Boards.{HasPublished};
 ghost use Rattle.apex_board.specs.Fronts.{IsFrontAfter};
-ghost use Rattle.apex_receipts.specs.Receipts.{Stands};
+ghost use Rattle.apex_receipts.specs.Receipts.{IsAtItsPlace};
 ghost use Rattle.apex_calls.specs.Lines.{IsPrintable};
 
 use crate::partitions::Partition;
@@ -74,7 +74,7 @@ impl<P: Naming> Closed<P> {
     /// receipt's place is its number among the entries of its core or of the ticker.
     pub fn confirm(&self, receipt: &Receipt<P>) -> LentEntry<'_>
         ensures entry { result ≡ receipt.now.entry }
-        ensures stands { Stands self.now receipt.now.entry receipt.now.place }
+        ensures placed { IsAtItsPlace self.now receipt.now.entry receipt.now.place }
     {
         self.story.confirm(receipt);
         self.partition.entry(receipt.entry().number as usize - 1)

@@ -41,7 +41,7 @@ impl Model for Partition {
 }
 
 /// The headline holds of every kernel over linked lists, with the lists that its store keeps.
-fn stands(kernel: &Kernel<QueueStore>)
+fn headline_holds(kernel: &Kernel<QueueStore>)
     ensures { Headline kernel.now }
 {
     kernel.holds();
@@ -57,7 +57,7 @@ impl Partition {
     {
         let store = QueueStore::new(alloc, &table)?;
         let kernel = Kernel::boot(alloc, table, store)?;
-        stands(&kernel);
+        headline_holds(&kernel);
         Ok(Partition { kernel })
     }
 
@@ -71,7 +71,7 @@ impl Partition {
         ensures full { IfErr result (λ e. IsFullAt self.old e.entries) }
     {
         let result = self.kernel.turn(core);
-        stands(&self.kernel);
+        headline_holds(&self.kernel);
         result
     }
 
@@ -86,7 +86,7 @@ impl Partition {
         ensures full { IfErr result (λ e. IsFullAt self.old e.entries) }
     {
         let result = self.kernel.tick(n);
-        stands(&self.kernel);
+        headline_holds(&self.kernel);
         result
     }
 

@@ -4,7 +4,7 @@ ghost use Rattle.std.specs.Prelude.{◌≡◌, ℕ, ◌+◌, ◌<◌, ◌≤◌,
 ghost use Rattle.apex_types.specs.declared.entries.Entry.{Entry};
 ghost use Rattle.apex_types.specs.declared.entries.Who.TheVariants.{Core, Ticker as ToTicker};
 ghost use Rattle.apex_types.specs.declared.limits.TheConstants.{MOST_TICKS};
-ghost use Rattle.apex_receipts.specs.Receipts.{Spoken, Stands, told_full, with_entry};
+ghost use Rattle.apex_receipts.specs.Receipts.{Spoken, IsAtItsPlace, told_full, with_entry};
 ghost use Rattle.apex_board.specs.Boards.{HasPublished};
 ghost use Rattle.apex_partition.specs.Headline.{Headline};
 ghost use Rattle.apex_partition.specs.Seats.{IsLatest, IsOneOf, IsReceiptOf, IsRun, IsSeated, IsSettled, asked_ticks};
@@ -208,8 +208,8 @@ impl<P: Naming> Published<P> {
         ensures partition { result.now ≡ self.old }
         ensures table { result.now.table ≡ P.table }
         ensures headline { Headline result.now }
-        ensures stands { IfSome seen.entry
-            (λ r. Stands result.now.machine.history r.now.entry r.now.place) }
+        ensures placed { IfSome seen.entry
+            (λ r. IsAtItsPlace result.now.machine.history r.now.entry r.now.place) }
     {
         if let Some(receipt) = seen {
             self.scribe.shows(receipt);

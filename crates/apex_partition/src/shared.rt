@@ -4,7 +4,7 @@ ghost use Rattle.std.specs.Fn.{FnOnceReturnsAt};
 ghost use Rattle.apex_types.specs.declared.entries.Entry.{Entry};
 ghost use Rattle.apex_types.specs.declared.entries.Who.TheVariants.{Core, Ticker as ToTicker};
 ghost use Rattle.apex_types.specs.declared.limits.TheConstants.{MOST_TICKS};
-ghost use Rattle.apex_receipts.specs.Receipts.{Spoken, Stands, told_full};
+ghost use Rattle.apex_receipts.specs.Receipts.{Spoken, IsAtItsPlace, told_full};
 ghost use Rattle.apex_partition.specs.Headline.{Headline, PartitionState};
 ghost use Rattle.apex_partition.specs.Seats.{IsOneOf, IsReceiptOf, IsRun, IsSeated, IsSettled, asked_ticks};
 
@@ -76,7 +76,7 @@ impl<P: Naming> Shared<P> {
     ) -> T
         requires { F.IsAlwaysCallable f }
         ensures { (partition : PartitionState) × (partition.table ≡ P.table) × Headline partition
-            × IfSome seen.entry (λ r. Stands partition.machine.history r.now.entry r.now.place)
+            × IfSome seen.entry (λ r. IsAtItsPlace partition.machine.history r.now.entry r.now.place)
             × FnOnceReturnsAt F.FnOnce f partition result }
     {
         let mut locked = self.lock.lock(rt);

@@ -72,20 +72,20 @@ fn is_process(process: ProcessId, chosen: Option<ProcessId>) -> bool
 #[inline(always)]
 pub(crate) fn state_of(
     process: ProcessId,
-    row: &Record,
+    fields: &Record,
     mode: Mode,
     running: &[Option<ProcessId>],
 ) -> State
-    ensures { result ≡ (if not row.now.started then Dormant
-        else if not (is_eligible mode row.now) then Waiting
-        else if is_process process (slice_index_or running.now row.now.core None) then Running
+    ensures { result ≡ (if not fields.now.started then Dormant
+        else if not (is_eligible mode fields.now) then Waiting
+        else if is_process process (slice_index_or running.now fields.now.core None) then Running
         else Ready) }
 {
-    if !row.started {
+    if !fields.started {
         State::Dormant
-    } else if !row.is_eligible(mode) {
+    } else if !fields.is_eligible(mode) {
         State::Waiting
-    } else if is_process(process, running_at(running, row.core)) {
+    } else if is_process(process, running_at(running, fields.core)) {
         State::Running
     } else {
         State::Ready
@@ -120,12 +120,12 @@ fn cell_of<S: Store>(store: &S, process: ProcessId, running: &[Option<ProcessId>
     requires running { running.now ≡ running_in (S.roster store.now) }
     ensures { result ≡ cell_of (S.roster store.now) process }
 {
-    let row = store.record(process);
-    prove!(u32::from(row.core.number()) < MOST_CORES);
+    let fields = store.record(process);
+    prove!(u32::from(fields.core.number()) < MOST_CORES);
     Cell {
-        state: state_of(process, row, store.mode(), running),
-        wait: row.wait,
-        owned: row.owned,
+        state: state_of(process, fields, store.mode(), running),
+        wait: fields.wait,
+        owned: fields.owned,
     }
 }
 

@@ -72,10 +72,10 @@ pub(crate) fn track_of<S: Store>(
     requires running { running.now ≡ running_in (S.roster store.now) }
     ensures { result ≡ track_of (S.roster store.now) process }
 {
-    let row = store.record(process);
-    prove!(u32::from(row.core.number()) < MOST_CORES);
+    let fields = store.record(process);
+    prove!(u32::from(fields.core.number()) < MOST_CORES);
     Track {
-        state: state_of(process, row, store.mode(), running),
+        state: state_of(process, fields, store.mode(), running),
     }
 }
 

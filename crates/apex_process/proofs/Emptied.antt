@@ -27,7 +27,7 @@ use Rattle.apex_ready.specs.ReadyOrders.{is_marked, ready_list}
 use Rattle.apex_waitq.specs.WaitQueues.{AreCounted, IsNumbered}
 use Rattle.apex_process.specs.Lists.{goes_before, is_list, list_of, queue_list}
 use Rattle.apex_process.specs.Owners.{is_owner, AreOwners}
-use Rattle.apex_process.specs.Queued.{AreEmptied, AreKept, IsQueued, IsUnreadied, Standings, StandsReady}
+use Rattle.apex_process.specs.Queued.{AreEmptied, AreKept, IsQueued, IsUnreadied, Standings, IsListedReady}
 use Rattle.apex_process.proofs.Kept.{goes_same, order_same, place_none}
 use Rattle.apex_process.proofs.Places.{in_no_ready, listed_ready, listed_waiting, no_queue}
 use Rattle.apex_process.proofs.Renewals.{listed_none}
@@ -160,7 +160,7 @@ opens_by table roster s processes is many few links rows = rw is (opens table s 
 pub opens_owners_by : (table : Table) (roster : Roster) (words : List ℕ) → roster ≡ opening_roster table → ((m p : ℕ) → is_owner words m p ≡ false) → AreOwners roster words
 opens_owners_by table roster words is none = rw is (opens_owners table words none)
 
-pub unreadied : (links new : Links) (p : ℕ) → StandsReady links p true → new ≡ removed links p → IsFree new p → IsUnreadied links new p
+pub unreadied : (links new : Links) (p : ℕ) → IsListedReady links p true → new ≡ removed links p → IsFree new p → IsUnreadied links new p
 unreadied links new p stands left free = record {
   gone = λ m _. free m;
   stood = λ q m here. stood_before p q (list_at links m) (rw (left, at_removed links p m) at here);

@@ -72,8 +72,8 @@ module _ (old new : Roster) (s : Standings) (p : ℕ) (was : IsQueued old s) (di
   abbrev links : Links
   links = removed s.links p
 
-  abbrev row : Record
-  row = record_at new p
+  abbrev fields : Record
+  fields = record_at new p
 
   -- the lists without process p
   but : AreListsBut (list_of new) (goes_before new) links p
@@ -81,7 +81,7 @@ module _ (old new : Roster) (s : Standings) (p : ℕ) (was : IsQueued old s) (di
       (λ q apart. rw (mode, others q apart) refl)
       (λ q r a b. order_same old new q r disciplines (others q a) (others r b))
 
-  pub places_then : HasPlace new.mode row → HavePlaces new
+  pub places_then : HasPlace new.mode fields → HavePlaces new
   places_then place q = elim (cases_eq q p) as (λ _. HasPlace new.mode (record_at new q)) [
     | inl e ↦ rw e place
     | inr apart ↦ rw (mode, others q apart) (was.places q)
@@ -92,36 +92,36 @@ module _ (old new : Roster) (s : Standings) (p : ℕ) (was : IsQueued old s) (di
       let before = rw (others q apart) at (sym (goes_same old new disciplines (queue_in (record_at new q))) ∙ goes) in
       rw (others q apart) (was.noted q before)
 
-  module _ (place : HasPlace new.mode row) where
+  module _ (place : HasPlace new.mode fields) where
     -- the others of its list wait in the same queue
-    with_it : (q l : ℕ) → list_of new q ≡ Some l → list_of new p ≡ Some l → queue_in (record_at new q) ≡ queue_in row
-    with_it q l e f = one_queue new.mode (record_at new q) row l (places_then place q) place e f
+    with_it : (q l : ℕ) → list_of new q ≡ Some l → list_of new p ≡ Some l → queue_in (record_at new q) ≡ queue_in fields
+    with_it q l e f = one_queue new.mode (record_at new q) fields l (places_then place q) place e f
 
     -- process p goes behind all others, or by its priority, as the newest
-    module _ (newest : (l : ℕ) → list_of new p ≡ Some l → row.since ≡ old.young) where
-      older : (q l : ℕ) → q ≢ p → list_of new q ≡ Some l → list_of new p ≡ Some l → (record_at new q).since <ℤ row.since
+    module _ (newest : (l : ℕ) → list_of new p ≡ Some l → fields.since ≡ old.young) where
+      older : (q l : ℕ) → q ≢ p → list_of new q ≡ Some l → list_of new p ≡ Some l → (record_at new q).since <ℤ fields.since
       older q l apart e f =
           let before : list_of old q ≡ Some l = rw (mode, others q apart) at e in
           rw (newest l f, others q apart) (was.stamped.given q (listed_known old q l before))
 
-      behind : (l : ℕ) → list_of new p ≡ Some l → discipline_in new (queue_in row) ≡ Fifo → l < length links.lists
+      behind : (l : ℕ) → list_of new p ≡ Some l → discipline_in new (queue_in fields) ≡ Fifo → l < length links.lists
           → AreLists (list_of new) (goes_before new) (with_list links l (list_at links l ++ p ∷ []))
       behind l here fifo known = enter_keeps (list_of new) (goes_before new) links p but l _ here known (λ q. stands_behind p q (list_at links l))
           (sorted_behind (goes_before new) p (list_at links l)
           (λ q stands. let other = other_there (list_of new) (goes_before new) links p but q l stands in
-          rw (with_it q l other.1 here, fifo) (older_first (record_at new q) row (older q l other.0 other.1 here)))
+          rw (with_it q l other.1 here, fifo) (older_first (record_at new q) fields (older q l other.0 other.1 here)))
           (but.sorted l))
 
-      ranked : (l : ℕ) → list_of new p ≡ Some l → discipline_in new (queue_in row) ≡ Priority → l < length links.lists
-          → AreLists (list_of new) (goes_before new) (with_list links l (placed (is_lower s.priorities (current_priority row)) p (list_at links l)))
-      ranked l here rank known = enter_keeps (list_of new) (goes_before new) links p but l _ here known (λ q. stands_placed (is_lower s.priorities (current_priority row)) p q (list_at links l))
-          (sorted_placed (goes_before new) (is_lower s.priorities (current_priority row)) p (list_at links l)
-          (λ q stands low. rw rank (higher_first row (record_at new q) (less q (noted_there q stands) low)))
+      ranked : (l : ℕ) → list_of new p ≡ Some l → discipline_in new (queue_in fields) ≡ Priority → l < length links.lists
+          → AreLists (list_of new) (goes_before new) (with_list links l (placed (is_lower s.priorities (current_priority fields)) p (list_at links l)))
+      ranked l here rank known = enter_keeps (list_of new) (goes_before new) links p but l _ here known (λ q. stands_placed (is_lower s.priorities (current_priority fields)) p q (list_at links l))
+          (sorted_placed (goes_before new) (is_lower s.priorities (current_priority fields)) p (list_at links l)
+          (λ q stands low. rw rank (higher_first fields (record_at new q) (less q (noted_there q stands) low)))
           (λ q stands high. let other = there q stands in
-          rw (with_it q l other.1 here, rank) (level_first (record_at new q) row (least q (noted_there q stands) high) (older q l other.0 other.1 here)))
+          rw (with_it q l other.1 here, rank) (level_first (record_at new q) fields (least q (noted_there q stands) high) (older q l other.0 other.1 here)))
           (λ q r stands stands' low ahead.
           let not = not_higher (record_at new q) (record_at new r) (rw (with_it q l (there q stands).1 here, rank) at ahead) in
-          rw rank (higher_first row (record_at new r) (omega (arith, not, less q (noted_there q stands) low))))
+          rw rank (higher_first fields (record_at new r) (omega (arith, not, less q (noted_there q stands) low))))
           (but.sorted l)) where
             there : (q : ℕ) → stands_in q (list_at links l) ≡ true → (q ≢ p) × (list_of new q ≡ Some l)
             there q stands = other_there (list_of new) (goes_before new) links p but q l stands
@@ -130,31 +130,31 @@ module _ (old new : Roster) (s : Standings) (p : ℕ) (was : IsQueued old s) (di
             noted_there q stands = let other = there q stands in
                 noted_others q other.0 (goes_is new (queue_in (record_at new q)) ∙ rw (with_it q l other.1 here, rank) refl)
 
-            least : (q : ℕ) → priority_of s.priorities q ≡ current_priority (record_at new q) → is_lower s.priorities (current_priority row) q ≡ false
-                → current_priority row ≤ current_priority (record_at new q)
+            least : (q : ℕ) → priority_of s.priorities q ≡ current_priority (record_at new q) → is_lower s.priorities (current_priority fields) q ≡ false
+                → current_priority fields ≤ current_priority (record_at new q)
             least q e f = grind (arith, nat_tests, e, f)
 
-            less : (q : ℕ) → priority_of s.priorities q ≡ current_priority (record_at new q) → is_lower s.priorities (current_priority row) q ≡ true
-                → current_priority (record_at new q) < current_priority row
+            less : (q : ℕ) → priority_of s.priorities q ≡ current_priority (record_at new q) → is_lower s.priorities (current_priority fields) q ≡ true
+                → current_priority (record_at new q) < current_priority fields
             less q e f = grind (arith, nat_tests, e, f)
 
       within : (queue : Queue) → IsNumbered queue → wait_list queue < length links.lists
       within queue i = omega (arith, place_below queue i, as_many_removed s.links p, was.room)
 
-      in_queue : (queue : Queue) (d : Discipline) → IsNumbered queue → list_of new p ≡ Some (wait_list queue) → discipline_in new (queue_in row) ≡ d
-          → AreLists (list_of new) (goes_before new) (with_list links (wait_list queue) (queued d s.priorities p (current_priority row) (list_at links (wait_list queue))))
+      in_queue : (queue : Queue) (d : Discipline) → IsNumbered queue → list_of new p ≡ Some (wait_list queue) → discipline_in new (queue_in fields) ≡ d
+          → AreLists (list_of new) (goes_before new) (with_list links (wait_list queue) (queued d s.priorities p (current_priority fields) (list_at links (wait_list queue))))
       in_queue queue Fifo i here is = behind (wait_list queue) here is (within queue i)
       in_queue queue Priority i here is = ranked (wait_list queue) here is (within queue i)
 
-      waiting_then : is_eligible new.mode row ≡ false → (o : Option Queue) → queue_in row ≡ o → AreLists (list_of new) (goes_before new) (waits_then new s.priorities links p row o)
-      waiting_then out None e = rest_keeps (list_of new) (goes_before new) links p but (rw (listed_waiting new.mode row out, e) refl)
-      waiting_then out (Some queue) e = in_queue queue (discipline_of new queue) (place.queue out queue e) (rw (listed_waiting new.mode row out, e) refl) (rw e refl)
+      waiting_then : is_eligible new.mode fields ≡ false → (o : Option Queue) → queue_in fields ≡ o → AreLists (list_of new) (goes_before new) (waits_then new s.priorities links p fields o)
+      waiting_then out None e = rest_keeps (list_of new) (goes_before new) links p but (rw (listed_waiting new.mode fields out, e) refl)
+      waiting_then out (Some queue) e = in_queue queue (discipline_of new queue) (place.queue out queue e) (rw (listed_waiting new.mode fields out, e) refl) (rw e refl)
 
-      pub lists_then : AreLists (list_of new) (goes_before new) (placed_newest new s.priorities links p row)
-      lists_then = cond_both {A = Links} (is_eligible new.mode row) _ _ (λ it. AreLists (list_of new) (goes_before new) it)
-          (λ e. behind (ready_list row.core (current_priority row)) (listed_ready new.mode row e) (rw (no_queue new.mode row e) refl)
+      pub lists_then : AreLists (list_of new) (goes_before new) (placed_newest new s.priorities links p fields)
+      lists_then = cond_both {A = Links} (is_eligible new.mode fields) _ _ (λ it. AreLists (list_of new) (goes_before new) it)
+          (λ e. behind (ready_list fields.core (current_priority fields)) (listed_ready new.mode fields e) (rw (no_queue new.mode fields e) refl)
           (omega (arith, place.core e, place.priority e, as_many_removed s.links p, was.room)))
-          (λ e. waiting_then e (queue_in row) refl)
+          (λ e. waiting_then e (queue_in fields) refl)
 
 -- a process's place changes neither the number of processes nor that of lists
 same_processes : (new : Roster) (priorities : List ℕ) (links : Links) (p : ℕ) (r : Record) → (placed_newest new priorities links p r).processes ≡ links.processes
@@ -331,14 +331,14 @@ pub kept_by : (old new target : Roster) (s : Standings) → IsQueued old s → n
 kept_by old new target s was is keeps = kept old new s was (rw is keeps)
 
 -- the same, if the record of process p was read
-pub renewed_row : (old new target : Roster) (s t : Standings) (p : ℕ) (row : Record) → p < length old.records → IsQueued old s → new ≡ target → Renews old target p
-    → row ≡ record_at new p → t.links ≡ placed_newest new s.priorities (removed s.links p) p row → t.priorities ≡ noted_newest new s.priorities p row
-    → HasPlace new.mode row → IsQueued new t
-renewed_row old new target s t p row known was is renews read links priorities place =
+pub renewed_row : (old new target : Roster) (s t : Standings) (p : ℕ) (fields : Record) → p < length old.records → IsQueued old s → new ≡ target → Renews old target p
+    → fields ≡ record_at new p → t.links ≡ placed_newest new s.priorities (removed s.links p) p fields → t.priorities ≡ noted_newest new s.priorities p fields
+    → HasPlace new.mode fields → IsQueued new t
+renewed_row old new target s t p fields known was is renews read links priorities place =
     renewed old new s t p known was (rw is renews) (rw read at links) (rw read at priorities) (rw read at place)
 
-pub aged_row : (old new target : Roster) (s t : Standings) (p : ℕ) (row : Record) → IsQueued old s → new ≡ target → Ages old target p
-    → row ≡ record_at new p → t.links ≡ placed_oldest (removed s.links p) p row → t.priorities ≡ s.priorities
-    → row.core < MOST_CORES → current_priority row < PRIORITIES → IsQueued new t
-aged_row old new target s t p row was is ages read links priorities core priority =
+pub aged_row : (old new target : Roster) (s t : Standings) (p : ℕ) (fields : Record) → IsQueued old s → new ≡ target → Ages old target p
+    → fields ≡ record_at new p → t.links ≡ placed_oldest (removed s.links p) p fields → t.priorities ≡ s.priorities
+    → fields.core < MOST_CORES → current_priority fields < PRIORITIES → IsQueued new t
+aged_row old new target s t p fields was is ages read links priorities core priority =
     aged old new s t p was (rw is ages) (rw read at links) priorities (rw read at core) (rw read at priority)

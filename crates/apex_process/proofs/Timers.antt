@@ -224,14 +224,14 @@ timers_resume old p known = cond_both {A = Roster} (stamps.is_by_itself (record_
       waitless r since none = ap (λ (s : Record). s.wait) (replaces_readied old p known r since).here ∙ none
 
 -- the timers of process p are set, if its record was read
-module _ (old new target : Roster) (dues deadlines news newers : Times) (p : ℕ) (row : Record) (timers : AreTimers old dues deadlines) (is : new ≡ target)
-    (retimes : Retimes old target p) (read : row ≡ record_at new p) where
-  pub retimed_row : (mids mides : Times) → IsReset dues mids p row.due → mides ≡ deadlines → news ≡ mids → IsReset mides newers p row.deadline → AreTimers new news newers
+module _ (old new target : Roster) (dues deadlines news newers : Times) (p : ℕ) (fields : Record) (timers : AreTimers old dues deadlines) (is : new ≡ target)
+    (retimes : Retimes old target p) (read : fields ≡ record_at new p) where
+  pub retimed_row : (mids mides : Times) → IsReset dues mids p fields.due → mides ≡ deadlines → news ≡ mids → IsReset mides newers p fields.deadline → AreTimers new news newers
   retimed_row mids mides due same stays deadline =
       retimed_by old new target dues deadlines news newers p timers is retimes
       (reset_as (ap (λ (r : Record). r.due) read) (rw stays due)) (reset_as (ap (λ (r : Record). r.deadline) read) (rw (← same) deadline))
 
-  pub due_row : deadline_of target p ≡ deadline_of old p → IsReset dues news p row.due → newers ≡ deadlines → AreTimers new news newers
+  pub due_row : deadline_of target p ≡ deadline_of old p → IsReset dues news p fields.due → newers ≡ deadlines → AreTimers new news newers
   due_row same due stays =
       retimed_by old new target dues deadlines news newers p timers is retimes
       (reset_as (ap (λ (r : Record). r.due) read) due) (deadline_stays new target newers p timers is same stays)

@@ -73,6 +73,6 @@ pub record AreEmptied (old new : Links) : Type 0 where
   pub many : length new.lists ≡ length old.lists
 
 -- whether process p is in a ready list: if so it is in no queue's list, and else in no ready list
-pub record StandsReady (links : Links) (p : ℕ) (is : Bool) : Type 0 where
+pub record IsListedReady (links : Links) (p : ℕ) (is : Bool) : Type 0 where
   pub ready : is ≡ true → (l : ℕ) → READY_LISTS ≤ l → stands_in p (list_at links l) ≡ false
   pub other : is ≡ false → (l : ℕ) → l < READY_LISTS → stands_in p (list_at links l) ≡ false

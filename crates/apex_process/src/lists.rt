@@ -8,7 +8,7 @@ ghost use Rattle.apex_links.specs.Links.{list_at, removed, IsFree, IsSound};
 ghost use Rattle.apex_ready.specs.ReadyOrders.{IsIdle, IsTop};
 ghost use Rattle.apex_waitq.specs.WaitQueues.{wait_list, IsNumbered};
 ghost use Rattle.apex_process.specs.Lists.{noted_newest, placed_newest, placed_oldest, HasPlace};
-ghost use Rattle.apex_process.specs.Queued.{AreEmptied, AreKept, IsUnreadied, StandsReady};
+ghost use Rattle.apex_process.specs.Queued.{AreEmptied, AreKept, IsUnreadied, IsListedReady};
 
 use apex_links::{ALL_LISTS, LinkSet, READY_LISTS};
 use apex_machine::{Queue, Record};
@@ -81,7 +81,7 @@ impl Lists {
     /// The process is in a ready list; else it waits in a queue, or is in no list.
     fn is_ready(&self, process: ProcessId) -> bool
         requires { process < self.now.links.processes }
-        ensures { StandsReady self.now.links process result }
+        ensures { IsListedReady self.now.links process result }
     {
         match self.links.list_of(process) {
             Some(list) => list.place() < READY_LISTS,

@@ -5,7 +5,7 @@ use Rattle.apex_types.specs.declared.entries.Entry.{Entry}
 use Rattle.apex_types.specs.declared.entries.Who.{Who}
 use Rattle.apex_receipts.specs.declared.law.Note.{Note}
 use Rattle.apex_receipts.specs.Notes.{ends, entries_of, said}
-use Rattle.apex_receipts.specs.Receipts.{IsLabelled, Stands, count_who, own_entries}
+use Rattle.apex_receipts.specs.Receipts.{IsLabelled, IsAtItsPlace, count_who, own_entries}
 use Rattle.apex_receipts.specs.Rules.{HasMet, HasWritten}
 use Rattle.apex_receipts.proofs.Alone.{alone_ends, alone_entries}
 use Rattle.apex_receipts.proofs.Own.{count_most, own_same, own_snoc}
@@ -36,7 +36,7 @@ pub record IsRecorded (l : ℕ) (voice : Who → ℕ) (who : Who) (own heard : L
   pub counted : count_who who (entries_of l log) ≡ count + 1
   pub few : count ≤ length (entries_of l heard)
   pub within : length (entries_of l heard) ≤ length (entries_of l own)
-  pub stands : e.number ≡ length (entries_of l own) + 1 → Stands (entries_of l log) e (count + 1)
+  pub stands : e.number ≡ length (entries_of l own) + 1 → IsAtItsPlace (entries_of l log) e (count + 1)
 
 pub recorded : (l : ℕ) (voice : Who → ℕ) (who : Who) (own mine heard : List Note) (count : ℕ) (e : Entry) (log : List Note)
     → HasWritten l (voice who) own mine heard e log → e.who ≡ who → IsLabelled l voice own

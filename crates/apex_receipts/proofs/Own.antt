@@ -7,7 +7,7 @@ use mathlib.Core.List.{IsPrefix}
 use Rattle.apex_types.specs.declared.entries.Entry.{Entry}
 use Rattle.apex_types.specs.declared.entries.Who.{Who}
 use Rattle.apex_types.specs.declared.entries.Who.TheVariants.{Core, Ticker}
-use Rattle.apex_receipts.specs.Receipts.{Stands, count_who, is_who, own_entries}
+use Rattle.apex_receipts.specs.Receipts.{IsAtItsPlace, count_who, is_who, own_entries}
 
 pub own_append : (who : Who) (xs ys : List Entry) → own_entries who (xs ++ ys) ≡ own_entries who xs ++ own_entries who ys
 own_append who xs ys = filter-append (λ (e : Entry). is_who who e.who) xs ys
@@ -47,8 +47,8 @@ own_snoc who es e same =
     own_append who es (e ∷ []) ∙ ap (λ (w : List Entry). own_entries who es ++ w) one
 
 -- an entry in a prefix of the history is in the history
-pub stands_begin : (first es : List Entry) (e : Entry) (place : ℕ) → IsPrefix first es → Stands first e place → Stands es e place
-stands_begin first es e place begins stands =
+pub place_begin : (first es : List Entry) (e : Entry) (place : ℕ) → IsPrefix first es → IsAtItsPlace first e place → IsAtItsPlace es e place
+place_begin first es e place begins stands =
     record {
       before = stands.before;
       after = stands.after ++ begins.0;

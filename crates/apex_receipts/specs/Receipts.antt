@@ -26,7 +26,7 @@ count_who who history = length (own_entries who history)
 
 -- the entry is in the history at its number, and the place is its number among those of its core or
 -- of the ticker
-pub record Stands (history : List Entry) (e : Entry) (place : ℕ) : Type 0 where
+pub record IsAtItsPlace (history : List Entry) (e : Entry) (place : ℕ) : Type 0 where
   pub before : List Entry
   pub after : List Entry
   pub parts : history ≡ before ++ e ∷ after

@@ -20,14 +20,14 @@ pub struct Receipt<P: Naming> {
 impl<P: Naming> Model for Receipt<P> {
     ghost use Rattle.std.specs.Prelude.{◌≡◌};
     ghost use Rattle.apex_receipts.specs.Notes.{ends, entries_of};
-    ghost use Rattle.apex_receipts.specs.Receipts.{Confirmed, Stands};
+    ghost use Rattle.apex_receipts.specs.Receipts.{Confirmed, IsAtItsPlace};
 
     ghost Value = { Confirmed };
 
     ghost view = { λ r. record { entry = r.entry; place = r.place } };
 
     ghost invariant = { λ r. (r.seen.book ≡ P.book)
-        × Stands (entries_of P.scribe r.seen.log) r.entry r.place
+        × IsAtItsPlace (entries_of P.scribe r.seen.log) r.entry r.place
         × (ends P.scribe r.seen.log ≡ 0) };
 }
 

@@ -1,7 +1,7 @@
 //! The scribe, which writes the history down under the lock.
 ghost use Rattle.std.specs.Prelude.{◌≡◌, ◌+◌, ◌<◌, ◌≤◌, ◌^◌, true, [], ◌∷◌, ◌++◌, length};
 ghost use Rattle.apex_receipts.specs.Notes.{ends, entries_of};
-ghost use Rattle.apex_receipts.specs.Receipts.{Stands, own_entries, told_full, with_entry};
+ghost use Rattle.apex_receipts.specs.Receipts.{IsAtItsPlace, own_entries, told_full, with_entry};
 ghost use Rattle.apex_receipts.specs.Rules.{head_of};
 
 use crate::keeping::keep_in;
@@ -64,7 +64,7 @@ impl<P: Naming> Scribe<P> {
         ensures history { self.new ≡ self.old ++ entry.entry.now ∷ [] }
         ensures voice { voice.new ≡ with_entry voice.old entry.entry.now }
         ensures book { result.book ≡ P.book }
-        ensures stands { Stands (entries_of P.scribe result.log) entry.entry.now
+        ensures placed { IsAtItsPlace (entries_of P.scribe result.log) entry.entry.now
             (length voice.old.own + 1) }
         ensures unended { ends P.scribe result.log ≡ 0 }
     {
@@ -131,7 +131,7 @@ impl<P: Naming> Scribe<P> {
     /// The receipt's entry is in the history, at its number and its place.
     pub fn shows(&mut self, receipt: &Receipt<P>)
         ensures same { self.new ≡ self.old }
-        ensures stands { Stands self.old receipt.now.entry receipt.now.place }
+        ensures placed { IsAtItsPlace self.old receipt.now.entry receipt.now.place }
     {
         self.speaker.hear(&self.head, &receipt.seen);
     }

@@ -1,6 +1,6 @@
 //! The history that a scribe has finished.
 ghost use Rattle.std.specs.Prelude.{◌≡◌};
-ghost use Rattle.apex_receipts.specs.Receipts.{Stands};
+ghost use Rattle.apex_receipts.specs.Receipts.{IsAtItsPlace};
 
 use crate::law::Known;
 use crate::naming::Naming;
@@ -30,7 +30,7 @@ impl<P: Naming> Model for Story<P> {
 impl<P: Naming> Story<P> {
     /// The receipt's entry is in the history, at its number and its place.
     pub fn confirm(&self, receipt: &Receipt<P>)
-        ensures { Stands self.now receipt.now.entry receipt.now.place }
+        ensures { IsAtItsPlace self.now receipt.now.entry receipt.now.place }
     {
         let mut all = self.seen.again();
         all.learn(&receipt.seen);

@@ -132,7 +132,7 @@ impl Object for Semaphore {
 
     ghost kind = { semaphore_kind };
 
-    ghost Stands = { λ roster s. Unit {0} };
+    ghost IsThere = { λ roster s. Unit {0} };
 
     fn is_created(&self) -> bool {
         self.created

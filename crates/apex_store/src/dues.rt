@@ -25,8 +25,8 @@ pub fn earliest(records: &[Record]) -> Option<u64>
 {
     let mut earliest: Option<u64> = None;
     for place in (0..records.len()).rev() {
-        let row = &records[place];
-        earliest = sooner(row.due, sooner(row.deadline, earliest));
+        let fields = &records[place];
+        earliest = sooner(fields.due, sooner(fields.deadline, earliest));
     }
     earliest
 }
@@ -35,7 +35,7 @@ pub fn earliest(records: &[Record]) -> Option<u64>
 fn place_due(instant: u64, records: &[Record]) -> Option<usize>
     ensures { result ≡ position (is_due_at instant) records.now }
 {
-    records.iter().position(|row| is_due_at(instant, row))
+    records.iter().position(|fields| is_due_at(instant, fields))
 }
 
 /// The process of the lowest number whose due is this instant.
@@ -54,7 +54,9 @@ pub fn first_due(instant: u64, records: &[Record]) -> Option<ProcessId>
 fn place_missed(instant: u64, records: &[Record]) -> Option<usize>
     ensures { result ≡ position (is_missed_at instant) records.now }
 {
-    records.iter().position(|row| is_missed_at(instant, row))
+    records
+        .iter()
+        .position(|fields| is_missed_at(instant, fields))
 }
 
 /// The process of the lowest number whose deadline is this instant.

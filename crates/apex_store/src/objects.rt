@@ -27,7 +27,7 @@ pub trait Object: Drop {
     ghost kind: { ObjectKind Config Self Self.KindService };
 
     /// The premise of the kind's services about the store, for the object at a place.
-    ghost Stands: { Roster → ℕ → Type 0 };
+    ghost IsThere: { Roster → ℕ → Type 0 };
 
     fn is_created(&self) -> bool
         ensures { result ≡ kind.created self.now };
@@ -38,7 +38,7 @@ pub trait Object: Drop {
 
     /// The two numbers of the object's status.
     fn status<S: Store>(&self, store: &S, id: Id<Self::IdKind>) -> Reply
-        requires stands { Stands (S.roster store.now) id }
+        requires there { IsThere (S.roster store.now) id }
         ensures { result ≡ kind.status (S.roster store.now) self.now id };
 
     /// Carries out a service that this kind alone has.
@@ -50,7 +50,7 @@ pub trait Object: Drop {
         service: &Self::KindService,
         notices: &mut Notices,
     ) -> Reply
-        requires stands { Stands (S.roster store.old) id }
+        requires there { IsThere (S.roster store.old) id }
         requires caller { IsReadyCaller (S.roster store.old) caller.now }
         requires can { CanServe (S.roster store.old) notices.old }
         ensures { Leaves (kind.service (S.roster store.old) self.old id caller.now service.now)
@@ -86,7 +86,7 @@ fn get_id<O: Object>(object: &O, id: Id<O::IdKind>) -> Reply
 
 /// GET_STATUS: INVALID_PARAM if the object is not created.
 fn get_status<S: Store, O: Object>(store: &S, object: &O, id: Id<O::IdKind>) -> Reply
-    requires stands { O.Stands (S.roster store.now) id }
+    requires there { O.IsThere (S.roster store.now) id }
     ensures { Leaves (objects.get_status O.kind (S.roster store.now) object.now id)
         (S.roster store.now) object.now result [] [] }
 {
@@ -106,7 +106,7 @@ fn serve_one<S: Store, O: Object>(
     call: &ObjectCall<Id<O::IdKind>, O::KindService>,
     notices: &mut Notices,
 ) -> Reply
-    requires stands { O.Stands (S.roster store.old) id }
+    requires there { O.IsThere (S.roster store.old) id }
     requires caller { IsReadyCaller (S.roster store.old) caller.now }
     requires can { CanServe (S.roster store.old) notices.old }
     ensures { Leaves (objects.object_service O.kind
@@ -146,7 +146,7 @@ pub fn serve_object<S: Store, O: Object>(
     notices: &mut Notices,
 ) -> Reply
     requires known { IsKnownObject (length all.old) call.now }
-    requires stands { (i : ℕ) → i < length all.old → O.Stands (S.roster store.old) i }
+    requires there { (i : ℕ) → i < length all.old → O.IsThere (S.roster store.old) i }
     requires caller { IsReadyCaller (S.roster store.old) caller.now }
     requires can { CanServe (S.roster store.old) notices.old }
     ensures { Leaves (objects.object_deed O.kind (S.roster store.old) all.old caller.now call.now)

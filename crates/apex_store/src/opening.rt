@@ -20,7 +20,7 @@ fn push_opening(records: &mut Vec<Record>, place: usize, process: &ProcessConfig
     ensures room { vec_capacity records.new ≡ vec_capacity records.old }
 {
     let base = process.attributes().priority;
-    let row = Record {
+    let fields = Record {
         attributes: process.attributes(),
         core: CoreId::new(0),
         base,
@@ -36,13 +36,13 @@ fn push_opening(records: &mut Vec<Record>, place: usize, process: &ProcessConfig
         inbox: None,
     };
     // The push copies the record, and the types of its fields are wanted by name here.
-    let _period = &row.attributes.period;
-    let _suspended = &row.suspended;
-    let _wait = &row.wait;
-    if let Some(message) = &row.inbox {
+    let _period = &fields.attributes.period;
+    let _suspended = &fields.suspended;
+    let _wait = &fields.wait;
+    if let Some(message) = &fields.inbox {
         let _origin = &message.origin;
     }
-    records.push_reserved(row);
+    records.push_reserved(fields);
 }
 
 /// The records before any event.

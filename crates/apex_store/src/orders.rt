@@ -9,11 +9,11 @@ use apex_types::{CoreId, Discipline, Mode, ProcessId};
 
 /// The process is eligible and bound to the core.
 #[tactic(auto, unfolding(apex_machine::specs::processes::Running::runs_on))]
-pub fn runs_on(mode: Mode, core: CoreId, row: &Record) -> bool
-    ensures { result ≡ runs_on mode core row.now }
+pub fn runs_on(mode: Mode, core: CoreId, fields: &Record) -> bool
+    ensures { result ≡ runs_on mode core fields.now }
 {
     // Most processes wait, so that is looked at first.
-    row.core == core && row.wait.is_none() && row.is_eligible(mode)
+    fields.core == core && fields.wait.is_none() && fields.is_eligible(mode)
 }
 
 /// The process is this one.
@@ -56,10 +56,10 @@ pub fn is_before(first: &Record, second: &Record) -> bool
 
 /// The process waits in the queue.
 #[tactic(auto, unfolding(apex_machine::specs::processes::Waiters::waits_in))]
-pub fn waits_in(queue: Queue, row: &Record) -> bool
-    ensures { result ≡ waits_in queue row.now }
+pub fn waits_in(queue: Queue, fields: &Record) -> bool
+    ensures { result ≡ waits_in queue fields.now }
 {
-    let Some(wait) = &row.wait else {
+    let Some(wait) = &fields.wait else {
         return false;
     };
     match queue {
@@ -87,18 +87,18 @@ pub fn waits_before(discipline: Discipline, first: &Record, second: &Record) -> 
 
 /// The process waits in the queue of this discipline, behind that one.
 #[tactic(auto, unfolding(apex_machine::specs::processes::Waiters::waits_behind))]
-pub fn waits_behind(discipline: Discipline, queue: Queue, ahead: &Record, row: &Record) -> bool
-    ensures { result ≡ waits_behind discipline queue ahead.now row.now }
+pub fn waits_behind(discipline: Discipline, queue: Queue, ahead: &Record, fields: &Record) -> bool
+    ensures { result ≡ waits_behind discipline queue ahead.now fields.now }
 {
-    waits_in(queue, row) && waits_before(discipline, ahead, row)
+    waits_in(queue, fields) && waits_before(discipline, ahead, fields)
 }
 
 /// The process's due is this instant, in ticks.
 #[tactic(auto, unfolding(apex_machine::specs::processes::Dues::is_due_at))]
-pub fn is_due_at(instant: u64, row: &Record) -> bool
-    ensures { result ≡ is_due_at instant row.now }
+pub fn is_due_at(instant: u64, fields: &Record) -> bool
+    ensures { result ≡ is_due_at instant fields.now }
 {
-    match row.due {
+    match fields.due {
         Some(due) => instant == due,
         None => false,
     }
@@ -106,10 +106,10 @@ pub fn is_due_at(instant: u64, row: &Record) -> bool
 
 /// The process's deadline is this instant, in ticks.
 #[tactic(auto, unfolding(apex_machine::specs::processes::Dues::is_missed_at))]
-pub fn is_missed_at(instant: u64, row: &Record) -> bool
-    ensures { result ≡ is_missed_at instant row.now }
+pub fn is_missed_at(instant: u64, fields: &Record) -> bool
+    ensures { result ≡ is_missed_at instant fields.now }
 {
-    match row.deadline {
+    match fields.deadline {
         Some(deadline) => instant == deadline,
         None => false,
     }

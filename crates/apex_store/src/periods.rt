@@ -18,8 +18,8 @@ pub fn next_release<S: Store>(store: &S, process: ProcessId) -> Option<u64>
         (record_at (S.roster store.now) process) }
     ensures later { IsFrom (S.roster store.now).now result }
 {
-    let row = store.record(process);
-    let period = u64::from(row.attributes.period?.ticks());
-    let passed = (store.now() - row.release) / period;
-    Some(row.release + (passed + 1) * period)
+    let fields = store.record(process);
+    let period = u64::from(fields.attributes.period?.ticks());
+    let passed = (store.now() - fields.release) / period;
+    Some(fields.release + (passed + 1) * period)
 }

@@ -82,24 +82,24 @@ fn suspension_awake(suspended: Option<Suspender>) -> Option<Suspender>
 }
 
 /// The record of a process that wakes: it waits for nothing, and is not suspended by itself.
-fn awake(row: Record) -> Record
-    ensures { result ≡ stamps.awake row }
+fn awake(fields: Record) -> Record
+    ensures { result ≡ stamps.awake fields }
 {
     Record {
-        suspended: suspension_awake(row.suspended),
+        suspended: suspension_awake(fields.suspended),
         wait: None,
         due: None,
-        ..row
+        ..fields
     }
 }
 
 /// The instant, in ticks, at which the process's deadline passes if it begins to run at this one.
 /// None if its capacity is infinite.
-fn deadline_from(instant: u64, row: &Record) -> Option<u64>
+fn deadline_from(instant: u64, fields: &Record) -> Option<u64>
     requires { instant ≤ latest }
-    ensures { result ≡ deadline_from instant row.now }
+    ensures { result ≡ deadline_from instant fields.now }
 {
-    match row.attributes.capacity {
+    match fields.attributes.capacity {
         Some(capacity) => Some(instant + u64::from(capacity.ticks())),
         None => None,
     }
@@ -107,38 +107,38 @@ fn deadline_from(instant: u64, row: &Record) -> Option<u64>
 
 /// The record of a process that is released at this instant, in ticks: it waits for nothing, and
 /// its deadline begins to run.
-fn released_at(instant: u64, row: Record) -> Record
+fn released_at(instant: u64, fields: Record) -> Record
     requires { instant ≤ latest }
-    ensures { result ≡ stamps.released_at instant row }
+    ensures { result ≡ stamps.released_at instant fields }
 {
-    let deadline = deadline_from(instant, &row);
+    let deadline = deadline_from(instant, &fields);
     Record {
         release: instant,
         deadline,
-        ..awake(row)
+        ..awake(fields)
     }
 }
 
 /// The record of a process at its start: not suspended, at the table's priority and first step,
 /// with an empty inbox.
-fn reset(row: Record) -> Record
-    ensures { result ≡ stamps.reset row }
+fn reset(fields: Record) -> Record
+    ensures { result ≡ stamps.reset fields }
 {
     Record {
-        base: row.attributes.priority,
+        base: fields.attributes.priority,
         started: true,
         suspended: None,
         step: 0,
         inbox: None,
-        ..row
+        ..fields
     }
 }
 
 /// The current priority of this record stays with this base priority and these mutexes.
-pub fn stays_level(row: &Record, base: u8, owned: &Holdings) -> bool
-    ensures { result ≡ stamps.is_level (record row.now { base = base; owned = owned.now }) row.now }
+pub fn stays_level(fields: &Record, base: u8, owned: &Holdings) -> bool
+    ensures { result ≡ stamps.is_level (record fields.now { base = base; owned = owned.now }) fields.now }
 {
-    owned.raised(base) == row.current_priority()
+    owned.raised(base) == fields.current_priority()
 }
 
 /// The discipline at this place, and FIFO past the end.
@@ -157,7 +157,10 @@ fn waiter_count(queue: Queue, records: &[Record]) -> u32
     requires { length records.now ≤ MOST_PROCESSES }
     ensures { result ≡ count_by (waits_in queue) records.now }
 {
-    records.iter().filter(|row| waits_in(queue, row)).count() as u32
+    records
+        .iter()
+        .filter(|fields| waits_in(queue, fields))
+        .count() as u32
 }
 
 impl PlainStore {
@@ -244,41 +247,41 @@ impl PlainStore {
     }
 
     /// The process has this record from now on.
-    fn put(&mut self, process: ProcessId, row: Record)
+    fn put(&mut self, process: ProcessId, fields: Record)
         requires { process < length self.old.records }
-        ensures { self.new ≡ with_record self.old process row }
+        ensures { self.new ≡ with_record self.old process fields }
     {
         let place = self.look(process);
-        self.records[place] = row;
+        self.records[place] = fields;
     }
 
     /// The process has this record with the next stamp upwards.
-    fn put_newest(&mut self, process: ProcessId, row: Record)
+    fn put_newest(&mut self, process: ProcessId, fields: Record)
         requires known { process < length self.old.records }
         requires stamps { stamps.HasStamps self.old }
-        ensures { self.new ≡ stamps.newest self.old process row }
+        ensures { self.new ≡ stamps.newest self.old process fields }
     {
         let stamp = self.next_young;
         self.next_young += 1;
         let place = self.look(process);
         self.records[place] = Record {
             since: stamp,
-            ..row
+            ..fields
         };
     }
 
     /// The process has this record, and is the newest if the record is eligible.
     // Inlined, so that the record is built in its place.
     #[inline(always)]
-    fn put_readied(&mut self, process: ProcessId, row: Record)
+    fn put_readied(&mut self, process: ProcessId, fields: Record)
         requires known { process < length self.old.records }
         requires stamps { stamps.HasStamps self.old }
-        ensures { self.new ≡ stamps.readied self.old process row }
+        ensures { self.new ≡ stamps.readied self.old process fields }
     {
-        if row.is_eligible(self.mode) {
-            self.put_newest(process, row);
+        if fields.is_eligible(self.mode) {
+            self.put_newest(process, fields);
         } else {
-            self.put(process, row);
+            self.put(process, fields);
         }
     }
 
@@ -291,11 +294,11 @@ impl PlainStore {
         let stamp = self.next_young;
         self.next_young += 1;
         let place = self.look(process);
-        let row = &mut self.records[place];
-        row.suspended = suspension_awake(row.suspended);
-        row.wait = Some(wait);
-        row.due = due;
-        row.since = stamp;
+        let fields = &mut self.records[place];
+        fields.suspended = suspension_awake(fields.suspended);
+        fields.wait = Some(wait);
+        fields.due = due;
+        fields.since = stamp;
     }
 
     /// The start of the process begins after a delay in ticks.
@@ -390,8 +393,8 @@ impl Store for PlainStore {
     }
 
     fn start(&mut self, process: ProcessId, delay: u32) {
-        let row = *self.record(process);
-        self.put(process, reset(row));
+        let fields = *self.record(process);
+        self.put(process, reset(fields));
         if self.mode.is_normal() {
             self.begin(process, delay);
         } else {
@@ -400,7 +403,7 @@ impl Store for PlainStore {
     }
 
     fn stop(&mut self, process: ProcessId) {
-        let row = *self.record(process);
+        let fields = *self.record(process);
         let stopped = Record {
             started: false,
             suspended: None,
@@ -410,7 +413,7 @@ impl Store for PlainStore {
             owned: Holdings::none(),
             step: 0,
             inbox: None,
-            ..row
+            ..fields
         };
         self.put(process, stopped);
     }
@@ -421,60 +424,60 @@ impl Store for PlainStore {
 
     fn unblock(&mut self, process: ProcessId) {
         let place = self.look(process);
-        let row = &mut self.records[place];
-        row.suspended = suspension_awake(row.suspended);
-        row.wait = None;
-        row.due = None;
-        let is_ready = row.is_eligible(self.mode);
+        let fields = &mut self.records[place];
+        fields.suspended = suspension_awake(fields.suspended);
+        fields.wait = None;
+        fields.due = None;
+        let is_ready = fields.is_eligible(self.mode);
         if is_ready {
-            row.since = self.next_young;
+            fields.since = self.next_young;
             self.next_young += 1;
         }
     }
 
     fn release(&mut self, process: ProcessId) {
-        let row = *self.record(process);
-        self.put_readied(process, released_at(self.time, row));
+        let fields = *self.record(process);
+        self.put_readied(process, released_at(self.time, fields));
     }
 
     fn suspend(&mut self, process: ProcessId) {
-        let row = *self.record(process);
+        let fields = *self.record(process);
         let suspended = Record {
             suspended: Some(Suspender::Other),
-            ..row
+            ..fields
         };
         self.put(process, suspended);
     }
 
     fn suspend_self(&mut self, process: ProcessId, due: Option<u64>) {
-        let row = *self.record(process);
+        let fields = *self.record(process);
         let suspended = Record {
             suspended: Some(Suspender::Itself),
             wait: None,
             due,
-            ..row
+            ..fields
         };
         self.put_newest(process, suspended);
     }
 
     fn resume(&mut self, process: ProcessId) {
-        let row = *self.record(process);
-        if row.is_suspended_by_itself() {
-            self.put_readied(process, awake(row));
+        let fields = *self.record(process);
+        if fields.is_suspended_by_itself() {
+            self.put_readied(process, awake(fields));
         } else {
             let resumed = Record {
                 suspended: None,
-                ..row
+                ..fields
             };
             self.put_readied(process, resumed);
         }
     }
 
     fn set_priority(&mut self, process: ProcessId, base: u8) {
-        let row = *self.record(process);
-        let changed = Record { base, ..row };
-        let stays = row.owns_some() && stays_level(&row, base, &row.owned);
-        if (row.is_eligible(self.mode) && !stays) || self.goes_by_priority(row.queue()) {
+        let fields = *self.record(process);
+        let changed = Record { base, ..fields };
+        let stays = fields.owns_some() && stays_level(&fields, base, &fields.owned);
+        if (fields.is_eligible(self.mode) && !stays) || self.goes_by_priority(fields.queue()) {
             self.put_newest(process, changed);
         } else {
             self.put(process, changed);
@@ -483,20 +486,20 @@ impl Store for PlainStore {
 
     fn own(&mut self, process: ProcessId, owned: Holdings) {
         let place = self.look(process);
-        let row = &mut self.records[place];
-        let before = row.current_priority();
-        row.owned = owned;
-        if row.current_priority() != before {
-            row.since = self.next_old;
+        let fields = &mut self.records[place];
+        let before = fields.current_priority();
+        fields.owned = owned;
+        if fields.current_priority() != before {
+            fields.since = self.next_old;
             self.next_old -= 1;
         }
     }
 
     fn inherit(&mut self, process: ProcessId, holding: Holding) {
-        let row = *self.record(process);
+        let fields = *self.record(process);
         let owner = Record {
             owned: Holdings::one(holding),
-            ..row
+            ..fields
         };
         self.put_readied(process, awake(owner));
     }

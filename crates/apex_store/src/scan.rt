@@ -18,8 +18,8 @@ pub trait Order {
 
     ghost precedes: { Self → Record → Record → Bool };
 
-    fn passes(&self, row: &Record) -> bool
-        ensures { result ≡ passes self.now row.now };
+    fn passes(&self, fields: &Record) -> bool
+        ensures { result ≡ passes self.now fields.now };
 
     fn precedes(&self, first: &Record, second: &Record) -> bool
         ensures { result ≡ precedes self.now first.now second.now };
@@ -41,8 +41,8 @@ impl Order for Runnable {
 
     ghost ranks = { λ s. before_strict };
 
-    fn passes(&self, row: &Record) -> bool {
-        orders::runs_on(self.mode, self.core, row)
+    fn passes(&self, fields: &Record) -> bool {
+        orders::runs_on(self.mode, self.core, fields)
     }
 
     fn precedes(&self, first: &Record, second: &Record) -> bool {
@@ -64,8 +64,8 @@ impl Order for Waiting {
 
     ghost ranks = { λ s. waits_strict s.discipline };
 
-    fn passes(&self, row: &Record) -> bool {
-        orders::waits_in(self.queue, row)
+    fn passes(&self, fields: &Record) -> bool {
+        orders::waits_in(self.queue, fields)
     }
 
     fn precedes(&self, first: &Record, second: &Record) -> bool {
@@ -88,8 +88,8 @@ impl Order for Behind {
 
     ghost ranks = { λ s. waits_strict s.discipline };
 
-    fn passes(&self, row: &Record) -> bool {
-        orders::waits_behind(self.discipline, self.queue, &self.ahead, row)
+    fn passes(&self, fields: &Record) -> bool {
+        orders::waits_behind(self.discipline, self.queue, &self.ahead, fields)
     }
 
     fn precedes(&self, first: &Record, second: &Record) -> bool {
@@ -102,7 +102,7 @@ fn place_passing<O: Order>(order: &O, records: &[Record]) -> Option<usize>
     ensures value { result ≡ position (O.passes order.now) records.now }
     ensures known { IfSome result (λ p. p < length records.now) }
 {
-    records.iter().position(|row| order.passes(row))
+    records.iter().position(|fields| order.passes(fields))
 }
 
 /// The first of those that the order looks at, by a scan of all records from the first one on.
@@ -117,8 +117,8 @@ pub fn first_of<O: Order>(order: &O, records: &[Record]) -> Option<ProcessId>
 {
     let mut first = place_passing(order, records)?;
     for place in first + 1..records.len() {
-        let row = &records[place];
-        if order.passes(row) && order.precedes(row, &records[first]) {
+        let fields = &records[place];
+        if order.passes(fields) && order.precedes(fields, &records[first]) {
             first = place;
         }
     }

@@ -52,12 +52,12 @@ pub trait Store: Drop {
         requires known { process < length (roster self.now).records }
         ensures { result ≡ process_state (roster self.now) process }
     {
-        let row = self.record(process);
-        if !row.started {
+        let fields = self.record(process);
+        if !fields.started {
             State::Dormant
-        } else if !row.is_eligible(self.mode()) {
+        } else if !fields.is_eligible(self.mode()) {
             State::Waiting
-        } else if is_process(process, self.chosen(row.core)) {
+        } else if is_process(process, self.chosen(fields.core)) {
             State::Running
         } else {
             State::Ready

@@ -25,8 +25,8 @@ fn suspend_self<S: Store>(
     ensures { Leaves (services.suspend_self (S.roster store.old) objects.now process timeout)
         (S.roster store.new) objects.now result [] [] }
 {
-    let row = store.record(process);
-    if row.attributes.period.is_some() || row.owns_some() {
+    let fields = store.record(process);
+    if fields.attributes.period.is_some() || fields.owns_some() {
         return Reply::Code(ReturnCode::InvalidMode);
     }
     match timeout {
@@ -58,8 +58,8 @@ fn serve_itself<S: Store>(
     match call {
         CallerCall::StopSelf => {
             // Each mutex of the process wakes at most one other.
-            let row = store.record(process);
-            let _few = row.owned.as_slice();
+            let fields = store.record(process);
+            let _few = fields.owned.as_slice();
             halt(store, process, notices);
             Reply::Gone
         }

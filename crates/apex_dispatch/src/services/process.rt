@@ -57,10 +57,10 @@ fn state_number(state: State) -> u32
 }
 
 /// The process, of this record, can't be suspended: it is dormant or periodic.
-fn is_unsuspendable(row: &Record) -> bool
-    ensures { result ≡ services.is_unsuspendable row.now }
+fn is_unsuspendable(fields: &Record) -> bool
+    ensures { result ≡ services.is_unsuspendable fields.now }
 {
-    !row.started || row.attributes.period.is_some()
+    !fields.started || fields.attributes.period.is_some()
 }
 
 /// There is a period, and the delay, in ticks, is not below it.
@@ -75,8 +75,8 @@ fn is_period_long(period: Option<Span>, delay: u32) -> bool
 
 /// The ticks of a delay with which the process, of this record, may start. None for an infinite
 /// delay, and for one that is not below the period.
-fn fit_delay(row: &Record, delay: Timeout) -> Option<u32>
-    ensures fit { is_some result ≡ not (services.is_unfit_delay row.now delay) }
+fn fit_delay(fields: &Record, delay: Timeout) -> Option<u32>
+    ensures fit { is_some result ≡ not (services.is_unfit_delay fields.now delay) }
     ensures ticks { IfSome result (λ ticks. ticks ≡ services.delay_ticks delay) }
 {
     let ticks = match delay {
@@ -84,7 +84,7 @@ fn fit_delay(row: &Record, delay: Timeout) -> Option<u32>
         Timeout::Ticks(ticks) => ticks,
         Timeout::Infinite => return None,
     };
-    if is_period_long(row.attributes.period, ticks) {
+    if is_period_long(fields.attributes.period, ticks) {
         return None;
     }
     Some(ticks)
@@ -156,11 +156,11 @@ impl ProcessObject {
         if !self.created {
             return Reply::Code(ReturnCode::InvalidParam);
         }
-        let row = store.record(id);
-        if row.started {
+        let fields = store.record(id);
+        if fields.started {
             return Reply::Code(ReturnCode::NoAction);
         }
-        let Some(ticks) = fit_delay(row, delay) else {
+        let Some(ticks) = fit_delay(fields, delay) else {
             return Reply::Code(ReturnCode::InvalidParam);
         };
         if store.mode().is_normal() && ticks == 0 {
@@ -189,12 +189,12 @@ impl ProcessObject {
         if is_by_process(id, caller) || !self.created {
             return Reply::Code(ReturnCode::InvalidParam);
         }
-        let row = store.record(id);
-        if !row.started {
+        let fields = store.record(id);
+        if !fields.started {
             return Reply::Code(ReturnCode::NoAction);
         }
         // Each of its mutexes wakes at most one process.
-        let _few = row.owned.as_slice();
+        let _few = fields.owned.as_slice();
         halt(store, id, notices);
         Reply::Code(ReturnCode::NoError)
     }
@@ -210,14 +210,14 @@ impl ProcessObject {
         if is_by_process(id, caller) || !self.created {
             return Reply::Code(ReturnCode::InvalidParam);
         }
-        let row = store.record(id);
-        if is_unsuspendable(row) {
+        let fields = store.record(id);
+        if is_unsuspendable(fields) {
             return Reply::Code(ReturnCode::InvalidMode);
         }
-        if row.suspended.is_some() {
+        if fields.suspended.is_some() {
             return Reply::Code(ReturnCode::NoAction);
         }
-        if row.owns_some() {
+        if fields.owns_some() {
             return Reply::Code(ReturnCode::InvalidMode);
         }
         store.suspend(id);
@@ -243,14 +243,14 @@ impl ProcessObject {
         if is_by_process(id, caller) || !self.created {
             return Reply::Code(ReturnCode::InvalidParam);
         }
-        let row = store.record(id);
-        if is_unsuspendable(row) {
+        let fields = store.record(id);
+        if is_unsuspendable(fields) {
             return Reply::Code(ReturnCode::InvalidMode);
         }
-        if row.suspended.is_none() {
+        if fields.suspended.is_none() {
             return Reply::Code(ReturnCode::NoAction);
         }
-        if row.is_suspended_by_itself() {
+        if fields.is_suspended_by_itself() {
             notices.push(Notice::Woken(id, ReturnCode::NoError));
         }
         store.resume(id);
@@ -271,7 +271,7 @@ impl Object for ProcessObject {
 
     ghost kind = { process_kind };
 
-    ghost Stands = { λ roster p. p < length roster.records };
+    ghost IsThere = { λ roster p. p < length roster.records };
 
     fn is_created(&self) -> bool {
         self.created
@@ -282,7 +282,7 @@ impl Object for ProcessObject {
     }
 
     fn status<S: Store>(&self, store: &S, id: ProcessId) -> Reply
-        requires stands { id < length (S.roster store.now).records }
+        requires there { id < length (S.roster store.now).records }
         ensures { result ≡ services.process_status (S.roster store.now) self.now id }
     {
         let state = state_number(store.state(id));
@@ -297,7 +297,7 @@ impl Object for ProcessObject {
         service: &ProcessService,
         notices: &mut Notices,
     ) -> Reply
-        requires stands { id < length (S.roster store.old).records }
+        requires there { id < length (S.roster store.old).records }
         requires caller { IsReadyCaller (S.roster store.old) caller.now }
         requires can { CanServe (S.roster store.old) notices.old }
         ensures { Leaves (services.process_service

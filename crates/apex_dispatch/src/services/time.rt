@@ -77,8 +77,8 @@ fn periodic_wait<S: Store>(store: &mut S, objects: &Objects, process: ProcessId)
     ensures { Leaves (services.periodic_wait (S.roster store.old) objects.now process)
         (S.roster store.new) objects.now result [] [] }
 {
-    let row = store.record(process);
-    if row.attributes.period.is_none() || row.owns_some() {
+    let fields = store.record(process);
+    if fields.attributes.period.is_none() || fields.owns_some() {
         return Reply::Code(ReturnCode::InvalidMode);
     }
     let due = next_release(store, process);
@@ -107,12 +107,12 @@ fn replenish<S: Store>(store: &mut S, objects: &Objects, process: ProcessId, bud
     ensures { Leaves (services.replenish (S.roster store.old) objects.now budget process)
         (S.roster store.new) objects.now result [] [] }
 {
-    let row = store.record(process);
-    if row.attributes.capacity.is_none() {
+    let fields = store.record(process);
+    if fields.attributes.capacity.is_none() {
         return Reply::Code(ReturnCode::NoAction);
     }
     let deadline = store.now() + u64::from(budget.ticks());
-    if is_beyond(row.release, row.attributes.period, deadline) {
+    if is_beyond(fields.release, fields.attributes.period, deadline) {
         return Reply::Code(ReturnCode::InvalidMode);
     }
     store.set_deadline(process, Some(deadline));

@@ -25,7 +25,7 @@ returns-in-Ok g c =
     let before = ports (g.R.Source.remaining (inner_of c.args.reader.now)) (g.W.Sink.contents (inner_of c.args.writer.now))
     (failures_of c.args.reader.now) (failures_of c.args.writer.now) in
     let reader = c.follow.new.reader in
-    let writer = c.tell.new.writer in
+    let writer = c.write_verdict.new.writer in
     let after = ports (g.R.Source.remaining (inner_of reader)) (g.W.Sink.contents (inner_of writer)) (failures_of reader) (failures_of writer) in
     let found = c.in_ok-followed.followed in
     let ends = ends_written found.kernel.table found.kernel.machine found.verdict {before = before} {after = after} c.in_ok-followed.ensures.ok
@@ -37,7 +37,7 @@ returns g c =
     let before = ports (g.R.Source.remaining (inner_of c.args.reader.now)) (g.W.Sink.contents (inner_of c.args.writer.now))
     (failures_of c.args.reader.now) (failures_of c.args.writer.now) in
     let reader = c.follow.new.reader in
-    let writer = c.tell.new.writer in
+    let writer = c.write_verdict.new.writer in
     let after = ports (g.R.Source.remaining (inner_of reader)) (g.W.Sink.contents (inner_of writer)) (failures_of reader) (failures_of writer) in
     let found = c.in_ok-followed.followed in
     let ends = ends_unwritten found.kernel.table found.kernel.machine found.verdict {before = before} {after = after} c.in_ok-followed.ensures.ok

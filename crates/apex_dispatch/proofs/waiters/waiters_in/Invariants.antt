@@ -2,7 +2,7 @@
 use Rattle.std.proofs.Common.{◌≡◌, ℕ, ◌+◌, ◌<◌, ◌≤◌, ◌++◌, length}
 use Rattle.std.specs.Prelude.{IfSome}
 use Rattle.apex_machine.specs.text.Listing.{waiters, waiters_from}
-use Rattle.apex_laws.proofs.Queued.{StandsIn}
+use Rattle.apex_laws.proofs.Queued.{WaitsIn}
 use Rattle.apex_dispatch.proofs.waiters.waiters_in.Given as goal
 
 abbrev pub invariant-loop-round : goal.invariant-loop-round
@@ -13,7 +13,7 @@ invariant-loop-round g l =
       within : l.round ≤ l.round-end;
       many : length l.waiting ≡ l.round;
       known : IfSome l.next (λ p. p < length roster.records);
-      stands : StandsIn roster l.queue l.next;
+      stands : WaitsIn roster l.queue l.next;
       rest : (left : ℕ) → left + l.round ≡ l.round-end
           → l.waiting ++ waiters_from roster l.queue left l.next ≡ waiters roster l.queue;
     }

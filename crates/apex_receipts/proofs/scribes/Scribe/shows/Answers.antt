@@ -2,9 +2,9 @@ use Rattle.std.proofs.Common.{ℕ, List, ◌∙◌, subst}
 use mathlib.Core.List.{IsPrefix}
 use Rattle.apex_types.specs.declared.entries.Entry.{Entry}
 use Rattle.apex_receipts.specs.Notes.{IsAlone, entries_of}
-use Rattle.apex_receipts.specs.Receipts.{Confirmed, Stands}
+use Rattle.apex_receipts.specs.Receipts.{Confirmed, IsAtItsPlace}
 use Rattle.apex_receipts.proofs.Alone.{alone_ends, alone_entries}
-use Rattle.apex_receipts.proofs.Own.{stands_begin}
+use Rattle.apex_receipts.proofs.Own.{place_begin}
 use Rattle.apex_receipts.proofs.Written.{entries_begin, labelled_alone}
 use Rattle.apex_receipts.proofs.scribes.Scribe.shows.Goals as goal
 
@@ -30,13 +30,13 @@ returns-clause-same g c =
     let alone : IsAlone l own log = subst (λ (k : ℕ). IsAlone k own log) c.self.invariant.1 c.hear.ensures.heard.alone in
     alone_entries l own log alone ∙ c.self.view_is
 
-pub returns-clause-stands : goal.returns-clause-stands
-returns-clause-stands g c =
+pub returns-clause-placed : goal.returns-clause-placed
+returns-clause-placed g c =
     let l = g.P.Naming.scribe in
     let r = c.receipt.inside in
     let log = c.hear.new.self.log in
     let begins : IsPrefix (entries_of l r.seen.log) c.args.self.now =
     subst (λ (es : List Entry). IsPrefix (entries_of l r.seen.log) es) (returns-clause-same g c)
     (entries_begin l r.seen.log log c.hear.ensures.heard.knew) in
-    subst (λ (s : Confirmed). Stands c.args.self.now s.entry s.place) c.receipt.view_is
-    (stands_begin (entries_of l r.seen.log) c.args.self.now r.entry r.place begins c.receipt.invariant.1)
+    subst (λ (s : Confirmed). IsAtItsPlace c.args.self.now s.entry s.place) c.receipt.view_is
+    (place_begin (entries_of l r.seen.log) c.args.self.now r.entry r.place begins c.receipt.invariant.1)

@@ -53,10 +53,10 @@ returns-clause-book g c =
     ap (λ s. s.book) (c.again-2.ensures ∙ c.again.ensures)
     ∙ (c.seen.ensures.book ∙ (c.write_for.ensures.books.0 ∙ c.self.invariant.0))
 
-pub returns-clause-stands : goal.returns-clause-stands
-returns-clause-stands g c =
+pub returns-clause-placed : goal.returns-clause-placed
+returns-clause-placed g c =
     let l = g.P.Naming.scribe in
-    let w = wrote g (goal.at.returns-clause-stands g c).After-write_for in
+    let w = wrote g (goal.at.returns-clause-placed g c).After-write_for in
     let number : c.args.entry.now.number ≡ length (entries_of l c.self.inside.speaker.log) + 1 =
     omega (arith, c.requires.number, ap length c.self.view_is) in
     let seen : c.again-2.result.log ≡ c.write_for.new.scribe.log =

@@ -3,8 +3,8 @@ use mathlib.Core.List.{IsPrefix}
 use Rattle.apex_types.specs.declared.entries.Entry.{Entry}
 use Rattle.apex_receipts.specs.declared.law.Note.{Note}
 use Rattle.apex_receipts.specs.Notes.{entries_of}
-use Rattle.apex_receipts.specs.Receipts.{Confirmed, Stands}
-use Rattle.apex_receipts.proofs.Own.{stands_begin}
+use Rattle.apex_receipts.specs.Receipts.{Confirmed, IsAtItsPlace}
+use Rattle.apex_receipts.proofs.Own.{place_begin}
 use Rattle.apex_receipts.proofs.Written.{unended_begins}
 use Rattle.apex_receipts.proofs.stories.Story.confirm.Goals as goal
 
@@ -18,5 +18,5 @@ returns g c =
     let begins : IsPrefix (entries_of l r.seen.log) c.args.self.now =
     subst (λ (es : List Entry). IsPrefix (entries_of l r.seen.log) es) c.self.view_is
     (unended_begins l r.seen.log log all c.learn.ensures.3 own c.receipt.invariant.2 c.self.invariant.1) in
-    subst (λ (s : Confirmed). Stands c.args.self.now s.entry s.place) c.receipt.view_is
-    (stands_begin (entries_of l r.seen.log) c.args.self.now r.entry r.place begins c.receipt.invariant.1)
+    subst (λ (s : Confirmed). IsAtItsPlace c.args.self.now s.entry s.place) c.receipt.view_is
+    (place_begin (entries_of l r.seen.log) c.args.self.now r.entry r.place begins c.receipt.invariant.1)

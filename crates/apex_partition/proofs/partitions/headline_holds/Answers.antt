@@ -11,9 +11,9 @@ use Rattle.apex_dispatch.specs.Kernel.{KernelState}
 use Rattle.apex_process.specs.Queued.{Queued}
 use Rattle.apex_process.specs.State.{AreListsOfState}
 use Rattle.apex_laws.proofs.Sound.{IsSound, sound_run}
-use Rattle.apex_partition.specs.Standing.{IsInOneQueue, RunsByLists, StandsAs}
-use Rattle.apex_partition.proofs.Standing.{chosen_runs, in_one_queue, stands_as, urgent_runs}
-use Rattle.apex_partition.proofs.partitions.stands.Goals as goal
+use Rattle.apex_partition.specs.Standing.{IsInOneQueue, RunsByLists, IsQueuedAs}
+use Rattle.apex_partition.proofs.Standing.{chosen_runs, in_one_queue, queued_as, urgent_runs}
+use Rattle.apex_partition.proofs.partitions.headline_holds.Goals as goal
 
 from_start : (s : ℕ) → 0 + s ≡ s
 from_start s = omega arith
@@ -38,8 +38,8 @@ returns c =
       running = λ core. urgent_runs roster core holds.stamps;
       first = λ core inside. subst (λ (r : Roster). RunsByLists links core (chosen r core)) same
           (chosen_runs store.roster links are.ready are.places core inside);
-      state = λ p within. subst (λ (r : Roster). StandsAs links p (record_at r p) (process_state r p)) same
-          (stands_as store are p (dormant p));
+      state = λ p within. subst (λ (r : Roster). IsQueuedAs links p (record_at r p) (process_state r p)) same
+          (queued_as store are p (dormant p));
       queue = λ p. subst (λ (r : Roster). IsInOneQueue links p (record_at r p)) same (in_one_queue store are p);
       lists = are;
       value = λ s within.

@@ -1,7 +1,7 @@
 //! An entry as a log keeps it.
 ghost use Rattle.std.specs.Prelude.{◌≡◌, ◌<◌, length, option_map};
 ghost use Rattle.apex_types.specs.declared.limits.TheConstants.{MOST_ENTRIES};
-ghost use Rattle.apex_history.specs.RowEntries.{caller_in, call_in, entry_of, IsAmong, IsWithin};
+ghost use Rattle.apex_history.specs.StoredEntries.{caller_in, call_in, entry_of, IsAmong, IsWithin};
 
 use crate::calls::Link;
 use crate::entry_parts::EntryParts;
@@ -42,40 +42,40 @@ impl Asked {
     }
 }
 
-/// An entry as a log keeps it: the row's place is its number, its call is one of the log's calls,
-/// and its notices are a part of those of all rows. The order of the fields leaves no gaps.
+/// An entry as a log keeps it: its place is its number, its call is one of the log's calls,
+/// and its notices are a part of those of all entries. The order of the fields leaves no gaps.
 #[derive(Drop)]
-pub(crate) struct Row {
+pub(crate) struct StoredEntry {
     pub(crate) now: u64,
     pub(crate) reply: Reply,
     pub(crate) asked: Asked,
     /// The place of its first notice.
-    pub(crate) start: u32,
+    pub(crate) first_notice: u32,
     pub(crate) who: Who,
     /// The number of its notices.
     pub(crate) count: u8,
 }
 
-const _: () = prove!(size_of::<Row>() == 40);
+const _: () = prove!(size_of::<StoredEntry>() == 40);
 
-impl Model for Row {
+impl Model for StoredEntry {
     ghost use Rattle.std.specs.Prelude.{◌+◌};
-    ghost use Rattle.apex_history.specs.RowEntries.{RowEntry};
+    ghost use Rattle.apex_history.specs.StoredEntries.{StoredParts};
 
-    ghost Value = { RowEntry };
+    ghost Value = { StoredParts };
 
     ghost view = { λ r. record {
       now = r.now;
       who = r.who;
       asked = r.asked;
       reply = r.reply;
-      start = r.start;
-      end = r.start + r.count;
+      first_notice = r.first_notice;
+      notices_end = r.first_notice + r.count;
     } };
 }
 
-impl Row {
-    /// The parts of the entry of this row at this place, counted from 0.
+impl StoredEntry {
+    /// The parts of this entry at this place, counted from 0.
     #[inline(always)]
     pub(crate) fn parts<'a>(
         &'a self,
@@ -87,7 +87,7 @@ impl Row {
         requires place { place < MOST_ENTRIES }
         ensures { result ≡ entry_of calls.now notices.now place self.entry.now }
     {
-        let start = self.start as usize;
+        let start = self.first_notice as usize;
         EntryParts {
             number: place + 1,
             now: self.now,
