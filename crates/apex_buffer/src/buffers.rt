@@ -86,6 +86,14 @@ impl Buffer {
         }
     }
 
+    /// Whether it is created, and its messages, from now on.
+    pub fn restore(&mut self, created: bool, messages: ArrayVec<Message, MOST_MESSAGES>)
+        ensures { self.new ≡ record self.old { created = created; messages = messages.items } }
+    {
+        self.created = created;
+        self.messages = messages;
+    }
+
     /// The messages that it holds, the first one first.
     pub fn messages(&self) -> &[Message]
         ensures value { result.now ≡ self.now.messages }

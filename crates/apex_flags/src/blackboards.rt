@@ -47,6 +47,14 @@ impl Blackboard {
         }
     }
 
+    /// Whether it is created, and its message, from now on.
+    pub fn restore(&mut self, created: bool, message: Option<Message>)
+        ensures { self.new ≡ record self.old { created = created; message = message } }
+    {
+        self.created = created;
+        self.message = message;
+    }
+
     /// The message that it holds, if any.
     pub fn message(&self) -> Option<Message>
         ensures { result ≡ self.now.message }

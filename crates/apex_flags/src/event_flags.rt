@@ -44,6 +44,15 @@ impl EventFlag {
         }
     }
 
+    /// Whether it is created, and whether it is up, from now on.
+    pub fn restore(&mut self, created: bool, up: bool)
+        ensures { self.new ≡ record self.old { created = created; up = up } }
+    {
+        self.created = created;
+        self.up = up;
+    }
+
+    /// Whether it is up.
     pub fn is_up(&self) -> bool
         ensures { result ≡ self.now.up }
     {

@@ -46,6 +46,14 @@ impl Semaphore {
         }
     }
 
+    /// Whether it is created, and its value, from now on.
+    pub fn restore(&mut self, created: bool, value: u16)
+        ensures { self.new ≡ record self.old { created = created; value = value } }
+    {
+        self.created = created;
+        self.value = value;
+    }
+
     /// The value.
     pub fn value(&self) -> u16
         ensures { result ≡ self.now.value }

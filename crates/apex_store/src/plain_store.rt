@@ -246,8 +246,18 @@ impl PlainStore {
         }
     }
 
+    /// The mode and the time from now on, and the next stamps upwards and downwards.
+    pub fn set_clock(&mut self, mode: Mode, time: u64, young: i64, old: i64)
+        ensures { self.new ≡ record self.old { mode = mode; now = time; young = young; old = old } }
+    {
+        self.mode = mode;
+        self.time = time;
+        self.next_young = young;
+        self.next_old = old;
+    }
+
     /// The process has this record from now on.
-    fn put(&mut self, process: ProcessId, fields: Record)
+    pub fn put(&mut self, process: ProcessId, fields: Record)
         requires { process < length self.old.records }
         ensures { self.new ≡ with_record self.old process fields }
     {
