@@ -7,4 +7,4 @@ invariant_of-result g c =
     let wrote = c.write_down-seen.ensures in
     let place : c.count.result ≡ length c.args.voice.now.own + 1 =
     c.count.ensures ∙ (ap (λ (s : Spoken). length s.own) wrote.voice ∙ length-append c.args.voice.now.own (c.args.entry.now ∷ [])) in
-    (wrote.book, rw (c.kept.ensures, place) wrote.stands, wrote.unended)
+    (wrote.book, rw (c.kept.ensures, place) wrote.placed, wrote.unended)

@@ -7,4 +7,4 @@ invariant_of-receipt g c =
     let wrote = c.write_down.ensures in
     let place : c.count-receipt-inside.result ≡ length c.args.voice.now.own + 1 =
     c.count-receipt-inside.ensures ∙ (ap (λ (s : Spoken). length s.own) wrote.voice ∙ length-append c.args.voice.now.own (c.args.entry.now ∷ [])) in
-    (wrote.book, rw (c.keep_in.ensures, place) wrote.stands, wrote.unended)
+    (wrote.book, rw (c.keep_in.ensures, place) wrote.placed, wrote.unended)
