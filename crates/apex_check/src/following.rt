@@ -62,16 +62,6 @@ fn event_ahead(cores: u8, bytes: &[u8], end: usize) -> Result<Event, LineFault>
     }
 }
 
-/// The event that the line, which is given without its line feed, names in the history of a
-/// partition with `cores` cores. The line is at fault if it names none, or a core that the
-/// partition lacks.
-pub fn event_named(cores: u8, line: &[u8]) -> Result<Event, LineFault>
-    ensures value { result ≡ event_named cores line.now }
-    ensures within { IfOk result (IsWithin cores) }
-{
-    event_ahead(cores, line, line.len())
-}
-
 /// Makes the event, and compares the machine's line with this one, which has its line feed.
 fn compare<S: Store>(
     kernel: &mut Kernel<S>,

@@ -11,5 +11,4 @@ mod tables;
 mod verdicts;
 
 pub use checking::{Followed, check, follow};
-pub use following::event_named;
 pub use verdicts::{CheckFault, Verdict, verdict_text};

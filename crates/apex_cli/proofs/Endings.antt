@@ -1,6 +1,8 @@
 -- The ways in which the program ends, by the fault.
 use Rattle.std.proofs.Common.{◌≡◌, ◌∙◌, ap, inl, inr, List, ℕ, Bool, Option, None, Some}
 use Rattle.std.specs.Io.KnownBytes.{Appends, Keeps}
+use Rattle.apex_machine.specs.Machine.{Machine}
+use Rattle.apex_machine.specs.table.Table as tables
 use Rattle.apex_history.specs.Counted.{AppendsBeginning, CountsFault}
 use Rattle.apex_history.specs.Ports.{AWriteFails, IsLeft, NoneFails, Ports}
 use Rattle.apex_history.specs.declared.ReadFault.{ReadFault}
@@ -12,7 +14,7 @@ use Rattle.apex_cli.specs.declared.words.Report.{Report}
 use Rattle.apex_cli.specs.Exits.{Ends, Reports, no_memory, no_room, ran, refused, reported, unread, unwritten, usage, written}
 use Rattle.apex_cli.specs.Runs.{Runs}
 use Rattle.apex_cli.specs.Faults.{IsUsageOrMemory, fault_of_read, status_of, status_of_fault}
-use Rattle.apex_cli.specs.Reports.{Refuses, answer_of, writes}
+use Rattle.apex_cli.specs.Reports.{Refuses, answer_of, report_text, runs_to}
 use Rattle.apex_cli.specs.Requests.{Asked, a_report, a_run}
 
 -- words or a schedule that ask for nothing, or no memory
@@ -31,24 +33,22 @@ reports_unread read.Read counts same held = unread held (counts, same)
 
 -- a report of bytes that are refused
 pub reports_refused : {report : Report} {items : List Item} {before after : Ports} → (bytes : List ℕ) (fault : CliFault)
-    → IsLeft bytes before → Refuses fault (answer_of report items bytes) → Keeps before.held after.held
+    → IsLeft bytes before → Refuses fault (answer_of items bytes) → Keeps before.held after.held
     → NoneFails before after → Reports report items before (Some fault) after
 reports_refused bytes fault left (inl e) held fails = rw e (no_room held fails)
 reports_refused bytes fault left (inr e) held fails = refused bytes left e held fails
 
--- a text that was written whole
-pub reports_written : {report : Report} {items : List Item} {before after : Ports} → (bytes text : List ℕ) (answered fault : Option CliFault)
-    → IsLeft bytes before → answer_of report items bytes ≡ writes text answered → answered ≡ fault
-    → Appends before.held after.held text → NoneFails before after → Reports report items before fault after
-reports_written bytes text answered fault left answer same appends fails =
-    written bytes left (answer ∙ ap (writes text) same) appends fails
+-- a report that was written, or not to its end
+module _ {report : Report} {items : List Item} {before after : Ports} (bytes : List ℕ) (table : tables.Table) (machine : Machine)
+    (answered : Option CliFault) (left : IsLeft bytes before) (answer : answer_of items bytes ≡ runs_to table machine answered) where
+  pub reports_written : (fault : Option CliFault) → answered ≡ fault → Appends before.held after.held (report_text report table machine)
+      → NoneFails before after → Reports report items before fault after
+  reports_written fault same appends fails =
+      written bytes table machine left (answer ∙ ap (runs_to table machine) same) appends fails
 
--- a text of which a write failed
-pub reports_unwritten : {report : Report} {items : List Item} {before after : Ports} → (bytes text : List ℕ) (answered : Option CliFault)
-    → IsLeft bytes before → answer_of report items bytes ≡ writes text answered
-    → AppendsBeginning before.held after.held text → AWriteFails before after
-    → Reports report items before (Some Write) after
-reports_unwritten bytes text answered left answer appends fails = unwritten bytes left answer appends fails
+  pub reports_unwritten : AppendsBeginning before.held after.held (report_text report table machine) → AWriteFails before after
+      → Reports report items before (Some Write) after
+  reports_unwritten appends fails = unwritten bytes table machine left answer appends fails
 
 -- a run that is reported
 pub ends_reported : {asked : Option Asked} {before after : Ports} {report : Report} (items shown : List Item) (fault : Option CliFault)

@@ -12,8 +12,7 @@ use Rattle.apex_laws.proofs.Runs.{accept-room, length-happen, run-append}
 use Rattle.apex_cli.specs.declared.schedule.Item.{Item}
 use Rattle.apex_cli.specs.declared.faults.CliFault.{CliFault}
 use Rattle.apex_cli.specs.declared.faults.CliFault.TheVariants.{HistoryFull}
-use Rattle.apex_cli.specs.declared.words.Report.{Report}
-use Rattle.apex_cli.specs.Reports.{answer_of, fault_of_events, report_text, writes}
+use Rattle.apex_cli.specs.Reports.{answer_of, fault_of_events, runs_to}
 use Rattle.apex_cli.specs.Schedule.{is_core_below, are_cores_below, events_of_item, events_of_items}
 
 -- there is no room if room leads to a contradiction
@@ -75,12 +74,12 @@ below_at cores items i item within here all = elim (cases_Bool (is_core_below co
 ]
 
 -- the answer, if the events were run
-pub answer_is : (report : Report) (items : List Item) (bytes : List ℕ) (table : Table) (machine : Machine) (fault : Option CliFault) → table_of bytes ≡ Ok table
+pub answer_is : (items : List Item) (bytes : List ℕ) (table : Table) (machine : Machine) (fault : Option CliFault) → table_of bytes ≡ Ok table
     → are_cores_below table.cores items ≡ true
     → machine ≡ run table (opening table) (events_of_items items)
     → fault ≡ fault_of_events table (events_of_items items)
-    → answer_of report items bytes ≡ writes (report_text report table machine) fault
-answer_is report items bytes table machine fault read below ran told = rw (read, below, ran, told) refl
+    → answer_of items bytes ≡ runs_to table machine fault
+answer_is items bytes table machine fault read below ran told = rw (read, below, ran, told) refl
 
 -- the fault, by whether these events fit
 pub fault_fits : (table : Table) (events : List Event) → length events ≤ table.limit → fault_of_events table events ≡ None

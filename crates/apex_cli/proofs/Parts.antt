@@ -11,7 +11,7 @@ use Rattle.apex_types.specs.Numbers.{digits_value, number_of}
 use Rattle.apex_history.specs.Words.{parts}
 use Rattle.apex_cli.specs.declared.schedule.Item.{Item}
 use Rattle.apex_cli.specs.declared.schedule.Item.TheVariants.{Turns}
-use Rattle.apex_cli.specs.Schedule.{item_of, times_after, times_of}
+use Rattle.apex_cli.specs.Schedule.{item_of, times_after, positive_of}
 
 -- a word that holds a `*` is no number
 digits_of_star : (w : List ℕ) → 0 < count_by (λ b. b == 42) w → all_ascii_digits w ≡ false
@@ -51,7 +51,7 @@ turn_first digit rest low high =
     ap (map item_of) cut ∙ ap (λ (o : Option Item). o ∷ map item_of (parts 32 rest)) (turn_alone digit low high)
 
 -- one digit but 0 is a number of times
-times_digit : (digit : ℕ) → 49 ≤ digit → digit ≤ 57 → times_of (digit ∷ []) ≡ Some (digit - 48)
+times_digit : (digit : ℕ) → 49 ≤ digit → digit ≤ 57 → positive_of (digit ∷ []) ≡ Some (digit - 48)
 times_digit digit low high =
     let value : digits_value (digit ∷ []) ≡ digit - 48 = omega arith in
     let number : number_of (digit ∷ []) ≡ Some (digit - 48) =
@@ -77,10 +77,10 @@ turns_first core digit rest low high least most =
     ap (map item_of) cut ∙ ap (λ (o : Option Item). o ∷ map item_of (parts 32 rest)) (turns_alone core digit low high least most)
 
 -- the parts after the core's `*` give a number of times exactly if they are one number
-pub times_after_star : (w : List ℕ) → times_after (parts 42 w) ≡ times_of w
+pub times_after_star : (w : List ℕ) → times_after (parts 42 w) ≡ positive_of w
 times_after_star w = go (parts 42 w) refl
   where
-    go : (ps : List (List ℕ)) → parts 42 w ≡ ps → times_after (parts 42 w) ≡ times_of w
+    go : (ps : List (List ℕ)) → parts 42 w ≡ ps → times_after (parts 42 w) ≡ positive_of w
     go [] e =
         let none : length (parts 42 w) ≡ 0 = ap length e in
         absurd (omega (arith, length-slice_split (λ b. b == 42) w))

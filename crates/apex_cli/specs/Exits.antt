@@ -1,6 +1,8 @@
 -- The ends of the program.
 use Rattle.std.specs.Prelude.{◌≡◌, ◌⊎◌, ℕ, Bool, List, Option, None, Some, Result}
 use Rattle.std.specs.Io.KnownBytes.{Appends, Keeps}
+use Rattle.apex_machine.specs.Machine.{Machine}
+use Rattle.apex_machine.specs.table.Table as tables
 use Rattle.apex_check.specs.Checks.{Checks}
 use Rattle.apex_check.specs.Legal.{SaysLegal}
 use Rattle.apex_check.specs.declared.CheckFault.{CheckFault}
@@ -12,7 +14,7 @@ use Rattle.apex_cli.specs.declared.faults.CliFault.{CliFault}
 use Rattle.apex_cli.specs.declared.faults.CliFault.TheVariants.{Usage, Memory, Read, Write}
 use Rattle.apex_cli.specs.declared.words.Report.{Report}
 use Rattle.apex_cli.specs.Faults.{status_of, status_of_check, status_of_fault, fault_of_check}
-use Rattle.apex_cli.specs.Reports.{answer_of, refuses, writes}
+use Rattle.apex_cli.specs.Reports.{answer_of, refuses, report_text, runs_to}
 use Rattle.apex_cli.specs.Requests.{Asked, a_check, a_report, a_run}
 use Rattle.apex_cli.specs.Runs.{Runs}
 
@@ -28,18 +30,19 @@ pub data Reports (report : Report) (items : List Item) (before : Ports) : Option
       → Reports report items before (Some Read) after
   -- the bytes are refused: nothing was written
   refused : (bytes : List ℕ) → {fault : CliFault} {after : Ports} → IsLeft bytes before
-      → answer_of report items bytes ≡ refuses fault → Keeps before.held after.held
+      → answer_of items bytes ≡ refuses fault → Keeps before.held after.held
       → NoneFails before after → Reports report items before (Some fault) after
-  -- the whole text was written
-  written : (bytes : List ℕ) → {text : List ℕ} {fault : Option CliFault} {after : Ports}
-      → IsLeft bytes before
-      → answer_of report items bytes ≡ writes text fault → Appends before.held after.held text
+  -- the whole report was written
+  written : (bytes : List ℕ) (table : tables.Table) (machine : Machine)
+      → {fault : Option CliFault} {after : Ports} → IsLeft bytes before
+      → answer_of items bytes ≡ runs_to table machine fault
+      → Appends before.held after.held (report_text report table machine)
       → NoneFails before after → Reports report items before fault after
-  -- a write failed: a prefix of the text was written
-  unwritten : (bytes : List ℕ) → {text : List ℕ} {fault : Option CliFault} {after : Ports}
-      → IsLeft bytes before
-      → answer_of report items bytes ≡ writes text fault
-      → AppendsBeginning before.held after.held text
+  -- a write failed: a prefix of the report was written
+  unwritten : (bytes : List ℕ) (table : tables.Table) (machine : Machine)
+      → {fault : Option CliFault} {after : Ports} → IsLeft bytes before
+      → answer_of items bytes ≡ runs_to table machine fault
+      → AppendsBeginning before.held after.held (report_text report table machine)
       → AWriteFails before after → Reports report items before (Some Write) after
 
 -- The ways in which the program ends: by its task, the reader and the writer before, the exit

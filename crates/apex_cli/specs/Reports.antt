@@ -1,4 +1,4 @@
--- The answer of `replay` and of `status`: a refusal, or the report of a run.
+-- The answer to the items of a schedule and the bytes of a table, and the report of a machine.
 use Rattle.std.specs.Prelude.{◌≡◌, ◌⊎◌, ℕ, List, Option, Some, None, Result, Ok, Err, length, nat_le, if◌then◌else◌}
 use Rattle.apex_cli.specs.Terms.{Event}
 use Rattle.apex_machine.specs.table.Table as tables
@@ -14,10 +14,10 @@ use Rattle.apex_cli.specs.declared.words.Report.{Report}
 use Rattle.apex_cli.specs.declared.words.Report.TheVariants.{History, Status}
 use Rattle.apex_cli.specs.Schedule.{are_cores_below, events_of_items}
 
--- an answer: a refusal, which writes nothing, or a text, with the fault that is reported besides
+-- an answer: a refusal, or the machine of a run, with the fault that is reported besides
 pub data Answer : Type 0 where
   refuses : CliFault → Answer
-  writes : List ℕ → Option CliFault → Answer
+  runs_to : tables.Table → Machine → Option CliFault → Answer
 
 -- the report of a machine: the lines of its history, or the listing of its state
 abbrev pub report_text : Report → tables.Table → Machine → List ℕ
@@ -29,22 +29,18 @@ abbrev pub fault_of_events : tables.Table → List Event → Option CliFault
 fault_of_events table events =
     if nat_le (length events) table.limit then None else Some (HistoryFull table.limit)
 
--- the answer to the events on an accepted table
-abbrev pub answer_to_events : Report → tables.Table → List Event → Answer
-answer_to_events report table events =
-    writes (report_text report table (run table (opening table) events))
-    (fault_of_events table events)
-
 -- the answer to the items, by the result of reading the bytes
-abbrev pub answer_to : Report → List Item → Result tables.Table TableFault → Answer
-answer_to report items (Err fault) = refuses (Table fault)
-answer_to report items (Ok table) =
-    if are_cores_below table.cores items then answer_to_events report table (events_of_items items)
+abbrev pub answer_to : List Item → Result tables.Table TableFault → Answer
+answer_to items (Err fault) = refuses (Table fault)
+answer_to items (Ok table) =
+    if are_cores_below table.cores items then
+    runs_to table (run table (opening table) (events_of_items items))
+    (fault_of_events table (events_of_items items))
     else refuses Usage
 
 -- the answer to the items and the bytes of a table, memory aside
-abbrev pub answer_of : Report → List Item → List ℕ → Answer
-answer_of report items bytes = answer_to report items (table_of bytes)
+abbrev pub answer_of : List Item → List ℕ → Answer
+answer_of items bytes = answer_to items (table_of bytes)
 
 -- memory was refused, or the answer is a refusal with this fault
 abbrev pub Refuses : CliFault → Answer → Type 0

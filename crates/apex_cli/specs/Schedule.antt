@@ -18,14 +18,14 @@ all_some [] = Some []
 all_some (value ∷ rest) =
     option_and_then (λ x. option_map (λ xs. x ∷ xs) (all_some rest)) value
 
--- the number of times that an item comes, 1 to 65,536
-abbrev pub times_of : List ℕ → Option ℕ
-times_of word = at_least 1 (at_most MOST_ENTRIES (number_of word))
+-- the number of a word, 1 to 65,536
+abbrev pub positive_of : List ℕ → Option ℕ
+positive_of word = at_least 1 (at_most MOST_ENTRIES (number_of word))
 
 -- the number of times, by the parts after the core: once if there are none
 abbrev pub times_after : List (List ℕ) → Option ℕ
 times_after [] = Some 1
-times_after (times ∷ []) = times_of times
+times_after (times ∷ []) = positive_of times
 times_after (times ∷ next ∷ rest) = None
 
 -- `c`, one turn of a core, or `c*k`, k turns of it, by the parts of the word

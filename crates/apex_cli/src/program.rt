@@ -140,6 +140,16 @@ pub fn run_on<T: Threads + Wait + Sync, R: Source, W: Sink>(
     Exit::of(carry_out(rt, alloc, words, reader, writer))
 }
 
+/// Writes the text on the error writer.
+pub fn write_error<E: Sink>(text: &[u8], error_writer: &mut Counted<E>)
+    ensures { Told text.now
+        (E.contents (inner_of error_writer.old)) (E.contents (inner_of error_writer.new))
+        (failures_of error_writer.old) (failures_of error_writer.new) }
+{
+    // The status shows the end even if the text cannot be written.
+    let _ = error_writer.write_all(text);
+}
+
 /// Writes the line of the fault, if there is one, on the error writer.
 fn tell<E: Sink>(fault: Option<CliFault>, error_writer: &mut Counted<E>)
     ensures { Told (fault_line fault)
@@ -147,8 +157,7 @@ fn tell<E: Sink>(fault: Option<CliFault>, error_writer: &mut Counted<E>)
         (failures_of error_writer.old) (failures_of error_writer.new) }
 {
     let line = fault_line(fault);
-    // The status shows the fault even if its line cannot be written.
-    let _ = error_writer.write_all(line.as_str().as_bytes());
+    write_error(line.as_str().as_bytes(), error_writer);
 }
 
 /// The whole program: does what the words ask for, writes the line of the fault on the error

@@ -2,18 +2,16 @@
 ghost use Rattle.std.specs.Prelude.{◌≡◌, All, IfOk, IfErr, OnOk, OnErr};
 ghost use Rattle.apex_calls.specs.Lines.{IsPrintable};
 ghost use Rattle.apex_history.specs.Counted.{failures_of, CountsFailure};
-ghost use Rattle.apex_cli.specs.declared.words.Report.{Report as ReportOf};
-ghost use Rattle.apex_cli.specs.Reports.{answer_of, report_text, writes, Refuses};
+ghost use Rattle.apex_cli.specs.Reports.{answer_of, report_text, runs_to, Refuses};
 ghost use Rattle.apex_cli.specs.Streams.{HasWritten, HasWrittenSome};
 
-use crate::events::run_items;
 use crate::faults::CliFault;
-use crate::schedule::{Item, are_cores_below};
+use crate::kernels::{kernel_for, ran};
+use crate::schedule::Item;
 use crate::words::Report;
 use apex_dispatch::Kernel;
 use apex_history::{Counted, Page, Sink, print_history};
 use apex_process::QueueStore;
-use apex_table::read_table;
 use std::alloc::Global;
 use std::io;
 
@@ -27,31 +25,18 @@ pub struct Run {
     pub fault: Option<CliFault>,
 }
 
-/// Runs the items on the table of this text.
-///
-/// The errors in the order of the checks: the table's fault, `Usage` if an item is of a core that
-/// the table lacks; `Memory` at any point at which memory is refused, which is before the first
-/// event.
+/// Runs the items on the table of this text. Its errors are those of [`kernel_for`], before the
+/// first event.
 pub fn run_of(alloc: Global, items: &[Item], text: &[u8]) -> Result<Run, CliFault>
-    ensures ok { IfOk result (λ run. (report : ReportOf) → answer_of report items.now text.now
-        ≡ writes (report_text report run.kernel.table run.kernel.machine) run.fault) }
+    ensures ok { IfOk result (λ run. answer_of items.now text.now
+        ≡ runs_to run.kernel.table run.kernel.machine run.fault) }
     ensures printable { IfOk result
         (λ run. All (IsPrintable run.kernel.table) run.kernel.machine.history) }
-    ensures err { IfErr result (λ fault. (report : ReportOf)
-        → Refuses fault (answer_of report items.now text.now)) }
+    ensures err { IfErr result (λ fault. Refuses fault (answer_of items.now text.now)) }
 {
-    let table = read_table(alloc, text)?;
-    table.lawful();
-    if !are_cores_below(table.cores(), items) {
-        return Err(CliFault::Usage);
-    }
-    let store = QueueStore::new(alloc, &table)?;
-    let mut kernel = Kernel::boot(alloc, table, store)?;
+    let mut kernel = kernel_for(alloc, items, text)?;
     let page = Page::new(alloc)?;
-    let fault = match run_items(&mut kernel, items) {
-        Ok(()) => None,
-        Err(full) => Some(CliFault::HistoryFull(full.entries)),
-    };
+    let fault = ran(&mut kernel, items);
     kernel.holds();
     Ok(Run {
         kernel,

@@ -1,7 +1,8 @@
 //! The items of a schedule's text.
-ghost use Rattle.std.specs.Prelude.{◌≡◌, ◌<◌, ◌∷◌, None, length, map, option_map, IfOk, IfErr, IfSome, IsErrOf, Some};
+ghost use Rattle.std.specs.Prelude.{◌≡◌, ◌<◌, ◌≤◌, ◌∷◌, None, length, map, option_map, IfOk, IfErr, IfSome, IsErrOf, Some};
+ghost use Rattle.apex_types.specs.declared.limits.TheConstants.{MOST_ENTRIES};
 ghost use Rattle.apex_history.specs.Words.{parts, parts_after};
-ghost use Rattle.apex_cli.specs.Schedule.{times_after, turns_of_parts, item_of, items_of, is_core_below, are_cores_below};
+ghost use Rattle.apex_cli.specs.Schedule.{positive_of, times_after, turns_of_parts, item_of, items_of, is_core_below, are_cores_below};
 ghost use Rattle.apex_cli.specs.Faults.{IsUsageOrMemory};
 
 use crate::faults::CliFault;
@@ -22,13 +23,24 @@ pub enum Item {
     Tick(Ticks),
 }
 
+/// The number of a word, from 1 to [`MOST_ENTRIES`]: a number of times, or that of an entry.
+pub fn read_positive(word: &[u8]) -> Option<u32>
+    ensures value { result ≡ positive_of word.now }
+    ensures range { IfSome result (λ number. (1 ≤ number) × (number ≤ MOST_ENTRIES)) }
+{
+    match number_at_most(word, MOST_ENTRIES) {
+        Some(number) if 1 <= number => Some(number),
+        _ => None,
+    }
+}
+
 /// The number of times that an item comes, by the part after the core's `*`.
 #[tactic(auto, using(crate::proofs::Parts::times_after_star))]
 fn read_times(after: Option<&[u8]>) -> Option<u32>
     ensures { result ≡ times_after (parts_after 42 (option_map (λ word. word.now) after.entry)) }
 {
     match after {
-        Some(word) => number_at_most(word, MOST_ENTRIES).filter(|times| *times >= 1),
+        Some(word) => read_positive(word),
         None => Some(1),
     }
 }

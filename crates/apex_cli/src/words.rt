@@ -1,9 +1,9 @@
 //! The words of the command line.
-ghost use Rattle.std.specs.Prelude.{◌≡◌, false, IfOk, IfErr, IsErrOf, Some, None, map, string_bytes, option_map, option_and_then};
-ghost use Rattle.clap.specs.Words.{app_of, first_value, found_of, rows_of, rule_of, subcommand_rows_of};
+ghost use Rattle.std.specs.Prelude.{◌≡◌, false, true, IfOk, IfErr, IsErrOf, Some, None, map, string_bytes, option_map, option_and_then};
+ghost use Rattle.clap.specs.Words.{app_of, first_value, found_of, is_simple_and_free, rows_of, rule_of, subcommand_rows_of};
 ghost use Rattle.apex_cli.specs.Faults.{IsUsageOrMemory};
 ghost use Rattle.apex_cli.specs.Requests.{request_said};
-ghost use Rattle.apex_cli.specs.Words.{apex, flag_rule, report_in, request_in, request_of, required_rule, run_in, says_given};
+ghost use Rattle.apex_cli.specs.Words.{HasFault, NamesCommand, apex, flag_rule, option_rule, report_in, request_in, request_of, required_rule, run_in, says_given};
 
 use crate::faults::CliFault;
 use clap::error::ErrorKind;
@@ -35,15 +35,20 @@ pub enum Request<'a> {
     },
 }
 
+/// An option with a value, which may be given.
+pub fn option<'a>(alloc: Global, name: &'static str) -> Arg<'a>
+    ensures rule { rule_of result ≡ option_rule name.now }
+    ensures local { result.global ≡ false }
+{
+    Arg::new(alloc, name).long(name).action(ArgAction::Set)
+}
+
 /// An option with a value, which must be given.
 fn required<'a>(alloc: Global, name: &'static str) -> Arg<'a>
     ensures rule { rule_of result ≡ required_rule name.now }
     ensures local { result.global ≡ false }
 {
-    Arg::new(alloc, name)
-        .long(name)
-        .action(ArgAction::Set)
-        .required(true)
+    option(alloc, name).required(true)
 }
 
 /// An option without a value, which may be given.
@@ -71,11 +76,27 @@ fn command<'a>(alloc: Global) -> Result<Command<'a>, AllocError>
     with_check.subcommand(threads)
 }
 
-/// What the words ask for: `replay --schedule S`, `status --schedule S`, `check`, or
-/// `run --turns N --ticks K` with or without `--front`.
+/// What the words of this command line ask for: the command that they name, and its options.
 ///
 /// The first word is the program's name. Words that `clap` refuses for another cause than memory
 /// are `Usage`, and so are those that ask for help.
+pub fn matches_of<'a>(command: Command<'a>, words: &'a [String]) -> Result<ArgMatches<'a>, CliFault>
+    requires { is_simple_and_free (app_of command) ≡ true }
+    ensures ok { IfOk result (λ matches. NamesCommand (app_of command.entry)
+        (map string_bytes words.entry.now) (subcommand_rows_of matches)) }
+    ensures usage { IsErrOf result CliFault.Usage
+        → HasFault (app_of command.entry) (map string_bytes words.entry.now) }
+    ensures faults { IfErr result IsUsageOrMemory }
+{
+    match command.try_get_matches_from(words) {
+        Ok(matches) => Ok(matches),
+        Err(error) if error.kind() == ErrorKind::OutOfMemory => Err(CliFault::Memory),
+        Err(_) => Err(CliFault::Usage),
+    }
+}
+
+/// What the words ask for: `replay --schedule S`, `status --schedule S`, `check`, or
+/// `run --turns N --ticks K` with or without `--front`. Other words are `Usage`.
 pub fn request_in<'a>(alloc: Global, words: &'a [String]) -> Result<Request<'a>, CliFault>
     ensures ok { IfOk result (λ r. request_of (map string_bytes words.entry.now)
         ≡ Some (request_said r)) }
@@ -86,13 +107,10 @@ pub fn request_in<'a>(alloc: Global, words: &'a [String]) -> Result<Request<'a>,
     let Ok(command) = command(alloc) else {
         return Err(CliFault::Memory);
     };
-    match command.try_get_matches_from(words) {
-        Ok(matches) => match request_given(&matches) {
-            Some(request) => Ok(request),
-            None => Err(CliFault::Usage),
-        },
-        Err(error) if error.kind() == ErrorKind::OutOfMemory => Err(CliFault::Memory),
-        Err(_) => Err(CliFault::Usage),
+    let matches = matches_of(command, words)?;
+    match request_given(&matches) {
+        Some(request) => Ok(request),
+        None => Err(CliFault::Usage),
     }
 }
 

@@ -1,139 +1,117 @@
--- The ways in which the program ends, by what was at fault.
-use Rattle.std.proofs.Common.{◌≡◌, inl, inr, List, [], ℕ, Option, None, Some, Ok, refl}
+-- What a source gives, and the ways in which the program ends, by what was at fault.
+use Rattle.std.proofs.Common.{◌≡◌, inl, inr, List, ℕ, Option, None, Some, refl, subst, sym}
 use Rattle.std.specs.Io.KnownBytes.{Keeps}
-use Rattle.apex_machine.specs.Machine.{Machine, opening, run}
-use Rattle.apex_types.specs.declared.entries.Event.{Event}
+use Rattle.apex_machine.specs.Machine.{Machine}
 use Rattle.apex_machine.specs.table.Table as tables
+use Rattle.apex_types.specs.declared.entries.Entry.{Entry}
 use Rattle.apex_history.specs.Counted.{CountsFault}
-use Rattle.apex_history.specs.Ports.{IsLeft, NoneFails, Ports}
+use Rattle.apex_history.specs.Ports.{NoneFails, Ports}
 use Rattle.apex_history.specs.declared.ReadFault.{ReadFault}
 use Rattle.apex_history.specs.declared.ReadFault.TheVariants as read
-use Rattle.apex_check.specs.Checks.{Checks, written}
-use Rattle.apex_check.specs.Legal.{SaysLegal}
+use Rattle.apex_check.proofs.Told.{legal_machine}
+use Rattle.apex_check.specs.Ahead.{IsAhead}
+use Rattle.apex_check.specs.Faults.{CountsRead, IsFaultOf}
+use Rattle.apex_check.specs.Verdicts.{HasFollowed, Judges, verdict_text}
+use Rattle.apex_check.specs.declared.CheckFault.{CheckFault}
+use Rattle.apex_check.specs.declared.CheckFault.TheVariants as checking
 use Rattle.apex_check.specs.declared.Verdict.{Verdict}
 use Rattle.apex_check.specs.declared.Verdict.TheVariants.{Legal, DepartsAt}
-use Rattle.apex_cli.specs.Faults.{IsUsageOrMemory, fault_of_read, fault_line}
+use Rattle.apex_cli.specs.Faults.{IsUsageOrMemory, fault_of_checking, fault_of_read, fault_line}
+use Rattle.apex_cli.specs.Reports.{Refuses, answer_of, runs_to}
 use Rattle.apex_cli.specs.declared.CliFault.{CliFault}
 use Rattle.apex_cli.specs.declared.CliFault.TheVariants.{Usage, Table, NoSeparator, BadLine, TooLong, HistoryFull, Memory, NoThread, Read, Write}
 use Rattle.apex_cli.specs.declared.Item.{Item}
 use Rattle.apex_pictures.specs.Drawing.{CountsDrawFault}
 use Rattle.apex_pictures.specs.declared.DrawFault.{DrawFault}
 use Rattle.apex_pictures.specs.declared.DrawFault.TheVariants as draw
-use Rattle.apex_lab.specs.Answers.{answer_of, draws, fault_of_drawing, AppendsPicture, AppendsPrefixOfPicture, RefusesItems}
-use Rattle.apex_lab.specs.Exits.{Draws, End, Ends, IsJudged, IsVerdictOn, Pictures, PicturesText, RefusesText, Shows, a_history, a_run, at_fault, cut_off, departed, departs, drawn, end_of, fails, fault_line, first_fault, no_memory, no_room, pictured, refused, shown, unasked, unheard, unread, unwritten, usage, whole}
-use Rattle.apex_lab.specs.Histories.{IsHistoryOf}
-use Rattle.apex_lab.specs.Tasks.{Asked, task_said}
-use Rattle.apex_lab.specs.declared.tasks.Task.{Task}
+use Rattle.apex_lab.specs.Exits.{Ends, Gives, Pictures, at_fault, cut_off, departed, departs, end_of, fails, fault_line, first_fault, legal, no_memory, ran, refused, shown, shows, stops, unasked, unread, unwritten, usage, whole}
+use Rattle.apex_lab.specs.Plans.{AppendsPicture, AppendsPrefixOfPicture, fault_of_drawing}
+use Rattle.apex_lab.specs.Tasks.{Asked, Source, View, history, schedule}
 
--- words or a schedule that ask for nothing, or no memory
-pub ends_unasked : {asked : Option Asked} {before after : Ports} → (fault : CliFault) → IsUsageOrMemory fault
-    → (fault ≡ Usage → asked ≡ None) → Keeps before.left after.left → Keeps before.held after.held
-    → NoneFails before after → Ends asked before (fails fault) after
-ends_unasked fault (inl e) none left held none_fails = rw e (usage (none e) left held none_fails)
-ends_unasked fault (inr e) none left held none_fails = rw e (unasked held none_fails)
+-- ---- what a source gives
 
--- bytes that were not read
-pub draws_unread : {asked : Asked} {items : List Item} {before after : Ports} → (fault : ReadFault)
-    → CountsFault fault before.failed_reads after.failed_reads → after.failed_writes ≡ before.failed_writes
-    → Keeps before.held after.held → Draws asked items before (Some (fault_of_read fault)) after
-draws_unread read.Memory counts same held = no_room held (counts, same)
-draws_unread read.Read counts same held = unread held (counts, same)
+module _ {left : Option (List ℕ)} {failed : ℕ} where
+  -- memory was refused
+  pub gives_no_memory : {source : Source} (after : ℕ) → after ≡ failed → Gives left failed source (stops (fails Memory)) after
+  gives_no_memory after same = rw same no_memory
 
-pub shows_unread : {asked : Asked} {before after : Ports} → (fault : ReadFault)
-    → CountsFault fault before.failed_reads after.failed_reads → after.failed_writes ≡ before.failed_writes
-    → Keeps before.held after.held
-    → Shows asked before (fails (fault_of_read fault)) after
-shows_unread read.Memory counts same held = no_memory held (counts, same)
-shows_unread read.Read counts same held = unheard held (counts, same)
+  -- bytes that were not read
+  pub gives_unread : {source : Source} (after : ℕ) (fault : ReadFault) → CountsFault fault failed after
+      → Gives left failed source (stops (fails (fault_of_read fault))) after
+  gives_unread after read.Memory counts = rw counts no_memory
+  gives_unread after read.Read counts = rw counts unread
 
--- bytes that are refused
-pub draws_refused : {asked : Asked} {items : List Item} {before after : Ports} → (bytes : List ℕ) (fault : CliFault)
-    → IsLeft bytes before → RefusesItems fault (answer_of items bytes) → Keeps before.held after.held
-    → NoneFails before after → Draws asked items before (Some fault) after
-draws_refused bytes fault left (inl e) held none_fails = rw e (no_room held none_fails)
-draws_refused bytes fault left (inr e) held none_fails = refused bytes left e held none_fails
+  -- what the items of a schedule give, over the bytes that were read
+  module _ {source : Source} (after : ℕ) (items given : List Item) (bytes read : List ℕ) (is : source ≡ schedule items) (same : given ≡ items)
+      (all : read ≡ bytes) (ahead : IsAhead bytes left) (counts : after ≡ failed) where
+    -- bytes that are refused
+    pub gives_refused : (fault : CliFault) → Refuses fault (answer_of given read) → Gives left failed source (stops (fails fault)) after
+    gives_refused fault (inl memory) = rw (memory, counts) no_memory
+    gives_refused fault (inr refuses) = rw (is, counts) (refused bytes ahead (rw (same, all) at refuses))
 
--- a picture that was drawn whole
-pub pictures_whole : {asked : Asked} {table : tables.Table} {machine : Machine} {held after : Option (List ℕ)} {failed failures : ℕ}
-    → AppendsPicture held after asked table machine → failures ≡ failed
-    → Pictures asked table machine held failed None after failures
+    -- events that are made
+    pub gives_run : (table : tables.Table) (machine : Machine) (fault : Option CliFault) → answer_of given read ≡ runs_to table machine fault
+        → Gives left failed source (shows table machine fault) after
+    gives_run table machine fault answer = rw (is, counts) (ran bytes ahead (rw (same, all) at answer))
+
+  -- a text with a fault
+  pub gives_fault : (after : ℕ) (fault : CheckFault) → IsFaultOf left fault → CountsRead fault failed after
+      → Gives left failed history (stops (fails (fault_of_checking fault))) after
+  gives_fault after checking.Memory found counts = rw counts no_memory
+  gives_fault after checking.Read found counts = rw counts unread
+  gives_fault after fault (text, ahead, at) counts = rw counts (at_fault text ahead at)
+
+  -- a legal history
+  pub gives_legal : (after : ℕ) (table made : tables.Table) (verdict : Verdict) (n : ℕ) (machine drawn : Machine) (fault : Option CliFault)
+      → ((text : List ℕ) × IsAhead text left × HasFollowed text table verdict machine) → verdict ≡ Legal n
+      → made ≡ table → drawn ≡ machine → fault ≡ None → after ≡ failed
+      → Gives left failed history (shows made drawn fault) after
+  gives_legal after table made verdict n machine drawn fault (text, ahead, found) is of same none counts =
+      let (lawful, table_is, ran_is) = legal_machine text table n machine (subst (λ (v : Verdict). HasFollowed text table v machine) is found) in
+      rw (of, same, none, counts) (subst (λ (t : tables.Table). Gives left failed history (shows t machine None) failed) table_is
+      (subst (λ (m : Machine). Gives left failed history (shows lawful.table m None) failed) ran_is (legal text ahead lawful)))
+
+  -- a history that departs
+  pub gives_departure : (after : ℕ) (table : tables.Table) (verdict : Verdict) (n : ℕ) (expected : Option Entry) (machine : Machine) (report : List ℕ)
+      → ((text : List ℕ) × IsAhead text left × HasFollowed text table verdict machine) → verdict ≡ DepartsAt n expected
+      → report ≡ verdict_text table verdict → after ≡ failed
+      → Gives left failed history (stops (departs report)) after
+  gives_departure after table verdict n expected machine report (text, ahead, found) is told counts =
+      let judges : Judges text table verdict = (found.events, found.judges) in
+      let told_is : report ≡ verdict_text table (DepartsAt n expected) = rw is at told in
+      rw (told_is, counts) (departed text table ahead (subst (λ (v : Verdict). Judges text table v) is judges))
+
+-- ---- a run that is shown
+
+-- a picture that was drawn whole, or not to its end
+pub pictures_whole : {view : View} {table : tables.Table} {machine : Machine} {held after : Option (List ℕ)} {failed failures : ℕ}
+    → AppendsPicture held after view table machine → failures ≡ failed
+    → Pictures view table machine held failed None after failures
 pictures_whole appends same = rw same (whole appends)
 
--- a picture that was not drawn to its end
-pub pictures_failed : {asked : Asked} {table : tables.Table} {machine : Machine} {held after : Option (List ℕ)} {failed failures : ℕ}
-    → (fault : DrawFault) → AppendsPrefixOfPicture held after asked table machine → CountsDrawFault fault failed failures
-    → Pictures asked table machine held failed (Some (fault_of_drawing fault)) after failures
+pub pictures_failed : {view : View} {table : tables.Table} {machine : Machine} {held after : Option (List ℕ)} {failed failures : ℕ}
+    → (fault : DrawFault) → AppendsPrefixOfPicture held after view table machine → CountsDrawFault fault failed failures
+    → Pictures view table machine held failed (Some (fault_of_drawing fault)) after failures
 pictures_failed draw.Memory begun counts = rw counts (cut_off begun)
 pictures_failed draw.Write begun counts = rw counts (unwritten begun)
 
--- a text that is refused
-pub shows_refused : {asked : Asked} {before after : Ports} → (text : List ℕ) (fault : CliFault)
-    → IsLeft text before → RefusesText fault text → Keeps before.held after.held
-    → NoneFails before after → Shows asked before (fails fault) after
-shows_refused text fault left (inl e) held none_fails = rw e (no_memory held none_fails)
-shows_refused text fault left (inr found) held none_fails =
-    let (checked, at, e) = found in
-    rw e (at_fault text left at held none_fails)
+-- ---- the ends of the program
 
--- a run that is drawn
-pub draws_drawn : {asked : Asked} {items : List Item} {before after : Ports} → (bytes : List ℕ) (table : tables.Table) (machine : Machine)
-    (fault reported ended : Option CliFault) → IsLeft bytes before → answer_of items bytes ≡ draws table machine reported
-    → first_fault fault reported ≡ ended → after.failed_reads ≡ before.failed_reads
-    → Pictures asked table machine before.held before.failed_writes fault after.held after.failed_writes
-    → Draws asked items before ended after
-draws_drawn bytes table machine fault reported ended left answer same reads pictures =
-    rw (← same) (drawn bytes table machine fault reported left answer reads pictures)
+module _ {asked : Option Asked} {before after : Ports} where
+  -- words or a schedule that ask for nothing, or no memory
+  pub ends_unasked : (fault : CliFault) → IsUsageOrMemory fault → (fault ≡ Usage → asked ≡ None)
+      → Keeps before.left after.left → Keeps before.held after.held
+      → NoneFails before after → Ends asked before (fails fault) after
+  ends_unasked fault (inl e) none left held none_fails = rw e (usage (none e) left held none_fails)
+  ends_unasked fault (inr e) none left held none_fails = rw e (unasked held none_fails)
 
--- the history of a text, drawn whole or not to its end
-pub text_whole : {asked : Asked} {text : List ℕ} {table : tables.Table} {events made : List Event} {held after : Option (List ℕ)} {failed failures : ℕ}
-    → IsHistoryOf text table events → made ≡ events
-    → AppendsPicture held after asked table (run table (opening table) made) → failures ≡ failed
-    → PicturesText asked text held failed None after failures
-text_whole {table = table} {events = events} history same appends counts =
-    pictured table events history (pictures_whole (rw same at appends) counts)
-
-pub text_failed : {asked : Asked} {text : List ℕ} {table : tables.Table} {events made : List Event} {held after : Option (List ℕ)} {failed failures : ℕ}
-    → (fault : DrawFault) → IsHistoryOf text table events → made ≡ events
-    → AppendsPrefixOfPicture held after asked table (run table (opening table) made) → CountsDrawFault fault failed failures
-    → PicturesText asked text held failed (Some (fault_of_drawing fault)) after failures
-text_failed {table = table} {events = events} fault history same begun counts =
-    pictured table events history (pictures_failed fault (rw same at begun) counts)
-
--- a history that is not legal
-pub shows_departed : {asked : Asked} {before after : Ports} → (text judged verdict : List ℕ) → IsLeft text before → judged ≡ text
-    → IsJudged judged (Some verdict) → Keeps before.held after.held → NoneFails before after
-    → Shows asked before (departs verdict) after
-shows_departed text judged verdict left is holds held none_fails = departed text left (rw is at holds) held none_fails
-
--- a legal history
-pub shows_legal : {asked : Asked} {before after : Ports} → (text judged made : List ℕ) (fault : Option CliFault) → IsLeft text before
-    → judged ≡ text → made ≡ text → IsJudged judged None → after.failed_reads ≡ before.failed_reads
-    → PicturesText asked made before.held before.failed_writes fault after.held after.failed_writes
-    → Shows asked before (end_of fault) after
-shows_legal text judged made fault left is same holds reads pictures =
-    let (n, lawful) = rw is at holds in
-    shown text n left lawful reads (rw same at pictures)
-
--- a run that is drawn
-pub ends_run : {asked : Option Asked} (task : Task) {before after : Ports} → (items made : List Item) (fault : Option CliFault)
-    → asked ≡ Some (task_said task) → (task_said task).items ≡ Some items → made ≡ items
-    → Draws (task_said task) made before fault after → Ends asked before (end_of fault) after
-ends_run task items made fault is some same drawing = a_run is some (rw same at drawing)
-
--- a history that is drawn
-pub ends_history : {asked : Option Asked} (task : Task) {before after : Ports} {ends : End}
-    → asked ≡ Some (task_said task) → (task_said task).items ≡ None → Shows (task_said task) before ends after
-    → Ends asked before ends after
-ends_history task is none shows = a_history is none shows
-
--- the verdict on a text and the verdict's text, by its check
-pub verdict_is : {before after : Ports} → (text : List ℕ) (verdict : Verdict) (report : List ℕ)
-    → Checks before (Ok verdict) after → SaysLegal before.left (Ok verdict) → before.left ≡ Some text
-    → before.held ≡ Some [] → after.held ≡ Some report → IsVerdictOn text verdict report
-verdict_is text (Legal n) report checks tells left empty holds = (tells text n left tt).0 refl
-verdict_is text (DepartsAt n expected) report (written bytes table is_left judges appends none_fails) tells left empty holds =
-    let same : bytes ≡ text = rw left at is_left in
-    (table, rw same at judges, rw (empty, holds) at appends)
+  -- a run that is shown
+  pub ends_shown : (task : Asked) (table : tables.Table) (machine : Machine) (fault reported ended : Option CliFault) → asked ≡ Some task
+      → Gives before.left before.failed_reads task.source (shows table machine reported) after.failed_reads
+      → Pictures task.view table machine before.held before.failed_writes fault after.held after.failed_writes
+      → ended ≡ first_fault fault reported → Ends asked before (end_of ended) after
+  ends_shown task table machine fault reported ended is gives pictures same =
+      rw same (shown table machine fault reported is gives pictures)
 
 -- the line of a fault other than ill-formed words
 pub other_line : (fault : CliFault) → (fault ≡ Usage → ⊥) → fault_line (Some fault) ≡ fault_line fault

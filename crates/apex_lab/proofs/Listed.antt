@@ -1,5 +1,5 @@
 -- The first events of a schedule's items, as many as a history takes, run like all of them.
-use Rattle.std.proofs.Common.{◌≡◌, ◌∙◌, ℕ, ◌+◌, ◌<◌, ◌≤◌, Bool, true, false, arith, refl, sym, ap, subst, List, ◌++◌, length, length-append, take, drop, append-nil, append_assoc, Option, None, Some}
+use Rattle.std.proofs.Common.{◌≡◌, ◌∙◌, ℕ, ◌+◌, ◌<◌, ◌≤◌, Bool, true, false, arith, refl, sym, ap, subst, List, ◌++◌, length, length-append, take, drop, append-nil, append_assoc, Option, None, Some, Ok}
 use Rattle.std.specs.List.{All}
 use Rattle.std.specs.Prelude.{replicate, slice_index_or}
 use Rattle.std.proofs.lemmas.List.{length-replicate, replicate-append-replicate, take_all}
@@ -10,12 +10,14 @@ use Rattle.apex_machine.specs.table.Table.{Table}
 use Rattle.apex_types.specs.declared.entries.Event.{Event}
 use Rattle.apex_machine.specs.Events.{IsWithin}
 use Rattle.apex_laws.proofs.Runs.{run-append, run-fills, run-full}
-use Rattle.apex_cli.proofs.ItemRuns.{fault_fits, fault_full, items_split}
-use Rattle.apex_cli.specs.Schedule.{events_of_item, events_of_items}
+use Rattle.apex_cli.proofs.ItemRuns.{answer_is, fault_fits, fault_full, items_split}
+use Rattle.apex_cli.specs.Reports.{answer_of, runs_to}
+use Rattle.apex_cli.specs.Schedule.{are_cores_below, events_of_item, events_of_items}
+use Rattle.apex_table.specs.Reading.{table_of}
 use Rattle.apex_cli.specs.declared.CliFault.{CliFault}
 use Rattle.apex_cli.specs.declared.CliFault.TheVariants.{HistoryFull}
 use Rattle.apex_cli.specs.declared.Item.{Item}
-use Rattle.apex_lab.specs.Answers.{IsListOf, IsRunOf}
+use Rattle.apex_lab.specs.Plans.{IsListOf, IsRunOf}
 
 -- An item's events are put, all but k of them: those k and the events of the later items are the rest.
 pub item_put : (items : List Item) (i : ℕ) (item : Item) (before after : List Event) (event : Event) (n put k times : ℕ)
@@ -79,3 +81,10 @@ list_cut limit all events later event k more full split =
       whole = λ none. absurd (both_ways true none refl);
       cut = λ _. (full, omega (arith, more, many));
     }
+
+-- the answer to the items is the machine to which the events run
+pub list_answer : (items : List Item) (bytes : List ℕ) (table : Table) (events : List Event) (fault : Option CliFault)
+    → table_of bytes ≡ Ok table → are_cores_below table.cores items ≡ true → IsRunOf items table events fault
+    → answer_of items bytes ≡ runs_to table (run table (opening table) events) fault
+list_answer items bytes table events fault read below made =
+    answer_is items bytes table (run table (opening table) events) fault read below (sym made.same) made.told

@@ -1,5 +1,4 @@
 pub mod Words
 pub mod Tasks
-pub mod Answers
-pub mod Histories
+pub mod Plans
 pub mod Exits

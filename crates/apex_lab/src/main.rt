@@ -1,10 +1,9 @@
-//! The program `apex_lab`: draws the history that a partition has for a schedule, or a history
-//! that is legal, as SVG or as a trace.
+//! The program `apex_lab`: shows the run that a schedule gives, or a history that is legal, as SVG or
+//! as a trace.
 #![tactic(auto)]
 
-mod histories;
+mod plans;
 mod program;
-mod schedules;
 mod tasks;
 mod words;
 

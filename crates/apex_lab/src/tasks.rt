@@ -1,28 +1,41 @@
-//! What the program is asked to draw.
+//! What the program is asked to show.
 ghost use Rattle.std.specs.Prelude.{◌≡◌, ◌≤◌, IfOk, IfErr, IsErrOf, Some, None, map, option_map, string_bytes};
 ghost use Rattle.apex_types.specs.declared.limits.TheConstants.{MOST_ENTRIES};
 ghost use Rattle.apex_cli.specs.Faults.{IsUsageOrMemory};
-ghost use Rattle.apex_lab.specs.Tasks.{IsOfEntries, asked_by, asked_in, items_in, number_in, task_said};
-ghost use Rattle.apex_lab.specs.Words.{said};
+ghost use Rattle.apex_lab.specs.Tasks.{IsOfEntries, asked_by, number_in, source_in, source_said, task_said, view_in, view_said};
+ghost use Rattle.apex_lab.specs.Words.{given_said, shown_said};
 
-use crate::words::{Format, Request, request_in};
-use apex_cli::{CliFault, Item, read_schedule};
-use apex_types::number_at_most;
+use crate::words::{SourceWords, ViewWords, request_in};
+use apex_cli::{CliFault, Item, read_positive, read_schedule};
+use apex_types::MOST_ENTRIES;
 use std::alloc::Global;
 
-/// What the program is asked to draw.
+/// How a run is given.
 #[derive(Drop)]
-pub struct Task {
-    pub format: Format,
-    /// The number of the first entry that is drawn.
-    pub first: u32,
-    /// The number of the last one.
-    pub last: u32,
-    /// The items of the schedule; none where a history is drawn.
-    pub items: Option<Vec<Item>>,
+pub enum RunSource {
+    /// By the items of a schedule, for the table that is read.
+    Schedule(Vec<Item>),
+    /// By the history that is read, behind its table.
+    History,
 }
 
-/// The number of an entry, 1 to 65,536, that a text says. Any other text is `Usage`.
+/// How a run is shown.
+#[derive(Clone, Copy)]
+pub enum View {
+    /// As SVG, the entries from the first number to the last.
+    Svg { first: u32, last: u32 },
+    /// As a trace.
+    Trace,
+}
+
+/// What the program is asked to show.
+#[derive(Drop)]
+pub struct Task {
+    pub source: RunSource,
+    pub view: View,
+}
+
+/// The number of an entry, 1 to [`MOST_ENTRIES`], that a text says. Any other text is `Usage`.
 fn read_number(text: Option<&str>, otherwise: u32) -> Result<u32, CliFault>
     requires { (1 ≤ otherwise) × (otherwise ≤ MOST_ENTRIES) }
     ensures ok { IfOk result (λ number. number_in otherwise (option_map
@@ -35,55 +48,55 @@ fn read_number(text: Option<&str>, otherwise: u32) -> Result<u32, CliFault>
     let Some(text) = text else {
         return Ok(otherwise);
     };
-    match number_at_most(text.as_bytes(), 65_536) {
-        Some(number) if 1 <= number => Ok(number),
-        _ => Err(CliFault::Usage),
+    match read_positive(text.as_bytes()) {
+        Some(number) => Ok(number),
+        None => Err(CliFault::Usage),
     }
 }
 
-/// The items of a schedule's text, where one is given.
-fn read_items(alloc: Global, schedule: Option<&str>) -> Result<Option<Vec<Item>>, CliFault>
-    ensures ok { IfOk result (λ items. items_in (option_map (λ given. given.now) schedule.entry)
-        ≡ Some (option_map (λ all. all.items) items)) }
-    ensures usage { IsErrOf result CliFault.Usage → items_in (option_map
-        (λ given. given.now) schedule.entry) ≡ None }
-    ensures faults { IfErr result IsUsageOrMemory }
-{
-    match schedule {
-        Some(schedule) => {
-            let items = read_schedule(alloc, schedule.as_bytes())?;
-            Ok(Some(items))
-        }
-        None => Ok(None),
-    }
-}
-
-/// What a request asks for. `Usage` where its schedule or a number is ill-formed.
-fn task_in(alloc: Global, request: &Request<'_>) -> Result<Task, CliFault>
-    ensures ok { IfOk result (λ task. asked_in (said request.entry.now) ≡ Some (task_said task)) }
+/// How a run is shown. `Usage` if a number is ill-formed.
+fn read_view(view: ViewWords<'_>) -> Result<View, CliFault>
+    ensures ok { IfOk result (λ read. view_in (shown_said view.entry) ≡ Some (view_said read)) }
     ensures range { IfOk result IsOfEntries }
-    ensures usage { IsErrOf result CliFault.Usage → asked_in (said request.entry.now) ≡ None }
+    ensures usage { IsErrOf result CliFault.Usage → view_in (shown_said view.entry) ≡ None }
     ensures faults { IfErr result IsUsageOrMemory }
 {
-    let first = read_number(request.first, 1)?;
-    let last = read_number(request.last, 65_536)?;
-    let items = read_items(alloc, request.schedule)?;
-    Ok(Task {
-        format: request.format,
-        first,
-        last,
-        items,
-    })
+    match view {
+        ViewWords::Svg { first, last } => {
+            let first = read_number(first, 1)?;
+            let last = read_number(last, MOST_ENTRIES)?;
+            Ok(View::Svg { first, last })
+        }
+        ViewWords::Trace => Ok(View::Trace),
+    }
 }
 
-/// What the words ask for. `Usage` where the words, the schedule or a number are ill-formed.
+/// How a run is given. `Usage` if its schedule is ill-formed.
+fn read_source(alloc: Global, source: SourceWords<'_>) -> Result<RunSource, CliFault>
+    ensures ok { IfOk result (λ read. source_in (given_said source.entry)
+        ≡ Some (source_said read)) }
+    ensures usage { IsErrOf result CliFault.Usage → source_in (given_said source.entry) ≡ None }
+    ensures faults { IfErr result IsUsageOrMemory }
+{
+    match source {
+        SourceWords::Schedule(text) => {
+            let items = read_schedule(alloc, text.as_bytes())?;
+            Ok(RunSource::Schedule(items))
+        }
+        SourceWords::History => Ok(RunSource::History),
+    }
+}
+
+/// What the words ask for. `Usage` if the words, the schedule or a number are ill-formed.
 pub fn task_asked(alloc: Global, words: &[String]) -> Result<Task, CliFault>
     ensures ok { IfOk result (λ task. asked_by (map string_bytes words.now)
         ≡ Some (task_said task)) }
-    ensures range { IfOk result IsOfEntries }
+    ensures range { IfOk result (λ task. IsOfEntries task.view) }
     ensures usage { IsErrOf result CliFault.Usage → asked_by (map string_bytes words.now) ≡ None }
     ensures faults { IfErr result IsUsageOrMemory }
 {
     let request = request_in(alloc, words)?;
-    task_in(alloc, &request)
+    let source = read_source(alloc, request.source)?;
+    let view = read_view(request.view)?;
+    Ok(Task { source, view })
 }

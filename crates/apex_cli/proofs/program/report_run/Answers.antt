@@ -19,21 +19,20 @@ returns-in_err-ran g c =
 
 pub returns-in-None : goal.returns-in-None
 returns-in-None g c =
-    let answer = ap (answer_of c.args.report c.args.items.now) (sym c.as_slice.ensures.value) ∙ c.in_ok-ran.ensures.ok c.args.report in
-    reports_written c.in_ok-text.text.items _ c.in_ok-ran.ran.fault None
-    c.in_ok-text.ensures.bytes answer (sym c.in-Ok.ensures.fault ∙ c.in-None.is)
+    let answer = ap (answer_of c.args.items.now) (sym c.as_slice.ensures.value) ∙ c.in_ok-ran.ensures.ok in
+    reports_written c.in_ok-text.text.items _ _ c.in_ok-ran.ran.fault c.in_ok-text.ensures.bytes answer
+    None (sym c.in-Ok.ensures.fault ∙ c.in-None.is)
     c.in-Ok.ensures.ok (c.in_ok-text.ensures.counted, c.in-Ok.ensures.counted)
 
 pub returns-in-Ok : goal.returns-in-Ok
 returns-in-Ok g c =
-    let answer = ap (answer_of c.args.report c.args.items.now) (sym c.as_slice.ensures.value) ∙ c.in_ok-ran.ensures.ok c.args.report in
-    reports_written c.in_ok-text.text.items _ c.in_ok-ran.ran.fault (Some c.in-Some.fault)
-    c.in_ok-text.ensures.bytes answer (sym c.in-Ok.ensures.fault ∙ c.in-Some.is)
+    let answer = ap (answer_of c.args.items.now) (sym c.as_slice.ensures.value) ∙ c.in_ok-ran.ensures.ok in
+    reports_written c.in_ok-text.text.items _ _ c.in_ok-ran.ran.fault c.in_ok-text.ensures.bytes answer
+    (Some c.in-Some.fault) (sym c.in-Ok.ensures.fault ∙ c.in-Some.is)
     c.in-Ok.ensures.ok (c.in_ok-text.ensures.counted, c.in-Ok.ensures.counted)
 
 pub returns : goal.returns
 returns g c =
-    let answer = ap (answer_of c.args.report c.args.items.now) (sym c.as_slice.ensures.value) ∙ c.in_ok-ran.ensures.ok c.args.report in
-    reports_unwritten c.in_ok-text.text.items _ c.in_ok-ran.ran.fault
-    c.in_ok-text.ensures.bytes answer
+    let answer = ap (answer_of c.args.items.now) (sym c.as_slice.ensures.value) ∙ c.in_ok-ran.ensures.ok in
+    reports_unwritten c.in_ok-text.text.items _ _ c.in_ok-ran.ran.fault c.in_ok-text.ensures.bytes answer
     c.in-Err.ensures.err (c.in_ok-text.ensures.counted, c.in-Err.ensures.counted)

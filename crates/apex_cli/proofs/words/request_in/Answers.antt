@@ -1,34 +1,25 @@
-use Rattle.std.proofs.Common.{rules, ◌≡◌, ◌∙◌, ap, subst, sym, true, [], map, string_bytes}
-use Rattle.clap.specs.Words.{HasMatchesOf, app_of, fault_of, is_simple, is_simple_and_free, subcommand_of, subcommand_rows_of, kind_of}
-use Rattle.clap.specs.Kinds.{FailsBy, HasKind}
-use Rattle.clap.specs.declared.error.kind.ErrorKind.TheVariants.{OutOfMemory}
-use Rattle.apex_cli.specs.Words.{apex}
-use Rattle.apex_cli.proofs.CommandLemmas.{asks_nothing}
+use Rattle.std.proofs.Common.{rules, ◌≡◌, ◌∙◌, ap, map, refl, string_bytes, subst, sym, true, Err}
+use Rattle.clap.specs.Words.{App, app_of, is_simple_and_free, subcommand_rows_of}
+use Rattle.std.proofs.lemmas.Result.{err_from_is_err_and}
+use Rattle.apex_cli.specs.declared.faults.CliFault.TheVariants.{Usage}
+use Rattle.apex_cli.specs.Words.{HasFault, NamesCommand, apex, request_in}
+use Rattle.apex_cli.proofs.CommandLemmas.{asks_nothing, same_fault}
 use Rattle.apex_cli.proofs.words.request_in.Goals as goal
+
+pub matches_of-requires : goal.matches_of-requires
+matches_of-requires c =
+    let free : is_simple_and_free apex ≡ true = search rules in
+    ap is_simple_and_free c.in-Ok.ensures ∙ free
+
+pub returns-in_err-matches-clause-usage : goal.returns-in_err-matches-clause-usage
+returns-in_err-matches-clause-usage c =
+    let words = map string_bytes c.args.words.now in
+    let p = err_from_is_err_and c.from_residual.result c.from_residual.ensures.1 in
+    rw (p.1, p.2) (λ e. asks_nothing request_in apex words (subst (λ (a : App). HasFault a words) c.in-Ok.ensures
+    (c.in_err-matches.ensures.usage (ap Err (same_fault _ c.in_err-matches.field-0.0 Usage refl e)))))
 
 pub returns-in-Some-clause-ok : goal.returns-in-Some-clause-ok
 returns-in-Some-clause-ok c =
     let words = map string_bytes c.args.words.now in
-    let matches = c.in-Ok-try_get_matches_from.matches in
-    let is_apex : app_of c.in-Ok.command ≡ apex = c.in-Ok.ensures in
-    let free : is_simple_and_free apex ≡ true = search rules in
-    let simple : is_simple apex ≡ true = search rules in
-    let met : subcommand_rows_of matches ≡ subcommand_of apex words =
-    (subst (λ a. HasMatchesOf a words matches) is_apex c.in-Ok-try_get_matches_from.ensures.matches simple).1 in
-    let none : fault_of apex words ≡ [] =
-    subst (λ a. fault_of a words ≡ []) is_apex (c.in-Ok-try_get_matches_from.ensures.kinds (ap is_simple_and_free is_apex ∙ free)) in
-    rw (none, ← met) (sym c.in-Some.ensures)
-
-pub returns-clause-usage : goal.returns-clause-usage
-returns-clause-usage c =
-    let words = map string_bytes c.args.words.now in
-    let is_apex : app_of c.in-Ok.command ≡ apex = c.in-Ok.ensures in
-    let simple : is_simple_and_free apex ≡ true = search rules in
-    let fails = c.try_get_matches_from.ensures.kinds (ap is_simple_and_free is_apex ∙ simple) in
-    let kinds = subst (λ r. FailsBy (fault_of (app_of c.in-Ok.command) words) r) c.in-Err-2.is fails in
-    let asked = subst (λ a. HasKind (fault_of a words) c.in-Err-2.field-0) is_apex kinds in
-    let other : kind_of c.in-Err-2.field-0 ≡ OutOfMemory → ⊥ = λ memory.
-    let same : c.kind.result ≡ OutOfMemory = cc in
-    let equal = rw same at c.eq.ensures in
-    cc in
-    λ _. asks_nothing (fault_of apex words) c.in-Err-2.field-0 (subcommand_of apex words) asked other
+    let names = subst (λ (a : App). NamesCommand a words (subcommand_rows_of c.in_ok-matches.matches)) c.in-Ok.ensures c.in_ok-matches.ensures.ok in
+    rw (names.0, names.1) (sym c.in-Some.ensures)

@@ -2,7 +2,10 @@
 use Rattle.std.proofs.Common.{ap, refl, Err, None, Some}
 use Rattle.std.proofs.KnownBytes.{Keeps-refl}
 use Rattle.std.proofs.lemmas.Result.{err_from_is_err_and}
-use Rattle.apex_lab.proofs.Endings.{ends_history, ends_run, ends_unasked}
+use Rattle.apex_lab.specs.Exits.{stopped}
+use Rattle.apex_lab.specs.Plans.{IsPlanFor, machine_of}
+use Rattle.apex_lab.specs.Tasks.{task_said, view_said}
+use Rattle.apex_lab.proofs.Endings.{ends_shown, ends_unasked}
 use Rattle.apex_lab.proofs.program.carry_out.Goals as goal
 
 pub returns-in_err-task : goal.returns-in_err-task
@@ -11,17 +14,34 @@ returns-in_err-task g c =
     rw (p.1, p.2) (ends_unasked c.in_err-task.field-0.0 c.in_err-task.ensures.faults
     (λ e. c.in_err-task.ensures.usage (ap Err e)) (Keeps-refl _) (Keeps-refl _) (refl, refl))
 
-pub returns-in_err-draw_run-in-Some : goal.returns-in_err-draw_run-in-Some
-returns-in_err-draw_run-in-Some g c =
-    let p = err_from_is_err_and c.from_residual-in_err-draw_run-in-Some.result
-    c.from_residual-in_err-draw_run-in-Some.ensures.1 in
-    rw (p.1, p.2) (ends_run c.in_ok-task.task _ c.as_slice.result.now (Some c.in_err-draw_run-in-Some.field-0.0)
-    c.in_ok-task.ensures.ok (rw c.in-Some.is refl) c.as_slice.ensures.value c.in_err-draw_run-in-Some.ensures)
+pub returns-in_err-plan : goal.returns-in_err-plan
+returns-in_err-plan g c =
+    let p = err_from_is_err_and c.from_residual-in_err-plan.result c.from_residual-in_err-plan.ensures.1 in
+    rw (p.1, p.2) (stopped c.in_ok-task.ensures.ok c.in_err-plan.ensures.gives (Keeps-refl _) refl)
 
-pub returns-in-Some : goal.returns-in-Some
-returns-in-Some g c =
-    ends_run c.in_ok-task.task _ c.as_slice.result.now None c.in_ok-task.ensures.ok (rw c.in-Some.is refl) c.as_slice.ensures.value
-    c.in_ok-draw_run-in-Some.ensures
+pub show-requires : goal.show-requires
+show-requires g c =
+    let planned : IsPlanFor (view_said c.in_ok-task.task.view) c.in-Run.plan = rw c.in-Run.is at c.in_ok-plan.ensures.plan in
+    planned.within
+
+pub returns-in_err-show-in-Run : goal.returns-in_err-show-in-Run
+returns-in_err-show-in-Run g c =
+    let p = err_from_is_err_and c.from_residual-in_err-show-in-Run.result c.from_residual-in_err-show-in-Run.ensures.1 in
+    let task = c.in_ok-task.task in
+    let plan = c.in-Run.plan in
+    let planned : IsPlanFor (view_said task.view) plan = rw c.in-Run.is at c.in_ok-plan.ensures.plan in
+    let (fault, pictures, same) = c.in_err-show-in-Run.ensures (view_said task.view) planned.style in
+    rw (p.1, p.2) (ends_shown (task_said task) plan.table (machine_of plan) fault plan.fault (Some c.in_err-show-in-Run.field-0.0)
+    c.in_ok-task.ensures.ok (rw c.in-Run.is at c.in_ok-plan.ensures.gives) pictures same)
+
+pub returns-in-Run : goal.returns-in-Run
+returns-in-Run g c =
+    let task = c.in_ok-task.task in
+    let plan = c.in-Run.plan in
+    let planned : IsPlanFor (view_said task.view) plan = rw c.in-Run.is at c.in_ok-plan.ensures.plan in
+    let (fault, pictures, same) = c.in_ok-show-in-Run.ensures (view_said task.view) planned.style in
+    ends_shown (task_said task) plan.table (machine_of plan) fault plan.fault None
+    c.in_ok-task.ensures.ok (rw c.in-Run.is at c.in_ok-plan.ensures.gives) pictures same
 
 pub returns : goal.returns
-returns g c = ends_history c.in_ok-task.task c.in_ok-task.ensures.ok (rw c.in-None.is refl) c.draw_history.ensures
+returns g c = stopped c.in_ok-task.ensures.ok (rw c.in-Departed.is at c.in_ok-plan.ensures.gives) (Keeps-refl _) refl

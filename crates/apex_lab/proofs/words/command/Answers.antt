@@ -1,8 +1,9 @@
-use Rattle.std.proofs.Common.{rules, ◌≡◌, ◌∙◌, ap, ap₂}
+use Rattle.std.proofs.Common.{rules, ◌≡◌, ◌∙◌, ap, ap₂, codes}
 use Rattle.std.specs.Prelude.{◌||◌}
 use Rattle.std.proofs.lemmas.Result.{IfOk-weaker}
 use Rattle.clap.specs.Words.{App, app_of, with_rule, with_subcommand}
-use Rattle.apex_lab.specs.Words.{lab_alone, svg, trace}
+use Rattle.apex_cli.specs.Words.{program_alone}
+use Rattle.apex_lab.specs.Words.{svg, trace}
 use Rattle.apex_lab.proofs.words.command.Goals as goal
 
 pub returns : goal.returns
@@ -17,6 +18,7 @@ returns c =
     let two_local = c.in_ok-svg_from.ensures.globals ∙ ap₂ (λ a b. a || b) one_local c.option-2.ensures.local in
     let svg_local = c.in_ok-svg.ensures.globals ∙ ap₂ (λ a b. a || b) two_local c.option-3.ensures.local in
     let trace_local = c.in_ok-trace.ensures.globals ∙ ap₂ (λ a b. a || b) c.new-2.ensures.local c.option-4.ensures.local in
+    let lab_alone = program_alone (codes "apex_lab") in
     let alone_is : app_of c.subcommand_required.result ≡ lab_alone = search rules in
     let with_svg_is : app_of c.in_ok-with_svg.with_svg ≡ with_subcommand lab_alone svg.top =
     c.in_ok-with_svg.ensures.shape svg_local ∙ ap₂ with_subcommand alone_is (ap (λ (a : App). a.top) svg_is) in

@@ -1,12 +1,11 @@
 use Rattle.std.proofs.Common.{◌∙◌, codes}
 use Rattle.clap.proofs.WalkLemmas.{first_value-rows}
 use Rattle.clap.specs.Words.{found_of}
-use Rattle.apex_lab.specs.declared.words.Format.TheVariants.{Svg}
-use Rattle.apex_lab.proofs.CommandLemmas.{same_request}
+use Rattle.apex_lab.proofs.CommandLemmas.{same_svg}
 use Rattle.apex_lab.proofs.words.svg_given.Goals as goal
 
 pub returns : goal.returns
 returns c =
     let found = found_of c.args.matches.now in
-    same_request Svg (c.get_str.ensures ∙ first_value-rows found (codes "schedule"))
-    (c.get_str-2.ensures ∙ first_value-rows found (codes "from")) (c.get_str-3.ensures ∙ first_value-rows found (codes "to"))
+    same_svg c.source_given.ensures (c.get_str.ensures ∙ first_value-rows found (codes "from"))
+    (c.get_str-2.ensures ∙ first_value-rows found (codes "to"))

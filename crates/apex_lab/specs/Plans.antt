@@ -1,0 +1,69 @@
+-- The picture that is drawn of a run.
+use Rattle.std.specs.Prelude.{◌≡◌, ℕ, ◌+◌, ◌<◌, ◌≤◌, ◌++◌, [], Bool, true, false, length, min, List, Option, All}
+use Rattle.std.specs.Io.KnownBytes.{Appends}
+use Rattle.apex_machine.specs.Machine.{Machine, opening, run}
+use Rattle.apex_machine.specs.Events.{IsWithin}
+use Rattle.apex_machine.specs.table.Table as tables
+use Rattle.apex_types.specs.declared.entries.Event.{Event}
+use Rattle.apex_history.specs.Counted.{AppendsBeginning}
+use Rattle.apex_cli.specs.Reports.{fault_of_events}
+use Rattle.apex_cli.specs.Schedule.{events_of_items}
+use Rattle.apex_cli.specs.declared.CliFault.{CliFault}
+use Rattle.apex_cli.specs.declared.CliFault.TheVariants.{Memory, Write}
+use Rattle.apex_cli.specs.declared.Item.{Item}
+use Rattle.apex_pictures.specs.declared.DrawFault.{DrawFault}
+use Rattle.apex_pictures.specs.declared.DrawFault.TheVariants as draw
+use Rattle.apex_pictures.specs.Pictures.{picture_text}
+use Rattle.apex_pictures.specs.declared.Style.{Style}
+use Rattle.apex_pictures.specs.declared.Style.TheVariants as style
+use Rattle.apex_lab.specs.Tasks.{View, svg, trace}
+use Rattle.apex_lab.specs.declared.plans.Plan.{Plan}
+
+-- the events run like those of the items, and this fault is reported with the picture
+pub record IsRunOf (items : List Item) (table : tables.Table) (events : List Event)
+    (fault : Option CliFault) : Type 0 where
+  pub same : run table (opening table) (events_of_items items) ≡ run table (opening table) events
+  pub told : fault ≡ fault_of_events table (events_of_items items)
+  pub within : All (IsWithin table.cores) events
+
+-- the events are the first ones of these, as many as the limit allows, and all of them unless they are cut
+pub record IsListOf (limit : ℕ) (all events : List Event) (is_cut : Bool) : Type 0 where
+  pub rest : List Event
+  pub split : all ≡ events ++ rest
+  pub whole : is_cut ≡ false → (rest ≡ []) × (length events ≤ limit)
+  pub cut : is_cut ≡ true → (length events ≡ limit) × (0 < length rest)
+
+-- a style is that of a view; an SVG has 2,000 entries at the most
+abbrev pub IsStyleOf : View → Style → Type 0
+IsStyleOf (svg first last) (style.Svg frame) =
+    (frame.first ≡ first) × (frame.last ≡ min last (first + 1999))
+IsStyleOf (svg first last) style.Trace = ⊥
+IsStyleOf trace (style.Svg frame) = ⊥
+IsStyleOf trace style.Trace = Unit {0}
+
+-- the machine of which a plan's picture is
+abbrev pub machine_of : Plan → Machine
+machine_of plan = run plan.table (opening plan.table) plan.events.items
+
+-- the plan is for this view, and its events are of the table's cores
+pub record IsPlanFor (view : View) (plan : Plan) : Type 0 where
+  pub within : All (IsWithin plan.table.cores) plan.events.items
+  pub style : IsStyleOf view plan.style
+
+-- known bytes grow by the picture of a machine
+abbrev pub AppendsPicture : Option (List ℕ) → Option (List ℕ) → View → tables.Table → Machine
+    → Type 0
+AppendsPicture old new view table machine =
+    (style : Style) × IsStyleOf view style × Appends old new (picture_text style table machine)
+
+-- known bytes grow by a prefix of it
+abbrev pub AppendsPrefixOfPicture : Option (List ℕ) → Option (List ℕ) → View → tables.Table
+    → Machine → Type 0
+AppendsPrefixOfPicture old new view table machine =
+    (style : Style) × IsStyleOf view style
+    × AppendsBeginning old new (picture_text style table machine)
+
+-- the fault of a drawing
+abbrev pub fault_of_drawing : DrawFault → CliFault
+fault_of_drawing draw.Memory = Memory
+fault_of_drawing draw.Write = Write
