@@ -1,5 +1,5 @@
 use Rattle.std.proofs.Common.{rules, ◌≡◌, ◌∙◌, ap, map, refl, string_bytes, subst, sym, true, Err}
-use Rattle.clap.specs.Words.{App, app_of, is_simple_and_free, subcommand_rows_of}
+use Rattle.clap.specs.Words.{App, is_simple_and_free, subcommand_rows_of}
 use Rattle.std.proofs.lemmas.Result.{err_from_is_err_and}
 use Rattle.apex_cli.specs.declared.faults.CliFault.TheVariants.{Usage}
 use Rattle.apex_cli.specs.Words.{HasFault, NamesCommand, apex, request_in}
