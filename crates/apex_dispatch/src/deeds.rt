@@ -6,8 +6,8 @@ ghost use Rattle.std.specs.Option.{ForSome};
 ghost use Rattle.apex_machine.specs.services.Calls.{is_work};
 ghost use Rattle.apex_machine.specs.services.Callers.{IsReady, IsReadyCaller};
 ghost use Rattle.apex_machine.specs.services.Premises.{CanServe};
-ghost use Rattle.apex_types.specs.declared.entries.Caller.TheVariants.{Process as ByProcess};
-ghost use Rattle.apex_types.specs.declared.entries.Reply.TheVariants.{Begun};
+ghost use Rattle.apex_types.specs.declared.entries.Caller.TheVariants.{Nobody, Process as ByProcess};
+ghost use Rattle.apex_types.specs.declared.entries.Reply.TheVariants.{Begun, Idle};
 ghost use Rattle.apex_machine.specs.Deeds.{chosen_deed, move_on, next_place, served, step_deed, turn_deed};
 ghost use Rattle.apex_machine.specs.processes.Running.{chosen};
 ghost use Rattle.apex_machine.specs.processes.Periods.{HasNoFutureRelease};
@@ -50,6 +50,20 @@ fn work_asked(caller: &Caller, call: &Option<Call>) -> Option<Work>
 }
 
 impl Deed {
+    /// The deed of an idle turn.
+    #[inline(always)]
+    pub(crate) fn idle() -> Deed
+        ensures caller { result.caller ≡ Nobody }
+        ensures call { result.call ≡ None }
+        ensures reply { result.reply ≡ Idle }
+    {
+        Deed {
+            caller: Caller::Nobody,
+            call: None,
+            reply: Reply::Idle,
+        }
+    }
+
     /// The work that the call began.
     #[inline(always)]
     pub(crate) fn begun(&self) -> Option<Work>
@@ -188,7 +202,7 @@ fn next_call<S: Store>(
 }
 
 /// Ends the work that the core has begun; else carries out the init step that is due, else the step
-/// of the core's chosen process; else the turn is idle.
+/// of the core's chosen process. None if the turn is idle.
 #[inline(always)]
 pub(crate) fn carry_out<S: Store>(
     table: &Table,
@@ -198,7 +212,7 @@ pub(crate) fn carry_out<S: Store>(
     begun: Option<OpenWork>,
     due: Option<Call>,
     notices: &mut Notices,
-) -> Deed
+) -> Option<Deed>
     requires begun { ForSome begun (λ o. o.work.process < length (S.roster store.old).records) }
     requires due { ForSome due (IsKnown table.now) }
     requires records { length (S.roster store.old).records ≡ length table.now.processes }
@@ -206,9 +220,13 @@ pub(crate) fn carry_out<S: Store>(
     requires starts { HasOrderlyStarts (S.roster store.old) }
     requires can { CanServe (S.roster store.old) notices.old }
     requires releases { HasNoFutureRelease (S.roster store.old) }
-    ensures { Does (turn_deed table.now (S.roster store.old) objects.old core begun due)
-        result.caller result.call result.reply
-        (S.roster store.new) objects.new notices.old notices.new }
+    ensures done { IfSome result (λ done. Does
+        (turn_deed table.now (S.roster store.old) objects.old core begun due)
+        done.caller done.call done.reply
+        (S.roster store.new) objects.new notices.old notices.new) }
+    ensures idle { IfNone result (Does
+        (turn_deed table.now (S.roster store.old) objects.old core begun due)
+        Nobody None Idle (S.roster store.new) objects.new notices.old notices.new) }
 {
     if let Some(begun) = begun {
         let process = begun.work.process;
@@ -216,24 +234,18 @@ pub(crate) fn carry_out<S: Store>(
         let call = Some(Call::Work(begun.work.amount));
         if begun.unbroken {
             move_on(table, store, process);
-            return Deed {
+            return Some(Deed {
                 caller,
                 call,
                 reply: Reply::Done,
-            };
+            });
         }
-        return Deed {
+        return Some(Deed {
             caller,
             call,
             reply: Reply::Lost,
-        };
+        });
     }
-    match next_call(table, store, core, due) {
-        Some(asked) => ask(store, objects, asked, notices),
-        None => Deed {
-            caller: Caller::Nobody,
-            call: None,
-            reply: Reply::Idle,
-        },
-    }
+    let asked = next_call(table, store, core, due)?;
+    Some(ask(store, objects, asked, notices))
 }

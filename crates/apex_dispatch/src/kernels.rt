@@ -125,9 +125,14 @@ impl<S: Store> Kernel<S> {
             × (e.entries ≡ self.old.table.limit)) }
     {
         refuse_full(&self.log)?;
-        let deed = self.situation.turn(&self.table, core, &mut self.notices);
+        let done = self
+            .situation
+            .turn_unless_idle(&self.table, core, &mut self.notices);
         let (now, who) = (self.situation.now(), Who::Core(core));
-        append(&mut self.log, now, who, deed, &self.notices);
+        match done {
+            Some(deed) => append(&mut self.log, now, who, deed, &self.notices),
+            None => append(&mut self.log, now, who, Deed::idle(), &self.notices),
+        }
         Ok(())
     }
 

@@ -1,7 +1,9 @@
 //! The situation of a partition: all on which its future depends, and what each event does to it. It
 //! knows no history.
-ghost use Rattle.std.specs.Prelude.{◌≡◌, ℕ, ◌+◌, ◌<◌, ◌≤◌, [], IfOk, if◌then◌else◌};
+ghost use Rattle.std.specs.Prelude.{◌≡◌, ℕ, ◌+◌, ◌<◌, ◌≤◌, [], None, IfNone, IfOk, IfSome, if◌then◌else◌};
+ghost use Rattle.apex_types.specs.declared.entries.Caller.TheVariants.{Nobody};
 ghost use Rattle.apex_types.specs.declared.entries.Event.TheVariants.{Turn, Tick};
+ghost use Rattle.apex_types.specs.declared.entries.Reply.TheVariants.{Idle};
 ghost use Rattle.apex_types.specs.declared.limits.TheConstants.{MOST_ENTRIES, MOST_TICKS};
 ghost use Rattle.apex_machine.specs.Machine.{opening, situation_of};
 ghost use Rattle.apex_machine.specs.Situations.{deed, due_call, step};
@@ -153,9 +155,56 @@ impl<S: Store> Situation<S> {
         }
     }
 
-    /// One turn of the core, whole. Answers its deed, and leaves its notices alone in `notices`.
-    // Inlined, so that no deed is copied on its way to a log.
+    /// One turn of the core, whole. Answers its deed, or None if the turn is idle, and leaves its
+    /// notices alone in `notices`.
+    // Inlined, so that no deed is copied on its way to a log. An idle turn answers None, so that its
+    // entry is written from constants.
     #[inline(always)]
+    pub(crate) fn turn_unless_idle(
+        &mut self,
+        table: &Table,
+        core: CoreId,
+        notices: &mut Notices,
+    ) -> Option<Deed>
+        requires { CanGoOn table.now 1 (situation_in self.old) }
+        ensures situation { situation_in self.new
+            ≡ step table.now (situation_in self.old) (Turn core) }
+        ensures done { IfSome result (λ done. Does
+            (deed table.now (situation_in self.old) (Turn core)) done.caller done.call done.reply
+            self.new.roster self.new.objects [] notices.new) }
+        ensures idle { IfNone result (Does
+            (deed table.now (situation_in self.old) (Turn core)) Nobody None Idle
+            self.new.roster self.new.objects [] notices.new) }
+        ensures goes_on { (left : ℕ) → CanGoOn table.now (left + 1) (situation_in self.old)
+            → CanGoOn table.now left (situation_in self.new) }
+    {
+        table.lawful();
+        notices.clear();
+        let due = self.due_call(table, core);
+        match carry_out(
+            table,
+            &mut self.store,
+            &mut self.objects,
+            core,
+            self.works.at(core),
+            due,
+            notices,
+        ) {
+            Some(deed) => {
+                self.made += steps_by(&deed.caller);
+                self.works.begin(core, deed.begun());
+                self.works.watch(&self.store);
+                Some(deed)
+            }
+            None => {
+                self.works.begin(core, None);
+                self.works.watch(&self.store);
+                None
+            }
+        }
+    }
+
+    /// One turn of the core, whole. Answers its deed, and leaves its notices alone in `notices`.
     pub fn turn(&mut self, table: &Table, core: CoreId, notices: &mut Notices) -> Deed
         requires { CanGoOn table.now 1 (situation_in self.old) }
         ensures situation { situation_in self.new ≡ step table.now (situation_in self.old) (Turn core) }
@@ -165,22 +214,10 @@ impl<S: Store> Situation<S> {
         ensures goes_on { (left : ℕ) → CanGoOn table.now (left + 1) (situation_in self.old)
             → CanGoOn table.now left (situation_in self.new) }
     {
-        table.lawful();
-        notices.clear();
-        let due = self.due_call(table, core);
-        let deed = carry_out(
-            table,
-            &mut self.store,
-            &mut self.objects,
-            core,
-            self.works.at(core),
-            due,
-            notices,
-        );
-        self.made += steps_by(&deed.caller);
-        self.works.begin(core, deed.begun());
-        self.works.watch(&self.store);
-        deed
+        match self.turn_unless_idle(table, core, notices) {
+            Some(deed) => deed,
+            None => Deed::idle(),
+        }
     }
 
     /// One tick, whole: time goes on by `n` ticks, but not past the next instant at which a wait
