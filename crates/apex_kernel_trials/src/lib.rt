@@ -12,6 +12,8 @@ mod lines;
 #[cfg(test)]
 mod outlines;
 #[cfg(test)]
+mod paces;
+#[cfg(test)]
 mod papers;
 #[cfg(test)]
 mod scans;

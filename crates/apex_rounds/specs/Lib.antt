@@ -1,0 +1,2 @@
+-- A kernel that runs at a pace.
+pub mod Rounds
