@@ -106,6 +106,15 @@ module _ (pace : Pace) (table : Table) where
       ]
     ]
 
+-- the answer of a part says whether the schedule goes on
+pub ends_if : (goes ends : Bool) → goes ≡ not ends → goes ≡ false → ends ≡ true
+ends_if goes true is none = refl
+ends_if goes false is none = absurd (both_ways goes none is)
+
+pub goes_if : (goes ends : Bool) → goes ≡ not ends → goes ≡ true → ends ≡ false
+goes_if goes false is on = refl
+goes_if goes true is on = absurd (both_ways goes is on)
+
 any_last : (done : List Event) (event : Event) → true ≡ is_any (done ++ event ∷ [])
 any_last [] event = refl
 any_last (first ∷ done) event = refl
@@ -205,11 +214,11 @@ module _ {S : Type 0} where
         let none = rounds_over old.pace old.kernel.table until is.left (paced_in now) over in
         rw (is.rest, none, append-nil is.done) is.makes
 
-    now_within : length now.kernel.machine.history ≤ old.kernel.table.limit
-    now_within = omega (arith, is.makes.accepted.0 refl, makes_longer is.makes)
+    pub schedule_within : length now.kernel.machine.history ≤ old.kernel.table.limit
+    schedule_within = omega (arith, is.makes.accepted.0 refl, makes_longer is.makes)
 
     left_one : is.left ≡ suc (is.left - 1)
-    left_one = omega (arith, is.enough, now_within)
+    left_one = omega (arith, is.enough, schedule_within)
 
     abbrev next : Part
     next = part now.pace now.kernel.table until (paced_in now)
@@ -230,8 +239,7 @@ module _ {S : Type 0} where
           ap (λ n. rounds old.pace old.kernel.table until n (paced_in now)) left_one
           ∙ rounds_more old.pace old.kernel.table until (is.left - 1) (paced_in now) on goes_here
           ∙ ap (λ (p : Part). p.events ++ rounds old.pace old.kernel.table until (is.left - 1) (paced_run old.kernel.table (paced_in now) p.events)) same_next
-          ∙ ap (λ (s : Paced). next.events ++ rounds old.pace old.kernel.table until (is.left - 1) s) (sym paced) in
-          (
+          ∙ ap (λ (s : Paced). next.events ++ rounds old.pace old.kernel.table until (is.left - 1) s) (sym paced) in (
             record {
               done = is.done ++ next.events;
               left = is.left - 1;

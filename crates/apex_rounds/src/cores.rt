@@ -93,8 +93,6 @@ impl<S: Store> Rounds<S> {
             let situation = self.kernel.situation();
             return situation.due_call(self.kernel.table(), core).is_some();
         }
-        !self.is_at_work(core)
-            && self.counts.turns(core) < self.pace.turns
-            && !self.is_quiet(core)
+        !self.is_at_work(core) && self.counts.turns(core) < self.pace.turns && !self.is_quiet(core)
     }
 }

@@ -8,7 +8,7 @@ use Rattle.apex_rounds.proofs.rounds.Rounds.round.Goals.{then-takes_turn+in_ok-t
 use Rattle.apex_rounds.proofs.rounds.Rounds.round.Goals as goal
 
 pub loop-number-init : goal.loop-number-init
-loop-number-init g c = round_begins c.args.self.now c.holds.ensures.values c.holds.ensures.within
+loop-number-init g c = rw (← c.self.view_is) (round_begins _ c.holds.ensures.values c.holds.ensures.within)
 
 pub loop-number-preserved : goal.loop-number-preserved
 loop-number-preserved g c =
@@ -16,7 +16,7 @@ loop-number-preserved g c =
     let number = c.loop-number.number in
     let here : c.new-core.result ≡ number = c.new-core.ensures in
     let below : number < c.args.self.now.kernel.table.cores =
-    omega (arith, c.loop-number-test.true, c.cores-number-end.ensures.value, ap (λ (t : Table). t.cores) c.table.ensures) in
+    rw (← c.self.view_is) (omega (arith, c.loop-number-test.true, c.cores-number-end.ensures.value, ap (λ (t : Table). t.cores) c.table.ensures)) in
     elim c.if-takes_turn.branch [
       | then-takes_turn+in_ok-turn w ↦
           let takes : takes_turn now.pace now.kernel.table (paced_in now) number ≡ true =
@@ -35,7 +35,7 @@ returns-in_err-turn-clause-makes g c =
     let number = c.loop-number.number in
     let here : c.new-core.result ≡ number = c.new-core.ensures in
     let below : number < c.args.self.now.kernel.table.cores =
-    omega (arith, c.loop-number-test.true, c.cores-number-end.ensures.value, ap (λ (t : Table). t.cores) c.table.ensures) in
+    rw (← c.self.view_is) (omega (arith, c.loop-number-test.true, c.cores-number-end.ensures.value, ap (λ (t : Table). t.cores) c.table.ensures)) in
     let takes : takes_turn now.pace now.kernel.table (paced_in now) number ≡ true =
     rw here at (sym c.takes_turn.ensures ∙ c.if-takes_turn.true) in
     let p = err_from_is_err_and c.from_residual.result c.from_residual.ensures.1 in
