@@ -1,5 +1,5 @@
 -- What a pace counts after an event.
-use Rattle.std.proofs.Common.{◌≡◌, ◌∙◌, ℕ, ◌+◌, ◌-◌, ◌≤◌, Bool, true, false, List, [], ◌∷◌, length, ◌<◌, Ok, subst, refl, sym, ap, arith, inl, inr, not, ◌&&◌, ◌==◌, if◌then◌else◌, eq-eqb, ne_eqb}
+use Rattle.std.proofs.Common.{◌≡◌, ◌∙◌, ℕ, ◌+◌, ◌≤◌, Bool, true, false, [], ◌∷◌, length, ◌<◌, Ok, subst, refl, sym, ap, arith, inl, inr, not, ◌&&◌, ◌==◌, if◌then◌else◌, eq-eqb, ne_eqb}
 use Rattle.std.proofs.Math.Path.{fun_ext}
 use Rattle.std.proofs.lemmas.Bool.{cases_eq}
 use Rattle.apex_types.specs.declared.entries.Event.TheVariants.{Turn, Tick}

@@ -1,9 +1,9 @@
 -- Events that are made one after the other.
-use Rattle.std.proofs.Common.{◌≡◌, ◌∙◌, ℕ, ◌+◌, ◌≤◌, false, inl, inr, List, [], ◌∷◌, ◌++◌, length, length-append, Result, Ok, Err, refl, sym, ap, arith}
+use Rattle.std.proofs.Common.{◌≡◌, ◌∙◌, ◌+◌, ◌≤◌, false, inl, inr, List, [], ◌∷◌, ◌++◌, length, length-append, Result, Ok, Err, refl, sym, ap, arith}
 use Rattle.std.specs.Prelude.{OnOk}
 use Rattle.std.proofs.lemmas.Bool.{both_ways, cases_lt}
 use Rattle.apex_types.specs.declared.entries.Full.{Full}
-use Rattle.apex_machine.specs.Machine.{Machine, accept, happen, run}
+use Rattle.apex_machine.specs.Machine.{Machine, accept, run}
 use Rattle.apex_machine.specs.table.Table.{Table}
 use Rattle.apex_dispatch.specs.Kernel.{KernelState, kernel_in}
 use Rattle.apex_laws.proofs.Runs.{accept-room, length-happen, run-append, run-fills, run-full}

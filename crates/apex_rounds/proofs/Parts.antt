@@ -1,13 +1,13 @@
 -- The first schedule, event by event and part by part.
-use Rattle.std.proofs.Common.{◌≡◌, ◌∙◌, ℕ, zero, suc, ◌+◌, ◌-◌, ◌≤◌, ◌<◌, Bool, true, false, not, List, [], ◌∷◌, ◌++◌, length, length-append, append-nil, append_assoc, Option, None, Some, Result, Ok, Err, inl, inr, refl, sym, ap, subst, arith, nat_lt, lt-ltb, le-ltb, if◌then◌else◌}
+use Rattle.std.proofs.Common.{◌≡◌, ◌∙◌, ℕ, zero, suc, ◌+◌, ◌-◌, ◌≤◌, ◌<◌, Bool, true, false, not, List, [], ◌∷◌, ◌++◌, length, append-nil, append_assoc, Option, None, Some, Result, Ok, Err, inl, inr, refl, sym, ap, subst, arith, nat_lt, lt-ltb, le-ltb}
 use Rattle.std.proofs.lemmas.Bool.{both_ways, cases_Bool, cases_lt}
-use Rattle.apex_types.specs.declared.entries.Event.TheVariants.{Turn, Tick}
+use Rattle.apex_types.specs.declared.entries.Event.TheVariants.{Turn}
 use Rattle.apex_types.specs.declared.entries.Full.{Full}
 use Rattle.apex_laws.specs.Terms.{Event}
-use Rattle.apex_laws.proofs.Runs.{accept-full, accept-room, length-happen, run-append, run-full}
-use Rattle.apex_machine.specs.Machine.{Machine, accept, happen, opening, run}
+use Rattle.apex_laws.proofs.Runs.{accept-room, length-happen, run-append, run-full}
+use Rattle.apex_machine.specs.Machine.{Machine, happen, opening, run}
 use Rattle.apex_machine.specs.table.Table.{Table}
-use Rattle.apex_dispatch.specs.Kernel.{KernelState, kernel_in}
+use Rattle.apex_dispatch.specs.Kernel.{kernel_in}
 use Rattle.apex_pace.specs.First.{Part, closing, first_schedule, part, round, rounds, takes_turn, turns_or_tick}
 use Rattle.apex_pace.specs.Pace.{Paced, next_tick, paced_opening, paced_run, paced_step}
 use Rattle.apex_pace.specs.declared.paces.Pace.{Pace}

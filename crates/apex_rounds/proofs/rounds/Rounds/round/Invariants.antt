@@ -1,4 +1,3 @@
-use Rattle.std.proofs.Common.{◌≡◌}
 use Rattle.apex_rounds.proofs.Parts.{IsInRound}
 use Rattle.apex_rounds.proofs.rounds.Rounds.round.Given as goal
 

@@ -1,4 +1,4 @@
-use Rattle.std.proofs.Common.{◌≡◌, ◌+◌, ◌<◌, ◌≤◌, true, length, arith}
+use Rattle.std.proofs.Common.{◌<◌, ◌≤◌, arith}
 use Rattle.std.proofs.lemmas.Result.{err_from_is_err_and}
 use Rattle.apex_rounds.proofs.Parts.{ends_if, goes_if, schedule_begins, schedule_ends, schedule_first, schedule_goes, schedule_over, schedule_stops, schedule_within}
 use Rattle.apex_rounds.proofs.rounds.Rounds.run_until.Goals as goal

@@ -1,4 +1,4 @@
-use Rattle.std.proofs.Common.{◌<◌, length, refl}
+use Rattle.std.proofs.Common.{refl}
 use Rattle.apex_types.specs.declared.entries.Event.TheVariants.{Tick}
 use Rattle.apex_rounds.specs.Rounds.{RoundsState}
 use Rattle.apex_rounds.proofs.Counted.{HasTicked, IsCountedAfter, counted_tick}

@@ -1,4 +1,4 @@
-use Rattle.std.proofs.Common.{◌<◌, length, not, refl}
+use Rattle.std.proofs.Common.{not, refl}
 use Rattle.apex_types.specs.declared.entries.Event.TheVariants.{Turn}
 use Rattle.apex_rounds.specs.Rounds.{RoundsState}
 use Rattle.apex_rounds.proofs.Counted.{HasTurned, IsCountedAfter, counted_turn}
