@@ -4,8 +4,8 @@ use Rattle.apex_types.specs.declared.entries.Full.{Full}
 use Rattle.apex_machine.specs.Machine.{opening, run, situation_of}
 use Rattle.apex_machine.specs.Situations.{Situation}
 use Rattle.apex_dispatch.specs.Kernel.{KernelState, kernel_in}
-use Rattle.apex_pace.specs.First.{rounds}
-use Rattle.apex_pace.specs.Pace.{Paced, paced_opening, paced_run}
+use Rattle.apex_pace.specs.First.{Part, closing, part, round, rounds}
+use Rattle.apex_pace.specs.Pace.{Paced, next_tick, paced_opening, paced_run}
 use Rattle.apex_pace.specs.declared.paces.Pace.{Pace}
 use Rattle.apex_laws.specs.Terms.{Event}
 
@@ -45,6 +45,18 @@ pub record AreWithin (counts : CountsOfCores) (most now : ℕ) : Type 0 where
 pub record IsAtOpening {S : Type 0} (r : RoundsState S) : Type 0 where
   pub machine : r.kernel.machine ≡ opening r.kernel.table
   pub paced : paced_in r ≡ paced_opening r.kernel.table
+
+-- the turns of the round that comes
+abbrev pub turns_from : {S : Type 0} → RoundsState S → List Event
+turns_from r = round r.pace r.kernel.table (paced_in r) r.kernel.table.cores
+
+-- the tick that may come, as far as this time
+abbrev pub tick_from : {S : Type 0} → RoundsState S → ℕ → Part
+tick_from r until = closing until (paced_in r) (next_tick r.pace r.kernel.table (paced_in r))
+
+-- the turns of the round that comes, or else the tick that may come
+abbrev pub part_from : {S : Type 0} → RoundsState S → ℕ → Part
+part_from r until = part r.pace r.kernel.table until (paced_in r)
 
 -- the first schedule from here up to a time, with one event more than the history has room for if
 -- the schedule does not end before

@@ -3,7 +3,6 @@ ghost use Rattle.std.specs.Prelude.{◌≡◌, ◌<◌, ◌^◌};
 ghost use Rattle.apex_pace.specs.First.{takes_turn};
 ghost use Rattle.apex_pace.specs.Pace.{is_at_work, is_idle, is_quiet, is_settled, is_starting, least_ticks, needs_time};
 ghost use Rattle.apex_rounds.specs.Rounds.{paced_in};
-ghost use Rattle.apex_machine.specs.Machine.{situation_of};
 
 use crate::rounds::Rounds;
 use apex_machine::OpenWork;
@@ -87,7 +86,8 @@ impl<S: Store> Rounds<S> {
     /// The core takes a turn in a round: in COLD_START if an init step is due, later if it may, is
     /// not at work and has not had all its turns since the last tick.
     pub(crate) fn takes_turn(&self, core: CoreId) -> bool
-        ensures { result ≡ takes_turn self.now.pace self.now.kernel.table (paced_in self.now) core }
+        ensures { result
+            ≡ takes_turn self.now.pace self.now.kernel.table (paced_in self.now) core }
     {
         if self.is_starting() {
             let situation = self.kernel.situation();

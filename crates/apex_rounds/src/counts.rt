@@ -9,7 +9,7 @@ const CORES: usize = MOST_CORES as usize;
 
 /// Of each core, its turns since the last tick, and the instant of its last turn.
 #[derive(Drop)]
-pub struct Counts {
+pub(crate) struct Counts {
     turns: [u32; CORES],
     since: [u64; CORES],
 }
@@ -56,7 +56,8 @@ impl Counts {
     pub(crate) fn turn(&mut self, core: CoreId, now: u64, counts: bool)
         requires { count_at self.old.turns core + 1 < 2 ^ 32 }
         ensures turns { (c : ℕ) → count_at self.new.turns c
-            ≡ (if counts && c == core then count_at self.old.turns c + 1 else count_at self.old.turns c) }
+            ≡ (if counts && c == core then count_at self.old.turns c + 1
+            else count_at self.old.turns c) }
         ensures since { (c : ℕ) → count_at self.new.since c
             ≡ (if c == core then now else count_at self.old.since c) }
     {

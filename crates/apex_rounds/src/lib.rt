@@ -6,5 +6,4 @@ mod counts;
 mod rounds;
 mod ticks;
 
-pub use counts::Counts;
 pub use rounds::Rounds;

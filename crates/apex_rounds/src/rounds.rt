@@ -1,12 +1,10 @@
 //! A kernel that runs at a pace.
-ghost use Rattle.std.specs.Prelude.{◌≡◌, ◌<◌, ◌≤◌, ◌↔◌, ◌+◌, [], ◌∷◌, length, not, IfErr, IfOk, IsOk, OnOk};
+ghost use Rattle.std.specs.Prelude.{◌≡◌, ◌<◌, ◌≤◌, [], ◌∷◌, not, IfErr, IfOk};
 ghost use Rattle.apex_types.specs.declared.entries.Event.TheVariants.{Turn, Tick};
 ghost use Rattle.apex_types.specs.declared.limits.TheConstants.{MOST_TICKS};
 ghost use Rattle.apex_machine.specs.Machine.{opening, run};
-ghost use Rattle.apex_dispatch.specs.Kernel.{kernel_in};
-ghost use Rattle.apex_pace.specs.First.{closing, first_schedule, part, round};
-ghost use Rattle.apex_pace.specs.Pace.{next_tick, paced_opening, paced_run};
-ghost use Rattle.apex_rounds.specs.Rounds.{IsAtOpening, Makes, is_any, paced_in, schedule_from};
+ghost use Rattle.apex_pace.specs.First.{first_schedule};
+ghost use Rattle.apex_rounds.specs.Rounds.{IsAtOpening, Makes, is_any, part_from, schedule_from, tick_from, turns_from};
 
 use crate::counts::Counts;
 use apex_dispatch::Kernel;
@@ -94,10 +92,8 @@ impl<S: Store> Rounds<S> {
 
     /// A round: each core in order takes the turn that it is allowed. Answers whether any did.
     fn round(&mut self) -> Result<bool, Full>
-        ensures makes { Makes result self.old self.new
-            (round self.old.pace self.old.kernel.table (paced_in self.old) self.old.kernel.table.cores) }
-        ensures any { IfOk result (λ any. any ≡ is_any
-            (round self.old.pace self.old.kernel.table (paced_in self.old) self.old.kernel.table.cores)) }
+        ensures makes { Makes result self.old self.new (turns_from self.old) }
+        ensures any { IfOk result (λ any. any ≡ is_any (turns_from self.old)) }
         ensures full { IfErr result (λ e. e.entries ≡ self.old.kernel.table.limit) }
     {
         self.kernel.holds();
@@ -115,12 +111,8 @@ impl<S: Store> Rounds<S> {
     /// The tick that may come, up to the time. Answers whether the schedule goes on after it.
     fn close(&mut self, until: u64) -> Result<bool, Full>
         requires { self.old.kernel.machine.roster.now < until }
-        ensures makes { Makes result self.old self.new
-            (closing until (paced_in self.old)
-            (next_tick self.old.pace self.old.kernel.table (paced_in self.old))).events }
-        ensures goes_on { IfOk result (λ goes_on. goes_on ≡ not
-            (closing until (paced_in self.old)
-            (next_tick self.old.pace self.old.kernel.table (paced_in self.old))).ends) }
+        ensures makes { Makes result self.old self.new (tick_from self.old until).events }
+        ensures goes_on { IfOk result (λ goes_on. goes_on ≡ not (tick_from self.old until).ends) }
         ensures full { IfErr result (λ e. e.entries ≡ self.old.kernel.table.limit) }
     {
         self.kernel.holds();
@@ -141,10 +133,8 @@ impl<S: Store> Rounds<S> {
     /// A round, or the tick if it has no turn. Answers whether the schedule goes on after it.
     fn part(&mut self, until: u64) -> Result<bool, Full>
         requires { self.old.kernel.machine.roster.now < until }
-        ensures makes { Makes result self.old self.new
-            (part self.old.pace self.old.kernel.table until (paced_in self.old)).events }
-        ensures goes_on { IfOk result (λ goes_on. goes_on ≡ not
-            (part self.old.pace self.old.kernel.table until (paced_in self.old)).ends) }
+        ensures makes { Makes result self.old self.new (part_from self.old until).events }
+        ensures goes_on { IfOk result (λ goes_on. goes_on ≡ not (part_from self.old until).ends) }
         ensures full { IfErr result (λ e. e.entries ≡ self.old.kernel.table.limit) }
     {
         Ok(self.round()? || self.close(until)?)

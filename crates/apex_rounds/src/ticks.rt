@@ -71,7 +71,8 @@ impl<S: Store> Rounds<S> {
 
     /// The next moment if all cores are quiet: the next instant, or the end of work.
     fn next_moment(&self) -> Option<u64>
-        ensures { result ≡ next_moment self.now.pace.percent self.now.kernel.table (paced_in self.now) }
+        ensures { result
+            ≡ next_moment self.now.pace.percent self.now.kernel.table (paced_in self.now) }
     {
         let instant = self.kernel.store().next_instant();
         sooner(instant, self.first_work_end(self.kernel.table().cores()))
@@ -88,7 +89,8 @@ impl<S: Store> Rounds<S> {
 
     /// The tick that may come.
     pub(crate) fn next_tick(&self) -> Option<u32>
-        ensures value { result ≡ next_tick self.now.pace self.now.kernel.table (paced_in self.now) }
+        ensures value { result
+            ≡ next_tick self.now.pace self.now.kernel.table (paced_in self.now) }
         ensures range { IfSome result (λ n. (1 ≤ n) × (n ≤ MOST_TICKS)) }
     {
         let cores = self.kernel.table().cores();
