@@ -1,0 +1,3 @@
+-- Proofs about the texts of schedules.
+pub mod Items
+pub mod Parts

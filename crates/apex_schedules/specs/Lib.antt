@@ -1,0 +1,3 @@
+-- The texts of schedules, their items and their events.
+pub mod Terms
+pub mod Schedule

@@ -1,0 +1,2 @@
+-- The terms in which the definitions and proofs of this crate speak: the events of a partition.
+pub use Rattle.apex_types.specs.declared.entries.Event.{Event}
