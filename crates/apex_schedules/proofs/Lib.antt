@@ -1,3 +1,6 @@
 -- Proofs about the texts of schedules.
 pub mod Items
 pub mod Parts
+pub mod Printed
+pub mod ReadBack
+pub mod Fewest

@@ -1,3 +1,4 @@
 -- The texts of schedules, their items and their events.
 pub mod Terms
 pub mod Schedule
+pub mod Printing
