@@ -4,3 +4,5 @@ pub mod Parts
 pub mod Printed
 pub mod ReadBack
 pub mod Fewest
+pub mod Words
+pub mod Levels

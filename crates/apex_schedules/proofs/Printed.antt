@@ -11,7 +11,7 @@ use Rattle.apex_schedules.specs.declared.schedule.Item.TheVariants.{Turns, Tick}
 use Rattle.apex_schedules.specs.Printing.{is_turn_of, item_for, item_text, items_for, items_text, leading, schedule_text, with_turn}
 
 -- the number of events before the first that passes a test
-pub place_some : (p : Event → Bool) (xs : List Event) (i : ℕ) → position p xs ≡ Some i → (i ≡ position_or_len p xs) × (i ≤ length xs)
+pub place_some : {X : Type 0} (p : X → Bool) (xs : List X) (i : ℕ) → position p xs ≡ Some i → (i ≡ position_or_len p xs) × (i ≤ length xs)
 place_some p xs i found = go (nat_lt (position_or_len p xs) (length xs)) refl
   where
     go : (b : Bool) → nat_lt (position_or_len p xs) (length xs) ≡ b → (i ≡ position_or_len p xs) × (i ≤ length xs)
@@ -24,13 +24,13 @@ place_some p xs i found = go (nat_lt (position_or_len p xs) (length xs)) refl
         let nowhere : None ≡ Some i = rw t at found in
         absurd (cc nowhere)
 
-at_most_all : (p : Event → Bool) (xs : List Event) → position_or_len p xs ≤ length xs
+at_most_all : {X : Type 0} (p : X → Bool) (xs : List X) → position_or_len p xs ≤ length xs
 at_most_all p [] = omega arith
 at_most_all p (x ∷ xs) =
     let later = at_most_all p xs in
     grind (arith, later)
 
-pub place_none : (p : Event → Bool) (xs : List Event) → position p xs ≡ None → length xs ≡ position_or_len p xs
+pub place_none : {X : Type 0} (p : X → Bool) (xs : List X) → position p xs ≡ None → length xs ≡ position_or_len p xs
 place_none p xs found = go (nat_lt (position_or_len p xs) (length xs)) refl
   where
     go : (b : Bool) → nat_lt (position_or_len p xs) (length xs) ≡ b → length xs ≡ position_or_len p xs

@@ -2,3 +2,5 @@
 pub mod Terms
 pub mod Schedule
 pub mod Printing
+pub mod Groups
+pub mod Readings

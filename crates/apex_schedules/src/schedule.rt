@@ -52,7 +52,7 @@ fn read_turns(word: &[u8]) -> Option<Item>
     Some(Item::Turns { core, times })
 }
 
-fn read_item(word: &[u8]) -> Option<Item>
+pub(crate) fn read_item(word: &[u8]) -> Option<Item>
     ensures { result ≡ item_of word.now }
 {
     match word {

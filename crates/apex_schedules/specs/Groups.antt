@@ -1,0 +1,71 @@
+-- The text of a schedule with groups: its words, the items that these write out, and the place of a
+-- fault.
+use Rattle.std.specs.Prelude.{ℕ, ◌-◌, ◌<◌, Bool, List, [], ◌∷◌, ◌++◌, Option, Some, None, IfSome, ◌==◌, ◌||◌, if◌then◌else◌, length, map, option_map, replicate}
+use Rattle.std.specs.List.{flat_map, onto_first}
+use Rattle.apex_types.specs.declared.limits.TheConstants.{MOST_ENTRIES}
+use Rattle.apex_schedules.specs.declared.schedule.Item.{Item}
+use Rattle.apex_schedules.specs.declared.pieces.Piece.{Piece}
+use Rattle.apex_schedules.specs.declared.pieces.Piece.TheVariants as piece
+use Rattle.apex_schedules.specs.Schedule.{item_of, positive_of}
+
+-- a space (32) or a line feed (10)
+abbrev pub is_gap : ℕ → Bool
+is_gap byte = byte == 32 || byte == 10
+
+-- a byte that ends a word: a space, a line feed or a bracket
+abbrev pub is_boundary : ℕ → Bool
+is_boundary byte = is_gap byte || (byte == 40 || byte == 41)
+
+-- the words of a text: a space or a line feed ends one, `(` (40) is one, and `)` (41) begins one; a
+-- word may be empty
+abbrev pub words : List ℕ → List (List ℕ)
+words [] = [] ∷ []
+words (byte ∷ rest) =
+    if is_gap byte then [] ∷ words rest
+    else if byte == 40 then [] ∷ (40 ∷ []) ∷ words rest
+    else if byte == 41 then [] ∷ onto_first 41 (words rest)
+    else onto_first byte (words rest)
+
+-- the words that are not empty
+abbrev pub filled : List (List ℕ) → List (List ℕ)
+filled [] = []
+filled ([] ∷ more) = filled more
+filled ((byte ∷ rest) ∷ more) = (byte ∷ rest) ∷ filled more
+
+-- the number of times of a group, behind its `)`: `*k`
+abbrev pub times_behind : List ℕ → Option ℕ
+times_behind [] = None
+times_behind (star ∷ times) = if star == 42 then positive_of times else None
+
+-- a word: `(` opens a group, `)*k` closes one that comes k times, and any other is an item
+abbrev pub piece_of : List ℕ → Option Piece
+piece_of [] = None
+piece_of (first ∷ rest) =
+    if first == 40 then Some piece.Open
+    else if first == 41 then option_map piece.Close (times_behind rest)
+    else option_map piece.Single (item_of (first ∷ rest))
+
+-- items that come n times; n is 1 at least
+abbrev pub repeated : ℕ → List Item → List Item
+repeated times items = items ++ flat_map (λ copy. copy) (replicate (times - 1) items)
+
+-- the items that pieces write out, behind the items that were written out before, in the innermost
+-- open group and round each open group, innermost first; none if a piece or a bracket is ill-formed
+abbrev pub items_behind : List Item → List (List Item) → List (Option Piece) → Option (List Item)
+items_behind items [] [] = Some items
+items_behind items (outer ∷ more) [] = None
+items_behind items outers (None ∷ rest) = None
+items_behind items outers (Some (piece.Single item) ∷ rest) =
+    items_behind (items ++ item ∷ []) outers rest
+items_behind items outers (Some piece.Open ∷ rest) = items_behind [] (items ∷ outers) rest
+items_behind items [] (Some (piece.Close times) ∷ rest) = None
+items_behind items (outer ∷ more) (Some (piece.Close times) ∷ rest) =
+    items_behind (outer ++ repeated times items) more rest
+
+-- the items of a text with groups, each group written out as often as it comes
+abbrev pub grouped_items_of : List ℕ → Option (List Item)
+grouped_items_of text = items_behind [] [] (map piece_of (filled (words text)))
+
+-- the items are too many, if there are any
+abbrev pub AreTooMany : Option (List Item) → Type 0
+AreTooMany items = IfSome items (λ xs. MOST_ENTRIES < length xs)
