@@ -6,3 +6,4 @@ pub mod ReadBack
 pub mod Fewest
 pub mod Words
 pub mod Levels
+pub mod Plain

@@ -26,7 +26,7 @@ boundary_first byte rest ends = gap (is_gap byte) refl ends
     gap true t e = (words rest, rw t refl, rw t refl)
     gap false t e = open_ (byte == 40) refl t e
 
-plain_first : (byte : ℕ) (rest : List ℕ) → is_boundary byte ≡ false → words (byte ∷ rest) ≡ onto_first byte (words rest)
+pub plain_first : (byte : ℕ) (rest : List ℕ) → is_boundary byte ≡ false → words (byte ∷ rest) ≡ onto_first byte (words rest)
 plain_first byte rest plain = gap (is_gap byte) refl plain
   where
     close : (c : Bool) → (byte == 41) ≡ c → is_gap byte ≡ false → (byte == 40) ≡ false → c ≡ false → words (byte ∷ rest) ≡ onto_first byte (words rest)

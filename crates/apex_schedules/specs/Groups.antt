@@ -1,6 +1,6 @@
 -- The text of a schedule with groups: its words, the items that these write out, and the place of a
 -- fault.
-use Rattle.std.specs.Prelude.{ℕ, ◌-◌, ◌<◌, Bool, List, [], ◌∷◌, ◌++◌, Option, Some, None, IfSome, ◌==◌, ◌||◌, if◌then◌else◌, length, map, option_map, replicate}
+use Rattle.std.specs.Prelude.{◌≡◌, All, ℕ, ◌-◌, ◌<◌, Bool, List, [], ◌∷◌, ◌++◌, Option, Some, None, IfSome, ◌==◌, ◌||◌, if◌then◌else◌, length, map, option_map, replicate}
 use Rattle.std.specs.List.{flat_map, onto_first}
 use Rattle.apex_types.specs.declared.limits.TheConstants.{MOST_ENTRIES}
 use Rattle.apex_schedules.specs.declared.schedule.Item.{Item}
@@ -69,3 +69,7 @@ grouped_items_of text = items_behind [] [] (map piece_of (filled (words text)))
 -- the items are too many, if there are any
 abbrev pub AreTooMany : Option (List Item) → Type 0
 AreTooMany items = IfSome items (λ xs. MOST_ENTRIES < length xs)
+
+-- in the text spaces alone end words: it has no line feed and no bracket
+abbrev pub HasNoGroups : List ℕ → Type 0
+HasNoGroups text = All (λ byte. is_boundary byte ≡ (byte == 32)) text

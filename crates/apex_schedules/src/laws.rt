@@ -1,6 +1,8 @@
 //! The laws of the texts of schedules. Each is the contract of a function that changes nothing.
-ghost use Rattle.std.specs.Prelude.{◌≡◌, ◌<◌, ◌≤◌, [], All, List, None, Some, length};
+ghost use Rattle.std.specs.Prelude.{◌≡◌, ℕ, ◌<◌, ◌≤◌, [], All, List, None, Some, length};
 ghost use Rattle.apex_types.specs.declared.limits.TheConstants.{MOST_ENTRIES};
+ghost use Rattle.apex_history.specs.Words.{parts};
+ghost use Rattle.apex_schedules.specs.Groups.{HasNoGroups, grouped_items_of};
 ghost use Rattle.apex_schedules.specs.Terms.{Event};
 ghost use Rattle.apex_schedules.specs.Schedule.{events_of_items, items_of};
 ghost use Rattle.apex_schedules.specs.declared.schedule.Item.{Item};
@@ -21,4 +23,12 @@ pub fn events_are_read_back()
 pub fn no_schedule_has_fewer_items()
     ensures { (items : List Item)
         → length (items_for (events_of_items items)) ≤ length items }
+{}
+
+/// A text that has no line feed, no bracket and no space but one between two words is read with
+/// groups as without them.
+#[tactic(auto, using(crate::proofs::Plain::as_a_schedule))]
+pub fn a_text_without_groups_is_a_schedule()
+    ensures { (text : List ℕ) → HasNoGroups text → All (λ word. 0 < length word) (parts 32 text)
+        → grouped_items_of text ≡ items_of text }
 {}
