@@ -1,6 +1,6 @@
 -- The text of a schedule with groups: its words, the items that these write out, and the place of a
 -- fault.
-use Rattle.std.specs.Prelude.{◌≡◌, All, ℕ, ◌-◌, ◌<◌, Bool, List, [], ◌∷◌, ◌++◌, Option, Some, None, IfSome, ◌==◌, ◌||◌, if◌then◌else◌, length, map, option_map, replicate}
+use Rattle.std.specs.Prelude.{◌+◌, count_by, fold, ◌≡◌, All, ℕ, ◌-◌, ◌<◌, Bool, List, [], ◌∷◌, ◌++◌, Option, Some, None, IfSome, ◌==◌, ◌||◌, if◌then◌else◌, length, map, option_map, replicate}
 use Rattle.std.specs.List.{flat_map, onto_first}
 use Rattle.apex_types.specs.declared.limits.TheConstants.{MOST_ENTRIES}
 use Rattle.apex_schedules.specs.declared.schedule.Item.{Item}
@@ -73,3 +73,11 @@ AreTooMany items = IfSome items (λ xs. MOST_ENTRIES < length xs)
 -- in the text spaces alone end words: it has no line feed and no bracket
 abbrev pub HasNoGroups : List ℕ → Type 0
 HasNoGroups text = All (λ byte. is_boundary byte ≡ (byte == 32)) text
+
+-- the line behind bytes, from 1
+abbrev pub line_behind : List ℕ → ℕ
+line_behind bytes = count_by (λ byte. byte == 10) bytes + 1
+
+-- the column behind bytes: 1 at the front and behind a line feed, and one more behind each other byte
+abbrev pub column_behind : List ℕ → ℕ
+column_behind bytes = fold (λ column byte. if byte == 10 then 1 else column + 1) 1 bytes

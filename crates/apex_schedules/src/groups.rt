@@ -1,8 +1,9 @@
 //! The text of a schedule with groups, read as its items.
-ghost use Rattle.std.specs.Prelude.{◌≡◌, ◌≤◌, ◌++◌, [], IfErr, IfOk, OnOk, drop, length, replicate};
+ghost use Rattle.std.specs.Prelude.{◌≡◌, ◌≤◌, ◌++◌, [], IfErr, IfOk, OnOk, drop, length, replicate, take};
 ghost use Rattle.std.specs.List.{flat_map};
 ghost use Rattle.apex_schedules.specs.declared.groups.Refusal.TheVariants.{Memory};
 ghost use Rattle.apex_schedules.specs.declared.pieces.Piece.TheVariants.{Single, Open, Close};
+ghost use Rattle.apex_schedules.specs.Groups.{column_behind, line_behind};
 ghost use Rattle.apex_schedules.specs.Readings.{AreItemsOf, IsFaultOf, IsReading, IsTaken, fault_at};
 
 use crate::pieces::{Piece, cut_word, read_piece};
@@ -30,6 +31,27 @@ pub struct Place {
     pub item: usize,
     /// The number of bytes before the place.
     pub byte: usize,
+}
+
+impl Place {
+    /// The line and the column of the place in its text, each from 1. A line feed ends a line.
+    pub fn line_and_column(&self, text: &[u8]) -> (usize, usize)
+        requires { self.now.byte ≤ length text.now }
+        ensures line { result.0 ≡ line_behind (take self.now.byte text.now) }
+        ensures column { result.1 ≡ column_behind (take self.now.byte text.now) }
+    {
+        let mut line = 1;
+        let mut column = 1;
+        for byte in &text[..self.byte] {
+            if *byte == b'\n' {
+                line += 1;
+                column = 1;
+            } else {
+                column += 1;
+            }
+        }
+        (line, column)
+    }
 }
 
 /// The reason why a piece was not taken.
