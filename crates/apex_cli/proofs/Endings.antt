@@ -7,7 +7,7 @@ use Rattle.apex_history.specs.Counted.{AppendsBeginning, CountsFault}
 use Rattle.apex_history.specs.Ports.{AWriteFails, IsLeft, NoneFails, Ports}
 use Rattle.apex_history.specs.declared.ReadFault.{ReadFault}
 use Rattle.apex_history.specs.declared.ReadFault.TheVariants as read
-use Rattle.apex_cli.specs.declared.schedule.Item.{Item}
+use Rattle.apex_schedules.specs.declared.Item.{Item}
 use Rattle.apex_cli.specs.declared.faults.CliFault.{CliFault}
 use Rattle.apex_cli.specs.declared.faults.CliFault.TheVariants.{Usage, Write}
 use Rattle.apex_cli.specs.declared.words.Report.{Report}

@@ -9,11 +9,11 @@ use Rattle.apex_machine.specs.Machine.{Machine, accept, run, opening}
 use Rattle.apex_machine.specs.table.Table.{Table}
 use Rattle.apex_table.specs.Reading.{table_of}
 use Rattle.apex_laws.proofs.Runs.{accept-room, length-happen, run-append}
-use Rattle.apex_cli.specs.declared.schedule.Item.{Item}
+use Rattle.apex_schedules.specs.declared.Item.{Item}
 use Rattle.apex_cli.specs.declared.faults.CliFault.{CliFault}
 use Rattle.apex_cli.specs.declared.faults.CliFault.TheVariants.{HistoryFull}
 use Rattle.apex_cli.specs.Reports.{answer_of, fault_of_events, runs_to}
-use Rattle.apex_cli.specs.Schedule.{is_core_below, are_cores_below, events_of_item, events_of_items}
+use Rattle.apex_schedules.specs.Schedule.{is_core_below, are_cores_below, events_of_item, events_of_items}
 
 -- there is no room if room leads to a contradiction
 pub no_room : (n limit : ℕ) → (n < limit → false ≡ true) → limit ≤ n

@@ -9,7 +9,7 @@ use Rattle.apex_check.specs.declared.CheckFault.{CheckFault}
 use Rattle.apex_check.specs.declared.Verdict.{Verdict}
 use Rattle.apex_history.specs.Counted.{AppendsBeginning, one_more}
 use Rattle.apex_history.specs.Ports.{Ports, NoneFails, AReadFails, AWriteFails, IsLeft}
-use Rattle.apex_cli.specs.declared.schedule.Item.{Item}
+use Rattle.apex_schedules.specs.declared.Item.{Item}
 use Rattle.apex_cli.specs.declared.faults.CliFault.{CliFault}
 use Rattle.apex_cli.specs.declared.faults.CliFault.TheVariants.{Usage, Memory, Read, Write}
 use Rattle.apex_cli.specs.declared.words.Report.{Report}

@@ -7,12 +7,12 @@ use Rattle.apex_machine.specs.Machine.{Machine, run, opening}
 use Rattle.apex_calls.specs.Lines.{lines_of}
 use Rattle.apex_table.specs.declared.TableFault.{TableFault}
 use Rattle.apex_table.specs.Reading.{table_of}
-use Rattle.apex_cli.specs.declared.schedule.Item.{Item}
+use Rattle.apex_schedules.specs.declared.Item.{Item}
 use Rattle.apex_cli.specs.declared.faults.CliFault.{CliFault}
 use Rattle.apex_cli.specs.declared.faults.CliFault.TheVariants.{Usage, Table, HistoryFull, Memory}
 use Rattle.apex_cli.specs.declared.words.Report.{Report}
 use Rattle.apex_cli.specs.declared.words.Report.TheVariants.{History, Status}
-use Rattle.apex_cli.specs.Schedule.{are_cores_below, events_of_items}
+use Rattle.apex_schedules.specs.Schedule.{are_cores_below, events_of_items}
 
 -- an answer: a refusal, or the machine of a run, with the fault that is reported besides
 pub data Answer : Type 0 where

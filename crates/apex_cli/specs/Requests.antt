@@ -2,13 +2,13 @@
 use Rattle.std.specs.Prelude.{ℕ, Bool, List, Option, Some, option_and_then, option_map}
 use Rattle.apex_types.specs.declared.limits.TheConstants.{MOST_ENTRIES}
 use Rattle.apex_types.specs.Numbers.{at_most, number_of}
-use Rattle.apex_cli.specs.declared.schedule.Item.{Item}
+use Rattle.apex_schedules.specs.declared.Item.{Item}
 use Rattle.apex_cli.specs.declared.tasks.Task.{Task}
 use Rattle.apex_cli.specs.declared.tasks.Task.TheVariants as task
 use Rattle.apex_cli.specs.declared.words.Report.{Report}
 use Rattle.apex_cli.specs.declared.words.Request.{Request as RequestIn}
 use Rattle.apex_cli.specs.declared.words.Request.TheVariants as request
-use Rattle.apex_cli.specs.Schedule.{items_of}
+use Rattle.apex_schedules.specs.Schedule.{items_of}
 use Rattle.apex_cli.specs.Words.{Request, reports, checks, runs, request_of}
 
 -- the request of a value of the program

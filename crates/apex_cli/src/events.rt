@@ -1,15 +1,16 @@
 //! The events that the items of a schedule ask for, made one after the other.
 ghost use Rattle.std.specs.Prelude.{◌≡◌, ◌↔◌, ◌<◌, ℕ, true, length, replicate, IfErr, IsOk};
 ghost use Rattle.apex_machine.specs.Events.{IsWithin};
-ghost use Rattle.apex_cli.specs.Schedule.{HasRoomFor, after_events, are_cores_below, events_of_item, events_of_items, is_core_below};
+ghost use Rattle.apex_schedules.specs.Schedule.{are_cores_below, events_of_item, events_of_items, is_core_below};
+ghost use Rattle.apex_cli.specs.Schedule.{HasRoomFor, after_events};
 
-use crate::schedule::Item;
 use apex_dispatch::Kernel;
 use apex_process::QueueStore;
+use apex_schedules::Item;
 use apex_types::{Event, Full};
 
 /// The event of an item, and the number of times that it comes.
-#[tactic(auto, unfolding(crate::specs::Schedule::is_core_below))]
+#[tactic(auto, unfolding(apex_schedules::specs::Schedule::is_core_below))]
 pub fn repeated(item: &Item) -> (Event, u32)
     ensures events { events_of_item item.now ≡ replicate result.1 result.0 }
     ensures within { (cores : ℕ) → is_core_below cores item.now ≡ true → IsWithin cores result.0 }

@@ -4,13 +4,14 @@ ghost use Rattle.apex_machine.specs.Machine.{opening};
 ghost use Rattle.apex_dispatch.specs.Kernel.{kernel_in};
 ghost use Rattle.apex_table.specs.Reading.{table_of};
 ghost use Rattle.apex_cli.specs.Reports.{Refuses, answer_of, fault_of_events};
-ghost use Rattle.apex_cli.specs.Schedule.{after_events, are_cores_below, events_of_items};
+ghost use Rattle.apex_schedules.specs.Schedule.{are_cores_below, events_of_items};
+ghost use Rattle.apex_cli.specs.Schedule.{after_events};
 
 use crate::events::run_items;
 use crate::faults::CliFault;
-use crate::schedule::{Item, are_cores_below};
 use apex_dispatch::Kernel;
 use apex_process::QueueStore;
+use apex_schedules::{Item, are_cores_below};
 use apex_table::{Table, read_table};
 use std::alloc::Global;
 

@@ -10,7 +10,6 @@ mod kernels;
 mod program;
 mod reports;
 mod runs;
-mod schedule;
 mod tasks;
 mod words;
 
@@ -19,5 +18,5 @@ pub use faults::{CliFault, fault_line};
 pub use given::given_words;
 pub use kernels::{kernel_for, ran, table_for};
 pub use program::{Ending, Exit, run_on, serve, write_error};
-pub use schedule::{Item, read_positive, read_schedule};
+pub use tasks::scheduled_items;
 pub use words::{matches_of, option};

@@ -7,11 +7,11 @@ ghost use Rattle.apex_cli.specs.Streams.{HasWritten, HasWrittenSome};
 
 use crate::faults::CliFault;
 use crate::kernels::{kernel_for, ran};
-use crate::schedule::Item;
 use crate::words::Report;
 use apex_dispatch::Kernel;
 use apex_history::{Counted, Page, Sink, print_history};
 use apex_process::QueueStore;
+use apex_schedules::Item;
 use std::alloc::Global;
 use std::io;
 

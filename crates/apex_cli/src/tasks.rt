@@ -1,12 +1,13 @@
 //! The tasks of the program, one for each of its commands.
 ghost use Rattle.std.specs.Prelude.{◌≡◌, IfOk, IfErr, IsErrOf, Some, None, map, string_bytes};
+ghost use Rattle.apex_schedules.specs.Schedule.{items_of};
 ghost use Rattle.apex_cli.specs.Faults.{IsUsageOrMemory};
 ghost use Rattle.apex_cli.specs.Requests.{asked_by, asked_in, count_of, request_said, task_said};
 
 use crate::faults::CliFault;
-use crate::schedule::{Item, read_schedule};
 use crate::words::{Report, Request, request_in};
 use apex_cores::RunPlan;
+use apex_schedules::{Item, read_schedule};
 use apex_types::{MOST_ENTRIES, number_at_most};
 use std::alloc::Global;
 
@@ -38,6 +39,18 @@ fn read_count(text: &str) -> Result<u32, CliFault>
     }
 }
 
+/// The items of a schedule's text. Any text that is no schedule is `Usage`.
+pub fn scheduled_items(alloc: Global, text: &[u8]) -> Result<Vec<Item>, CliFault>
+    ensures ok { IfOk result (λ items. items_of text.now ≡ Some items.items) }
+    ensures usage { IsErrOf result CliFault.Usage → items_of text.now ≡ None }
+    ensures faults { IfErr result IsUsageOrMemory }
+{
+    match read_schedule(alloc, text)? {
+        Some(items) => Ok(items),
+        None => Err(CliFault::Usage),
+    }
+}
+
 /// The task of a request. `Usage` if its schedule or a number is ill-formed.
 fn task_in(alloc: Global, request: Request<'_>) -> Result<Task, CliFault>
     ensures ok { IfOk result (λ task. asked_in (request_said request.entry)
@@ -47,7 +60,7 @@ fn task_in(alloc: Global, request: Request<'_>) -> Result<Task, CliFault>
 {
     match request {
         Request::Report(report, schedule) => {
-            let items = read_schedule(alloc, schedule.as_bytes())?;
+            let items = scheduled_items(alloc, schedule.as_bytes())?;
             Ok(Task::Report(report, items))
         }
         Request::Check => Ok(Task::Check),

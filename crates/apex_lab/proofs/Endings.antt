@@ -20,7 +20,7 @@ use Rattle.apex_cli.specs.Faults.{IsUsageOrMemory, fault_of_checking, fault_of_r
 use Rattle.apex_cli.specs.Reports.{Refuses, answer_of, runs_to}
 use Rattle.apex_cli.specs.declared.CliFault.{CliFault}
 use Rattle.apex_cli.specs.declared.CliFault.TheVariants.{Usage, Table, NoSeparator, BadLine, TooLong, HistoryFull, Memory, NoThread, Read, Write}
-use Rattle.apex_cli.specs.declared.Item.{Item}
+use Rattle.apex_schedules.specs.declared.Item.{Item}
 use Rattle.apex_pictures.specs.Drawing.{CountsDrawFault}
 use Rattle.apex_pictures.specs.declared.DrawFault.{DrawFault}
 use Rattle.apex_pictures.specs.declared.DrawFault.TheVariants as draw

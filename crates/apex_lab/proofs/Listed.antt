@@ -12,11 +12,11 @@ use Rattle.apex_machine.specs.Events.{IsWithin}
 use Rattle.apex_laws.proofs.Runs.{run-append, run-fills, run-full}
 use Rattle.apex_cli.proofs.ItemRuns.{answer_is, fault_fits, fault_full, items_split}
 use Rattle.apex_cli.specs.Reports.{answer_of, runs_to}
-use Rattle.apex_cli.specs.Schedule.{are_cores_below, events_of_item, events_of_items}
+use Rattle.apex_schedules.specs.Schedule.{are_cores_below, events_of_item, events_of_items}
 use Rattle.apex_table.specs.Reading.{table_of}
 use Rattle.apex_cli.specs.declared.CliFault.{CliFault}
 use Rattle.apex_cli.specs.declared.CliFault.TheVariants.{HistoryFull}
-use Rattle.apex_cli.specs.declared.Item.{Item}
+use Rattle.apex_schedules.specs.declared.Item.{Item}
 use Rattle.apex_lab.specs.Plans.{IsListOf, IsRunOf}
 
 -- An item's events are put, all but k of them: those k and the events of the later items are the rest.

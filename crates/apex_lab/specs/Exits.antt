@@ -15,7 +15,7 @@ use Rattle.apex_cli.specs.Faults.{fault_of_checking, fault_line, status_of_fault
 use Rattle.apex_cli.specs.Reports.{answer_of, refuses, runs_to}
 use Rattle.apex_cli.specs.declared.CliFault.{CliFault}
 use Rattle.apex_cli.specs.declared.CliFault.TheVariants.{Memory, Read, Usage, Write}
-use Rattle.apex_cli.specs.declared.Item.{Item}
+use Rattle.apex_schedules.specs.declared.Item.{Item}
 use Rattle.apex_lab.specs.Plans.{AppendsPicture, AppendsPrefixOfPicture, IsPlanFor, machine_of}
 use Rattle.apex_lab.specs.Tasks.{Asked, Source, View, history, schedule}
 use Rattle.apex_lab.specs.declared.program.Ending.{Ending}

@@ -7,10 +7,10 @@ use Rattle.apex_machine.specs.table.Table as tables
 use Rattle.apex_types.specs.declared.entries.Event.{Event}
 use Rattle.apex_history.specs.Counted.{AppendsBeginning}
 use Rattle.apex_cli.specs.Reports.{fault_of_events}
-use Rattle.apex_cli.specs.Schedule.{events_of_items}
+use Rattle.apex_schedules.specs.Schedule.{events_of_items}
 use Rattle.apex_cli.specs.declared.CliFault.{CliFault}
 use Rattle.apex_cli.specs.declared.CliFault.TheVariants.{Memory, Write}
-use Rattle.apex_cli.specs.declared.Item.{Item}
+use Rattle.apex_schedules.specs.declared.Item.{Item}
 use Rattle.apex_pictures.specs.declared.DrawFault.{DrawFault}
 use Rattle.apex_pictures.specs.declared.DrawFault.TheVariants as draw
 use Rattle.apex_pictures.specs.Pictures.{picture_text}

@@ -2,8 +2,8 @@
 use Rattle.std.specs.Prelude.{ℕ, ◌≤◌, List, Option, Some, None, option_and_then, option_map}
 use Rattle.clap.specs.Words.{Text}
 use Rattle.apex_types.specs.declared.limits.TheConstants.{MOST_ENTRIES}
-use Rattle.apex_cli.specs.declared.Item.{Item}
-use Rattle.apex_cli.specs.Schedule.{items_of, positive_of}
+use Rattle.apex_schedules.specs.declared.Item.{Item}
+use Rattle.apex_schedules.specs.Schedule.{items_of, positive_of}
 use Rattle.apex_lab.specs.Words.{Given, Request, Shown, as_svg, as_trace, by_history, by_schedule, request_of}
 use Rattle.apex_lab.specs.declared.tasks.RunSource.{RunSource}
 use Rattle.apex_lab.specs.declared.tasks.RunSource.TheVariants as run

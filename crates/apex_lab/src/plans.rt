@@ -6,7 +6,7 @@ ghost use Rattle.apex_dispatch.specs.Kernel.{kernel_in};
 ghost use Rattle.apex_history.specs.Counted.{inner_of, failures_of};
 ghost use Rattle.apex_cli.specs.Faults.{fault_in};
 ghost use Rattle.apex_cli.specs.Reports.{Refuses, answer_of, runs_to};
-ghost use Rattle.apex_cli.specs.Schedule.{are_cores_below, events_of_items};
+ghost use Rattle.apex_schedules.specs.Schedule.{are_cores_below, events_of_items};
 ghost use Rattle.apex_cli.specs.declared.CliFault.{CliFault as CliFaultOf};
 ghost use Rattle.apex_lab.specs.Exits.{Gives, IsGivenFor, Pictures, first_fault, outcome_in};
 ghost use Rattle.apex_lab.specs.Plans.{IsListOf, IsPlanFor, IsRunOf, IsStyleOf, fault_of_drawing, machine_of};
@@ -14,11 +14,12 @@ ghost use Rattle.apex_lab.specs.Tasks.{IsOfEntries, View as ViewAsked, history, 
 
 use crate::tasks::{RunSource, Task, View};
 use apex_check::{Followed, Verdict, follow, verdict_text};
-use apex_cli::{CliFault, Item, kernel_for, ran, repeated, table_for};
+use apex_cli::{CliFault, kernel_for, ran, repeated, table_for};
 use apex_dispatch::Kernel;
 use apex_history::{Counted, Lines, Sink, Source, read_all};
 use apex_pictures::{DrawFault, Frame, Style, draw};
 use apex_process::QueueStore;
+use apex_schedules::Item;
 use apex_store::Store;
 use apex_table::Table;
 use apex_types::{Event, LentEntry, Reply, Who};

@@ -6,7 +6,8 @@ ghost use Rattle.apex_lab.specs.Tasks.{IsOfEntries, asked_by, number_in, source_
 ghost use Rattle.apex_lab.specs.Words.{given_said, shown_said};
 
 use crate::words::{SourceWords, ViewWords, request_in};
-use apex_cli::{CliFault, Item, read_positive, read_schedule};
+use apex_cli::{CliFault, scheduled_items};
+use apex_schedules::{Item, read_positive};
 use apex_types::MOST_ENTRIES;
 use std::alloc::Global;
 
@@ -80,7 +81,7 @@ fn read_source(alloc: Global, source: SourceWords<'_>) -> Result<RunSource, CliF
 {
     match source {
         SourceWords::Schedule(text) => {
-            let items = read_schedule(alloc, text.as_bytes())?;
+            let items = scheduled_items(alloc, text.as_bytes())?;
             Ok(RunSource::Schedule(items))
         }
         SourceWords::History => Ok(RunSource::History),

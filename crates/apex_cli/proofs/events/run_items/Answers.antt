@@ -3,7 +3,7 @@ use Rattle.std.proofs.lemmas.List.{length-replicate}
 use Rattle.apex_machine.specs.Machine.{Machine, run}
 use Rattle.apex_dispatch.specs.Kernel.{KernelState, kernel_in}
 use Rattle.apex_laws.proofs.Runs.{run-fills, run-full}
-use Rattle.apex_cli.specs.Schedule.{events_of_item, events_of_items}
+use Rattle.apex_schedules.specs.Schedule.{events_of_item, events_of_items}
 use Rattle.apex_cli.proofs.ItemRuns.{below_at, items_next, items_split, length-run, no_room_for}
 use Rattle.apex_cli.proofs.events.run_items.Goals as goal
 

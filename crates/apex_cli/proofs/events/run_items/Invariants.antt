@@ -2,7 +2,7 @@
 use Rattle.std.proofs.Common.{◌≡◌, ◌+◌, ◌≤◌, length, drop}
 use Rattle.apex_machine.specs.Machine.{run}
 use Rattle.apex_dispatch.specs.Kernel.{kernel_in}
-use Rattle.apex_cli.specs.Schedule.{events_of_items}
+use Rattle.apex_schedules.specs.Schedule.{events_of_items}
 use Rattle.apex_cli.proofs.events.run_items.Given as goal
 
 abbrev pub invariant-loop-item : goal.invariant-loop-item

@@ -1,7 +1,7 @@
 -- The fault of a run, by whether the events of the items fit.
 use Rattle.std.proofs.Common.{◌<◌, ◌∙◌, ap, sym, refl, length, Some, arith}
 use Rattle.apex_cli.specs.declared.faults.CliFault.TheVariants.{HistoryFull}
-use Rattle.apex_cli.specs.Schedule.{events_of_items}
+use Rattle.apex_schedules.specs.Schedule.{events_of_items}
 use Rattle.apex_cli.proofs.ItemRuns.{fault_fits, fault_full, no_room_for}
 use Rattle.apex_cli.proofs.kernels.ran.Goals as goal
 

@@ -2,7 +2,7 @@
 use Rattle.std.proofs.Common.{◌≡◌, ◌≤◌, ◌++◌, drop, length}
 use Rattle.std.specs.List.{All}
 use Rattle.apex_machine.specs.Events.{IsWithin}
-use Rattle.apex_cli.specs.Schedule.{events_of_items}
+use Rattle.apex_schedules.specs.Schedule.{events_of_items}
 use Rattle.apex_lab.proofs.plans.listed.Given as goal
 
 abbrev pub invariant-loop-item : goal.invariant-loop-item
