@@ -1,6 +1,6 @@
 //! The tests of the kernel and of the printing of lines that no stored case can show: how many
 //! records a turn looks at, lines that no run prints, a writer that fails, and the counters of a
-//! trace; and a search of a small system. It has no code of its own.
+//! trace; the warnings of a table; and a search of a small system. It has no code of its own.
 #![tactic(auto)]
 
 #[cfg(test)]
@@ -19,3 +19,5 @@ mod papers;
 mod scans;
 #[cfg(test)]
 mod traces;
+#[cfg(test)]
+mod warnings;
