@@ -1,13 +1,10 @@
 //! A run without a schedule: its events are those that the rules of the pace give.
-ghost use Rattle.std.specs.Prelude.{◌≡◌};
 
 use crate::scans::booted;
-use apex_dispatch::Kernel;
 use apex_pace::Pace;
-use apex_process::QueueStore;
 use apex_rounds::Rounds;
 use apex_table::read_table;
-use apex_types::{CoreId, Event, LentEntry, Reply, Who};
+use apex_types::{LentEntry, Reply, Who};
 use std::mem::drop;
 
 /// A process that works for 3 ticks in each period of 8, and then makes two calls. The default init
