@@ -24,7 +24,7 @@ use Rattle.apex_schedules.specs.declared.Item.{Item}
 use Rattle.apex_pictures.specs.Drawing.{CountsDrawFault}
 use Rattle.apex_pictures.specs.declared.DrawFault.{DrawFault}
 use Rattle.apex_pictures.specs.declared.DrawFault.TheVariants as draw
-use Rattle.apex_lab.specs.Exits.{Ends, Gives, Pictures, at_fault, cut_off, departed, departs, end_of, fails, fault_line, first_fault, legal, no_memory, ran, refused, shown, shows, stops, unasked, unread, unwritten, usage, whole}
+use Rattle.apex_lab.specs.Exits.{Ends, Gives, Pictures, at_fault, cut_off, departed, departs, end_of, fails, first_fault, legal, line_of_fault, no_memory, ran, refused, shown, shows, stops, unasked, unread, unwritten, usage, whole}
 use Rattle.apex_lab.specs.Plans.{AppendsPicture, AppendsPrefixOfPicture, fault_of_drawing}
 use Rattle.apex_lab.specs.Tasks.{Asked, Source, View, history, schedule}
 
@@ -114,7 +114,7 @@ module _ {asked : Option Asked} {before after : Ports} where
       rw same (shown table machine fault reported is gives pictures)
 
 -- the line of a fault other than ill-formed words
-pub other_line : (fault : CliFault) → (fault ≡ Usage → ⊥) → fault_line (Some fault) ≡ fault_line fault
+pub other_line : (fault : CliFault) → (fault ≡ Usage → ⊥) → fault_line (Some fault) ≡ line_of_fault fault
 other_line Usage other = absurd (other refl)
 other_line (Table fault) other = refl
 other_line NoSeparator other = refl

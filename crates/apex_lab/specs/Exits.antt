@@ -37,8 +37,8 @@ pub data Outcome : Type 0 where
   stops : End → Outcome
   shows : tables.Table → Machine → Option CliFault → Outcome
 
--- What a source gives, by the bytes that the reader had left and how many of its calls failed before, and
--- how many failed afterwards.
+-- What a source gives, by the bytes that the reader had left and how many of its calls failed
+-- before, and how many failed afterwards.
 pub data Gives (left : Option (List ℕ)) (failed : ℕ) : Source → Outcome → ℕ → Type 0 where
   -- memory was refused
   no_memory : {source : Source} → Gives left failed source (stops (fails Memory)) failed
@@ -59,14 +59,15 @@ pub data Gives (left : Option (List ℕ)) (failed : ℕ) : Source → Outcome �
   -- the history departs from what the partition does
   departed : (text : List ℕ) (table : tables.Table) → {n : ℕ} {expected : Option Entry}
       → IsAhead text left → Judges text table (DepartsAt n expected)
-      → Gives left failed history (stops (departs (verdict_text table (DepartsAt n expected)))) failed
+      → Gives left failed history
+      (stops (departs (verdict_text table (DepartsAt n expected)))) failed
   -- the history is legal
   legal : (text : List ℕ) → {n : ℕ} → IsAhead text left → (is : IsLegal text n)
       → Gives left failed history
       (shows is.table (run is.table (opening is.table) is.events) None) failed
 
--- The ways in which the showing of a machine ends: by the view, the writer before and how many of its calls
--- failed, the fault, and the writer afterwards and how many failed.
+-- The ways in which the showing of a machine ends: by the view, the writer before and how many of
+-- its calls failed, the fault, and the writer afterwards and how many failed.
 pub data Pictures (view : View) (table : tables.Table) (machine : Machine)
     (held : Option (List ℕ)) (failed : ℕ)
     : Option CliFault → Option (List ℕ) → ℕ → Type 0 where
@@ -122,18 +123,18 @@ usage_line =
     codes "apex_lab: usage: apex_lab svg [--schedule S] [--from N] [--to M], apex_lab trace [--schedule S]\n"
 
 -- the line that reports a fault; all others are lines of the program `apex`
-abbrev pub fault_line : CliFault → List ℕ
-fault_line Usage = usage_line
-fault_line fault = fault_line (Some fault)
+abbrev pub line_of_fault : CliFault → List ℕ
+line_of_fault Usage = usage_line
+line_of_fault fault = fault_line (Some fault)
 
 -- what is reported at the end
 abbrev pub report_of : End → List ℕ
 report_of complete = []
 report_of (departs report) = report
-report_of (fails fault) = fault_line fault
+report_of (fails fault) = line_of_fault fault
 
--- The ways in which the program ends: by what it is asked to show, the reader and the writer before, the
--- end, and the reader and the writer afterwards.
+-- The ways in which the program ends: by what it is asked to show, the reader and the writer before,
+-- the end, and the reader and the writer afterwards.
 pub data Ends (asked : Option Asked) (before : Ports) : End → Ports → Type 0 where
   -- memory was refused: nothing was read and nothing written
   unasked : {after : Ports} → Keeps before.held after.held → NoneFails before after

@@ -26,7 +26,8 @@ pub record IsRunOf (items : List Item) (table : tables.Table) (events : List Eve
   pub told : fault ≡ fault_of_events table (events_of_items items)
   pub within : All (IsWithin table.cores) events
 
--- the events are the first ones of these, as many as the limit allows, and all of them unless they are cut
+-- the events are the first ones of these, as many as the limit allows, and all of them unless they
+-- are cut
 pub record IsListOf (limit : ℕ) (all events : List Event) (is_cut : Bool) : Type 0 where
   pub rest : List Event
   pub split : all ≡ events ++ rest

@@ -1,5 +1,5 @@
-//! The program `apex_lab`: shows the run that a schedule gives, or a history that is legal, as SVG or
-//! as a trace.
+//! The program `apex_lab`: shows the run that a schedule gives, or a history that is legal, as SVG
+//! or as a trace.
 #![tactic(auto)]
 
 mod plans;

@@ -158,7 +158,8 @@ fn listed(alloc: Global, items: &[Item], table: &Table) -> Result<EventList, All
     })
 }
 
-/// The plan of a trace of the run of the items, on this table. Nothing is run: a trace has no frame.
+/// The plan of a trace of the run of the items, on this table. Nothing is run: a trace has no
+/// frame.
 fn trace_plan(alloc: Global, items: &[Item], table: Table) -> Result<Plan, AllocError>
     requires { are_cores_below table.cores items.now ≡ true }
     ensures table { IfOk result (λ plan. plan.table ≡ table) }

@@ -49,8 +49,8 @@ fn command<'a>(alloc: Global) -> Result<Command<'a>, AllocError>
     with_svg.subcommand(trace)
 }
 
-/// What the words ask for: `svg [--schedule S] [--from N] [--to M]` or `trace [--schedule S]`. Other
-/// words are `Usage`.
+/// What the words ask for: `svg [--schedule S] [--from N] [--to M]` or `trace [--schedule S]`.
+/// Other words are `Usage`.
 pub fn request_in<'a>(alloc: Global, words: &'a [String]) -> Result<Request<'a>, CliFault>
     ensures ok { IfOk result (λ r. request_of (map string_bytes words.entry.now)
         ≡ Some (request_said r)) }

@@ -13,15 +13,15 @@ returns-in_err-plan-in-Legal-clause-gives g c =
     let p = err_from_is_err_and c.from_residual-in_err-plan-in-Legal.result c.from_residual-in_err-plan-in-Legal.ensures.1 in
     rw (p.1, p.2) (gives_no_memory _ c.in_ok-followed.ensures.counted)
 
-pub returns-in-Legal-clause-gives : goal.returns-in-Legal-clause-gives
-returns-in-Legal-clause-gives g c =
+pub returns-in_ok-plan-in-Legal-clause-gives : goal.returns-in_ok-plan-in-Legal-clause-gives
+returns-in_ok-plan-in-Legal-clause-gives g c =
     let found = c.in_ok-followed.followed in
     let plan = c.in_ok-plan-in-Legal.ensures in
     gives_legal _ found.kernel.table _ found.verdict c.in-Legal.field-0.now found.kernel.machine _ _ c.in_ok-followed.ensures.ok c.in-Legal.is
     plan.table plan.machine plan.fault c.in_ok-followed.ensures.counted
 
-pub returns-clause-gives : goal.returns-clause-gives
-returns-clause-gives g c =
+pub returns-in-DepartsAt-clause-gives : goal.returns-in-DepartsAt-clause-gives
+returns-in-DepartsAt-clause-gives g c =
     let found = c.in_ok-followed.followed in
     gives_departure _ found.kernel.table found.verdict _ _ found.kernel.machine _ c.in_ok-followed.ensures.ok c.in-DepartsAt.is
     (rw c.table.ensures at c.verdict_text.ensures) c.in_ok-followed.ensures.counted

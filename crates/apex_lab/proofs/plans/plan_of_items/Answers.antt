@@ -1,4 +1,6 @@
 -- A trace is drawn of the events that the items list.
+use Rattle.std.proofs.Common.{inl, refl}
+use Rattle.std.proofs.lemmas.Result.{err_from_is_err_and}
 use Rattle.apex_lab.proofs.Listed.{list_answer}
 use Rattle.apex_lab.proofs.plans.plan_of_items.Goals as goal
 
@@ -13,3 +15,8 @@ returns-in_ok-plan-in-Trace-clause-plan c = record {
   within = rw c.in_ok-plan-in-Trace.ensures.table c.in_ok-plan-in-Trace.ensures.run.within;
   style = rw c.in-Trace.is c.in_ok-plan-in-Trace.ensures.style;
 }
+
+pub returns-in_err-plan-in-Trace-clause-err : goal.returns-in_err-plan-in-Trace-clause-err
+returns-in_err-plan-in-Trace-clause-err c =
+    let p = err_from_is_err_and c.from_residual-in_err-plan-in-Trace.result c.from_residual-in_err-plan-in-Trace.ensures.1 in
+    rw (p.1, p.2) (inl refl)

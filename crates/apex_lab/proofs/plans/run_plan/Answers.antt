@@ -1,5 +1,6 @@
 -- The answer is the machine of the kernel that made the items' events.
-use Rattle.std.proofs.Common.{◌≡◌, ◌∙◌, ap, sym}
+use Rattle.std.proofs.Common.{◌≡◌, ◌∙◌, ap, inl, refl, sym}
+use Rattle.std.proofs.lemmas.Result.{err_from_is_err_and}
 use Rattle.apex_dispatch.specs.Kernel.{KernelState}
 use Rattle.apex_machine.specs.table.Table.{Table}
 use Rattle.apex_cli.proofs.ItemRuns.{answer_is}
@@ -16,3 +17,8 @@ returns-clause-ok c =
     answer_is c.args.items.now c.args.text.now kernel.table (machine_of plan) plan.fault c.in_ok-kernel.ensures.table c.in_ok-kernel.ensures.below
     (c.in_ok-plan.ensures.machine ∙ ap (λ (k : KernelState _). k.machine) done) (c.in_ok-plan.ensures.fault ∙ c.ran-fault.ensures.fault)
     ∙ ap (λ (t : Table). runs_to t (machine_of plan) plan.fault) (sym table_is)
+
+pub returns-in_err-plan-clause-err : goal.returns-in_err-plan-clause-err
+returns-in_err-plan-clause-err c =
+    let p = err_from_is_err_and c.from_residual-in_err-plan.result c.from_residual-in_err-plan.ensures.1 in
+    rw (p.1, p.2) (inl refl)
