@@ -21,7 +21,8 @@ next_call [] (suc k) = refl
 next_call (step ∷ steps) zero = refl
 next_call (step ∷ steps) (suc k) = next_call steps k
 
-or_true : (b : Bool) → (b || true) ≡ true
+-- either way it is true
+pub or_true : (b : Bool) → (b || true) ≡ true
 or_true true = refl
 or_true false = refl
 

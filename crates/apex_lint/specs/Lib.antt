@@ -10,3 +10,4 @@ pub mod Objects
 pub mod Cores
 pub mod Warnings
 pub mod Texts
+pub mod Reasons

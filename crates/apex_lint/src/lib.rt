@@ -7,6 +7,7 @@ mod found;
 mod objects;
 mod owning;
 mod process_warnings;
+mod reasons;
 mod step_warnings;
 mod steps;
 mod texts;
@@ -14,5 +15,8 @@ mod warnings;
 
 pub use objects::Group;
 pub use process_warnings::ProcessWarning;
+pub use reasons::{
+    aperiodic_waits_are_refused, periodic_processes_are_not_suspended, unfit_messages_are_refused,
+};
 pub use step_warnings::StepWarning;
 pub use warnings::{Warning, lint};
