@@ -1,0 +1,164 @@
+-- An entry adds at most one to each count, so no count is above the number of entries.
+use Rattle.std.proofs.Common.{◌≡◌, ℕ, ◌+◌, ◌<◌, ◌≤◌, zero, suc, Bool, true, false, Option, None, Some, List, [], ◌∷◌, ◌++◌, take, drop, length, map, get_or, option_to_list, if◌then◌else◌, arith}
+use Rattle.std.specs.List.{AllByRecursion}
+use Rattle.apex_types.specs.declared.limits.TheConstants.{MOST_ENTRIES, MOST_SPAN}
+use Rattle.apex_report.specs.Cores.{core_figures, is_done_turn, is_idle_turn, is_lost_turn, is_service_turn, is_turn, units, units_if}
+use Rattle.apex_report.specs.Jobs.{completes, ended_open, releases, stops}
+use Rattle.apex_report.specs.Processes.{is_answered, is_turn_of_process, misses, process_figures, times_out}
+use Rattle.apex_report.specs.Steps.{core_after, jobs_after, one_if, process_after, refusals_after, AreCounted, AreJobsUpTo, AreUpTo, IsCoreUpTo, IsProcessUpTo}
+use Rattle.apex_report.specs.Terms.{CoreFigures, Entry, JobFigures, ProcessFigures, Refusals}
+use Rattle.apex_types.specs.declared.entries.ReturnCode.TheVariants.{NoAction, NotAvailable, InvalidParam, InvalidConfig, InvalidMode, TimedOut}
+
+-- the facts of each element are those of its value
+all_mapped : {X : Type 0} (P Q : X → Type 0) (f : X → X) → ((x : X) → P x → Q (f x)) → (xs : List X)
+    → AllByRecursion P xs → AllByRecursion Q (map f xs)
+all_mapped P Q f each [] all = tt
+all_mapped P Q f each (x ∷ xs) all = (each x all.0, all_mapped P Q f each xs all.1)
+
+all_weaker : {X : Type 0} (P Q : X → Type 0) → ((x : X) → P x → Q x) → (xs : List X)
+    → AllByRecursion P xs → AllByRecursion Q xs
+all_weaker P Q each [] all = tt
+all_weaker P Q each (x ∷ xs) all = (each x all.0, all_weaker P Q each xs all.1)
+
+-- an element that a loop has not come to yet is as it was
+pub not_yet : {X : Type 0} (P : X → Type 0) (f : X → X) (xs : List X) (i : ℕ) (x : X) → AllByRecursion P xs
+    → i < length xs → x ≡ get_or (map f (take i xs) ++ drop i xs) i x → P x
+not_yet P f [] i x all within is = absurd (omega (arith, within))
+not_yet P f (y ∷ xs) zero x all within is = rw is all.0
+not_yet P f (y ∷ xs) (suc i) x all within is = not_yet P f xs i x all.1 (omega (arith, within)) is
+
+one_at_most : (so : Bool) → one_if so ≤ 1
+one_at_most true = omega arith
+one_at_most false = omega arith
+
+one_job : {X : Type 0} (x : Option X) → length (option_to_list x) ≤ 1
+one_job None = omega arith
+one_job (Some x) = omega arith
+
+refusals_up_to : (n p : ℕ) (e : Entry) (r : Refusals) → AreUpTo n r → AreUpTo (n + 1) (refusals_after p r e)
+refusals_up_to n p e r up = record {
+  no_action = omega (arith, up.no_action, one_at_most (is_answered p NoAction e));
+  not_available = omega (arith, up.not_available, one_at_most (is_answered p NotAvailable e));
+  invalid_param = omega (arith, up.invalid_param, one_at_most (is_answered p InvalidParam e));
+  invalid_config = omega (arith, up.invalid_config, one_at_most (is_answered p InvalidConfig e));
+  invalid_mode = omega (arith, up.invalid_mode, one_at_most (is_answered p InvalidMode e));
+  timed_out = omega (arith, up.timed_out, one_at_most (is_answered p TimedOut e));
+}
+
+jobs_up_to : (n p : ℕ) (e : Entry) (f : JobFigures) → AreJobsUpTo n f → AreJobsUpTo (n + 1) (jobs_after p f e)
+jobs_up_to n p e f up = record {
+  releases = omega (arith, up.releases, one_at_most (releases p e));
+  completions = omega (arith, up.completions, one_job (ended_open (completes p e) f.open_since e));
+  stops = omega (arith, up.stops, one_job (ended_open (stops p e) f.open_since e));
+}
+
+process_up_to : (n : ℕ) (e : Entry) (f : ProcessFigures) → IsProcessUpTo n f → IsProcessUpTo (n + 1) (process_after e f)
+process_up_to n e f up = record {
+  turns = omega (arith, up.turns, one_at_most (is_turn_of_process f.process e));
+  misses = omega (arith, up.misses, one_at_most (misses f.process e));
+  timeouts = omega (arith, up.timeouts, one_at_most (times_out f.process e));
+  refusals = refusals_up_to n f.process e f.refusals up.refusals;
+  jobs = jobs_up_to n f.process e f.jobs up.jobs;
+}
+
+some_units : (passes : ℕ → Entry → Bool) (core : ℕ) (e : Entry) → units e.call ≤ MOST_SPAN → units_if passes core e ≤ MOST_SPAN
+some_units passes core e few = by_test (passes core e) where
+  by_test : (b : Bool) → (if b then units e.call else 0) ≤ MOST_SPAN
+  by_test true = few
+  by_test false = omega arith
+
+core_up_to : (n : ℕ) (e : Entry) → units e.call ≤ MOST_SPAN → (f : CoreFigures) → IsCoreUpTo n f → IsCoreUpTo (n + 1) (core_after e f)
+core_up_to n e few f up = record {
+  turns = omega (arith, up.turns, one_at_most (is_turn f.core e));
+  idle = omega (arith, up.idle, one_at_most (is_idle_turn f.core e));
+  calls = omega (arith, up.calls, one_at_most (is_service_turn f.core e));
+  lost = omega (arith, up.lost, one_at_most (is_lost_turn f.core e));
+  work_done = omega (arith, up.work_done, some_units is_done_turn f.core e few);
+  work_lost = omega (arith, up.work_lost, some_units is_lost_turn f.core e few);
+}
+
+refusals_below : (n m : ℕ) → n ≤ m → (r : Refusals) → AreUpTo n r → AreUpTo m r
+refusals_below n m le r up = record {
+  no_action = omega (arith, up.no_action, le);
+  not_available = omega (arith, up.not_available, le);
+  invalid_param = omega (arith, up.invalid_param, le);
+  invalid_config = omega (arith, up.invalid_config, le);
+  invalid_mode = omega (arith, up.invalid_mode, le);
+  timed_out = omega (arith, up.timed_out, le);
+}
+
+process_below : (n m : ℕ) → n ≤ m → (f : ProcessFigures) → IsProcessUpTo n f → IsProcessUpTo m f
+process_below n m le f up = record {
+  turns = omega (arith, up.turns, le);
+  misses = omega (arith, up.misses, le);
+  timeouts = omega (arith, up.timeouts, le);
+  refusals = refusals_below n m le f.refusals up.refusals;
+  jobs = record {
+    releases = omega (arith, up.jobs.releases, le);
+    completions = omega (arith, up.jobs.completions, le);
+    stops = omega (arith, up.jobs.stops, le);
+  };
+}
+
+core_below : (n m : ℕ) → n ≤ m → (f : CoreFigures) → IsCoreUpTo n f → IsCoreUpTo m f
+core_below n m le f up = record {
+  turns = omega (arith, up.turns, le);
+  idle = omega (arith, up.idle, le);
+  calls = omega (arith, up.calls, le);
+  lost = omega (arith, up.lost, le);
+  work_done = omega (arith, up.work_done, le);
+  work_lost = omega (arith, up.work_lost, le);
+}
+
+pub processes_below : (n m : ℕ) → n ≤ m → (fs : List ProcessFigures) → AllByRecursion (IsProcessUpTo n) fs → AllByRecursion (IsProcessUpTo m) fs
+processes_below n m le fs all = all_weaker (IsProcessUpTo n) (IsProcessUpTo m) (process_below n m le) fs all
+
+pub cores_below : (n m : ℕ) → n ≤ m → (fs : List CoreFigures) → AllByRecursion (IsCoreUpTo n) fs → AllByRecursion (IsCoreUpTo m) fs
+cores_below n m le fs all = all_weaker (IsCoreUpTo n) (IsCoreUpTo m) (core_below n m le) fs all
+
+-- the counts after one entry more
+pub counted_more : (n : ℕ) (ps : List ProcessFigures) (cs : List CoreFigures) (e : Entry) → AreCounted n ps cs → n < MOST_ENTRIES
+    → units e.call ≤ MOST_SPAN → AreCounted (n + 1) (map (process_after e) ps) (map (core_after e) cs)
+counted_more n ps cs e counts room few = record {
+  few = omega (arith, room);
+  each_process = all_mapped (IsProcessUpTo n) (IsProcessUpTo (n + 1)) (process_after e) (process_up_to n e) ps counts.each_process;
+  each_core = all_mapped (IsCoreUpTo n) (IsCoreUpTo (n + 1)) (core_after e) (core_up_to n e few) cs counts.each_core;
+}
+
+-- no count is above 0 before any entry
+processes_zero : (ps : List ℕ) → AllByRecursion (IsProcessUpTo 0) (map (process_figures []) ps)
+processes_zero [] = tt
+processes_zero (p ∷ ps) = (
+  record {
+    turns = omega arith;
+    misses = omega arith;
+    timeouts = omega arith;
+    refusals = record {
+      no_action = omega arith;
+      not_available = omega arith;
+      invalid_param = omega arith;
+      invalid_config = omega arith;
+      invalid_mode = omega arith;
+      timed_out = omega arith;
+    };
+    jobs = record { releases = omega arith; completions = omega arith; stops = omega arith };
+  },
+  processes_zero ps,
+)
+
+cores_zero : (cs : List ℕ) → AllByRecursion (IsCoreUpTo 0) (map (core_figures []) cs)
+cores_zero [] = tt
+cores_zero (c ∷ cs) = (
+  record {
+    turns = omega arith;
+    idle = omega arith;
+    calls = omega arith;
+    lost = omega arith;
+    work_done = omega arith;
+    work_lost = omega arith;
+  },
+  cores_zero cs,
+)
+
+pub none_counted : (ps cs : List ℕ) → AreCounted 0 (map (process_figures []) ps) (map (core_figures []) cs)
+none_counted ps cs = record { few = omega arith; each_process = processes_zero ps; each_core = cores_zero cs }

@@ -1,0 +1,97 @@
+-- The figures of a history with one entry more are the figures after that entry.
+use Rattle.std.proofs.Common.{◌≡◌, ℕ, ◌+◌, Bool, cond, List, [], ◌∷◌, ◌++◌, None, length, map, refl, sym, append_assoc, append-nil, length-append}
+use Rattle.std.proofs.lemmas.List.Sums.{fold-append, fold_push, sum_by_push}
+use Rattle.std.specs.List.{count_by, range_with_len}
+use Rattle.apex_machine.specs.table.Table.{Table}
+use Rattle.apex_types.specs.declared.entries.ReturnCode.TheVariants.{NoAction, NotAvailable, InvalidParam, InvalidConfig, InvalidMode, TimedOut}
+use Rattle.apex_report.specs.Cores.{core_figures, is_done_turn, is_idle_turn, is_lost_turn, is_service_turn, is_turn, units_if}
+use Rattle.apex_report.specs.Jobs.{completed, completes, ended_by, ended_from, open_after, releases, stops}
+use Rattle.apex_report.specs.JobFigures.{better, job_figures, worse}
+use Rattle.apex_report.specs.Processes.{is_answered, is_turn_of_process, misses, process_figures, refusals, times_out}
+use Rattle.apex_report.specs.Report.{report}
+use Rattle.apex_report.specs.Steps.{core_after, jobs_after, one_if, process_after, refusals_after, report_after}
+use Rattle.apex_report.specs.Terms.{Entry}
+
+-- a count of one entry more
+counted : (passes : Entry → Bool) (history : List Entry) (e : Entry)
+    → count_by passes (history ++ e ∷ []) ≡ count_by passes history + one_if (passes e)
+counted passes history e = sum_by_push (λ x. cond (passes x) 1 0) history e
+
+-- the jobs that one entry more ends come last
+ended_more : (ends : ℕ → Entry → Bool) (p : ℕ) (before later : List Entry) (e : Entry)
+    → ended_from ends p before (later ++ e ∷ []) ≡ ended_from ends p before later ++ ended_by ends p (before ++ later) e
+ended_more ends p before [] e = rw (append-nil before, append-nil (ended_by ends p before e)) refl
+ended_more ends p before (x ∷ later) e =
+    rw (ended_more ends p (before ++ x ∷ []) later e, append_assoc before (x ∷ []) later)
+    (sym (append_assoc (ended_by ends p before x) (ended_from ends p (before ++ x ∷ []) later) (ended_by ends p (before ++ x ∷ later) e)))
+
+pub jobs_grow : (p : ℕ) (history : List Entry) (e : Entry)
+    → job_figures p (history ++ e ∷ []) ≡ jobs_after p (job_figures p history) e
+jobs_grow p history e =
+    rw (
+      counted (releases p) history e,
+      ended_more completes p [] history e,
+      ended_more stops p [] history e,
+      length-append (completed p history) (ended_by completes p history e),
+      length-append (ended_from stops p [] history) (ended_by stops p history e),
+      fold_push (open_after p) None history e,
+      fold-append better None (completed p history) (ended_by completes p history e),
+      fold-append worse None (completed p history) (ended_by completes p history e),
+    )
+    refl
+
+pub refusals_grow : (p : ℕ) (history : List Entry) (e : Entry)
+    → refusals p (history ++ e ∷ []) ≡ refusals_after p (refusals p history) e
+refusals_grow p history e =
+    rw (
+      counted (is_answered p NoAction) history e,
+      counted (is_answered p NotAvailable) history e,
+      counted (is_answered p InvalidParam) history e,
+      counted (is_answered p InvalidConfig) history e,
+      counted (is_answered p InvalidMode) history e,
+      counted (is_answered p TimedOut) history e,
+    )
+    refl
+
+pub process_grows : (history : List Entry) (e : Entry) (p : ℕ)
+    → process_figures (history ++ e ∷ []) p ≡ process_after e (process_figures history p)
+process_grows history e p =
+    rw (
+      counted (is_turn_of_process p) history e,
+      counted (misses p) history e,
+      counted (times_out p) history e,
+      refusals_grow p history e,
+      jobs_grow p history e,
+    )
+    refl
+
+pub core_grows : (history : List Entry) (e : Entry) (core : ℕ)
+    → core_figures (history ++ e ∷ []) core ≡ core_after e (core_figures history core)
+core_grows history e core =
+    rw (
+      counted (is_turn core) history e,
+      counted (is_idle_turn core) history e,
+      counted (is_service_turn core) history e,
+      counted (is_lost_turn core) history e,
+      sum_by_push (units_if is_done_turn core) history e,
+      sum_by_push (units_if is_lost_turn core) history e,
+    )
+    refl
+
+-- a list of figures grows as each of them does
+all_grow : {X : Type 0} (new old : ℕ → X) (after : X → X) → ((p : ℕ) → new p ≡ after (old p)) → (ps : List ℕ)
+    → map new ps ≡ map after (map old ps)
+all_grow new old after grows [] = refl
+all_grow new old after grows (p ∷ ps) = rw (grows p, all_grow new old after grows ps) refl
+
+pub report_grows : (table : Table) (history : List Entry) (e : Entry)
+    → report table (history ++ e ∷ []) ≡ report_after (report table history) e
+report_grows table history e =
+    rw (
+      length-append history (e ∷ []),
+      all_grow (process_figures (history ++ e ∷ [])) (process_figures history) (process_after e) (process_grows history e)
+          (range_with_len 0 (length table.processes)),
+      all_grow (core_figures (history ++ e ∷ [])) (core_figures history) (core_after e) (core_grows history e)
+          (range_with_len 0 table.cores),
+    )
+    refl

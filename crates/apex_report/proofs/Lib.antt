@@ -1,0 +1,2 @@
+pub mod Growth
+pub mod Bounds

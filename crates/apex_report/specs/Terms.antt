@@ -1,0 +1,14 @@
+-- The terms in which the definitions and proofs of this crate speak: the values of a partition, and
+-- the figures of its report.
+pub use Rattle.apex_types.specs.declared.calls.Call.{Call}
+pub use Rattle.apex_types.specs.declared.entries.Caller.{Caller}
+pub use Rattle.apex_types.specs.declared.entries.Entry.{Entry}
+pub use Rattle.apex_types.specs.declared.entries.Notice.{Notice}
+pub use Rattle.apex_types.specs.declared.entries.Reply.{Reply}
+pub use Rattle.apex_types.specs.declared.entries.ReturnCode.{ReturnCode}
+pub use Rattle.apex_types.specs.declared.entries.Who.{Who}
+pub use Rattle.apex_report.specs.declared.cores.CoreFigures.{CoreFigures}
+pub use Rattle.apex_report.specs.declared.job_figures.JobFigures.{JobFigures}
+pub use Rattle.apex_report.specs.declared.jobs.Job.{Job}
+pub use Rattle.apex_report.specs.declared.processes.ProcessFigures.{ProcessFigures}
+pub use Rattle.apex_report.specs.declared.refusals.Refusals.{Refusals}

@@ -1,0 +1,150 @@
+//! The report of a history.
+ghost use Rattle.std.specs.Prelude.{◌≡◌, ◌<◌, ◌≤◌, [], length, map, IfOk};
+ghost use Rattle.std.specs.List.{range_with_len, AllByRecursion};
+ghost use Rattle.apex_types.specs.declared.limits.TheConstants.{MOST_ENTRIES};
+ghost use Rattle.apex_report.specs.Cores.{core_figures, units};
+ghost use Rattle.apex_report.specs.Processes.{process_figures};
+ghost use Rattle.apex_report.specs.Report.{report, Grows};
+ghost use Rattle.apex_report.specs.Steps.{core_after, process_after, IsCoreUpTo, IsProcessUpTo};
+
+use crate::cores::{CoreFigures, units};
+use crate::processes::ProcessFigures;
+use apex_history::Entries;
+use apex_table::Table;
+use apex_types::{CoreId, LentEntry, ProcessId};
+use std::alloc::{AllocError, Global};
+use std::marker::Model;
+
+/// The figures of each process and each core of a partition over a history (this profile). A report
+/// is made beforehand, and notes the entries one by one.
+#[derive(Drop)]
+pub struct Report {
+    entries: u32,
+    processes: Vec<ProcessFigures>,
+    cores: Vec<CoreFigures>,
+}
+
+impl Model for Report {
+    ghost use Rattle.apex_report.specs.Report.{Report};
+    ghost use Rattle.apex_report.specs.Steps.{AreCounted};
+
+    ghost Value = { Report };
+
+    ghost view = { λ r. record {
+      entries = r.entries;
+      processes = r.processes.items;
+      cores = r.cores.items;
+    } };
+
+    ghost invariant = { λ r. AreCounted r.entries r.processes.items r.cores.items };
+}
+
+/// The figures of each process before any entry.
+fn processes_before(alloc: Global, table: &Table) -> Result<Vec<ProcessFigures>, AllocError>
+    ensures { IfOk result (λ processes. processes.items
+        ≡ map (process_figures []) (range_with_len 0 (length table.now.processes))) }
+{
+    let count = table.process_count();
+    let mut processes = Vec::with_capacity(alloc, count)?;
+    for place in 0..count {
+        let process = ProcessId::at(place as u8);
+        processes.push(ProcessFigures::before(process))?;
+    }
+    Ok(processes)
+}
+
+/// The figures of each core before any entry.
+fn cores_before(alloc: Global, table: &Table) -> Result<Vec<CoreFigures>, AllocError>
+    ensures { IfOk result (λ cores. cores.items
+        ≡ map (core_figures []) (range_with_len 0 table.now.cores)) }
+{
+    let count = table.cores();
+    let mut cores = Vec::with_capacity(alloc, usize::from(count))?;
+    for core in 0..count {
+        cores.push(CoreFigures::before(CoreId::new(core)))?;
+    }
+    Ok(cores)
+}
+
+/// Notes what the entry says of each process.
+fn note_processes(processes: &mut Vec<ProcessFigures>, entry: &LentEntry<'_>)
+    requires { AllByRecursion (IsProcessUpTo MOST_ENTRIES) processes.old.items }
+    ensures { processes.new.items ≡ map (process_after entry.entry.now) processes.old.items }
+{
+    for figures in processes.iter_mut() {
+        figures.note(entry);
+    }
+}
+
+/// Notes what the entry, whose work has these units, says of each core.
+fn note_cores(cores: &mut Vec<CoreFigures>, entry: &LentEntry<'_>, amount: u32)
+    requires up_to { AllByRecursion (IsCoreUpTo MOST_ENTRIES) cores.old.items }
+    requires amount { amount ≡ units entry.now.call }
+    ensures { cores.new.items ≡ map (core_after entry.entry.now) cores.old.items }
+{
+    for figures in cores.iter_mut() {
+        figures.note(entry, amount);
+    }
+}
+
+impl Report {
+    /// The report of no entry, which takes all its memory at once. It fails only for want of memory.
+    pub fn new(alloc: Global, table: &Table) -> Result<Report, AllocError>
+        ensures { IfOk result (λ made. made ≡ report table.now []) }
+    {
+        let processes = processes_before(alloc, table)?;
+        let cores = cores_before(alloc, table)?;
+        Ok(Report {
+            entries: 0,
+            processes,
+            cores,
+        })
+    }
+
+    /// Notes one entry more: the report of a history becomes that of the history with this entry
+    /// behind it. Takes no memory.
+    pub fn note(&mut self, entry: &LentEntry<'_>)
+        requires { self.old.entries < MOST_ENTRIES }
+        ensures { Grows self.old entry.entry.now self.new }
+    {
+        let amount = units(&entry.call);
+        note_processes(&mut self.processes, entry);
+        note_cores(&mut self.cores, entry, amount);
+        self.entries += 1;
+    }
+
+    /// The number of entries that were noted.
+    pub fn entries(&self) -> u32
+        ensures value { result ≡ self.now.entries }
+        ensures range { result ≤ MOST_ENTRIES }
+    {
+        self.entries
+    }
+
+    /// The figures of each process, in the order of the table.
+    pub fn processes(&self) -> &[ProcessFigures]
+        ensures { result.now ≡ self.now.processes }
+    {
+        self.processes.as_slice()
+    }
+
+    /// The figures of each core.
+    pub fn cores(&self) -> &[CoreFigures]
+        ensures { result.now ≡ self.now.cores }
+    {
+        self.cores.as_slice()
+    }
+}
+
+/// The report of a history, computed in one pass. It fails only for want of memory, and takes none
+/// once it reads the entries.
+pub fn report_of(alloc: Global, table: &Table, entries: Entries<'_>) -> Result<Report, AllocError>
+    requires { length entries ≤ MOST_ENTRIES }
+    ensures { IfOk result (λ made. made ≡ report table.now entries.entry) }
+{
+    let mut made = Report::new(alloc, table)?;
+    for entry in entries {
+        made.note(&entry);
+    }
+    Ok(made)
+}
