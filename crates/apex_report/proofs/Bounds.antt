@@ -7,7 +7,7 @@ use Rattle.apex_report.specs.Jobs.{completes, ended_open, releases, stops}
 use Rattle.apex_report.specs.Processes.{is_answered, is_turn_of_process, misses, process_figures, times_out}
 use Rattle.apex_report.specs.Steps.{core_after, jobs_after, one_if, process_after, refusals_after, AreCounted, AreJobsUpTo, AreUpTo, IsCoreUpTo, IsProcessUpTo}
 use Rattle.apex_report.specs.Terms.{CoreFigures, Entry, JobFigures, ProcessFigures, Refusals}
-use Rattle.apex_types.specs.declared.entries.ReturnCode.TheVariants.{NoAction, NotAvailable, InvalidParam, InvalidConfig, InvalidMode, TimedOut}
+use Rattle.apex_types.specs.declared.entries.ReturnCode.TheVariants.{NoAction, NotAvailable, InvalidParam, InvalidConfig, InvalidMode}
 
 -- the facts of each element are those of its value
 all_mapped : {X : Type 0} (P Q : X → Type 0) (f : X → X) → ((x : X) → P x → Q (f x)) → (xs : List X)
@@ -42,7 +42,6 @@ refusals_up_to n p e r up = record {
   invalid_param = omega (arith, up.invalid_param, one_at_most (is_answered p InvalidParam e));
   invalid_config = omega (arith, up.invalid_config, one_at_most (is_answered p InvalidConfig e));
   invalid_mode = omega (arith, up.invalid_mode, one_at_most (is_answered p InvalidMode e));
-  timed_out = omega (arith, up.timed_out, one_at_most (is_answered p TimedOut e));
 }
 
 jobs_up_to : (n p : ℕ) (e : Entry) (f : JobFigures) → AreJobsUpTo n f → AreJobsUpTo (n + 1) (jobs_after p f e)
@@ -84,7 +83,6 @@ refusals_below n m le r up = record {
   invalid_param = omega (arith, up.invalid_param, le);
   invalid_config = omega (arith, up.invalid_config, le);
   invalid_mode = omega (arith, up.invalid_mode, le);
-  timed_out = omega (arith, up.timed_out, le);
 }
 
 process_below : (n m : ℕ) → n ≤ m → (f : ProcessFigures) → IsProcessUpTo n f → IsProcessUpTo m f
@@ -139,7 +137,6 @@ processes_zero (p ∷ ps) = (
       invalid_param = omega arith;
       invalid_config = omega arith;
       invalid_mode = omega arith;
-      timed_out = omega arith;
     };
     jobs = record { releases = omega arith; completions = omega arith; stops = omega arith };
   },

@@ -3,7 +3,7 @@ use Rattle.std.proofs.Common.{◌≡◌, ℕ, ◌+◌, Bool, cond, List, [], ◌
 use Rattle.std.proofs.lemmas.List.Sums.{fold-append, fold_push, sum_by_push}
 use Rattle.std.specs.List.{count_by, range_with_len}
 use Rattle.apex_machine.specs.table.Table.{Table}
-use Rattle.apex_types.specs.declared.entries.ReturnCode.TheVariants.{NoAction, NotAvailable, InvalidParam, InvalidConfig, InvalidMode, TimedOut}
+use Rattle.apex_types.specs.declared.entries.ReturnCode.TheVariants.{NoAction, NotAvailable, InvalidParam, InvalidConfig, InvalidMode}
 use Rattle.apex_report.specs.Cores.{core_figures, is_done_turn, is_idle_turn, is_lost_turn, is_service_turn, is_turn, units_if}
 use Rattle.apex_report.specs.Jobs.{completed, completes, ended_by, ended_from, open_after, releases, stops}
 use Rattle.apex_report.specs.JobFigures.{better, job_figures, worse}
@@ -49,7 +49,6 @@ refusals_grow p history e =
       counted (is_answered p InvalidParam) history e,
       counted (is_answered p InvalidConfig) history e,
       counted (is_answered p InvalidMode) history e,
-      counted (is_answered p TimedOut) history e,
     )
     refl
 

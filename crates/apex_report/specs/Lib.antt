@@ -5,3 +5,4 @@ pub mod Processes
 pub mod Cores
 pub mod Report
 pub mod Steps
+pub mod Texts

@@ -55,7 +55,8 @@ is_reply code _ = false
 abbrev pub is_answered : ℕ → ReturnCode → Entry → Bool
 is_answered p code e = is_by_process p e.process && is_reply code e.reply
 
--- the number of replies to process p with each code other than NO_ERROR
+-- the number of replies to process p with each code that refuses a call; TIMED_OUT is no reply, since
+-- it ends a wait by a notice
 abbrev pub refusals : ℕ → List Entry → Refusals
 refusals p history = record {
   no_action = count_by (is_answered p NoAction) history;
@@ -63,7 +64,6 @@ refusals p history = record {
   invalid_param = count_by (is_answered p InvalidParam) history;
   invalid_config = count_by (is_answered p InvalidConfig) history;
   invalid_mode = count_by (is_answered p InvalidMode) history;
-  timed_out = count_by (is_answered p TimedOut) history;
 }
 
 -- the figures of process p

@@ -2,7 +2,7 @@
 -- are the figures of the longer history is proved.
 use Rattle.std.specs.Prelude.{ℕ, ◌+◌, ◌*◌, ◌≤◌, Bool, List, fold, length, map, option_to_list, if◌then◌else◌}
 use Rattle.std.specs.List.{AllByRecursion}
-use Rattle.apex_types.specs.declared.entries.ReturnCode.TheVariants.{NoAction, NotAvailable, InvalidParam, InvalidConfig, InvalidMode, TimedOut}
+use Rattle.apex_types.specs.declared.entries.ReturnCode.TheVariants.{NoAction, NotAvailable, InvalidParam, InvalidConfig, InvalidMode}
 use Rattle.apex_types.specs.declared.limits.TheConstants.{MOST_ENTRIES, MOST_SPAN}
 use Rattle.apex_report.specs.Cores.{is_done_turn, is_idle_turn, is_lost_turn, is_service_turn, is_turn, units_if}
 use Rattle.apex_report.specs.Jobs.{completes, ended_open, open_after, releases, stops}
@@ -23,7 +23,6 @@ refusals_after p before e = record {
   invalid_param = before.invalid_param + one_if (is_answered p InvalidParam e);
   invalid_config = before.invalid_config + one_if (is_answered p InvalidConfig e);
   invalid_mode = before.invalid_mode + one_if (is_answered p InvalidMode e);
-  timed_out = before.timed_out + one_if (is_answered p TimedOut e);
 }
 
 -- the figures of the jobs of process p after an entry, which may complete one or stop one
@@ -77,7 +76,6 @@ pub record AreUpTo (n : ℕ) (r : Refusals) : Type 0 where
   pub invalid_param : r.invalid_param ≤ n
   pub invalid_config : r.invalid_config ≤ n
   pub invalid_mode : r.invalid_mode ≤ n
-  pub timed_out : r.timed_out ≤ n
 
 -- no count of the jobs is above n
 pub record AreJobsUpTo (n : ℕ) (f : JobFigures) : Type 0 where

@@ -6,6 +6,8 @@
 mod cores;
 mod job_figures;
 mod jobs;
+mod lines;
+mod printing;
 mod processes;
 mod refusals;
 mod reports;
@@ -13,6 +15,7 @@ mod reports;
 pub use cores::CoreFigures;
 pub use job_figures::JobFigures;
 pub use jobs::Job;
+pub use printing::print_report;
 pub use processes::ProcessFigures;
 pub use refusals::Refusals;
 pub use reports::{Report, report_of};

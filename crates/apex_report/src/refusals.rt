@@ -7,7 +7,8 @@ ghost use Rattle.apex_report.specs.Steps.{refusals_after, AreUpTo};
 use crate::jobs::is_by_process;
 use apex_types::{LentEntry, ProcessId, Reply, ReturnCode};
 
-/// The number of replies to a process with each return code other than NO_ERROR.
+/// The number of replies to a process with each return code that refuses a call (this profile).
+/// TIMED_OUT is no reply: it ends a wait by a notice.
 #[derive(Clone, Copy)]
 pub struct Refusals {
     pub no_action: u32,
@@ -15,7 +16,6 @@ pub struct Refusals {
     pub invalid_param: u32,
     pub invalid_config: u32,
     pub invalid_mode: u32,
-    pub timed_out: u32,
 }
 
 impl Refusals {
@@ -29,7 +29,6 @@ impl Refusals {
             invalid_param: 0,
             invalid_config: 0,
             invalid_mode: 0,
-            timed_out: 0,
         }
     }
 
@@ -47,7 +46,6 @@ impl Refusals {
             Reply::Code(ReturnCode::InvalidParam) => self.invalid_param += 1,
             Reply::Code(ReturnCode::InvalidConfig) => self.invalid_config += 1,
             Reply::Code(ReturnCode::InvalidMode) => self.invalid_mode += 1,
-            Reply::Code(ReturnCode::TimedOut) => self.timed_out += 1,
             _ => (),
         }
     }

@@ -1,0 +1,88 @@
+-- The lines of a report (this profile).
+use Rattle.std.specs.Prelude.{◌≡◌, ℕ, ◌<◌, List, length, ◌++◌, flat_map, codes, decimal}
+use Rattle.apex_machine.specs.table.Table.{Table}
+use Rattle.apex_machine.specs.text.Status.{history_line, instant_text, optional_text}
+use Rattle.apex_machine.specs.text.Texts.{process_name}
+use Rattle.apex_report.specs.Jobs.{response}
+use Rattle.apex_report.specs.Report.{Report, report}
+use Rattle.apex_report.specs.Terms.{CoreFigures, Entry, Job, JobFigures, ProcessFigures, Refusals}
+
+-- the response of a job, in ticks
+abbrev pub response_text : Job → List ℕ
+response_text job = decimal (response job)
+
+-- the number of the entry that ended a job
+abbrev pub end_text : Job → List ℕ
+end_text job = decimal job.number
+
+-- a figure behind its key, which has a space before it and `=` behind it
+unfoldable pub figure : List ℕ → ℕ → List ℕ
+figure key n = key ++ decimal n
+
+-- the numbers of jobs
+abbrev pub jobs_part : JobFigures → List ℕ
+jobs_part f =
+    figure (codes " releases=") f.releases ++ figure (codes " completions=") f.completions
+    ++ figure (codes " stops=") f.stops
+
+-- the release of the open job, the best and the worst response, and the end of the job that had the
+-- worst one; `-` without such a job
+abbrev pub responses_part : JobFigures → List ℕ
+responses_part f =
+    codes " open=" ++ instant_text f.open_since ++ codes " best=" ++ optional_text response_text f.best
+    ++ codes " worst=" ++ optional_text response_text f.worst
+    ++ codes " at=" ++ optional_text end_text f.worst
+
+-- the number of replies with each code
+abbrev pub refusals_part : Refusals → List ℕ
+refusals_part r =
+    figure (codes " NO_ACTION=") r.no_action ++ figure (codes " NOT_AVAILABLE=") r.not_available
+    ++ figure (codes " INVALID_PARAM=") r.invalid_param
+    ++ figure (codes " INVALID_CONFIG=") r.invalid_config
+    ++ figure (codes " INVALID_MODE=") r.invalid_mode
+
+-- the turns of a process, the deadlines that it missed, and its waits that timed out
+abbrev pub turns_part : ProcessFigures → List ℕ
+turns_part f =
+    figure (codes " turns=") f.turns ++ figure (codes " misses=") f.misses
+    ++ figure (codes " timeouts=") f.timeouts
+
+-- `process N turns=T misses=M timeouts=O releases=R completions=C stops=S open=I best=B worst=W at=E`,
+-- and then each code with the number of its replies
+abbrev pub process_line : Table → ProcessFigures → List ℕ
+process_line table f =
+    codes "process " ++ process_name table f.process ++ turns_part f ++ jobs_part f.jobs
+    ++ responses_part f.jobs ++ refusals_part f.refusals ++ codes "\n"
+
+-- the turns of a core
+abbrev pub core_turns_part : CoreFigures → List ℕ
+core_turns_part f =
+    figure (codes " turns=") f.turns ++ figure (codes " idle=") f.idle
+    ++ figure (codes " calls=") f.calls ++ figure (codes " lost=") f.lost
+
+-- the work of a core
+abbrev pub work_part : CoreFigures → List ℕ
+work_part f =
+    figure (codes " work_done=") f.work_done ++ figure (codes " work_lost=") f.work_lost
+
+-- `core C turns=T idle=I calls=N lost=L work_done=D work_lost=W`
+abbrev pub core_line : CoreFigures → List ℕ
+core_line f =
+    codes "core " ++ decimal f.core ++ core_turns_part f ++ work_part f ++ codes "\n"
+
+-- the lines of a report: the number of entries, each core, and each process
+abbrev pub lines_of : Table → Report → List ℕ
+lines_of table r =
+    history_line r.entries ++ flat_map core_line r.cores ++ flat_map (process_line table) r.processes
+
+-- the report of a history, as a text
+abbrev pub report_text : Table → List Entry → List ℕ
+report_text table history = lines_of table (report table history)
+
+-- the process is one of the table's
+abbrev pub IsInTable : Table → ProcessFigures → Type 0
+IsInTable table f = f.process < length table.processes
+
+-- the report is that of a history of the table's partition
+abbrev pub IsOfTable : Table → Report → Type 0
+IsOfTable table r = (history : List Entry) × (r ≡ report table history)

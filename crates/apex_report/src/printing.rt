@@ -1,0 +1,73 @@
+//! The lines of a report, written to a writer.
+ghost use Rattle.std.specs.Prelude.{◌≡◌, ◌<◌, flat_map, length, IfErr, OnOk, OnErr};
+ghost use Rattle.std.specs.List.{AllByRecursion};
+ghost use Rattle.std.specs.Io.KnownBytes.{Appends};
+ghost use Rattle.apex_history.specs.Counted.{inner_of, failures_of, CountsFailure, AppendsBeginning, IsOfWrite};
+ghost use Rattle.apex_report.specs.Texts.{core_line, lines_of, process_line, IsInTable, IsOfTable};
+
+use crate::cores::CoreFigures;
+use crate::lines::{core_line, history_line, process_line};
+use crate::processes::ProcessFigures;
+use crate::reports::Report;
+use apex_history::{Counted, Sink};
+use apex_table::Table;
+use std::io::{Result, Write};
+
+/// Writes the line of each core.
+fn print_cores<W: Sink>(cores: &[CoreFigures], writer: &mut Counted<W>) -> Result<()>
+    ensures ok { OnOk result
+        (Appends (W.contents (inner_of writer.old)) (W.contents (inner_of writer.new))
+        (flat_map core_line cores.now)) }
+    ensures err { OnErr result
+        (AppendsBeginning (W.contents (inner_of writer.old)) (W.contents (inner_of writer.new))
+        (flat_map core_line cores.now)) }
+    ensures counted { CountsFailure result (failures_of writer.old) (failures_of writer.new) }
+    ensures failed { IfErr result (IsOfWrite W.accepts (inner_of writer.new)) }
+{
+    for figures in cores {
+        writer.write_all(core_line(figures).as_slice())?;
+    }
+    Ok(())
+}
+
+/// Writes the line of each process.
+fn print_processes<W: Sink>(
+    table: &Table,
+    processes: &[ProcessFigures],
+    writer: &mut Counted<W>,
+) -> Result<()>
+    requires { AllByRecursion (IsInTable table.now) processes.now }
+    ensures ok { OnOk result
+        (Appends (W.contents (inner_of writer.old)) (W.contents (inner_of writer.new))
+        (flat_map (process_line table.now) processes.now)) }
+    ensures err { OnErr result
+        (AppendsBeginning (W.contents (inner_of writer.old)) (W.contents (inner_of writer.new))
+        (flat_map (process_line table.now) processes.now)) }
+    ensures counted { CountsFailure result (failures_of writer.old) (failures_of writer.new) }
+    ensures failed { IfErr result (IsOfWrite W.accepts (inner_of writer.new)) }
+{
+    for figures in processes {
+        writer.write_all(process_line(table, figures).as_slice())?;
+    }
+    Ok(())
+}
+
+/// Writes the lines of the report of a history of the table's partition: the number of entries,
+/// each core and each process. Takes no memory.
+///
+/// If a write failed, a prefix of the lines was written.
+pub fn print_report<W: Sink>(table: &Table, report: &Report, writer: &mut Counted<W>) -> Result<()>
+    requires { IsOfTable table.now report.now }
+    ensures ok { OnOk result
+        (Appends (W.contents (inner_of writer.old)) (W.contents (inner_of writer.new))
+        (lines_of table.now report.now)) }
+    ensures err { OnErr result
+        (AppendsBeginning (W.contents (inner_of writer.old)) (W.contents (inner_of writer.new))
+        (lines_of table.now report.now)) }
+    ensures counted { CountsFailure result (failures_of writer.old) (failures_of writer.new) }
+    ensures failed { IfErr result (IsOfWrite W.accepts (inner_of writer.new)) }
+{
+    writer.write_all(history_line(report.entries()).as_slice())?;
+    print_cores(report.cores(), writer)?;
+    print_processes(table, report.processes(), writer)
+}
