@@ -1,16 +1,17 @@
 -- The figures of a history with one entry more are the figures after that entry.
 use Rattle.std.proofs.Common.{◌≡◌, ℕ, ◌+◌, Bool, cond, List, [], ◌∷◌, ◌++◌, None, length, map, refl, sym, append_assoc, append-nil, length-append}
-use Rattle.std.proofs.lemmas.List.Sums.{fold-append, fold_push, sum_by_push}
+use Rattle.std.proofs.lemmas.List.Sums.{fold_push, sum_by_push}
 use Rattle.std.specs.List.{count_by, range_with_len}
 use Rattle.apex_machine.specs.table.Table.{Table}
 use Rattle.apex_types.specs.declared.entries.ReturnCode.TheVariants.{NoAction, NotAvailable, InvalidParam, InvalidConfig, InvalidMode}
 use Rattle.apex_report.specs.Cores.{core_figures, is_done_turn, is_idle_turn, is_lost_turn, is_service_turn, is_turn, units_if}
 use Rattle.apex_report.specs.Jobs.{completed, completes, ended_by, ended_from, open_after, releases, stops}
-use Rattle.apex_report.specs.JobFigures.{better, job_figures, worse}
+use Rattle.apex_report.specs.JobFigures.{job_figures}
 use Rattle.apex_report.specs.Processes.{is_answered, is_turn_of_process, misses, process_figures, refusals, times_out}
 use Rattle.apex_report.specs.Report.{report}
 use Rattle.apex_report.specs.Steps.{core_after, jobs_after, one_if, process_after, refusals_after, report_after}
 use Rattle.apex_report.specs.Terms.{Entry}
+use Rattle.apex_report.proofs.Unbeaten.{best_grows, worst_grows}
 
 -- a count of one entry more
 counted : (passes : Entry → Bool) (history : List Entry) (e : Entry)
@@ -35,8 +36,8 @@ jobs_grow p history e =
       length-append (completed p history) (ended_by completes p history e),
       length-append (ended_from stops p [] history) (ended_by stops p history e),
       fold_push (open_after p) None history e,
-      fold-append better None (completed p history) (ended_by completes p history e),
-      fold-append worse None (completed p history) (ended_by completes p history e),
+      best_grows (completed p history) (ended_by completes p history e),
+      worst_grows (completed p history) (ended_by completes p history e),
     )
     refl
 

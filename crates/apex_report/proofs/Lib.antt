@@ -1,3 +1,4 @@
 pub mod Growth
 pub mod Bounds
 pub mod Printed
+pub mod Unbeaten

@@ -1,25 +1,32 @@
 -- The figures of a process's jobs, each read off the history.
-use Rattle.std.specs.Prelude.{ℕ, List, Option, None, Some, fold, length, count_by, nat_lt, if◌then◌else◌}
+use Rattle.std.specs.Prelude.{ℕ, Bool, List, Option, length, count_by, find, nat_lt, not}
+use Rattle.std.specs.List.{list_any}
 use Rattle.apex_report.specs.Jobs.{completed, open_job, releases, response, stopped}
 use Rattle.apex_report.specs.Terms.{Entry, Job, JobFigures}
 
--- the better of two jobs: the second one only if its response is shorter
-abbrev pub better : Option Job → Job → Option Job
-better None job = Some job
-better (Some best) job = Some (if nat_lt (response job) (response best) then job else best)
+-- the first job has the shorter response
+abbrev pub faster : Job → Job → Bool
+faster first second = nat_lt (response first) (response second)
 
--- the worse of two jobs: the second one only if its response is longer
-abbrev pub worse : Option Job → Job → Option Job
-worse None job = Some job
-worse (Some worst) job = Some (if nat_lt (response worst) (response job) then job else worst)
+-- the first job has the longer response
+abbrev pub slower : Job → Job → Bool
+slower first second = nat_lt (response second) (response first)
+
+-- one of the jobs beats this one
+abbrev pub is_beaten : (Job → Job → Bool) → List Job → Job → Bool
+is_beaten beats jobs job = list_any (λ other. beats other job) jobs
+
+-- the first of the jobs that none of them beats
+abbrev pub first_unbeaten : (Job → Job → Bool) → List Job → Option Job
+first_unbeaten beats jobs = find (λ job. not (is_beaten beats jobs job)) jobs
 
 -- the first of the jobs with the shortest response
 abbrev pub best_of : List Job → Option Job
-best_of jobs = fold better None jobs
+best_of jobs = first_unbeaten faster jobs
 
 -- the first of the jobs with the longest response
 abbrev pub worst_of : List Job → Option Job
-worst_of jobs = fold worse None jobs
+worst_of jobs = first_unbeaten slower jobs
 
 -- the figures of the jobs of process p
 abbrev pub job_figures : ℕ → List Entry → JobFigures

@@ -1,15 +1,15 @@
 -- The figures after one entry more, by those before it: what the code does at an entry. That they
 -- are the figures of the longer history is proved.
-use Rattle.std.specs.Prelude.{ℕ, ◌+◌, ◌*◌, ◌≤◌, Bool, List, fold, length, map, option_to_list, if◌then◌else◌}
+use Rattle.std.specs.Prelude.{ℕ, ◌+◌, ◌*◌, ◌≤◌, Bool, List, Option, None, Some, fold, length, map, option_to_list, if◌then◌else◌}
 use Rattle.std.specs.List.{AllByRecursion}
 use Rattle.apex_types.specs.declared.entries.ReturnCode.TheVariants.{NoAction, NotAvailable, InvalidParam, InvalidConfig, InvalidMode}
 use Rattle.apex_types.specs.declared.limits.TheConstants.{MOST_ENTRIES, MOST_SPAN}
 use Rattle.apex_report.specs.Cores.{is_done_turn, is_idle_turn, is_lost_turn, is_service_turn, is_turn, units_if}
 use Rattle.apex_report.specs.Jobs.{completes, ended_open, open_after, releases, stops}
-use Rattle.apex_report.specs.JobFigures.{better, worse}
+use Rattle.apex_report.specs.JobFigures.{faster, slower}
 use Rattle.apex_report.specs.Processes.{is_answered, is_turn_of_process, misses, times_out}
 use Rattle.apex_report.specs.Report.{Report}
-use Rattle.apex_report.specs.Terms.{CoreFigures, Entry, JobFigures, ProcessFigures, Refusals}
+use Rattle.apex_report.specs.Terms.{CoreFigures, Entry, Job, JobFigures, ProcessFigures, Refusals}
 
 -- 1 if it is so, else 0
 abbrev pub one_if : Bool → ℕ
@@ -25,6 +25,11 @@ refusals_after p before e = record {
   invalid_mode = before.invalid_mode + one_if (is_answered p InvalidMode e);
 }
 
+-- the job that is kept when one more comes: the new one only if it beats the one before
+abbrev pub kept : (Job → Job → Bool) → Option Job → Job → Option Job
+kept beats None job = Some job
+kept beats (Some before) job = Some (if beats job before then job else before)
+
 -- the figures of the jobs of process p after an entry, which may complete one or stop one
 abbrev pub jobs_after : ℕ → JobFigures → Entry → JobFigures
 jobs_after p f e =
@@ -34,8 +39,8 @@ jobs_after p f e =
       completions = f.completions + length done;
       stops = f.stops + length stopped;
       open_since = open_after p f.open_since e;
-      best = fold better f.best done;
-      worst = fold worse f.worst done;
+      best = fold (kept faster) f.best done;
+      worst = fold (kept slower) f.worst done;
     }
 
 -- the figures of a process after an entry

@@ -2,8 +2,8 @@
 ghost use Rattle.std.specs.Prelude.{◌≡◌, []};
 ghost use Rattle.apex_types.specs.declared.limits.TheConstants.{MOST_ENTRIES};
 ghost use Rattle.apex_report.specs.Jobs.{ended_open};
-ghost use Rattle.apex_report.specs.JobFigures.{better, worse, job_figures};
-ghost use Rattle.apex_report.specs.Steps.{jobs_after, AreJobsUpTo};
+ghost use Rattle.apex_report.specs.JobFigures.{faster, job_figures, slower};
+ghost use Rattle.apex_report.specs.Steps.{jobs_after, kept, AreJobsUpTo};
 
 use crate::jobs::{Job, completes, releases, stops};
 use apex_types::{LentEntry, ProcessId};
@@ -27,7 +27,7 @@ pub struct JobFigures {
 
 /// The better of two jobs: the second one only if its response is shorter.
 fn better(best: Option<Job>, job: Job) -> Option<Job>
-    ensures { result ≡ better best job }
+    ensures { result ≡ kept faster best job }
 {
     match best {
         Some(best) if job.response() >= best.response() => Some(best),
@@ -37,7 +37,7 @@ fn better(best: Option<Job>, job: Job) -> Option<Job>
 
 /// The worse of two jobs: the second one only if its response is longer.
 fn worse(worst: Option<Job>, job: Job) -> Option<Job>
-    ensures { result ≡ worse worst job }
+    ensures { result ≡ kept slower worst job }
 {
     match worst {
         Some(worst) if job.response() <= worst.response() => Some(worst),

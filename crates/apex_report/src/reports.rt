@@ -1,5 +1,5 @@
 //! The report of a history.
-ghost use Rattle.std.specs.Prelude.{◌≡◌, ◌<◌, ◌≤◌, [], length, map, IfOk};
+ghost use Rattle.std.specs.Prelude.{◌≡◌, ◌+◌, ◌<◌, ◌≤◌, [], length, map, IfOk};
 ghost use Rattle.std.specs.List.{range_with_len, AllByRecursion};
 ghost use Rattle.apex_types.specs.declared.limits.TheConstants.{MOST_ENTRIES};
 ghost use Rattle.apex_report.specs.Cores.{core_figures, units};
@@ -105,7 +105,8 @@ impl Report {
     /// behind it. Takes no memory.
     pub fn note(&mut self, entry: &LentEntry<'_>)
         requires { self.old.entries < MOST_ENTRIES }
-        ensures { Grows self.old entry.entry.now self.new }
+        ensures report { Grows self.old entry.entry.now self.new }
+        ensures entries { self.new.entries ≡ self.old.entries + 1 }
     {
         let amount = units(&entry.call);
         note_processes(&mut self.processes, entry);

@@ -14,8 +14,8 @@ invariant_of-self c =
     rw (c.note_processes.ensures, c.note_cores.ensures)
     (counted_more c.self.inside.entries c.self.inside.processes.items c.self.inside.cores.items c.args.entry.now c.self.invariant room few)
 
-pub returns : goal.returns
-returns c = λ table history is.
+pub returns-clause-report : goal.returns-clause-report
+returns-clause-report c = λ table history is.
     rw (c.note_processes.ensures, c.note_cores.ensures)
     (ap (λ r. report_after r c.args.entry.now) c.self.view_is
     ∙ ap (λ r. report_after r c.args.entry.now) is ∙ sym (report_grows table history c.args.entry.now))
