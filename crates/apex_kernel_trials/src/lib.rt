@@ -1,6 +1,7 @@
 //! The tests of the kernel and of the printing of lines that no stored case can show: how many
 //! records a turn looks at, lines that no run prints, a writer that fails, and the counters of a
-//! trace; the warnings of a table; and a search of a small system. It has no code of its own.
+//! trace; the warnings of a table; the report of a history; and a search of a small system. It has no
+//! code of its own.
 #![tactic(auto)]
 
 #[cfg(test)]
@@ -15,6 +16,8 @@ mod outlines;
 mod paces;
 #[cfg(test)]
 mod papers;
+#[cfg(test)]
+mod reports;
 #[cfg(test)]
 mod scans;
 #[cfg(test)]
