@@ -17,7 +17,7 @@ pub returns-in_ok-plan-in-Legal-clause-gives : goal.returns-in_ok-plan-in-Legal-
 returns-in_ok-plan-in-Legal-clause-gives g c =
     let found = c.in_ok-followed.followed in
     let plan = c.in_ok-plan-in-Legal.ensures in
-    gives_legal _ found.kernel.table _ found.verdict c.in-Legal.field-0.now found.kernel.machine _ _ c.in_ok-followed.ensures.ok c.in-Legal.is
+    gives_legal _ found.kernel.table _ found.verdict _ found.kernel.machine _ _ c.in_ok-followed.ensures.ok c.in-Legal.is
     plan.table plan.machine plan.fault c.in_ok-followed.ensures.counted
 
 pub returns-in-DepartsAt-clause-gives : goal.returns-in-DepartsAt-clause-gives
