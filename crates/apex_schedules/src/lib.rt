@@ -1,5 +1,5 @@
 //! The texts of schedules: reading them as items, also with groups, and printing events as the
-//! shortest text.
+//! fewest items.
 #![tactic(auto)]
 
 mod groups;
