@@ -1,7 +1,7 @@
 -- The requests of commands, by their parts.
 use Rattle.std.proofs.Common.{◌≡◌, refl, Option}
 use Rattle.clap.specs.Walk.{Text}
-use Rattle.apex_lab.specs.Words.{Given, Request, Shown, as_svg, as_trace}
+use Rattle.apex_lab.specs.Words.{Given, Request, Shown, as_svg}
 
 -- a request of these parts
 abbrev pub request : Given → Shown → Request

@@ -1,5 +1,5 @@
 -- What a source gives, and the ways in which the program ends, by what was at fault.
-use Rattle.std.proofs.Common.{◌≡◌, inl, inr, List, ℕ, Option, None, Some, refl, subst, sym}
+use Rattle.std.proofs.Common.{◌≡◌, inl, inr, List, ℕ, Option, None, Some, refl, subst}
 use Rattle.std.specs.Io.KnownBytes.{Keeps}
 use Rattle.apex_machine.specs.Machine.{Machine}
 use Rattle.apex_machine.specs.table.Table as tables
