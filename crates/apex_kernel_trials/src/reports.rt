@@ -121,24 +121,6 @@ fn waits(timeout: Timeout) -> Call {
     Call::Semaphore(SemaphoreCall::KindService(SemaphoreId::at(0), service))
 }
 
-/// The notices of the history: the releases of both processes, a wait of LOGGER that times out, and
-/// the deadline that CONTROL misses.
-#[derive(Drop)]
-struct Told {
-    released: [Notice; 2],
-    timed_out: [Notice; 1],
-    missed: [Notice; 1],
-}
-
-fn all_told() -> Told {
-    let (control, logger) = (ProcessId::at(0), ProcessId::at(1));
-    Told {
-        released: [Notice::Released(control), Notice::Released(logger)],
-        timed_out: [Notice::Woken(logger, ReturnCode::TimedOut)],
-        missed: [Notice::Missed(control, DeadlineType::Soft)],
-    }
-}
-
 /// Puts the entry last, with its number.
 fn push_next(log: &mut Log, entry: &LentEntry<'_>) {
     if log.is_full() {
@@ -157,29 +139,40 @@ fn push_next(log: &mut Log, entry: &LentEntry<'_>) {
     });
 }
 
-/// Puts the entries of the history into the log.
-fn fill(log: &mut Log, told: &Told) {
-    let wait = Call::Time(TimeCall::PeriodicWait);
-    let work = Call::Work(Span::of(5));
+/// Puts the entries of the history into the log. Its notices are the release of CONTROL, those of both
+/// processes, a wait of LOGGER that times out, and the deadline that CONTROL misses.
+fn fill(log: &mut Log, control: &[Notice], both: &[Notice], timed_out: &[Notice], missed: &[Notice])
+    requires control { length control.now ≤ 2 }
+    requires both { length both.now ≤ 2 }
+    requires timed_out { length timed_out.now ≤ 2 }
+    requires missed { length missed.now ≤ 2 }
+{
+    let none: [Notice; 0] = [];
     let refused = Reply::Code(ReturnCode::NotAvailable);
-    push_next(log, &normal(&told.released));
+    push_next(log, &normal(both));
     push_next(log, &called(0, 1, waits(Timeout::Ticks(4)), Reply::Blocked));
-    push_next(log, &ticked(3, 3, &[]));
-    push_next(log, &called(3, 0, wait, Reply::Blocked));
-    push_next(log, &ticked(4, 1, &told.timed_out));
+    push_next(log, &ticked(3, 3, &none));
+    push_next(
+        log,
+        &called(3, 0, Call::Time(TimeCall::PeriodicWait), Reply::Blocked),
+    );
+    push_next(log, &ticked(4, 1, timed_out));
     push_next(log, &called(4, 1, waits(Timeout::Poll), refused));
-    push_next(log, &ticked(10, 6, &told.released[..1]));
-    push_next(log, &called(10, 0, work, Reply::Begun));
-    push_next(log, &ticked(16, 6, &told.missed));
-    push_next(log, &called(16, 0, work, Reply::Done));
-    push_next(log, &ticked(18, 2, &[]));
-    push_next(log, &called(18, 0, wait, Reply::Blocked));
+    push_next(log, &ticked(10, 6, control));
+    push_next(log, &called(10, 0, Call::Work(Span::of(5)), Reply::Begun));
+    push_next(log, &ticked(16, 6, missed));
+    push_next(log, &called(16, 0, Call::Work(Span::of(5)), Reply::Done));
+    push_next(log, &ticked(18, 2, &none));
+    push_next(
+        log,
+        &called(18, 0, Call::Time(TimeCall::PeriodicWait), Reply::Blocked),
+    );
     push_next(
         log,
         &called(18, 1, Call::Caller(CallerCall::StopSelf), Reply::Gone),
     );
     push_next(log, &idle(18));
-    push_next(log, &ticked(20, 2, &told.released[..1]));
+    push_next(log, &ticked(20, 2, control));
 }
 
 /// The text of the report of this log.
@@ -197,8 +190,11 @@ fn printed<R: Abort>(rt: &R, alloc: Global, table: &Table, log: &Log) -> FailAt 
 fn two_jobs_a_miss_and_a_timeout(rt: HostRuntime) {
     let table = read_table(rt.alloc(), TABLE.as_bytes()).expect(&rt, "the table is lawful");
     let mut log = Log::new(rt.alloc(), 16).expect(&rt, "memory");
-    let told = all_told();
-    fill(&mut log, &told);
+    let (control, logger) = (ProcessId::at(0), ProcessId::at(1));
+    let released = [Notice::Released(control), Notice::Released(logger)];
+    let timed_out = [Notice::Woken(logger, ReturnCode::TimedOut)];
+    let missed = [Notice::Missed(control, DeadlineType::Soft)];
+    fill(&mut log, &released[..1], &released, &timed_out, &missed);
     let paper = printed(&rt, rt.alloc(), &table, &log);
     assert!(rt; paper.held() == REPORT.as_bytes());
     drop(table);
