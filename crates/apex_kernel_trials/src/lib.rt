@@ -21,6 +21,8 @@ mod reports;
 #[cfg(test)]
 mod scans;
 #[cfg(test)]
+mod searches;
+#[cfg(test)]
 mod traces;
 #[cfg(test)]
 mod warnings;

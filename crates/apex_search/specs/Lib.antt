@@ -1,0 +1,12 @@
+-- A table under a pace as a system to search.
+pub mod Terms
+pub mod Facts
+pub mod Codes
+pub mod Records
+pub mod Objects
+pub mod Counts
+pub mod Stored
+pub mod Restored
+pub mod Forms
+pub mod Steps
+pub mod Answers

@@ -1,0 +1,97 @@
+-- The words of a situation and of what a pace counts: those of its head, of each core, of each
+-- process and of each object, one behind the other.
+use Rattle.std.specs.Prelude.{◌≡◌, ℕ, ◌+◌, ◌*◌, zero, suc, Bool, true, false, List, [], ◌∷◌, ◌++◌, length, take, flat_map, min, Option, None, Some, if◌then◌else◌}
+use Rattle.apex_laws.specs.Premises.{AreOf}
+use Rattle.apex_machine.specs.Deeds.{Objects}
+use Rattle.apex_machine.specs.processes.Roster.{Roster, record_at}
+use Rattle.apex_machine.specs.services.ProcessServices.{ProcessObject}
+use Rattle.apex_machine.specs.table.Table.{Table}
+use Rattle.apex_pace.specs.Pace.{Paced}
+use Rattle.apex_search.specs.Codes.{mode_word}
+use Rattle.apex_search.specs.Objects.{blackboard_words, buffer_words, event_flag_words, mutex_words, semaphore_words}
+use Rattle.apex_search.specs.Records.{FitsRecord, record_words}
+use Rattle.apex_search.specs.Terms.{OpenWork, Pace, Record}
+use Rattle.apex_search.specs.declared.objects.TheConstants.{BLACKBOARD_WORDS, BUFFER_WORDS, EVENT_FLAG_WORDS, MUTEX_WORDS, SEMAPHORE_WORDS}
+use Rattle.apex_search.specs.declared.records.TheConstants.{RECORD_WORDS}
+use Rattle.apex_search.specs.declared.stored.TheConstants.{CORE_WORDS, HEAD_WORDS}
+
+-- broken work is 1, and unbroken work is 2
+abbrev pub work_word : Bool → ℕ
+work_word unbroken = if unbroken then 2 else 1
+
+-- the turns count up to those of the pace
+abbrev pub kept_turns : Pace → ℕ → ℕ
+kept_turns pace turns = min turns pace.turns
+
+-- the ticks since open work began count up to its amount, and only for unbroken work
+abbrev pub kept_worked : Option OpenWork → ℕ → ℕ
+kept_worked None worked = 0
+kept_worked (Some o) worked = if o.unbroken then min worked o.work.amount else 0
+
+-- the words of open work: its kind, its process and its amount
+abbrev pub work_words : Option OpenWork → List ℕ
+work_words None = 0 ∷ 0 ∷ 0 ∷ []
+work_words (Some o) = work_word o.unbroken ∷ o.work.process ∷ o.work.amount ∷ []
+
+-- the words of a core: its open work, its turns, and the ticks that it has worked for
+abbrev pub core_words : Pace → Option OpenWork → ℕ → ℕ → List ℕ
+core_words pace open turns worked =
+    work_words open ++ kept_turns pace turns ∷ kept_worked open worked ∷ []
+
+-- those of the first n cores
+abbrev pub cores_words : Pace → ℕ → Paced → List ℕ
+cores_words pace zero s = []
+cores_words pace (suc n) s =
+    cores_words pace n s ++ core_words pace (s.situation.works n) (s.turns n) (s.worked n)
+
+-- the words of the processes
+abbrev pub records_words : List ProcessObject → List Record → List ℕ
+records_words (o ∷ os) (r ∷ rs) = record_words o.created r ++ records_words os rs
+records_words _ _ = []
+
+-- the words of the semaphores, the buffers and the blackboards
+abbrev pub counted_words : Objects → List ℕ
+counted_words objects =
+    flat_map semaphore_words objects.semaphores ++ flat_map buffer_words objects.buffers
+    ++ flat_map blackboard_words objects.blackboards
+
+-- the words of the event flags and the mutexes
+abbrev pub locks_words : Objects → List ℕ
+locks_words objects =
+    flat_map event_flag_words objects.event_flags ++ flat_map mutex_words objects.mutexes
+
+-- the words of the head: the mode, the time, and the number of init steps that were made
+abbrev pub head_words : Paced → List ℕ
+head_words s =
+    mode_word s.situation.roster.mode ∷ s.situation.roster.now ∷ s.situation.made ∷ []
+
+-- the words of a paced situation of the table
+abbrev pub words_of : Pace → Table → Paced → List ℕ
+words_of pace table s =
+    head_words s ++ cores_words pace table.cores s
+    ++ records_words s.situation.objects.processes s.situation.roster.records
+    ++ counted_words s.situation.objects ++ locks_words s.situation.objects
+
+-- how many they are
+abbrev pub word_count : Table → ℕ
+word_count table =
+    HEAD_WORDS + table.cores * CORE_WORDS + length table.processes * RECORD_WORDS
+    + length table.semaphores * SEMAPHORE_WORDS + length table.buffers * BUFFER_WORDS
+    + length table.blackboards * BLACKBOARD_WORDS
+    + length table.event_flags * EVENT_FLAG_WORDS + length table.mutexes * MUTEX_WORDS
+
+-- the instants and the stamps of each record fit in a word
+abbrev pub AreFit : Roster → Type 0
+AreFit roster = (p : ℕ) → FitsRecord (record_at roster p)
+
+-- the situation is one of the table, and its records fit in words
+pub record FitsWords (table : Table) (s : Paced) : Type 0 where
+  pub many : length s.situation.roster.records ≡ length table.processes
+  pub objects : AreOf table s.situation.objects
+  pub records : AreFit s.situation.roster
+
+-- the part was put at a place, and the words before it are as they were; `end` is the place behind it
+pub record IsPut (part : List ℕ) (at : ℕ) (old : List ℕ) (end : ℕ) (new : List ℕ) : Type 0 where
+  pub place : end ≡ at + length part
+  pub words : take end new ≡ take at old ++ part
+  pub many : length new ≡ length old
