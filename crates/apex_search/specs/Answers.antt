@@ -1,5 +1,5 @@
 -- What an answer of a search says of the schedules of a pace.
-use Rattle.std.specs.Prelude.{◌≡◌, ℕ, ◌≤◌, true, List, [], ◌∷◌, ◌++◌, length, Some}
+use Rattle.std.specs.Prelude.{◌≡◌, ℕ, ◌≤◌, true, List, [], ◌∷◌, ◌++◌, length, Option, None, Some}
 use Rattle.apex_explore.specs.declared.answers.Answer.{Answer}
 use Rattle.apex_explore.specs.declared.answers.Answer.TheVariants.{Found, Closed, Full}
 use Rattle.apex_machine.specs.Situations.{deed}
@@ -18,21 +18,26 @@ pub record LeadsToFact (system : Searched) (events : List Event) : Type 0 where
       (deed system.table (paced_run system.table (paced_opening system.table) earlier).situation
       last) ≡ true
 
--- the events are those of the choices, from this situation on
-abbrev pub AreOfPath : Searched → Paced → List ℕ → List Event → Type 0
-AreOfPath system s [] events = events ≡ []
-AreOfPath system s (choice ∷ path) events =
-    (event : Event) × (later : List Event) × (events ≡ event ∷ later)
-    × (event_of system.pace system.table s choice ≡ Some event)
-    × AreOfPath system (paced_step system.table s event) path later
+-- the events of the choices, from a situation on; they end at a choice that is not allowed
+abbrev pub events_along : Searched → Paced → List ℕ → List Event
+events_along system s [] = []
+events_along system s (choice ∷ path) =
+    event_and_later system s (event_of system.pace system.table s choice) path
+
+abbrev pub event_and_later : Searched → Paced → Option Event → List ℕ → List Event
+event_and_later system s None path = []
+event_and_later system s (Some event) path =
+    event ∷ events_along system (paced_step system.table s event) path
+
+-- the schedule of a path
+abbrev pub schedule_of : Searched → List ℕ → List Event
+schedule_of system path = events_along system (paced_opening system.table) path
 
 -- the path is that of a schedule that leads to the fact, and no shorter schedule does
 pub record IsShortestSchedule (system : Searched) (path : List ℕ) : Type 0 where
-  pub events : List Event
-  pub of : AreOfPath system (paced_opening system.table) path events
-  pub leads : LeadsToFact system events
-  pub shortest : (other : List Event) → LeadsToFact system other
-      → length events ≤ length other
+  pub leads : LeadsToFact system (schedule_of system path)
+  pub many : length (schedule_of system path) ≡ length path
+  pub shortest : (other : List Event) → LeadsToFact system other → length path ≤ length other
 
 -- no schedule of the pace leads to the fact, however long
 abbrev pub NoSchedule : Searched → Type 0

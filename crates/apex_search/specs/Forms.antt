@@ -1,9 +1,9 @@
 -- The canonical form as the code makes it: record by record, with the ranks counted before.
-use Rattle.std.specs.Prelude.{◌≡◌, ℕ, ◌-◌, ◌<◌, length, List, None, ℤ, pos, slice_index_or}
+use Rattle.std.specs.Prelude.{◌≡◌, ℕ, ◌-◌, ◌<◌, length, min, List, Option, None, Some, ℤ, pos, slice_index_or, if◌then◌else◌}
 use Rattle.apex_alike.specs.Canonical.{age, canonical, earlier, rank}
 use Rattle.apex_machine.specs.processes.Roster.{Roster, record_at, with_record}
 use Rattle.apex_pace.specs.Pace.{Paced}
-use Rattle.apex_search.specs.Terms.{Record}
+use Rattle.apex_search.specs.Terms.{OpenWork, Pace, Record}
 
 -- the canonical record at this stamp and time
 abbrev pub form_of : Roster → ℤ → ℕ → Record → Record
@@ -25,6 +25,19 @@ abbrev pub AreRanks : Roster → List ℤ → Type 0
 AreRanks roster ranks = (p : ℕ) → p < length roster.records
     → slice_index_or ranks p (pos 0) ≡ pos (rank roster (record_at roster p))
 
--- the paced situation, in canonical form
-abbrev pub canonical_paced : Paced → Paced
-canonical_paced s = record s { situation = canonical s.situation }
+-- the turns count up to those of the pace
+abbrev pub kept_turns : Pace → ℕ → ℕ
+kept_turns pace turns = min turns pace.turns
+
+-- the ticks since open work began count up to its amount, and only for unbroken work
+abbrev pub kept_worked : Option OpenWork → ℕ → ℕ
+kept_worked None worked = 0
+kept_worked (Some o) worked = if o.unbroken then min worked o.work.amount else 0
+
+-- the paced situation in canonical form, with the counts as far as they matter at the pace
+abbrev pub canonical_paced : Pace → Paced → Paced
+canonical_paced pace s = record {
+  situation = canonical s.situation;
+  turns = λ core. kept_turns pace (s.turns core);
+  worked = λ core. kept_worked (s.situation.works core) (s.worked core);
+}

@@ -37,7 +37,7 @@ choices_of system = system.table.cores + 1
 
 -- the words of the canonical form of a paced situation
 abbrev pub form_words : Pace → Table → Paced → List ℕ
-form_words pace table s = words_of pace table (canonical_paced s)
+form_words pace table s = words_of table (canonical_paced pace s)
 
 -- an event goes on to a form, or hits: its entry has the fact
 abbrev pub step_by : Searched → Paced → Option Event → Step (List ℕ)

@@ -1,6 +1,6 @@
 -- The words of a situation and of what a pace counts: those of its head, of each core, of each
 -- process and of each object, one behind the other.
-use Rattle.std.specs.Prelude.{◌≡◌, ℕ, ◌+◌, ◌*◌, zero, suc, Bool, true, false, List, [], ◌∷◌, ◌++◌, length, take, flat_map, min, Option, None, Some, if◌then◌else◌}
+use Rattle.std.specs.Prelude.{◌≡◌, ℕ, ◌+◌, ◌*◌, ◌<◌, ◌^◌, zero, suc, Bool, List, [], ◌∷◌, ◌++◌, length, take, flat_map, Option, None, Some, if◌then◌else◌}
 use Rattle.apex_laws.specs.Premises.{AreOf}
 use Rattle.apex_machine.specs.Deeds.{Objects}
 use Rattle.apex_machine.specs.processes.Roster.{Roster, record_at}
@@ -10,7 +10,7 @@ use Rattle.apex_pace.specs.Pace.{Paced}
 use Rattle.apex_search.specs.Codes.{mode_word}
 use Rattle.apex_search.specs.Objects.{blackboard_words, buffer_words, event_flag_words, mutex_words, semaphore_words}
 use Rattle.apex_search.specs.Records.{FitsRecord, record_words}
-use Rattle.apex_search.specs.Terms.{OpenWork, Pace, Record}
+use Rattle.apex_search.specs.Terms.{OpenWork, Record}
 use Rattle.apex_search.specs.declared.objects.TheConstants.{BLACKBOARD_WORDS, BUFFER_WORDS, EVENT_FLAG_WORDS, MUTEX_WORDS, SEMAPHORE_WORDS}
 use Rattle.apex_search.specs.declared.records.TheConstants.{RECORD_WORDS}
 use Rattle.apex_search.specs.declared.stored.TheConstants.{CORE_WORDS, HEAD_WORDS}
@@ -19,30 +19,20 @@ use Rattle.apex_search.specs.declared.stored.TheConstants.{CORE_WORDS, HEAD_WORD
 abbrev pub work_word : Bool → ℕ
 work_word unbroken = if unbroken then 2 else 1
 
--- the turns count up to those of the pace
-abbrev pub kept_turns : Pace → ℕ → ℕ
-kept_turns pace turns = min turns pace.turns
-
--- the ticks since open work began count up to its amount, and only for unbroken work
-abbrev pub kept_worked : Option OpenWork → ℕ → ℕ
-kept_worked None worked = 0
-kept_worked (Some o) worked = if o.unbroken then min worked o.work.amount else 0
-
 -- the words of open work: its kind, its process and its amount
 abbrev pub work_words : Option OpenWork → List ℕ
 work_words None = 0 ∷ 0 ∷ 0 ∷ []
 work_words (Some o) = work_word o.unbroken ∷ o.work.process ∷ o.work.amount ∷ []
 
 -- the words of a core: its open work, its turns, and the ticks that it has worked for
-abbrev pub core_words : Pace → Option OpenWork → ℕ → ℕ → List ℕ
-core_words pace open turns worked =
-    work_words open ++ kept_turns pace turns ∷ kept_worked open worked ∷ []
+abbrev pub core_words : Option OpenWork → ℕ → ℕ → List ℕ
+core_words begun turns worked = work_words begun ++ turns ∷ worked ∷ []
 
 -- those of the first n cores
-abbrev pub cores_words : Pace → ℕ → Paced → List ℕ
-cores_words pace zero s = []
-cores_words pace (suc n) s =
-    cores_words pace n s ++ core_words pace (s.situation.works n) (s.turns n) (s.worked n)
+abbrev pub cores_words : ℕ → Paced → List ℕ
+cores_words zero s = []
+cores_words (suc n) s =
+    cores_words n s ++ core_words (s.situation.works n) (s.turns n) (s.worked n)
 
 -- the words of the processes
 abbrev pub records_words : List ProcessObject → List Record → List ℕ
@@ -66,9 +56,9 @@ head_words s =
     mode_word s.situation.roster.mode ∷ s.situation.roster.now ∷ s.situation.made ∷ []
 
 -- the words of a paced situation of the table
-abbrev pub words_of : Pace → Table → Paced → List ℕ
-words_of pace table s =
-    head_words s ++ cores_words pace table.cores s
+abbrev pub words_of : Table → Paced → List ℕ
+words_of table s =
+    head_words s ++ cores_words table.cores s
     ++ records_words s.situation.objects.processes s.situation.roster.records
     ++ counted_words s.situation.objects ++ locks_words s.situation.objects
 
@@ -89,6 +79,7 @@ pub record FitsWords (table : Table) (s : Paced) : Type 0 where
   pub many : length s.situation.roster.records ≡ length table.processes
   pub objects : AreOf table s.situation.objects
   pub records : AreFit s.situation.roster
+  pub now : s.situation.roster.now < 2 ^ 64
 
 -- the part was put at a place, and the words before it are as they were; `end` is the place behind it
 pub record IsPut (part : List ℕ) (at : ℕ) (old : List ℕ) (end : ℕ) (new : List ℕ) : Type 0 where

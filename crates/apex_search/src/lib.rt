@@ -2,6 +2,7 @@
 //! with what the pace counts, as words; a choice is a turn of a core or the tick that may come.
 #![tactic(auto)]
 
+mod canonical;
 mod codes;
 mod counts;
 mod facts;

@@ -12,7 +12,6 @@ use crate::paced::PacedSituation;
 use crate::records::{RECORD_WORDS, record_words};
 use apex_dispatch::Objects;
 use apex_machine::OpenWork;
-use apex_pace::Pace;
 use apex_store::{Object, Store};
 use apex_table::Table;
 use apex_types::{CoreId, ProcessId};
@@ -50,22 +49,17 @@ fn put(words: &mut [u64], at: usize, part: &[u64]) -> usize
     end
 }
 
-/// The words of a core: only unbroken work counts the ticks since it began, up to its amount, and
-/// the turns count up to those of the pace.
-fn core_words(pace: Pace, open: Option<OpenWork>, turns: u64, worked: u64) -> [u64; CORE_WORDS]
-    ensures { result ≡ core_words pace open turns worked }
+/// The words of a core: its open work, its turns, and the ticks that it has worked for.
+fn core_words(begun: Option<OpenWork>, turns: u64, worked: u64) -> [u64; CORE_WORDS]
+    ensures { result ≡ core_words begun turns worked }
 {
-    let turns = turns.min(u64::from(pace.turns));
-    let Some(open) = open else {
-        return [0, 0, 0, turns, 0];
+    let Some(begun) = begun else {
+        return [0, 0, 0, turns, worked];
     };
-    let process = open.work.process.place() as u64;
-    let amount = u64::from(open.work.amount.ticks());
-    if open.unbroken {
-        [2, process, amount, turns, worked.min(amount)]
-    } else {
-        [1, process, amount, turns, 0]
-    }
+    let kind = if begun.unbroken { 2 } else { 1 };
+    let process = begun.work.process.place() as u64;
+    let amount = u64::from(begun.work.amount.ticks());
+    [kind, process, amount, turns, worked]
 }
 
 /// Puts the words of the semaphores, the buffers and the blackboards at a place, and answers the
@@ -104,17 +98,17 @@ fn put_locks(objects: &Objects, words: &mut [u64], at: usize) -> usize
 
 impl PacedSituation {
     /// Puts the words of the cores at a place, and answers the place behind them.
-    fn put_cores(&self, pace: Pace, table: &Table, words: &mut [u64], at: usize) -> usize
-        requires { at + length (cores_words pace table.now.cores (paced_in self.now))
+    fn put_cores(&self, table: &Table, words: &mut [u64], at: usize) -> usize
+        requires { at + length (cores_words table.now.cores (paced_in self.now))
             ≤ length words.old }
-        ensures { IsPut (cores_words pace table.now.cores (paced_in self.now)) at words.old
+        ensures { IsPut (cores_words table.now.cores (paced_in self.now)) at words.old
             result words.new }
     {
         let mut at = at;
         for number in 0..table.cores() {
             let core = CoreId::new(number);
             let (turns, worked) = (self.counts.turns(core), self.counts.worked(core));
-            at = put(words, at, &core_words(pace, self.work(core), turns, worked));
+            at = put(words, at, &core_words(self.work(core), turns, worked));
         }
         at
     }
@@ -141,16 +135,16 @@ impl PacedSituation {
 
     /// Puts the words of the situation, whose processes are in canonical form, and of what the pace
     /// counts into these.
-    pub(crate) fn put_words(&self, pace: Pace, table: &Table, words: &mut [u64])
+    pub(crate) fn put_words(&self, table: &Table, words: &mut [u64])
         requires fits { FitsWords table.now (paced_in self.now) }
         requires room { length words.old ≡ word_count table.now }
-        ensures { words.new ≡ words_of pace table.now (paced_in self.now) }
+        ensures { words.new ≡ words_of table.now (paced_in self.now) }
     {
         let situation = &self.situation;
         let mode = mode_word(situation.store().mode());
         let made = situation.init_steps_made() as u64;
         let at = put(words, 0, &[mode, situation.now(), made]);
-        let at = self.put_cores(pace, table, words, at);
+        let at = self.put_cores(table, words, at);
         let at = self.put_records(words, at);
         let at = put_counted(situation.objects(), words, at);
         put_locks(situation.objects(), words, at);

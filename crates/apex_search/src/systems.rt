@@ -1,20 +1,18 @@
 //! A table under a pace, and a question, as a system to search.
 ghost use Rattle.std.specs.Prelude.{◌≡◌, ◌≤◌, IfOk};
 ghost use Rattle.apex_types.specs.Limits.{latest};
-ghost use Rattle.apex_alike.specs.Canonical.{IsFit};
 ghost use Rattle.apex_laws.specs.GoesOn.{CanGoOn};
 ghost use Rattle.apex_machine.specs.Situations.{deed};
+ghost use Rattle.apex_pace.specs.Laws.{IsPace};
 ghost use Rattle.apex_pace.specs.Pace.{paced_opening, paced_step};
-ghost use Rattle.apex_search.specs.Answers.{SaysOfSchedules};
+ghost use Rattle.apex_search.specs.Answers.{SaysOfSchedules, schedule_of};
 ghost use Rattle.apex_search.specs.Counts.{IsSamePaced, paced_in};
 ghost use Rattle.apex_search.specs.Facts.{has_fact};
-ghost use Rattle.apex_search.specs.Forms.{canonical_paced};
 ghost use Rattle.apex_search.specs.Restored.{IsOfTable, IsStored, paced_from};
 ghost use Rattle.apex_search.specs.Steps.{AreWordsAfter, IsEvent, IsWorkplace, event_of};
 
 use crate::counts::Counts;
 use crate::facts::Question;
-use crate::forms::make_canonical;
 use crate::paced::PacedSituation;
 use crate::stored::word_count;
 use apex_dispatch::{Objects, ProcessObject, Situation, Works};
@@ -49,14 +47,15 @@ pub struct Workplace {
 }
 
 impl Model for TableSystem {
+    ghost use Rattle.apex_pace.specs.Laws.{IsPace};
     ghost use Rattle.apex_search.specs.Steps.{Searched, search_start};
 
     ghost Value = { Searched };
 
     ghost view = { λ s. record { table = s.table; pace = s.pace; question = s.question } };
 
-    ghost invariant = { λ s. s.start.items
-        ≡ search_start (record { table = s.table; pace = s.pace; question = s.question }) };
+    ghost invariant = { λ s. IsPace s.pace × (s.start.items
+        ≡ search_start (record { table = s.table; pace = s.pace; question = s.question })) };
 }
 
 impl PacedSituation {
@@ -71,24 +70,9 @@ impl PacedSituation {
         })
     }
 
-    /// The situation, with its processes in canonical form.
-    fn canonical(self) -> PacedSituation
-        requires { IsFit self.situation.roster }
-        ensures { IsSamePaced (paced_in result) (canonical_paced (paced_in self)) }
-    {
-        let PacedSituation { situation, counts } = self;
-        let (mut store, objects, works, made) = situation.into_parts();
-        make_canonical(&mut store);
-        PacedSituation {
-            situation: Situation::new(store, objects, works, made),
-            counts,
-        }
-    }
-
     /// The event of a choice, if it is allowed.
     fn event(&self, pace: Pace, table: &Table, choice: u32) -> Option<Event>
-        requires choice { choice ≤ table.now.cores }
-        requires time { self.now.situation.roster.now ≤ latest }
+        requires { self.now.situation.roster.now ≤ latest }
         ensures { result ≡ event_of pace table.now (paced_in self.now) choice }
     {
         if choice < u32::from(table.cores()) {
@@ -175,13 +159,14 @@ impl TableSystem {
         pace: Pace,
         question: Question,
     ) -> Result<TableSystem, AllocError>
+        requires { IsPace pace }
         ensures table { IfOk result (λ system. system.table ≡ table) }
         ensures pace { IfOk result (λ system. system.pace ≡ pace) }
         ensures question { IfOk result (λ system. system.question ≡ question) }
     {
-        let paced = PacedSituation::opening(alloc, &table)?.canonical();
+        let paced = PacedSituation::opening(alloc, &table)?.canonical(pace);
         let mut start = vec![in alloc; 0; word_count(&table)]?;
-        paced.put_words(pace, &table, start.as_mut_slice());
+        paced.put_words(&table, start.as_mut_slice());
         Ok(TableSystem {
             table,
             pace,
@@ -193,12 +178,30 @@ impl TableSystem {
     /// Searches the schedules of the pace, the shortest first, for one that leads to the fact. The
     /// room for `room` states is taken before the first event. Fails only for want of memory.
     ///
-    /// A choice of a path that is found is a turn of the core of that number, or past the cores the
-    /// tick that may come.
+    /// [`TableSystem::schedule`] gives the events of a path that is found.
     pub fn search(&self, alloc: Global, room: u32) -> Result<Answer, AllocError>
         ensures { IfOk result (SaysOfSchedules self.now) }
     {
         explore(alloc, self, room)
+    }
+
+    /// The events of the choices of a path, up to one that is not allowed. Fails only for want of
+    /// memory.
+    pub fn schedule(&self, alloc: Global, path: &[u32]) -> Result<Vec<Event>, AllocError>
+        ensures { IfOk result (λ events. events.items ≡ schedule_of self.now path.now) }
+    {
+        let mut events = Vec::with_capacity(alloc, path.len())?;
+        let mut paced = PacedSituation::opening(alloc, &self.table)?.canonical(self.pace);
+        let mut notices = Notices::new();
+        for choice in path {
+            let Some(event) = paced.event(self.pace, &self.table, *choice) else {
+                return Ok(events);
+            };
+            events.push(event)?;
+            let _ = paced.make(&self.table, self.question, event, &mut notices);
+            paced = paced.canonical(self.pace);
+        }
+        Ok(events)
     }
 
     /// The table.
@@ -257,8 +260,8 @@ impl System for TableSystem {
                 if paced.make(&self.table, self.question, event, &mut workplace.notices) {
                     Taken::Hit
                 } else {
-                    paced = paced.canonical();
-                    paced.put_words(self.pace, &self.table, next);
+                    paced = paced.canonical(self.pace);
+                    paced.put_words(&self.table, next);
                     Taken::Next
                 }
             }
