@@ -8,5 +8,7 @@ pub mod Counts
 pub mod Stored
 pub mod Restored
 pub mod Forms
+pub mod Reached
 pub mod Steps
 pub mod Answers
+pub mod Laws

@@ -1,17 +1,16 @@
 -- The transition system of a table under a pace: its states are words, and its choices are a turn of
 -- each core and the tick that may come.
 use Rattle.std.specs.Prelude.{◌≡◌, ℕ, ◌+◌, ◌^◌, ◌≤◌, ◌<◌, false, List, nat_lt, Option, None, Some, option_map, if◌then◌else◌}
-use Rattle.apex_alike.specs.Canonical.{IsFit}
 use Rattle.apex_explore.specs.Systems.{Step, refuses, goes, hits}
-use Rattle.apex_laws.specs.GoesOn.{CanGoOn}
 use Rattle.apex_machine.specs.Situations.{deed}
 use Rattle.apex_machine.specs.table.Table.{Table}
 use Rattle.apex_pace.specs.Pace.{Paced, may_turn, next_tick, paced_opening, paced_step}
 use Rattle.apex_search.specs.Counts.{StoredPaced, paced_in}
 use Rattle.apex_search.specs.Facts.{has_fact}
 use Rattle.apex_search.specs.Forms.{canonical_paced}
-use Rattle.apex_search.specs.Restored.{IsOfTable, IsStored, paced_from}
-use Rattle.apex_search.specs.Stored.{FitsWords, word_count, words_of}
+use Rattle.apex_search.specs.Reached.{IsReached}
+use Rattle.apex_search.specs.Restored.{IsOfTable, paced_from}
+use Rattle.apex_search.specs.Stored.{words_of}
 use Rattle.apex_search.specs.Terms.{Event, Pace, Question}
 use Rattle.apex_search.specs.declared.systems.Workplace.{Workplace}
 use Rattle.apex_types.specs.declared.entries.Event.TheVariants.{Turn, Tick}
@@ -56,12 +55,11 @@ search_step system words choice =
 abbrev pub search_start : Searched → List ℕ
 search_start system = form_words system.pace system.table (paced_opening system.table)
 
--- the words are those of the form of a situation on which a run of the table can be
+-- the words are those of the canonical form of a situation to which a schedule comes
 pub record IsForm (pace : Pace) (table : Table) (words : List ℕ) : Type 0 where
   pub paced : Paced
   pub form : words ≡ form_words pace table paced
-  pub fit : IsFit paced.situation.roster
-  pub of : CanGoOn table 0 paced.situation
+  pub reached : IsReached table paced
 
 -- the workplace has a situation of the table, and a process that isn't created
 pub record IsWorkplace (table : Table) (workplace : Workplace) : Type 0 where

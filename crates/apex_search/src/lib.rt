@@ -7,6 +7,7 @@ mod codes;
 mod counts;
 mod facts;
 mod forms;
+mod laws;
 mod objects;
 mod paced;
 mod records;
@@ -16,4 +17,5 @@ mod systems;
 mod ticks;
 
 pub use facts::{Fact, Question};
+pub use laws::{forms_step_alike, schedules_stay_in_bounds, words_are_exact};
 pub use systems::{TableSystem, Workplace};
