@@ -1,8 +1,7 @@
 //! The tests of the kernel and of the printing of lines that no stored case can show: how many
 //! records a turn looks at, lines that no run prints, a writer that fails, and the counters of a
 //! trace; the warnings of a table; the report of a history; and searches of a small system and of two
-//! tables. It has no
-//! code of its own.
+//! tables. It has no code of its own.
 #![tactic(auto)]
 
 #[cfg(test)]

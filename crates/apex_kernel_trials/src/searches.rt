@@ -1,11 +1,14 @@
 //! Searches of two tables for a missed deadline: an urgent process waits for a semaphore that a
 //! preempted one has taken, and the same with a mutex, which raises its owner.
 
+use crate::scans::booted;
 use apex_explore::Answer;
 use apex_pace::{Pace, USUAL_TURNS};
 use apex_search::{Fact, Question, TableSystem};
 use apex_table::read_table;
+use apex_types::{DeadlineType, Event, Notice, ProcessId};
 use std::alloc::Global;
+use std::mem::drop;
 use std::process::Abort;
 
 /// `low` holds the semaphore when `mid` preempts it, and `high` waits beyond its deadline.
@@ -81,34 +84,76 @@ ceiling = 40
 discipline = "PRIORITY"
 "#;
 
-/// What a search of the table for a missed deadline answers, at the usual pace.
-fn answer_to<R: Abort>(rt: &R, alloc: Global, text: &str) -> Answer {
+/// The table at the usual pace, with a question about missed deadlines.
+fn system_of<R: Abort>(
+    rt: &R,
+    alloc: Global,
+    text: &str,
+    process: Option<ProcessId>,
+) -> TableSystem {
     let table = read_table(alloc, text.as_bytes()).expect(rt, "the table is lawful");
     let pace = Pace {
         turns: USUAL_TURNS,
         percent: 100,
     };
     let question = Question {
-        fact: Fact::Missed,
-        process: None,
+        fact: Fact::HardMissed,
+        process,
     };
-    let system = TableSystem::new(alloc, table, pace, question).expect(rt, "memory");
-    system.search(alloc, 1000).expect(rt, "memory")
+    TableSystem::new(alloc, table, pace, question).expect(rt, "memory")
 }
 
-/// The shortest schedule that leads to a missed deadline has 40 events.
+/// The schedule that a search finds.
+fn found_by<R: Abort>(rt: &R, alloc: Global, system: &TableSystem) -> Vec<Event> {
+    let answer = system.search(alloc, 1000).expect(rt, "memory");
+    let path = match answer {
+        Answer::Found(path) => path,
+        Answer::Closed { .. } | Answer::Full { .. } => Vec::new(alloc),
+    };
+    system.schedule(alloc, path.as_slice()).expect(rt, "memory")
+}
+
+/// The shortest schedule that leads to a missed deadline has 40 events. In a kernel the entry of the
+/// last one is of the tick to 16, and `high`, the second process, misses its deadline.
 #[test]
 fn an_inversion_is_found(rt: HostRuntime) {
-    match answer_to(&rt, rt.alloc(), SEMAPHORE) {
-        Answer::Found(path) => assert!(&rt; path.len() == 40),
-        Answer::Closed { states } => assert!(&rt; states == 0),
-        Answer::Full { depth } => assert!(&rt; depth == 99),
+    let alloc = rt.alloc();
+    let system = system_of(&rt, alloc, SEMAPHORE, None);
+    let events = found_by(&rt, alloc, &system);
+    assert!(&rt; events.len() == 40);
+    let table = read_table(alloc, SEMAPHORE.as_bytes()).expect(&rt, "the table is lawful");
+    let mut kernel = booted(&rt, alloc, table);
+    for event in &events {
+        assert!(&rt; kernel.accept(*event).is_ok());
     }
+    let mut missed = 0;
+    for entry in kernel.entries() {
+        for notice in entry.notices {
+            if *notice == Notice::Missed(ProcessId::at(1), DeadlineType::Hard) {
+                assert!(&rt; entry.number == 40 && entry.now == 16);
+                missed += 1;
+            }
+        }
+    }
+    assert!(&rt; missed == 1);
+    drop(kernel);
 }
 
-/// No schedule does: the search reaches the states before each of the eleven init steps, and 138
+/// `low` never misses one: the search reaches the states before each of the eleven init steps, and 47
 /// after them.
 #[test]
+fn only_the_process_that_is_asked_for_is_found(rt: HostRuntime) {
+    let alloc = rt.alloc();
+    let system = system_of(&rt, alloc, SEMAPHORE, Some(ProcessId::at(0)));
+    let answer = system.search(alloc, 1000).expect(&rt, "memory");
+    assert!(&rt; answer == Answer::Closed { states: 58 });
+}
+
+/// With the mutex no schedule leads to a missed deadline, and 138 states come after the init steps.
+#[test]
 fn a_mutex_inverts_nothing(rt: HostRuntime) {
-    assert!(&rt; answer_to(&rt, rt.alloc(), MUTEX) == Answer::Closed { states: 149 });
+    let alloc = rt.alloc();
+    let system = system_of(&rt, alloc, MUTEX, None);
+    let answer = system.search(alloc, 1000).expect(&rt, "memory");
+    assert!(&rt; answer == Answer::Closed { states: 149 });
 }

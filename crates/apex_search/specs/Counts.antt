@@ -1,5 +1,6 @@
 -- A situation over a store, with what a pace counts of each core.
-use Rattle.std.specs.Prelude.{◌≡◌, ℕ, List, slice_index_or}
+use Rattle.std.specs.Prelude.{◌≡◌, ℕ, ◌<◌, List, slice_index_or}
+use Rattle.apex_types.specs.declared.limits.TheConstants.{MOST_CORES}
 use Rattle.apex_dispatch.specs.Situations.{StoredSituation, situation_in}
 use Rattle.apex_machine.specs.processes.Roster.{Roster}
 use Rattle.apex_alike.specs.Closed.{IsSameSituation}
@@ -32,3 +33,9 @@ pub record IsSamePaced (one other : Paced) : Type 0 where
   pub situation : IsSameSituation one.situation other.situation
   pub turns : (core : ℕ) → one.turns core ≡ other.turns core
   pub worked : (core : ℕ) → one.worked core ≡ other.worked core
+
+-- the two are the same, but for the ticks that are counted past the cores of any table
+pub record IsSameOnCores (one other : Paced) : Type 0 where
+  pub situation : IsSameSituation one.situation other.situation
+  pub turns : (core : ℕ) → one.turns core ≡ other.turns core
+  pub worked : (core : ℕ) → core < MOST_CORES → one.worked core ≡ other.worked core

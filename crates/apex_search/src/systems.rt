@@ -1,12 +1,13 @@
 //! A table under a pace, and a question, as a system to search.
-ghost use Rattle.std.specs.Prelude.{◌≡◌, ◌≤◌, IfOk};
+ghost use Rattle.std.specs.Prelude.{◌≡◌, ◌≤◌, All, IfOk};
 ghost use Rattle.apex_types.specs.Limits.{latest};
 ghost use Rattle.apex_laws.specs.GoesOn.{CanGoOn};
+ghost use Rattle.apex_machine.specs.Events.{IsWithin};
 ghost use Rattle.apex_machine.specs.Situations.{deed};
 ghost use Rattle.apex_pace.specs.Laws.{IsPace};
 ghost use Rattle.apex_pace.specs.Pace.{paced_opening, paced_step};
 ghost use Rattle.apex_search.specs.Answers.{SaysOfSchedules, schedule_of};
-ghost use Rattle.apex_search.specs.Counts.{IsSamePaced, paced_in};
+ghost use Rattle.apex_search.specs.Counts.{IsSameOnCores, IsSamePaced, paced_in};
 ghost use Rattle.apex_search.specs.Facts.{has_fact};
 ghost use Rattle.apex_search.specs.Restored.{IsOfTable, IsStored, paced_from};
 ghost use Rattle.apex_search.specs.Steps.{AreWordsAfter, IsEvent, IsWorkplace, event_of};
@@ -101,7 +102,7 @@ impl PacedSituation {
         requires can { CanGoOn table.now 1 (paced_in self.old).situation }
         requires counts { AreWordsAfter event (paced_in self.old) }
         requires event { IsEvent event }
-        ensures step { IsSamePaced (paced_in self.new)
+        ensures step { IsSameOnCores (paced_in self.new)
             (paced_step table.now (paced_in self.old) event) }
         ensures asked { result
             ≡ has_fact question (deed table.now (paced_in self.old).situation event) }
@@ -188,7 +189,8 @@ impl TableSystem {
     /// The events of the choices of a path, up to one that is not allowed. Fails only for want of
     /// memory.
     pub fn schedule(&self, alloc: Global, path: &[u32]) -> Result<Vec<Event>, AllocError>
-        ensures { IfOk result (λ events. events.items ≡ schedule_of self.now path.now) }
+        ensures events { IfOk result (λ events. events.items ≡ schedule_of self.now path.now) }
+        ensures within { IfOk result (λ events. All (IsWithin self.now.table.cores) events.items) }
     {
         let mut events = Vec::with_capacity(alloc, path.len())?;
         let mut paced = PacedSituation::opening(alloc, &self.table)?.canonical(self.pace);
