@@ -1,14 +1,18 @@
 -- The situations to which the schedules of a pace come: their values fit in their words.
 use Rattle.std.specs.Prelude.{◌≡◌, ℕ, ◌^◌, ◌<◌, ◌≤◌, All, length, Option, None, Some, IfSome}
+use Rattle.std.specs.Option.{ForSome}
 use Rattle.apex_alike.specs.Canonical.{IsFit}
-use Rattle.apex_laws.specs.GoesOn.{CanGoOn}
+use Rattle.apex_laws.specs.Premises.{AreOf}
 use Rattle.apex_machine.specs.Deeds.{Objects}
 use Rattle.apex_machine.specs.declared.records.Wait.TheVariants.{Normal, Send}
+use Rattle.apex_machine.specs.Situations.{Situation}
+use Rattle.apex_machine.specs.processes.Periods.{AreInTime}
 use Rattle.apex_machine.specs.processes.Roster.{record_at}
+use Rattle.apex_machine.specs.processes.Stamps.{HasOrderlyStarts, WaitsForOne}
 use Rattle.apex_machine.specs.services.BlackboardServices.{BlackboardObject}
 use Rattle.apex_machine.specs.services.BufferServices.{BufferObject}
 use Rattle.apex_machine.specs.services.SemaphoreServices.{SemaphoreObject}
-use Rattle.apex_machine.specs.table.Table.{Table}
+use Rattle.apex_machine.specs.table.Table.{Table, process_config}
 use Rattle.apex_pace.specs.Pace.{Paced}
 use Rattle.apex_search.specs.Codes.{code_of}
 use Rattle.apex_search.specs.Restored.{IsOfTable}
@@ -54,13 +58,27 @@ pub record AreInBounds (objects : Objects) : Type 0 where
   pub messages : All (λ (b : BufferObject). All FitsMessage b.messages) objects.buffers
   pub shown : All (λ (b : BlackboardObject). IfSome b.message FitsMessage) objects.blackboards
 
--- the paced situation is one to which a schedule of the table comes: it is fit to be in canonical
--- form and can go on, it has the fixed parts of the table, its values are in bounds, and past the
--- cores of the table there is neither work nor a turn
+-- the situation is one of the table: it has a record and an object for each entry of the table, with
+-- the attributes that the table gives, and made no more init steps than there are; work is that of
+-- its processes, their waits and starts are in order, and they are in time
+pub record IsSituationOf (table : Table) (s : Situation) : Type 0 where
+  pub records : length s.roster.records ≡ length table.processes
+  pub attributes : (p : ℕ)
+      → (record_at s.roster p).attributes ≡ (process_config table p).attributes
+  pub objects : AreOf table s.objects
+  pub workers : (core : ℕ) → ForSome (s.works core) (λ o. o.work.process < length table.processes)
+  pub made : s.made ≤ length table.init
+  pub one : WaitsForOne s.roster
+  pub starts : HasOrderlyStarts s.roster
+  pub times : AreInTime s.roster
+
+-- the paced situation is one to which a schedule of the table comes, however long that is: it is one
+-- of the table, with its fixed parts, and fit to be in canonical form; its values are in bounds; and
+-- past the cores of the table there is neither work nor a turn
 pub record IsReached (table : Table) (s : Paced) : Type 0 where
-  pub fit : IsFit s.situation.roster
-  pub of : CanGoOn table 0 s.situation
+  pub of : IsSituationOf table s.situation
   pub parts : IsOfTable table s.situation
+  pub fit : IsFit s.situation.roster
   pub records : (p : ℕ) → p < length s.situation.roster.records
       → IsInBounds (record_at s.situation.roster p)
   pub objects : AreInBounds s.situation.objects
