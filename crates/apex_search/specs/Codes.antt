@@ -1,5 +1,5 @@
 -- The words and bytes of single values, and the values of these.
-use Rattle.std.specs.Prelude.{ℕ, ◌+◌, ◌-◌, ◌*◌, ◌%◌, ◌/◌, ◌^◌, ◌==◌, Bool, true, false, List, [], ◌∷◌, Option, None, Some, option_map, slice_index, ℤ, pos, if◌then◌else◌}
+use Rattle.std.specs.Prelude.{ℕ, ◌+◌, ◌-◌, ◌*◌, ◌%◌, ◌/◌, ◌^◌, ◌==◌, Bool, [], ◌∷◌, Option, None, Some, option_map, slice_index, if◌then◌else◌}
 use Rattle.std.specs.Int.{w64, from_le_bytes, to_le_bytes}
 use Rattle.apex_machine.specs.declared.records.Suspender.TheVariants.{Itself, Other}
 use Rattle.apex_machine.specs.declared.records.Wait.TheVariants as waits

@@ -1,5 +1,5 @@
 -- The words of a process, and the process of these: ten words each.
-use Rattle.std.specs.Prelude.{◌≡◌, ℕ, ◌+◌, ◌<◌, ◌^◌, ◌==◌, Bool, List, [], ◌∷◌, ◌++◌, drop, filter_map, Option, None, Some, IfSome, slice_get, slice_index, ℤ, pos}
+use Rattle.std.specs.Prelude.{◌≡◌, ℕ, ◌+◌, ◌<◌, ◌^◌, ◌==◌, Bool, List, [], ◌∷◌, drop, filter_map, None, IfSome, slice_get, slice_index, ℤ, pos}
 use Rattle.std.specs.Int.{w64, from_le_bytes}
 use Rattle.apex_types.specs.declared.limits.TheConstants.{MOST_CORES}
 use Rattle.apex_search.specs.Codes.{byte_of, code_of, flag_word, holding_in, holding_word, instant_in, instant_word, suspender_byte, suspender_in, wait_of}

@@ -1,6 +1,5 @@
 -- The situation of words, and what a pace counts there.
-use Rattle.std.specs.Prelude.{◌≡◌, ℕ, ◌+◌, ◌*◌, ◌<◌, ◌≤◌, ◌^◌, ◌==◌, zero, suc, Bool, true, false, List, [], ◌∷◌, ◌++◌, length, take, drop, nat_lt, Option, None, Some, slice_index, pos, if◌then◌else◌}
-use Rattle.apex_alike.specs.Closed.{IsSameSituation}
+use Rattle.std.specs.Prelude.{◌≡◌, ℕ, ◌+◌, ◌*◌, ◌<◌, ◌≤◌, ◌^◌, ◌==◌, zero, suc, List, [], ◌∷◌, ◌++◌, length, take, drop, nat_lt, Option, None, Some, slice_index, pos, if◌then◌else◌}
 use Rattle.apex_machine.specs.Deeds.{Objects}
 use Rattle.apex_machine.specs.Machine.{objects_after}
 use Rattle.apex_machine.specs.Situations.{Situation}

@@ -1,6 +1,6 @@
 //! The canonical form of the processes: stamps by ranks, instants from the oldest release that
 //! matters on, and nothing that does not matter.
-ghost use Rattle.std.specs.Prelude.{◌≡◌, ℕ, ◌<◌, ◌≤◌, length, pos};
+ghost use Rattle.std.specs.Prelude.{◌≡◌, ◌<◌, ◌≤◌, length, pos};
 ghost use Rattle.apex_types.specs.declared.limits.TheConstants.{MOST_PROCESSES};
 ghost use Rattle.apex_machine.specs.processes.Periods.{HasNoFutureRelease, awaits_first};
 ghost use Rattle.apex_machine.specs.processes.Roster.{record_at};
@@ -123,9 +123,9 @@ fn earlier(ticks: u64, instant: Option<u64>) -> Option<u64>
 /// The process has its canonical record from now on, at this stamp and time in ticks.
 fn put_form(store: &mut PlainStore, process: ProcessId, since: i64, now: u64)
     requires known { process < length store.old.records }
-    requires releases { HasNoFutureRelease store.old }
-    requires now { (p : ℕ) → age store.old.now (record_at store.old p) ≤ now }
-    requires earlier { now ≤ store.old.now }
+    requires release { (record_at store.old process).release ≤ store.old.now }
+    requires age { age store.old.now (record_at store.old process) ≤ now }
+    requires now { now ≤ store.old.now }
     ensures { store.new ≡ with_form store.old process since now }
 {
     let fields = *store.record(process);

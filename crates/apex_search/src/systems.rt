@@ -9,7 +9,7 @@ ghost use Rattle.apex_pace.specs.Pace.{paced_opening, paced_step};
 ghost use Rattle.apex_search.specs.Answers.{SaysOfSchedules, schedule_of};
 ghost use Rattle.apex_search.specs.Counts.{IsSameOnCores, IsSamePaced, paced_in};
 ghost use Rattle.apex_search.specs.Facts.{has_fact};
-ghost use Rattle.apex_search.specs.Restored.{IsOfTable, IsStored, paced_from};
+ghost use Rattle.apex_search.specs.Restored.{IsStored, paced_from};
 ghost use Rattle.apex_search.specs.Steps.{AreWordsAfter, IsEvent, IsWorkplace, event_of};
 
 use crate::counts::Counts;
