@@ -46,7 +46,12 @@ def words_of_sources() -> set[str]:
         for file in HOME.glob(f"crates/*/{inside}"):
             if file.is_file():
                 words |= {file.stem} | set(re.findall(r"\w+", file.read_text(errors="replace")))
-    return words
+    return words | wrong_bodies()
+
+
+def wrong_bodies() -> set[str]:
+    """The names of the wrong bodies, those that the gate tries and those that it does not try."""
+    return {file.stem for inside in ("crates/*/must-fail", "tools/plants/*") for file in HOME.glob(f"{inside}/*.edit")}
 
 
 def faults_of_names(name: str, page: str, words: set[str]) -> list[str]:
@@ -57,13 +62,13 @@ def faults_of_names(name: str, page: str, words: set[str]) -> list[str]:
 
 
 def faults_of_bodies(name: str, page: str) -> list[str]:
-    """The wrong bodies in the column of a table that is headed so, and that no crate has."""
-    bodies, faults, is_column = {file.stem for file in HOME.glob("crates/*/must-fail/*.edit")}, [], False
+    """The wrong bodies in the column of a table that is headed so, and that do not exist."""
+    bodies, faults, is_column = wrong_bodies(), [], False
     for line in page.splitlines():
         cells = line.strip("|").split("|")
         is_column = line.startswith("|") and (is_column or "wrong body" in cells[-1].lower())
         named = re.findall(r"(?<! in )`(\w+)`", cells[-1]) if is_column else []
-        faults += [f"{name}: no crate has the wrong body {it}" for it in named if it not in bodies]
+        faults += [f"{name}: there is no wrong body {it}" for it in named if it not in bodies]
     return faults
 
 
