@@ -140,8 +140,8 @@ outcome_in (Ok (given.Listing listing run)) = shows run.kernel.table run.kernel.
 outcome_in (Ok (given.Departed verdict)) = stops (departs verdict.items)
 outcome_in (Err fault) = stops (fails fault)
 
--- a run that a source gave is to be shown in this view: its picture is planned for it, or it is that
--- of the listing
+-- a run that a source gave is to be shown in this view: its picture is planned for the view, or the
+-- listing is that of the view
 abbrev pub IsGivenFor : View → Given → Type 0
 IsGivenFor (drawn picture) (given.Picture plan) = IsPlanFor picture plan
 IsGivenFor (drawn picture) (given.Listing listing run) = ⊥
@@ -168,8 +168,8 @@ report_of complete = []
 report_of (departs report) = report
 report_of (fails fault) = line_of_fault fault
 
--- The ways in which the program ends: by what it is asked to show, the reader and the writer before,
--- the end, and the reader and the writer afterwards.
+-- The ways in which the program ends: by what it is asked to show, the reader and the writer
+-- before, the end, and the reader and the writer afterwards.
 pub data Ends (asked : Result Asked Unasked) (before : Ports) : End → Ports → Type 0 where
   -- memory was refused: nothing was read and nothing written
   unasked : {after : Ports} → Keeps before.held after.held → NoneFails before after

@@ -41,8 +41,8 @@ reason_text TooMany = codes "more than 65536 items"
 abbrev pub line_part : ℕ → List ℕ
 line_part line = if line == 1 then [] else codes ", line " ++ decimal line
 
--- `apex_lab: schedule: item I, line L, column C: `, without the line if it is the first one, and then
--- the reason
+-- `apex_lab: schedule: item I, line L, column C: `, without the line if it is the first one, and
+-- then the reason
 abbrev pub schedule_line : BadSchedule → List ℕ
 schedule_line bad =
     codes "apex_lab: schedule: item " ++ decimal bad.item ++ line_part bad.line

@@ -34,8 +34,9 @@ pub fn run_of_items(alloc: Global, items: &[Item], text: &[u8]) -> Result<Run, C
     Ok(Run { kernel, fault })
 }
 
-/// Makes the first schedule of the pace up to a time in ticks, on the table of this text. Its errors
-/// are the table's fault, and `Memory` whenever memory is refused.
+/// Makes the first schedule of the pace up to a time in ticks, on the table of this text.
+///
+/// Its errors are the table's fault, and `Memory` whenever memory is refused.
 pub fn run_at_pace(alloc: Global, pace: Pace, until: u64, text: &[u8]) -> Result<Run, CliFault>
     ensures ok { IfOk result (λ run. paced_answer pace until text.now
         ≡ runs_to run.kernel.table run.kernel.machine run.fault) }

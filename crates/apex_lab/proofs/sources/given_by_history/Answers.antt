@@ -1,7 +1,7 @@
 -- What a history gives, by its verdict.
 use Rattle.std.proofs.lemmas.Result.{err_from_is_err_and}
 use Rattle.apex_lab.proofs.Endings.{gives_departure, gives_fault, gives_legal, gives_no_memory}
-use Rattle.apex_lab.proofs.plans.given_by_history.Goals as goal
+use Rattle.apex_lab.proofs.sources.given_by_history.Goals as goal
 
 pub returns-in_err-followed-clause-gives : goal.returns-in_err-followed-clause-gives
 returns-in_err-followed-clause-gives g c =
