@@ -1,5 +1,5 @@
 -- What a source gives, and the ways in which the program ends, by what was at fault.
-use Rattle.std.proofs.Common.{◌≡◌, inl, inr, List, ℕ, Option, None, Some, Result, Ok, refl, subst}
+use Rattle.std.proofs.Common.{◌≡◌, inl, inr, List, ℕ, Option, None, Some, Result, Ok, ap, refl, subst, sym}
 use Rattle.std.specs.Io.KnownBytes.{Keeps}
 use Rattle.apex_machine.specs.Machine.{Machine}
 use Rattle.apex_machine.specs.table.Table as tables
@@ -17,20 +17,33 @@ use Rattle.apex_check.specs.declared.CheckFault.TheVariants as checking
 use Rattle.apex_check.specs.declared.Verdict.{Verdict}
 use Rattle.apex_check.specs.declared.Verdict.TheVariants.{Legal, DepartsAt}
 use Rattle.apex_cli.specs.Faults.{fault_of_checking, fault_of_read, fault_line}
-use Rattle.apex_cli.specs.Reports.{Answer, Refuses, runs_to}
+use Rattle.apex_cli.specs.Reports.{Answer, Refuses, refuses, runs_to}
 use Rattle.apex_cli.specs.declared.CliFault.{CliFault}
 use Rattle.apex_cli.specs.declared.CliFault.TheVariants.{Usage, Table, NoSeparator, BadLine, TooLong, HistoryFull, Memory, NoThread, Read, Write}
 use Rattle.apex_pictures.specs.Drawing.{CountsDrawFault}
 use Rattle.apex_pictures.specs.declared.DrawFault.{DrawFault}
 use Rattle.apex_pictures.specs.declared.DrawFault.TheVariants as draw
-use Rattle.apex_lab.specs.Exits.{Answers, Ends, Gives, Shows, at_fault, cut_off, departed, departs, end_of, fails, first_fault, legal, no_memory, ran, refused, shown, shows, stops, unasked, unread, unscheduled, unwritten, usage, whole}
+use Rattle.apex_lab.specs.Exits.{Answers, Ends, Gives, Outcome, Shows, at_fault, cut_off, departed, departs, end_of, fails, first_fault, IsRunTo, legal, no_memory, outcome_in, ran, refused, shown, shows, stops, unasked, unread, unscheduled, unwritten, usage, whole}
 use Rattle.apex_lab.specs.Faults.{common_line}
 use Rattle.apex_lab.specs.Plans.{AppendsPrefixOfView, AppendsView, fault_of_drawing}
 use Rattle.apex_lab.specs.Tasks.{Asked, IsUnasked, Picture, Source, Unasked, View, drawn, history}
 use Rattle.apex_lab.specs.declared.faults.LabFault.{LabFault}
+use Rattle.apex_lab.specs.declared.sources.Given.{Given}
+use Rattle.apex_lab.specs.declared.sources.Given.TheVariants as given
 use Rattle.apex_lab.specs.declared.faults.LabFault.TheVariants.{Common, Schedule}
 
 -- ---- what a source gives
+
+-- the outcome of an answer
+abbrev pub outcome_of : Answer → Outcome
+outcome_of (refuses fault) = stops (fails (Common fault))
+outcome_of (runs_to table machine fault) = shows table machine fault
+
+-- the outcome of a run that is to be shown
+pub outcome_is : (answer : Answer) (run : Given) → IsRunTo answer run → outcome_in (Ok run) ≡ outcome_of answer
+outcome_is answer (given.Picture plan) is = sym (ap outcome_of is)
+outcome_is answer (given.Listing listing run) is = sym (ap outcome_of is)
+outcome_is answer (given.Departed verdict) is = absurd is
 
 module _ {left : Option (List ℕ)} {failed : ℕ} where
   -- memory was refused
@@ -55,6 +68,12 @@ module _ {left : Option (List ℕ)} {failed : ℕ} where
     pub gives_run : (table : tables.Table) (machine : Machine) (fault : Option CliFault) → answer ≡ runs_to table machine fault
         → Gives left failed source (shows table machine fault) after
     gives_run table machine fault is = rw counts (ran bytes ahead (subst (λ (a : Answer). Answers source bytes a) is answers))
+
+    -- the same of a run that is to be shown
+    pub gives_given : (run : Given) → IsRunTo answer run → Gives left failed source (outcome_in (Ok run)) after
+    gives_given (given.Picture plan) is = gives_run _ _ _ is
+    gives_given (given.Listing listing run) is = gives_run _ _ _ is
+    gives_given (given.Departed verdict) is = absurd is
 
   -- a text with a fault
   pub gives_fault : (after : ℕ) (fault : CheckFault) → IsFaultOf left fault → CountsRead fault failed after

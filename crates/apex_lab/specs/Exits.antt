@@ -25,6 +25,7 @@ use Rattle.apex_lab.specs.Tasks.{Asked, Picture, Source, Unasked, View, drawn, h
 use Rattle.apex_lab.specs.declared.faults.BadSchedule.{BadSchedule}
 use Rattle.apex_lab.specs.declared.faults.LabFault.{LabFault}
 use Rattle.apex_lab.specs.declared.faults.LabFault.TheVariants.{Common, Schedule as BadText}
+use Rattle.apex_lab.specs.declared.plans.Plan.{Plan}
 use Rattle.apex_lab.specs.declared.program.Ending.{Ending}
 use Rattle.apex_lab.specs.declared.program.Ending.TheVariants.{Shown, Departed}
 use Rattle.apex_lab.specs.declared.sources.Given.{Given}
@@ -140,13 +141,17 @@ outcome_in (Ok (given.Listing listing run)) = shows run.kernel.table run.kernel.
 outcome_in (Ok (given.Departed verdict)) = stops (departs verdict.items)
 outcome_in (Err fault) = stops (fails fault)
 
+-- the plan is for the picture of this view
+pub record IsPlanIn (view : View) (plan : Plan) : Type 0 where
+  pub picture : Picture
+  pub is : view ≡ drawn picture
+  pub planned : IsPlanFor picture plan
+
 -- a run that a source gave is to be shown in this view: its picture is planned for the view, or the
--- listing is that of the view
+-- view is its listing
 abbrev pub IsGivenFor : View → Given → Type 0
-IsGivenFor (drawn picture) (given.Picture plan) = IsPlanFor picture plan
-IsGivenFor (drawn picture) (given.Listing listing run) = ⊥
-IsGivenFor (listed listing) (given.Picture plan) = ⊥
-IsGivenFor (listed listing) (given.Listing asked run) = listing ≡ asked
+IsGivenFor view (given.Picture plan) = IsPlanIn view plan
+IsGivenFor view (given.Listing listing run) = view ≡ listed listing
 IsGivenFor view (given.Departed verdict) = Unit {0}
 
 -- the run that was given is that of an answer
