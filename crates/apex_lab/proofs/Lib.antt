@@ -1,3 +1,4 @@
 pub mod CommandLemmas
 pub mod Endings
 pub mod Listed
+pub mod Parting
