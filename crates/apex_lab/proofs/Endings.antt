@@ -129,7 +129,7 @@ module _ {asked : Result Asked Unasked} {before after : Ports} where
   pub ends_unasked : (fault : LabFault) → IsUnasked asked fault
       → Keeps before.left after.left → Keeps before.held after.held
       → NoneFails before after → Ends asked before (fails fault) after
-  ends_unasked (Common fault) (inl e) left held none_fails = rw e (unasked held none_fails)
+  ends_unasked (Common fault) (inl e) left held none_fails = rw e (unasked left held none_fails)
   ends_unasked (Common fault) (inr (e, none)) left held none_fails = rw e (usage none left held none_fails)
   ends_unasked (Schedule bad) (text, none, has) left held none_fails = unscheduled text none has left held none_fails
 

@@ -177,8 +177,8 @@ report_of (fails fault) = line_of_fault fault
 -- before, the end, and the reader and the writer afterwards.
 pub data Ends (asked : Result Asked Unasked) (before : Ports) : End → Ports → Type 0 where
   -- memory was refused: nothing was read and nothing written
-  unasked : {after : Ports} → Keeps before.held after.held → NoneFails before after
-      → Ends asked before (fails (Common Memory)) after
+  unasked : {after : Ports} → Keeps before.left after.left → Keeps before.held after.held
+      → NoneFails before after → Ends asked before (fails (Common Memory)) after
   -- the words or a number are ill-formed: nothing was read and nothing written
   usage : {after : Ports} → asked ≡ Err ill_formed → Keeps before.left after.left
       → Keeps before.held after.held

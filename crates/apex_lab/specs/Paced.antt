@@ -7,7 +7,7 @@ use Rattle.apex_table.specs.declared.TableFault.{TableFault}
 use Rattle.apex_types.specs.declared.entries.Event.{Event}
 use Rattle.apex_pace.specs.First.{first_schedule, rounds}
 use Rattle.apex_pace.specs.Pace.{paced_opening}
-use Rattle.apex_pace.specs.Terms.{Pace}
+use Rattle.apex_pace.specs.declared.paces.Pace.{Pace}
 use Rattle.apex_cli.specs.Reports.{Answer, fault_of_events, refuses, runs_to}
 use Rattle.apex_cli.specs.declared.CliFault.TheVariants.{Table}
 

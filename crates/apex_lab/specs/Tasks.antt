@@ -5,7 +5,7 @@ use Rattle.apex_types.specs.Limits.{latest}
 use Rattle.apex_types.specs.Numbers.{at_least, at_most, number_of}
 use Rattle.apex_types.specs.declared.limits.TheConstants.{MOST_ENTRIES}
 use Rattle.apex_cli.specs.declared.CliFault.TheVariants.{Memory, Usage}
-use Rattle.apex_pace.specs.Terms.{Pace}
+use Rattle.apex_pace.specs.declared.paces.Pace.{Pace}
 use Rattle.apex_pace.specs.declared.paces.TheConstants.{USUAL_TURNS}
 use Rattle.apex_schedules.specs.declared.Item.{Item}
 use Rattle.apex_schedules.specs.Groups.{grouped_items_of}

@@ -129,8 +129,8 @@ fn source_by<'a>(
     early: Option<&'a str>,
 ) -> Option<SourceWords<'a>>
     ensures { option_map given_said result ≡ given_by
-        (option_map (λ text. text.now) schedule) (option_map (λ text. text.now) until)
-        (option_map (λ text. text.now) turns) (option_map (λ text. text.now) early) }
+        (option_map (λ text. text.now) schedule.entry) (option_map (λ text. text.now) until.entry)
+        (option_map (λ text. text.now) turns.entry) (option_map (λ text. text.now) early.entry) }
 {
     match (schedule, until, turns, early) {
         (None, Some(until), turns, early) => Some(SourceWords::Pace {
