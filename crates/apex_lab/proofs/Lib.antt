@@ -1,4 +1,5 @@
 pub mod CommandLemmas
 pub mod Endings
+pub mod FaultPlaces
 pub mod Listed
 pub mod Parting
