@@ -1,7 +1,10 @@
 //! The runs of a table: by the items of a schedule, and by a pace.
 ghost use Rattle.std.specs.Prelude.{◌≡◌, IfOk, IfErr};
-ghost use Rattle.apex_cli.specs.Reports.{Refuses, answer_of, runs_to};
-ghost use Rattle.apex_lab.specs.Paced.{paced_answer};
+ghost use Rattle.apex_machine.specs.Machine.{opening, run};
+ghost use Rattle.apex_pace.specs.First.{first_schedule};
+ghost use Rattle.apex_rounds.specs.Rounds.{IsAtOpening};
+ghost use Rattle.apex_cli.specs.Reports.{Refuses, answer_of, fault_of_events, runs_to};
+ghost use Rattle.apex_lab.specs.Paced.{paced_answer, rounds_until};
 
 use apex_cli::{CliFault, kernel_for, ran};
 use apex_dispatch::Kernel;
@@ -34,6 +37,23 @@ pub fn run_of_items(alloc: Global, items: &[Item], text: &[u8]) -> Result<Run, C
     Ok(Run { kernel, fault })
 }
 
+/// Makes the events of the first schedule of the pace up to a time in ticks, on a kernel before any
+/// event. `HistoryFull` if there are more of them than the history has room for.
+fn paced(rounds: &mut Rounds<QueueStore>, until: u64) -> Option<CliFault>
+    requires { IsAtOpening rounds.old }
+    ensures table { rounds.new.kernel.table ≡ rounds.old.kernel.table }
+    ensures machine { rounds.new.kernel.machine ≡ run rounds.old.kernel.table
+        (opening rounds.old.kernel.table)
+        (first_schedule rounds.old.pace rounds.old.kernel.table until) }
+    ensures fault { result ≡ fault_of_events rounds.old.kernel.table
+        (rounds_until rounds.old.pace until rounds.old.kernel.table) }
+{
+    match rounds.run_until(until) {
+        Ok(()) => None,
+        Err(full) => Some(CliFault::HistoryFull(full.entries)),
+    }
+}
+
 /// Makes the first schedule of the pace up to a time in ticks, on the table of this text.
 ///
 /// Its errors are the table's fault, and `Memory` whenever memory is refused.
@@ -44,10 +64,7 @@ pub fn run_at_pace(alloc: Global, pace: Pace, until: u64, text: &[u8]) -> Result
 {
     let kernel = kernel_for(alloc, &[], text)?;
     let mut rounds = Rounds::new(kernel, pace);
-    let fault = match rounds.run_until(until) {
-        Ok(()) => None,
-        Err(full) => Some(CliFault::HistoryFull(full.entries)),
-    };
+    let fault = paced(&mut rounds, until);
     Ok(Run {
         kernel: rounds.into_kernel(),
         fault,

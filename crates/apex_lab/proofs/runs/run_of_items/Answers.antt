@@ -12,6 +12,6 @@ returns-clause-ok c =
     let new = c.ran-fault.new.kernel in
     let done = rw c.in_ok-kernel.ensures.opened at c.ran-fault.ensures.done in
     let table_is : new.table ≡ old.table = ap (λ (k : KernelState _). k.table) done in
-    answer_is c.args.items.now c.args.text.now old.table new.machine c.fault c.in_ok-kernel.ensures.table c.in_ok-kernel.ensures.below
+    answer_is c.args.items.now c.args.text.now old.table new.machine c.ran-fault.result c.in_ok-kernel.ensures.table c.in_ok-kernel.ensures.below
     (ap (λ (k : KernelState _). k.machine) done) c.ran-fault.ensures.fault
-    ∙ ap (λ (t : Table). runs_to t new.machine c.fault) (sym table_is)
+    ∙ ap (λ (t : Table). runs_to t new.machine c.ran-fault.result) (sym table_is)
