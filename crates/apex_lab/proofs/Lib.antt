@@ -2,4 +2,5 @@ pub mod CommandLemmas
 pub mod Endings
 pub mod FaultPlaces
 pub mod Listed
+pub mod ListingEndings
 pub mod Parting
