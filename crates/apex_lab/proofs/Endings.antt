@@ -83,11 +83,11 @@ module _ {left : Option (List ℕ)} {failed : ℕ} where
   gives_fault after fault (text, ahead, at) counts = rw counts (at_fault text ahead at)
 
   -- a legal history
-  pub gives_legal : (after : ℕ) (table made : tables.Table) (verdict : Verdict) (n : ℕ) (machine drawn : Machine) (fault : Option CliFault)
+  pub gives_legal : (after : ℕ) (table made : tables.Table) (verdict : Verdict) (n : ℕ) (machine seen : Machine) (fault : Option CliFault)
       → ((text : List ℕ) × IsAhead text left × HasFollowed text table verdict machine) → verdict ≡ Legal n
-      → made ≡ table → drawn ≡ machine → fault ≡ None → after ≡ failed
-      → Gives left failed history (shows made drawn fault) after
-  gives_legal after table made verdict n machine drawn fault (text, ahead, found) is of same none counts =
+      → made ≡ table → seen ≡ machine → fault ≡ None → after ≡ failed
+      → Gives left failed history (shows made seen fault) after
+  gives_legal after table made verdict n machine seen fault (text, ahead, found) is of same none counts =
       let (lawful, table_is, ran_is) = legal_machine text table n machine (subst (λ (v : Verdict). HasFollowed text table v machine) is found) in
       rw (of, same, none, counts) (subst (λ (t : tables.Table). Gives left failed history (shows t machine None) failed) table_is
       (subst (λ (m : Machine). Gives left failed history (shows lawful.table m None) failed) ran_is (legal text ahead lawful)))

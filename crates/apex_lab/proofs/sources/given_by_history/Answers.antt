@@ -6,7 +6,7 @@ use Rattle.apex_lab.proofs.Endings.{gives_departure, gives_fault, gives_legal, g
 use Rattle.apex_lab.proofs.sources.given_by_history.Goals as goal
 
 pub returns-in-Err-clause-gives : goal.returns-in-Err-clause-gives
-returns-in-Err-clause-gives g c = gives_fault _ c.in-Err.fault c.in-Err.ensures.err c.in-Err.ensures.counted
+returns-in-Err-clause-gives g c = rw c.from.ensures (gives_fault _ c.in-Err.fault c.in-Err.ensures.err c.in-Err.ensures.counted)
 
 pub returns-in_err-given-in-Legal-clause-gives : goal.returns-in_err-given-in-Legal-clause-gives
 returns-in_err-given-in-Legal-clause-gives g c =

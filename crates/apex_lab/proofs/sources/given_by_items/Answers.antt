@@ -4,8 +4,8 @@ use Rattle.std.proofs.lemmas.Result.{err_from_is_err_and}
 use Rattle.apex_lab.proofs.Listed.{list_answer}
 use Rattle.apex_lab.proofs.sources.given_by_items.Goals as goal
 
-pub returns-in_ok-plan-clause-ok : goal.returns-in_ok-plan-clause-ok
-returns-in_ok-plan-clause-ok c =
+pub returns-in-Picture-Trace-clause-ok : goal.returns-in-Picture-Trace-clause-ok
+returns-in-Picture-Trace-clause-ok c =
     let plan = c.in_ok-plan.plan in
     rw c.in_ok-plan.ensures.table (list_answer c.args.items.now c.args.text.now c.in_ok-table.table plan.events.items plan.fault
     c.in_ok-table.ensures.table c.in_ok-table.ensures.below c.in_ok-plan.ensures.run)

@@ -15,7 +15,7 @@ returns-in_err-given-clause-gives g c =
     rw (p.1, p.2) (gives_refused _ c.in_ok-text.text.items _ c.in_ok-text.ensures.bytes c.in_ok-text.ensures.counted
     (rw c.as_slice.ensures.value refl) c.in_err-given.field-0.0 c.in_err-given.ensures.err)
 
-pub returns-in_ok-given-clause-gives : goal.returns-in_ok-given-clause-gives
-returns-in_ok-given-clause-gives g c =
+pub returns-clause-gives : goal.returns-clause-gives
+returns-clause-gives g c =
     gives_given _ c.in_ok-text.text.items _ c.in_ok-text.ensures.bytes c.in_ok-text.ensures.counted
     (rw c.as_slice.ensures.value refl) c.in_ok-given.given c.in_ok-given.ensures.ok
