@@ -16,6 +16,7 @@ use Rattle.apex_check.specs.declared.CheckFault.{CheckFault}
 use Rattle.apex_check.specs.declared.CheckFault.TheVariants as checking
 use Rattle.apex_check.specs.declared.Verdict.{Verdict}
 use Rattle.apex_check.specs.declared.Verdict.TheVariants.{Legal, DepartsAt}
+use Rattle.apex_cli.specs.Exits.{Told}
 use Rattle.apex_cli.specs.Faults.{fault_of_checking, fault_of_read, fault_line}
 use Rattle.apex_cli.specs.Reports.{Answer, Refuses, refuses, runs_to}
 use Rattle.apex_cli.specs.declared.CliFault.{CliFault}
@@ -133,13 +134,20 @@ module _ {asked : Result Asked Unasked} {before after : Ports} where
   ends_unasked (Common fault) (inr (e, none)) left held none_fails = rw e (usage none left held none_fails)
   ends_unasked (Schedule bad) (text, none, has) left held none_fails = unscheduled text none has left held none_fails
 
-  -- a run that is shown
-  pub ends_shown : (task : Asked) (table : tables.Table) (machine : Machine) (fault reported ended : Option CliFault) → asked ≡ Ok task
+  -- a run that is shown in the view that is asked for
+  pub ends_shown : (task : Asked) (view : View) (table : tables.Table) (machine : Machine) (fault reported ended : Option CliFault)
+      → asked ≡ Ok task → task.view ≡ view
       → Gives before.left before.failed_reads task.source (shows table machine reported) after.failed_reads
-      → Shows task.view table machine before.held before.failed_writes fault after.held after.failed_writes
+      → Shows view table machine before.held before.failed_writes fault after.held after.failed_writes
       → ended ≡ first_fault fault reported → Ends asked before (end_of ended) after
-  ends_shown task table machine fault reported ended is gives showing same =
-      rw same (shown table machine fault reported is gives showing)
+  ends_shown task view table machine fault reported ended is seen gives showing same =
+      rw same (shown table machine fault reported is gives
+      (subst (λ (v : View). Shows v table machine before.held before.failed_writes fault after.held after.failed_writes) (sym seen) showing))
+
+-- the line that was told, by its other form
+pub told_line : {line other : List ℕ} (old new : Option (List ℕ)) (failed failures : ℕ) → other ≡ line → Told other old new failed failures
+    → Told line old new failed failures
+told_line old new failed failures same told = subst (λ (l : List ℕ). Told l old new failed failures) same told
 
 -- the line of a fault other than ill-formed words
 pub other_line : (fault : CliFault) → (fault ≡ Usage → ⊥) → fault_line (Some fault) ≡ common_line fault
