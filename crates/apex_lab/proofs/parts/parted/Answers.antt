@@ -16,7 +16,7 @@ loop-length-preserved c =
     let start = c.loop-length.start in
     record {
       within = omega (arith, c.in-Some.ensures.within, ap length (take_rest text start), length-drop start text);
-      lines = line_passed c.args.text.now c.loop-length.start c.in-Some.length c.loop-length.invariant.lines c.in-Some.ensures.place
+      lines = line_passed text start c.in-Some.length c.loop-length.invariant.lines c.in-Some.ensures.place
           (λ same. other_text _ _ (c.if-eq.ensures) (same ∙ sym c.as_slice.ensures));
     }
 
