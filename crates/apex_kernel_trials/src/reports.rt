@@ -43,11 +43,14 @@ discipline = "FIFO"
 "#;
 
 /// CONTROL is released at 0, 10 and 20. It ends its jobs at 3 and 18, so their responses are 3 and 8
-/// ticks. LOGGER is released at 0, and its script ends at 18.
+/// ticks. LOGGER is released at 0, and its script ends at 18. Work is open on core 0 from 10 to 16,
+/// which is 6 of 20 ticks.
 const REPORT: &str = "\
 history 15
-core 0 turns=5 idle=0 calls=3 lost=0 work_done=5 work_lost=0
-core 1 turns=4 idle=1 calls=3 lost=0 work_done=0 work_lost=0
+core 0 turns=5 idle=0 calls=3 lost=0 work_done=5 work_lost=0 \
+busy_ticks=6 idle_ticks=14 busy_percent=30
+core 1 turns=4 idle=1 calls=3 lost=0 work_done=0 work_lost=0 \
+busy_ticks=0 idle_ticks=20 busy_percent=0
 process CONTROL turns=4 misses=1 timeouts=0 releases=3 completions=2 stops=0 \
 open=20 best=3 worst=8 at=12 \
 NO_ACTION=0 NOT_AVAILABLE=0 INVALID_PARAM=0 INVALID_CONFIG=0 INVALID_MODE=0

@@ -1,11 +1,11 @@
 -- An entry adds at most one to each count, so no count is above the number of entries.
-use Rattle.std.proofs.Common.{◌≡◌, ℕ, ◌+◌, ◌<◌, ◌≤◌, zero, suc, Bool, true, false, Option, None, Some, List, [], ◌∷◌, ◌++◌, take, drop, length, map, get_or, option_to_list, if◌then◌else◌, arith}
+use Rattle.std.proofs.Common.{◌≡◌, ℕ, ◌+◌, ◌<◌, ◌≤◌, zero, suc, Bool, true, false, Option, None, Some, List, [], ◌∷◌, ◌++◌, take, drop, length, map, get_or, option_to_list, if◌then◌else◌, not, arith}
 use Rattle.std.specs.List.{AllByRecursion}
 use Rattle.apex_types.specs.declared.limits.TheConstants.{MOST_ENTRIES, MOST_SPAN}
-use Rattle.apex_report.specs.Cores.{core_figures, is_done_turn, is_idle_turn, is_lost_turn, is_service_turn, is_turn, units, units_if}
+use Rattle.apex_report.specs.Cores.{core_figures, is_done_turn, is_idle_turn, is_lost_turn, is_service_turn, is_turn, ticks_in, units, units_if}
 use Rattle.apex_report.specs.Jobs.{completes, ended_open, releases, stops}
 use Rattle.apex_report.specs.Processes.{is_answered, is_turn_of_process, misses, process_figures, times_out}
-use Rattle.apex_report.specs.Steps.{core_after, jobs_after, one_if, process_after, refusals_after, AreCounted, AreJobsUpTo, AreUpTo, IsCoreUpTo, IsProcessUpTo}
+use Rattle.apex_report.specs.Steps.{core_after, jobs_after, one_if, process_after, refusals_after, ticks_if, AreCounted, AreJobsUpTo, AreUpTo, IsCoreUpTo, IsProcessUpTo}
 use Rattle.apex_report.specs.Terms.{CoreFigures, Entry, JobFigures, ProcessFigures, Refusals}
 use Rattle.apex_types.specs.declared.entries.ReturnCode.TheVariants.{NoAction, NotAvailable, InvalidParam, InvalidConfig, InvalidMode}
 
@@ -66,14 +66,20 @@ some_units passes core e few = by_test (passes core e) where
   by_test true = few
   by_test false = omega arith
 
-core_up_to : (n : ℕ) (e : Entry) → units e.call ≤ MOST_SPAN → (f : CoreFigures) → IsCoreUpTo n f → IsCoreUpTo (n + 1) (core_after e f)
-core_up_to n e few f up = record {
+some_ticks : (so : Bool) (ticks : ℕ) → ticks ≤ MOST_SPAN → ticks_if so ticks ≤ MOST_SPAN
+some_ticks true ticks few = few
+some_ticks false ticks few = omega arith
+
+core_up_to : (n : ℕ) (e : Entry) → units e.call ≤ MOST_SPAN → ticks_in e.reply ≤ MOST_SPAN → (f : CoreFigures) → IsCoreUpTo n f → IsCoreUpTo (n + 1) (core_after e f)
+core_up_to n e few few_ticks f up = record {
   turns = omega (arith, up.turns, one_at_most (is_turn f.core e));
   idle = omega (arith, up.idle, one_at_most (is_idle_turn f.core e));
   calls = omega (arith, up.calls, one_at_most (is_service_turn f.core e));
   lost = omega (arith, up.lost, one_at_most (is_lost_turn f.core e));
   work_done = omega (arith, up.work_done, some_units is_done_turn f.core e few);
   work_lost = omega (arith, up.work_lost, some_units is_lost_turn f.core e few);
+  busy_ticks = omega (arith, up.busy_ticks, some_ticks f.is_working (ticks_in e.reply) few_ticks);
+  idle_ticks = omega (arith, up.idle_ticks, some_ticks (not f.is_working) (ticks_in e.reply) few_ticks);
 }
 
 refusals_below : (n m : ℕ) → n ≤ m → (r : Refusals) → AreUpTo n r → AreUpTo m r
@@ -106,6 +112,8 @@ core_below n m le f up = record {
   lost = omega (arith, up.lost, le);
   work_done = omega (arith, up.work_done, le);
   work_lost = omega (arith, up.work_lost, le);
+  busy_ticks = omega (arith, up.busy_ticks, le);
+  idle_ticks = omega (arith, up.idle_ticks, le);
 }
 
 pub processes_below : (n m : ℕ) → n ≤ m → (fs : List ProcessFigures) → AllByRecursion (IsProcessUpTo n) fs → AllByRecursion (IsProcessUpTo m) fs
@@ -116,11 +124,11 @@ cores_below n m le fs all = all_weaker (IsCoreUpTo n) (IsCoreUpTo m) (core_below
 
 -- the counts after one entry more
 pub counted_more : (n : ℕ) (ps : List ProcessFigures) (cs : List CoreFigures) (e : Entry) → AreCounted n ps cs → n < MOST_ENTRIES
-    → units e.call ≤ MOST_SPAN → AreCounted (n + 1) (map (process_after e) ps) (map (core_after e) cs)
-counted_more n ps cs e counts room few = record {
+    → units e.call ≤ MOST_SPAN → ticks_in e.reply ≤ MOST_SPAN → AreCounted (n + 1) (map (process_after e) ps) (map (core_after e) cs)
+counted_more n ps cs e counts room few few_ticks = record {
   few = omega (arith, room);
   each_process = all_mapped (IsProcessUpTo n) (IsProcessUpTo (n + 1)) (process_after e) (process_up_to n e) ps counts.each_process;
-  each_core = all_mapped (IsCoreUpTo n) (IsCoreUpTo (n + 1)) (core_after e) (core_up_to n e few) cs counts.each_core;
+  each_core = all_mapped (IsCoreUpTo n) (IsCoreUpTo (n + 1)) (core_after e) (core_up_to n e few few_ticks) cs counts.each_core;
 }
 
 -- no count is above 0 before any entry
@@ -153,6 +161,8 @@ cores_zero (c ∷ cs) = (
     lost = omega arith;
     work_done = omega arith;
     work_lost = omega arith;
+    busy_ticks = omega arith;
+    idle_ticks = omega arith;
   },
   cores_zero cs,
 )

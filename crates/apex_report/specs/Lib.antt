@@ -1,4 +1,6 @@
 pub mod Terms
+pub mod Along
+pub mod Unbeaten
 pub mod Jobs
 pub mod JobFigures
 pub mod Processes

@@ -3,6 +3,7 @@ use Rattle.std.specs.Prelude.{◌≡◌, ℕ, ◌<◌, List, length, ◌++◌, f
 use Rattle.apex_machine.specs.table.Table.{Table}
 use Rattle.apex_machine.specs.text.Status.{history_line, instant_text, optional_text}
 use Rattle.apex_machine.specs.text.Texts.{process_name}
+use Rattle.apex_report.specs.Cores.{busy_percent}
 use Rattle.apex_report.specs.Jobs.{response}
 use Rattle.apex_report.specs.Report.{Report, report}
 use Rattle.apex_report.specs.Terms.{CoreFigures, Entry, Job, JobFigures, ProcessFigures, Refusals}
@@ -65,10 +66,18 @@ abbrev pub work_part : CoreFigures → List ℕ
 work_part f =
     figure (codes " work_done=") f.work_done ++ figure (codes " work_lost=") f.work_lost
 
--- `core C turns=T idle=I calls=N lost=L work_done=D work_lost=W`
+-- the ticks of a core; `-` in percent if no tick has passed
+abbrev pub ticks_part : CoreFigures → List ℕ
+ticks_part f =
+    figure (codes " busy_ticks=") f.busy_ticks ++ figure (codes " idle_ticks=") f.idle_ticks
+    ++ codes " busy_percent=" ++ instant_text (busy_percent f)
+
+-- `core C turns=T idle=I calls=N lost=L work_done=D work_lost=W busy_ticks=B idle_ticks=R
+-- busy_percent=P`, on one line
 abbrev pub core_line : CoreFigures → List ℕ
 core_line f =
-    codes "core " ++ decimal f.core ++ core_turns_part f ++ work_part f ++ codes "\n"
+    codes "core " ++ decimal f.core ++ core_turns_part f ++ work_part f ++ ticks_part f
+    ++ codes "\n"
 
 -- the lines of a report: the number of entries, each core, and each process
 abbrev pub lines_of : Table → Report → List ℕ

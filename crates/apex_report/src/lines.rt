@@ -3,7 +3,7 @@ ghost use Rattle.std.specs.Prelude.{◌≡◌, ◌+◌, ◌<◌, ◌≤◌, ◌+
 ghost use Rattle.arrayvec.specs.ArrayVec.{array_vec_len};
 ghost use Rattle.apex_machine.specs.text.Status.{history_line, instant_text, optional_text};
 ghost use Rattle.apex_report.specs.declared.lines.TheConstants.{LINE_ROOM};
-ghost use Rattle.apex_report.specs.Texts.{core_line, core_turns_part, end_text, figure, jobs_part, process_line, refusals_part, response_text, responses_part, turns_part, work_part};
+ghost use Rattle.apex_report.specs.Texts.{core_line, core_turns_part, end_text, figure, jobs_part, process_line, refusals_part, response_text, responses_part, ticks_part, turns_part, work_part};
 
 use crate::cores::CoreFigures;
 use crate::job_figures::JobFigures;
@@ -217,6 +217,19 @@ fn put_work(line: &mut Line, figures: &CoreFigures)
     put_long_figure(line, " work_lost=", figures.work_lost);
 }
 
+/// The ticks of a core.
+#[tactic(auto, using(std::proofs::Common::append_assoc))]
+fn put_ticks(line: &mut Line, figures: &CoreFigures)
+    requires { array_vec_len line.old + 110 ≤ LINE_ROOM }
+    ensures text { line.new.items ≡ line.old.items ++ ticks_part figures.now }
+    ensures short { array_vec_len line.new ≤ array_vec_len line.old + 110 }
+{
+    put_long_figure(line, " busy_ticks=", figures.busy_ticks);
+    put_long_figure(line, " idle_ticks=", figures.idle_ticks);
+    put(line, " busy_percent=");
+    put_instant(line, &figures.busy_percent());
+}
+
 /// The line of a core.
 #[tactic(auto, using(std::proofs::Common::append_assoc))]
 pub(crate) fn core_line(figures: &CoreFigures) -> Line
@@ -227,6 +240,7 @@ pub(crate) fn core_line(figures: &CoreFigures) -> Line
     put_number(&mut line, u32::from(figures.core.number()));
     put_core_turns(&mut line, figures);
     put_work(&mut line, figures);
+    put_ticks(&mut line, figures);
     put(&mut line, "\n");
     line
 }

@@ -2,12 +2,12 @@
 ghost use Rattle.std.specs.Prelude.{◌≡◌, ◌+◌, ◌<◌, ◌≤◌, [], length, map, IfOk};
 ghost use Rattle.std.specs.List.{range_with_len, AllByRecursion};
 ghost use Rattle.apex_types.specs.declared.limits.TheConstants.{MOST_ENTRIES};
-ghost use Rattle.apex_report.specs.Cores.{core_figures, units};
+ghost use Rattle.apex_report.specs.Cores.{core_figures, ticks_in, units};
 ghost use Rattle.apex_report.specs.Processes.{process_figures};
 ghost use Rattle.apex_report.specs.Report.{report, Grows};
 ghost use Rattle.apex_report.specs.Steps.{core_after, process_after, IsCoreUpTo, IsProcessUpTo};
 
-use crate::cores::{CoreFigures, units};
+use crate::cores::{CoreFigures, ticks_in, units};
 use crate::processes::ProcessFigures;
 use apex_history::Entries;
 use apex_table::Table;
@@ -76,14 +76,15 @@ fn note_processes(processes: &mut Vec<ProcessFigures>, entry: &LentEntry<'_>)
     }
 }
 
-/// Notes what the entry, whose work has these units, says of each core.
-fn note_cores(cores: &mut Vec<CoreFigures>, entry: &LentEntry<'_>, amount: u32)
+/// Notes what the entry, whose work has these units and whose reply these ticks, says of each core.
+fn note_cores(cores: &mut Vec<CoreFigures>, entry: &LentEntry<'_>, amount: u32, ticks: u32)
     requires up_to { AllByRecursion (IsCoreUpTo MOST_ENTRIES) cores.old.items }
     requires amount { amount ≡ units entry.now.call }
+    requires ticks { ticks ≡ ticks_in entry.now.reply }
     ensures { cores.new.items ≡ map (core_after entry.entry.now) cores.old.items }
 {
     for figures in cores.iter_mut() {
-        figures.note(entry, amount);
+        figures.note(entry, amount, ticks);
     }
 }
 
@@ -109,8 +110,9 @@ impl Report {
         ensures entries { self.new.entries ≡ self.old.entries + 1 }
     {
         let amount = units(&entry.call);
+        let ticks = ticks_in(&entry.reply);
         note_processes(&mut self.processes, entry);
-        note_cores(&mut self.cores, entry, amount);
+        note_cores(&mut self.cores, entry, amount, ticks);
         self.entries += 1;
     }
 
