@@ -92,6 +92,10 @@ report_text table history = lines_of table (report table history)
 abbrev pub IsInTable : Table → ProcessFigures → Type 0
 IsInTable table f = f.process < length table.processes
 
+-- the report is that of this history of the table's partition
+abbrev pub IsReportOf : Table → List Entry → Report → Type 0
+IsReportOf table history r = r ≡ report table history
+
 -- the report is that of a history of the table's partition
 abbrev pub IsOfTable : Table → Report → Type 0
-IsOfTable table r = (history : List Entry) × (r ≡ report table history)
+IsOfTable table r = (history : List Entry) × IsReportOf table history r

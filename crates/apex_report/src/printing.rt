@@ -1,9 +1,10 @@
 //! The lines of a report, written to a writer.
-ghost use Rattle.std.specs.Prelude.{◌≡◌, ◌<◌, flat_map, length, IfErr, OnOk, OnErr};
+ghost use Rattle.std.specs.Prelude.{◌≡◌, ◌<◌, List, flat_map, length, IfErr, OnOk, OnErr};
 ghost use Rattle.std.specs.List.{AllByRecursion};
 ghost use Rattle.std.specs.Io.KnownBytes.{Appends};
+ghost use Rattle.apex_types.specs.declared.entries.Entry.{Entry};
 ghost use Rattle.apex_history.specs.Counted.{inner_of, failures_of, CountsFailure, AppendsBeginning, IsOfWrite};
-ghost use Rattle.apex_report.specs.Texts.{core_line, lines_of, process_line, IsInTable, IsOfTable};
+ghost use Rattle.apex_report.specs.Texts.{core_line, lines_of, process_line, report_text, IsInTable, IsOfTable, IsReportOf};
 
 use crate::cores::CoreFigures;
 use crate::lines::{core_line, history_line, process_line};
@@ -52,11 +53,8 @@ fn print_processes<W: Sink>(
     Ok(())
 }
 
-/// Writes the lines of the report of a history of the table's partition: the number of entries,
-/// each core and each process. Takes no memory.
-///
-/// If a write failed, a prefix of the lines was written.
-pub fn print_report<W: Sink>(table: &Table, report: &Report, writer: &mut Counted<W>) -> Result<()>
+/// Writes the lines of the report: the number of entries, each core and each process.
+fn print_lines<W: Sink>(table: &Table, report: &Report, writer: &mut Counted<W>) -> Result<()>
     requires { IsOfTable table.now report.now }
     ensures ok { OnOk result
         (Appends (W.contents (inner_of writer.old)) (W.contents (inner_of writer.new))
@@ -70,4 +68,22 @@ pub fn print_report<W: Sink>(table: &Table, report: &Report, writer: &mut Counte
     writer.write_all(history_line(report.entries()).as_slice())?;
     print_cores(report.cores(), writer)?;
     print_processes(table, report.processes(), writer)
+}
+
+/// Writes the report of a history of the table's partition: the lines of the number of entries, of
+/// each core and of each process. Takes no memory.
+///
+/// If a write failed, a prefix of the lines was written.
+pub fn print_report<W: Sink>(table: &Table, report: &Report, writer: &mut Counted<W>) -> Result<()>
+    requires { IsOfTable table.now report.now }
+    ensures ok { (history : List Entry) → IsReportOf table.now history report.now → OnOk result
+        (Appends (W.contents (inner_of writer.old)) (W.contents (inner_of writer.new))
+        (report_text table.now history)) }
+    ensures err { (history : List Entry) → IsReportOf table.now history report.now → OnErr result
+        (AppendsBeginning (W.contents (inner_of writer.old)) (W.contents (inner_of writer.new))
+        (report_text table.now history)) }
+    ensures counted { CountsFailure result (failures_of writer.old) (failures_of writer.new) }
+    ensures failed { IfErr result (IsOfWrite W.accepts (inner_of writer.new)) }
+{
+    print_lines(table, report, writer)
 }
