@@ -11,6 +11,8 @@ mod jugs;
 #[cfg(test)]
 mod lines;
 #[cfg(test)]
+mod object_reports;
+#[cfg(test)]
 mod outlines;
 #[cfg(test)]
 mod paces;

@@ -1,21 +1,21 @@
 -- An entry adds at most one to each count, so no count is above the number of entries.
 use Rattle.std.proofs.Common.{◌≡◌, ℕ, ◌+◌, ◌<◌, ◌≤◌, zero, suc, Bool, true, false, Option, None, Some, List, [], ◌∷◌, ◌++◌, take, drop, length, map, get_or, option_to_list, if◌then◌else◌, not, arith}
 use Rattle.std.specs.List.{AllByRecursion}
-use Rattle.apex_types.specs.declared.limits.TheConstants.{MOST_ENTRIES, MOST_SPAN}
+use Rattle.apex_types.specs.declared.limits.TheConstants.{MOST_SPAN}
 use Rattle.apex_report.specs.Cores.{core_figures, is_done_turn, is_idle_turn, is_lost_turn, is_service_turn, is_turn, ticks_in, units, units_if}
 use Rattle.apex_report.specs.Jobs.{completes, ended_open, releases, stops}
 use Rattle.apex_report.specs.Processes.{is_answered, is_turn_of_process, misses, process_figures, times_out}
-use Rattle.apex_report.specs.Steps.{core_after, jobs_after, one_if, process_after, refusals_after, ticks_if, AreCounted, AreJobsUpTo, AreUpTo, IsCoreUpTo, IsProcessUpTo}
+use Rattle.apex_report.specs.Steps.{core_after, jobs_after, one_if, process_after, refusals_after, ticks_if, AreJobsUpTo, AreUpTo, IsCoreUpTo, IsProcessUpTo}
 use Rattle.apex_report.specs.Terms.{CoreFigures, Entry, JobFigures, ProcessFigures, Refusals}
 use Rattle.apex_types.specs.declared.entries.ReturnCode.TheVariants.{NoAction, NotAvailable, InvalidParam, InvalidConfig, InvalidMode}
 
 -- the facts of each element are those of its value
-all_mapped : {X : Type 0} (P Q : X → Type 0) (f : X → X) → ((x : X) → P x → Q (f x)) → (xs : List X)
+pub all_mapped : {X : Type 0} (P Q : X → Type 0) (f : X → X) → ((x : X) → P x → Q (f x)) → (xs : List X)
     → AllByRecursion P xs → AllByRecursion Q (map f xs)
 all_mapped P Q f each [] all = tt
 all_mapped P Q f each (x ∷ xs) all = (each x all.0, all_mapped P Q f each xs all.1)
 
-all_weaker : {X : Type 0} (P Q : X → Type 0) → ((x : X) → P x → Q x) → (xs : List X)
+pub all_weaker : {X : Type 0} (P Q : X → Type 0) → ((x : X) → P x → Q x) → (xs : List X)
     → AllByRecursion P xs → AllByRecursion Q xs
 all_weaker P Q each [] all = tt
 all_weaker P Q each (x ∷ xs) all = (each x all.0, all_weaker P Q each xs all.1)
@@ -27,11 +27,11 @@ not_yet P f [] i x all within is = absurd (omega (arith, within))
 not_yet P f (y ∷ xs) zero x all within is = rw is all.0
 not_yet P f (y ∷ xs) (suc i) x all within is = not_yet P f xs i x all.1 (omega (arith, within)) is
 
-one_at_most : (so : Bool) → one_if so ≤ 1
+pub one_at_most : (so : Bool) → one_if so ≤ 1
 one_at_most true = omega arith
 one_at_most false = omega arith
 
-one_job : {X : Type 0} (x : Option X) → length (option_to_list x) ≤ 1
+pub one_job : {X : Type 0} (x : Option X) → length (option_to_list x) ≤ 1
 one_job None = omega arith
 one_job (Some x) = omega arith
 
@@ -51,7 +51,7 @@ jobs_up_to n p e f up = record {
   stops = omega (arith, up.stops, one_job (ended_open (stops p e) f.open_since e));
 }
 
-process_up_to : (n : ℕ) (e : Entry) (f : ProcessFigures) → IsProcessUpTo n f → IsProcessUpTo (n + 1) (process_after e f)
+pub process_up_to : (n : ℕ) (e : Entry) (f : ProcessFigures) → IsProcessUpTo n f → IsProcessUpTo (n + 1) (process_after e f)
 process_up_to n e f up = record {
   turns = omega (arith, up.turns, one_at_most (is_turn_of_process f.process e));
   misses = omega (arith, up.misses, one_at_most (misses f.process e));
@@ -70,7 +70,7 @@ some_ticks : (so : Bool) (ticks : ℕ) → ticks ≤ MOST_SPAN → ticks_if so t
 some_ticks true ticks few = few
 some_ticks false ticks few = omega arith
 
-core_up_to : (n : ℕ) (e : Entry) → units e.call ≤ MOST_SPAN → ticks_in e.reply ≤ MOST_SPAN → (f : CoreFigures) → IsCoreUpTo n f → IsCoreUpTo (n + 1) (core_after e f)
+pub core_up_to : (n : ℕ) (e : Entry) → units e.call ≤ MOST_SPAN → ticks_in e.reply ≤ MOST_SPAN → (f : CoreFigures) → IsCoreUpTo n f → IsCoreUpTo (n + 1) (core_after e f)
 core_up_to n e few few_ticks f up = record {
   turns = omega (arith, up.turns, one_at_most (is_turn f.core e));
   idle = omega (arith, up.idle, one_at_most (is_idle_turn f.core e));
@@ -122,17 +122,8 @@ processes_below n m le fs all = all_weaker (IsProcessUpTo n) (IsProcessUpTo m) (
 pub cores_below : (n m : ℕ) → n ≤ m → (fs : List CoreFigures) → AllByRecursion (IsCoreUpTo n) fs → AllByRecursion (IsCoreUpTo m) fs
 cores_below n m le fs all = all_weaker (IsCoreUpTo n) (IsCoreUpTo m) (core_below n m le) fs all
 
--- the counts after one entry more
-pub counted_more : (n : ℕ) (ps : List ProcessFigures) (cs : List CoreFigures) (e : Entry) → AreCounted n ps cs → n < MOST_ENTRIES
-    → units e.call ≤ MOST_SPAN → ticks_in e.reply ≤ MOST_SPAN → AreCounted (n + 1) (map (process_after e) ps) (map (core_after e) cs)
-counted_more n ps cs e counts room few few_ticks = record {
-  few = omega (arith, room);
-  each_process = all_mapped (IsProcessUpTo n) (IsProcessUpTo (n + 1)) (process_after e) (process_up_to n e) ps counts.each_process;
-  each_core = all_mapped (IsCoreUpTo n) (IsCoreUpTo (n + 1)) (core_after e) (core_up_to n e few few_ticks) cs counts.each_core;
-}
-
 -- no count is above 0 before any entry
-processes_zero : (ps : List ℕ) → AllByRecursion (IsProcessUpTo 0) (map (process_figures []) ps)
+pub processes_zero : (ps : List ℕ) → AllByRecursion (IsProcessUpTo 0) (map (process_figures []) ps)
 processes_zero [] = tt
 processes_zero (p ∷ ps) = (
   record {
@@ -151,7 +142,7 @@ processes_zero (p ∷ ps) = (
   processes_zero ps,
 )
 
-cores_zero : (cs : List ℕ) → AllByRecursion (IsCoreUpTo 0) (map (core_figures []) cs)
+pub cores_zero : (cs : List ℕ) → AllByRecursion (IsCoreUpTo 0) (map (core_figures []) cs)
 cores_zero [] = tt
 cores_zero (c ∷ cs) = (
   record {
@@ -166,6 +157,3 @@ cores_zero (c ∷ cs) = (
   },
   cores_zero cs,
 )
-
-pub none_counted : (ps cs : List ℕ) → AreCounted 0 (map (process_figures []) ps) (map (core_figures []) cs)
-none_counted ps cs = record { few = omega arith; each_process = processes_zero ps; each_core = cores_zero cs }

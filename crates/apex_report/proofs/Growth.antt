@@ -1,17 +1,16 @@
 -- The figures of a history with one entry more are the figures after that entry.
-use Rattle.std.proofs.Common.{◌≡◌, ℕ, ◌+◌, Bool, true, false, not, if◌then◌else◌, cond, List, [], ◌∷◌, ◌++◌, None, length, map, refl, sym, append_assoc, append-nil, length-append, arith}
+use Rattle.std.proofs.Common.{◌≡◌, ℕ, ◌+◌, Bool, true, false, not, if◌then◌else◌, cond, List, [], ◌∷◌, ◌++◌, None, map, refl, sym, append_assoc, append-nil, length-append, arith}
 use Rattle.std.proofs.lemmas.List.Sums.{fold_push, sum_by_push}
-use Rattle.std.specs.List.{count_by, range_with_len, sum}
-use Rattle.apex_machine.specs.table.Table.{Table}
+use Rattle.std.specs.List.{count_by, sum}
 use Rattle.apex_types.specs.declared.entries.ReturnCode.TheVariants.{NoAction, NotAvailable, InvalidParam, InvalidConfig, InvalidMode}
 use Rattle.apex_report.specs.Cores.{core_figures, is_done_turn, is_idle_turn, is_lost_turn, is_service_turn, is_turn, is_working, is_working_after, idle_by, busy_by, ticks_in, units_if}
 use Rattle.apex_report.specs.Jobs.{completed, completes, ended_by, open_after, releases, stopped, stops}
 use Rattle.apex_report.specs.JobFigures.{job_figures}
 use Rattle.apex_report.specs.Processes.{is_answered, is_turn_of_process, misses, process_figures, refusals, times_out}
-use Rattle.apex_report.specs.Report.{report}
-use Rattle.apex_report.specs.Steps.{core_after, jobs_after, one_if, process_after, refusals_after, report_after, ticks_if}
+use Rattle.apex_report.specs.Steps.{core_after, jobs_after, one_if, process_after, refusals_after, ticks_if}
 use Rattle.apex_report.specs.Along.{along}
 use Rattle.apex_report.specs.Terms.{Entry}
+use Rattle.apex_report.specs.Waits.{queue_after}
 use Rattle.apex_report.proofs.Unbeaten.{best_grows, worst_grows}
 
 -- a count of one entry more
@@ -27,7 +26,7 @@ along_more gives before (x ∷ later) e =
     rw (along_more gives (before ++ x ∷ []) later e, append_assoc before (x ∷ []) later)
     (sym (append_assoc (gives before x) (along gives (before ++ x ∷ []) later) (gives (before ++ x ∷ later) e)))
 
-sum_push : (xs : List ℕ) (x : ℕ) → sum (xs ++ x ∷ []) ≡ sum xs + x
+pub sum_push : (xs : List ℕ) (x : ℕ) → sum (xs ++ x ∷ []) ≡ sum xs + x
 sum_push xs x = fold_push ◌+◌ 0 xs x
 
 -- the ticks of one entry more
@@ -77,6 +76,7 @@ process_grows history e p =
       counted (times_out p) history e,
       refusals_grow p history e,
       jobs_grow p history e,
+      fold_push (queue_after p) None history e,
     )
     refl
 
@@ -99,19 +99,7 @@ core_grows history e core =
     refl
 
 -- a list of figures grows as each of them does
-all_grow : {X : Type 0} (new old : ℕ → X) (after : X → X) → ((p : ℕ) → new p ≡ after (old p)) → (ps : List ℕ)
+pub all_grow : {I X : Type 0} (new old : I → X) (after : X → X) → ((p : I) → new p ≡ after (old p)) → (ps : List I)
     → map new ps ≡ map after (map old ps)
 all_grow new old after grows [] = refl
 all_grow new old after grows (p ∷ ps) = rw (grows p, all_grow new old after grows ps) refl
-
-pub report_grows : (table : Table) (history : List Entry) (e : Entry)
-    → report table (history ++ e ∷ []) ≡ report_after (report table history) e
-report_grows table history e =
-    rw (
-      length-append history (e ∷ []),
-      all_grow (process_figures (history ++ e ∷ [])) (process_figures history) (process_after e) (process_grows history e)
-          (range_with_len 0 (length table.processes)),
-      all_grow (core_figures (history ++ e ∷ [])) (core_figures history) (core_after e) (core_grows history e)
-          (range_with_len 0 table.cores),
-    )
-    refl

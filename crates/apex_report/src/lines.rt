@@ -20,7 +20,7 @@ pub(crate) const LINE_ROOM: usize = 512;
 /// A line of a report.
 pub(crate) type Line = ArrayVec<u8, LINE_ROOM>;
 
-fn put_bytes(line: &mut Line, text: &[u8])
+pub(crate) fn put_bytes(line: &mut Line, text: &[u8])
     requires { array_vec_len line.old + length text.now ≤ LINE_ROOM }
     ensures text { line.new.items ≡ line.old.items ++ text.now }
     ensures len { array_vec_len line.new ≡ array_vec_len line.old + length text.now }
@@ -30,7 +30,7 @@ fn put_bytes(line: &mut Line, text: &[u8])
     prove!(fits);
 }
 
-fn put(line: &mut Line, text: &str)
+pub(crate) fn put(line: &mut Line, text: &str)
     requires { array_vec_len line.old + length text.now ≤ LINE_ROOM }
     ensures text { line.new.items ≡ line.old.items ++ text.now }
     ensures len { array_vec_len line.new ≡ array_vec_len line.old + length text.now }
@@ -38,7 +38,7 @@ fn put(line: &mut Line, text: &str)
     put_bytes(line, text.as_bytes());
 }
 
-fn put_number(line: &mut Line, number: u32)
+pub(crate) fn put_number(line: &mut Line, number: u32)
     requires { array_vec_len line.old + 10 ≤ LINE_ROOM }
     ensures text { line.new.items ≡ line.old.items ++ decimal number }
     ensures short { array_vec_len line.new ≤ array_vec_len line.old + 10 }
@@ -47,7 +47,7 @@ fn put_number(line: &mut Line, number: u32)
     put(line, buffer.format(number));
 }
 
-fn put_long_number(line: &mut Line, number: u64)
+pub(crate) fn put_long_number(line: &mut Line, number: u64)
     requires { array_vec_len line.old + 20 ≤ LINE_ROOM }
     ensures text { line.new.items ≡ line.old.items ++ decimal number }
     ensures short { array_vec_len line.new ≤ array_vec_len line.old + 20 }
@@ -69,7 +69,7 @@ fn put_figure(line: &mut Line, key: &str, number: u32)
 
 /// A long figure behind its key.
 #[tactic(auto, using(std::proofs::Common::append_assoc), unfolding(crate::specs::Texts::figure))]
-fn put_long_figure(line: &mut Line, key: &str, number: u64)
+pub(crate) fn put_long_figure(line: &mut Line, key: &str, number: u64)
     requires { array_vec_len line.old + length key.now + 20 ≤ LINE_ROOM }
     ensures text { line.new.items ≡ line.old.items ++ figure key.now number }
     ensures short { array_vec_len line.new ≤ array_vec_len line.old + length key.now + 20 }
