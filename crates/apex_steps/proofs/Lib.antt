@@ -1,0 +1,5 @@
+-- Proofs about sessions.
+pub mod Runs
+pub mod Marks
+pub mod Parts
+pub mod Said
