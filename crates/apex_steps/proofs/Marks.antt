@@ -1,15 +1,17 @@
 -- The marks of a session while its history grows and is cut.
-use Rattle.std.proofs.Common.{◌≡◌, ◌∙◌, ℕ, zero, suc, ◌+◌, ◌<◌, ◌≤◌, Bool, true, false, arith, refl, sym, ap, inl, inr, tt, List, [], ◌∷◌, ◌++◌, length, length-append, take, drop, map, append_assoc, take-append-drop, rules}
+use Rattle.std.proofs.Common.{◌≡◌, ◌∙◌, ℕ, zero, suc, ◌+◌, ◌<◌, ◌≤◌, Bool, true, false, None, Some, nat_lt, ltb-true, arith, refl, sym, ap, inl, inr, List, [], ◌∷◌, ◌++◌, length, length-append, take, drop, map, append_assoc, take-append-drop, rules}
+use Rattle.std.specs.List.{position, position_or_len}
 use Rattle.std.proofs.lemmas.Bool.{cases_lt}
-use Rattle.std.proofs.lemmas.List.{length-map, length-take-le, take-append-le, take_all}
+use Rattle.std.proofs.lemmas.List.{drop-map, length-map, length-take-le, take-append-le, take-map, take_all}
 use Rattle.apex_steps.specs.Terms.{Entry, Event}
 use Rattle.apex_types.specs.declared.entries.Event.TheVariants.{Turn, Tick}
 use Rattle.apex_machine.specs.table.Table.{Table}
 use Rattle.apex_machine.specs.Machine.{Machine, accept, event_of, events_of, happen, opening, replay, run, tick, turn}
 use Rattle.apex_laws.proofs.Runs.{accept-full, accept-room, run-append}
 use Rattle.apex_steps.proofs.Runs.{length-run}
-use Rattle.apex_steps.specs.Kept.{AreKept, mark_kept}
-use Rattle.apex_steps.specs.Sessions.{Mark}
+use Rattle.apex_dispatch.specs.Kernel.{KernelState, kernel_in}
+use Rattle.apex_steps.specs.Kept.{AreKept, is_kept_as, mark_kept, session_kept}
+use Rattle.apex_steps.specs.Sessions.{Mark, Session, after_events, gone_back, in_state_of, is_named, marked, marks_from}
 use Rattle.apex_steps.specs.declared.sessions.Mark.{Mark as MarkKept}
 
 -- a history grew by these entries
@@ -67,7 +69,7 @@ pub history_cut : (table : Table) (machine : Machine) (n : ℕ) → replay table
 history_cut table machine n again within few =
     let events = events_of machine.history in
     let early = run table (opening table) (take n events) in
-    let many : length events ≡ length machine.history = length-map event_of machine.history in
+    let many : length events ≡ length machine.history = length-map machine.history event_of in
     let count : length (take n events) ≡ n = length-take-le n events (omega (arith, many, few)) in
     let long : length early.history ≡ n = length-run table (opening table) (take n events) (omega (arith, count, within, few)) ∙ count in
     let whole : run table early (drop n events) ≡ machine =
@@ -92,3 +94,88 @@ pub mark_now : (table : Table) (machine : Machine) → replay table machine.hist
     → replay table (take (length machine.history) machine.history) ≡ machine
 mark_now table machine again =
     ap (λ (l : List Entry). replay table l) (take_all (length machine.history) machine.history (omega arith)) ∙ again
+
+-- ---- the session that a kernel and its marks are
+
+grows_length : (old new : List Entry) → Grows old new → length old ≤ length new
+grows_length old new grows = omega (arith, ap length grows.is, length-append old grows.more)
+
+-- after events
+module _ {S : Type 0} (old new : KernelState S) (marks : List MarkKept) (events : List Event) (store : S)
+    (done : new ≡ kernel_in old.table (run old.table old.machine events) store) (kept : AreKept (length old.machine.history) marks) where
+  grows : Grows old.machine.history (run old.table old.machine events).history
+  grows = grows_run old.table old.machine events
+
+  pub kept_grown : AreKept (length new.machine.history) marks
+  kept_grown = rw done (kept_longer (length old.machine.history) _ marks (grows_length _ _ grows) kept)
+
+  pub session_grown : session_kept new.table new.machine marks ≡ after_events (session_kept old.table old.machine marks) events
+  session_grown = rw done (ap (λ ms. record { table = old.table; machine = run old.table old.machine events; marks = ms })
+      (marks_stay old.table old.machine.history _ marks (length old.machine.history) grows (omega arith) kept))
+
+-- with one mark more
+pub session_marked : (table : Table) (machine : Machine) (marks : List MarkKept) (mark : MarkKept) (name : List ℕ) → mark.name.items ≡ name
+    → mark.entries ≡ length machine.history → replay table machine.history ≡ machine
+    → session_kept table machine (mark ∷ marks) ≡ marked name (session_kept table machine marks)
+session_marked table machine marks mark name named many again =
+    let state : replay table (take mark.entries machine.history) ≡ machine = rw many (mark_now table machine again) in
+    rw (named, state) refl
+
+-- back at a mark
+pub session_back : (name : List ℕ) (table : Table) (machine new : Machine) (mark : MarkKept) (older marks : List MarkKept) (i : ℕ)
+    → replay table machine.history ≡ machine → length machine.history ≤ table.limit
+    → AreKept (length machine.history) marks → drop i marks ≡ mark ∷ older
+    → position_or_len (is_named name) (map (mark_kept table machine.history) marks) ≡ i
+    → new ≡ run table (opening table) (take mark.entries (events_of machine.history))
+    → gone_back name (session_kept table machine marks) ≡ Some (session_kept table new (drop i marks))
+session_back name table machine new mark older marks i again within kept here place made =
+    let history = machine.history in
+    let n = mark.entries in
+    let some : AreKept (length history) (mark ∷ older) = rw here at (kept_drop (length history) i marks kept) in
+    let cut : new.history ≡ take n history = rw made (history_cut table machine n again within some.0) in
+    let is : new ≡ replay table (take n history) = made ∙ ap (run table (opening table)) (take-map event_of n history) in
+    let stay : map (mark_kept table new.history) (mark ∷ older) ≡ map (mark_kept table history) (mark ∷ older) =
+    ap (λ (h : List Entry). map (mark_kept table h) (mark ∷ older)) cut
+    ∙ sym (marks_stay table (take n history) history (mark ∷ older) n (grows_cut n history)
+    (omega (arith, length-take-le n history some.0)) (omega arith, some.1)) in
+    let from : marks_from name (map (mark_kept table history) marks) ≡ map (mark_kept table history) (mark ∷ older) =
+    ap (λ k. drop k (map (mark_kept table history) marks)) place ∙ drop-map (mark_kept table history) i marks ∙ ap (map (mark_kept table history)) here in
+    ap (in_state_of (session_kept table machine marks)) from
+    ∙ ap (λ m. Some (record { table = table; machine = m; marks = map (mark_kept table history) (mark ∷ older) })) (sym is)
+    ∙ ap (λ ms. Some (record { table = table; machine = new; marks = ms })) (sym stay)
+    ∙ ap (λ l. Some (session_kept table new l)) (sym here)
+
+-- and its marks
+pub kept_back : (machine : Machine) (n : ℕ) (mark : MarkKept) (older marks : List MarkKept) (i : ℕ) → AreKept n marks → drop i marks ≡ mark ∷ older
+    → mark.entries ≤ length machine.history → AreKept (length machine.history) (drop i marks)
+kept_back machine n mark older marks i kept here few =
+    let some : AreKept n (mark ∷ older) = rw here at (kept_drop n i marks kept) in
+    rw here (few, some.1)
+
+-- ---- the place of a name
+
+found_at : {X : Type 0} (p : X → Bool) (xs : List X) (i : ℕ) → position p xs ≡ Some i
+    → (position_or_len p xs ≡ i) × (position_or_len p xs < length xs)
+found_at p xs i found = go (nat_lt (position_or_len p xs) (length xs)) refl
+  where
+    go : (b : Bool) → nat_lt (position_or_len p xs) (length xs) ≡ b
+        → (position_or_len p xs ≡ i) × (position_or_len p xs < length xs)
+    go true t =
+        let here : Some (position_or_len p xs) ≡ Some i = rw t at found in
+        (cc, ltb-true _ _ t)
+    go false t =
+        let nowhere : None ≡ Some i = rw t at found in
+        cc
+
+-- marks that are kept have their names at the same places
+named_places : (name : List ℕ) (table : Table) (history : List Entry) (marks : List MarkKept)
+    → position_or_len (is_named name) (map (mark_kept table history) marks) ≡ position_or_len (is_kept_as name) marks
+named_places name table history [] = refl
+named_places name table history (mark ∷ older) = rw (named_places name table history older) refl
+
+pub place_found : (name : List ℕ) (table : Table) (history : List Entry) (marks : List MarkKept) (i : ℕ)
+    → position (is_kept_as name) marks ≡ Some i
+    → (position_or_len (is_named name) (map (mark_kept table history) marks) ≡ i) × (i < length marks)
+place_found name table history marks i found =
+    let (place, within) = found_at (is_kept_as name) marks i found in
+    (named_places name table history marks ∙ place, omega (arith, place, within))

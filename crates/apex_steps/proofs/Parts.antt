@@ -1,9 +1,10 @@
 -- The parts of a text between line feeds, and of a line between spaces.
-use Rattle.std.proofs.Common.{◌≡◌, ◌∙◌, ℕ, ◌+◌, Bool, true, false, arith, refl, sym, ap, List, [], ◌∷◌, ◌++◌, length, cond}
+use Rattle.std.proofs.Common.{◌≡◌, ◌∙◌, ℕ, ◌+◌, Bool, true, false, arith, refl, sym, ap, List, [], ◌∷◌, ◌++◌, length, cond, None}
 use Rattle.std.specs.Prelude.{◌==◌}
 use Rattle.std.proofs.lemmas.List.Splits.{length-slice_split}
 use Rattle.apex_history.specs.Words.{parts}
 use Rattle.apex_check.specs.Texts.{IsOneLine, ended, is_line_feed}
+use Rattle.apex_steps.specs.Commands.{command_of_words}
 use Rattle.apex_check.proofs.FirstLines.{feeds_cons}
 
 -- a first byte that is no line feed, and the rest of its line
@@ -12,10 +13,10 @@ one_byte x xs one = go (x == 10) refl
   where
     go : (b : Bool) → (x == 10) ≡ b → ((x == 10) ≡ false) × IsOneLine xs
     go true t =
-        let some : cond (is_line_feed x) 1 0 ≡ 1 = rw t refl in
+        let some : ◌≡◌ {A = ℕ} (cond (is_line_feed x) 1 0) 1 = rw t refl in
         absurd (omega (arith, one, feeds_cons x xs, some))
     go false t =
-        let none : cond (is_line_feed x) 1 0 ≡ 0 = rw t refl in
+        let none : ◌≡◌ {A = ℕ} (cond (is_line_feed x) 1 0) 0 = rw t refl in
         (t, omega (arith, one, feeds_cons x xs, none))
 
 -- a line is the first part, and the others are those of the bytes behind it
@@ -46,3 +47,7 @@ some_part separator bytes = go (parts separator bytes) refl
         let none : length (parts separator bytes) ≡ 0 = ap length e in
         absurd (omega (arith, none, length-slice_split (λ byte. byte == separator) bytes))
     go (first ∷ others) e = record { first = first; others = others; are = e }
+
+-- three words and more are no command
+pub no_command : (word name bytes : List ℕ) → command_of_words (word ∷ name ∷ parts 32 bytes) ≡ None
+no_command word name bytes = rw (some_part 32 bytes).are refl

@@ -1,11 +1,15 @@
 -- Runs of the events of a schedule's items, one event after the other.
 use Rattle.std.proofs.Common.{◌≡◌, ◌∙◌, ℕ, zero, suc, ap, take, Some, ◌+◌, ◌<◌, ◌≤◌, arith, refl, sym, inl, inr, List, [], ◌∷◌, ◌++◌, length, drop, true, false, add-one}
-use Rattle.std.specs.Prelude.{replicate, slice_get, slice_index_or}
+use Rattle.std.specs.Prelude.{All, option_map, replicate, slice_get, slice_index_or}
 use Rattle.std.proofs.Math.Seq.{drop-cons}
 use Rattle.std.proofs.lemmas.Bool.{both_ways, cases_Bool, cases_lt}
+use Rattle.std.proofs.lemmas.List.Elements.{All-get_or}
 use Rattle.std.proofs.lemmas.List.Folds.{list_all_at}
+use Rattle.std.proofs.lemmas.Option.{get_or_from_slice_get, slice_get-map, slice_get_within}
 use Rattle.apex_steps.specs.Terms.{Entry, Event}
-use Rattle.apex_machine.specs.Machine.{Machine, accept, event_of, events_of, run}
+use Rattle.apex_machine.specs.Events.{IsWithin}
+use Rattle.apex_machine.specs.Machine.{Machine, accept, event_of, events_of, opening, run}
+use Rattle.apex_dispatch.specs.Kernel.{KernelState, kernel_in}
 use Rattle.apex_machine.specs.table.Table.{Table}
 use Rattle.apex_laws.proofs.Runs.{accept-room, length-happen, run-append}
 use Rattle.apex_schedules.specs.declared.Item.{Item}
@@ -77,10 +81,30 @@ take_event (first ∷ rest) zero entry found =
     let same : first ≡ entry = cc in
     ap (λ (e : Entry). event_of e ∷ []) same
 take_event (first ∷ rest) (suc i) entry found =
-    rw (add-one (suc i), ← add-one i) (ap (λ l. event_of first ∷ l) (take_event rest i entry found))
+    let more : take (suc i) (events_of rest) ≡ take i (events_of rest) ++ event_of entry ∷ [] = rw (add-one i) at (take_event rest i entry found) in
+    rw (add-one (suc i)) (ap (λ l. event_of first ∷ l) more)
 
 -- the event of one entry more is made
 pub run_entry : (table : Table) (machine : Machine) (entries : List Entry) (i : ℕ) (entry : Entry) → slice_get entries i ≡ Some entry
     → run table machine (take (i + 1) (events_of entries)) ≡ accept table (run table machine (take i (events_of entries))) (event_of entry)
 run_entry table machine entries i entry found =
     ap (run table machine) (take_event entries i entry found) ∙ run-append table machine (take i (events_of entries)) (event_of entry ∷ [])
+
+-- the event of an entry is in range if those of all are
+pub within_entry : (cores : ℕ) (entries : List Entry) (i : ℕ) (entry : Entry) → All (IsWithin cores) (events_of entries)
+    → slice_get entries i ≡ Some entry → IsWithin cores (event_of entry)
+within_entry cores entries i entry all found =
+    let there : slice_get (events_of entries) i ≡ Some (event_of entry) = slice_get-map event_of entries i ∙ ap (option_map event_of) found in
+    let within = slice_get_within (events_of entries) i (event_of entry) there in
+    rw (get_or_from_slice_get (events_of entries) i (event_of entry) (event_of entry) there) at
+    (All-get_or (IsWithin cores) (events_of entries) i (event_of entry) within all)
+
+-- a kernel that has made one event more of a history
+pub replay_more : {S : Type 0} (table : Table) (entries : List Entry) (i : ℕ) (entry : Entry) (event : Event) (old new : KernelState S) (store : S)
+    → old.table ≡ table → old.machine ≡ run table (opening table) (take i (events_of entries))
+    → slice_get entries i ≡ Some entry → event ≡ event_of entry
+    → new ≡ kernel_in old.table (accept old.table old.machine event) store
+    → new.machine ≡ run table (opening table) (take (i + 1) (events_of entries))
+replay_more {S} table entries i entry event old new store same before found is done =
+    ap (λ (k : KernelState S). k.machine) done
+    ∙ rw (same, before, is) (sym (run_entry table (opening table) entries i entry found))

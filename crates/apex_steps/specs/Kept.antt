@@ -1,6 +1,7 @@
 -- Marked states as a session keeps them: by the number of entries that the history had.
-use Rattle.std.specs.Prelude.{◌≡◌, ℕ, ◌≤◌, ⊤, Bool, true, false, List, [], ◌∷◌, take, Option, Some, None}
-use Rattle.apex_machine.specs.Machine.{replay}
+use Rattle.std.specs.Prelude.{◌≡◌, ℕ, ◌≤◌, ⊤, Bool, true, false, List, [], ◌∷◌, map, take, Some, None}
+use Rattle.std.specs.Str.{bytes_eq}
+use Rattle.apex_machine.specs.Machine.{Machine, replay}
 use Rattle.apex_machine.specs.table.Table.{Table}
 use Rattle.apex_steps.specs.Terms.{Entry}
 use Rattle.apex_steps.specs.Sessions.{Mark, Session, gone_back}
@@ -11,6 +12,18 @@ abbrev pub mark_kept : Table → List Entry → MarkKept → Mark
 mark_kept table history mark = record {
   name = mark.name.items;
   machine = replay table (take mark.entries history);
+}
+
+-- the mark is kept with this name
+abbrev pub is_kept_as : List ℕ → MarkKept → Bool
+is_kept_as name mark = bytes_eq mark.name.items name
+
+-- the session of this machine, with these marks
+abbrev pub session_kept : Table → Machine → List MarkKept → Session
+session_kept table machine marks = record {
+  table = table;
+  machine = machine;
+  marks = map (mark_kept table machine.history) marks;
 }
 
 -- none of the marks, the latest first, has more entries than n or than a later one

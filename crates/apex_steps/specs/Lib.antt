@@ -6,3 +6,4 @@ pub mod Kept
 pub mod Answers
 pub mod Conversations
 pub mod Faults
+pub mod Endings

@@ -69,6 +69,7 @@ fn command_with_name<'a>(word: &[u8], name: &'a [u8]) -> Option<Command<'a>>
 }
 
 /// The command that is the words of a line.
+#[tactic(auto, using(crate::proofs::Parts::no_command))]
 fn command_of_words(line: &[u8]) -> Option<Command<'_>>
     ensures { option_map command_said result ≡ command_of_words (parts 32 line.now) }
 {

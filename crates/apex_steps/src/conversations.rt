@@ -2,9 +2,11 @@
 ghost use Rattle.std.specs.Prelude.{◌≡◌, ◌<◌, ℕ, List, [], false, length, IfOk, OnErr, OnOk};
 ghost use Rattle.std.specs.Io.KnownBytes.{Appends, IsAtEnd, prepend_known};
 ghost use Rattle.apex_history.specs.Counted.{inner_of, failures_of, reads_left_of, AppendsBeginning, CountsFailure};
+ghost use Rattle.apex_history.specs.Ports.{ports};
 ghost use Rattle.apex_check.specs.Ahead.{IsAhead, fuel};
 ghost use Rattle.apex_check.specs.Texts.{IsOneLine};
 ghost use Rattle.apex_steps.specs.Conversations.{CountsRead, CountsWritten, Skips, said};
+ghost use Rattle.apex_steps.specs.Endings.{Serves};
 
 use crate::answers::answer;
 use crate::desks::Desk;
@@ -112,7 +114,14 @@ pub fn serve_steps<R: Source, W: Sink>(
     alloc: Global,
     reader: &mut Counted<R>,
     writer: &mut Counted<W>,
-) -> Result<(), StepFault> {
+) -> Result<(), StepFault>
+    ensures { Serves
+        (ports (R.remaining (inner_of reader.old)) (W.contents (inner_of writer.old))
+        (failures_of reader.old) (failures_of writer.old))
+        result
+        (ports (R.remaining (inner_of reader.new)) (W.contents (inner_of writer.new))
+        (failures_of reader.new) (failures_of writer.new)) }
+{
     let mut pending = Pending::new();
     let table = leading_table(alloc, &mut pending, reader)?;
     let session = Session::new(alloc, table)?;

@@ -1,12 +1,12 @@
 //! A session: the kernel of a table, and the states of it that are marked.
-ghost use Rattle.std.specs.Prelude.{◌≡◌, ◌≤◌, ◌+◌, [], ◌∷◌, true, length, drop, take, All, IfOk, IfSome, IfNone, IsOk, ◌↔◌, None, Some};
-ghost use Rattle.std.specs.List.{position_or_len};
+ghost use Rattle.std.specs.Prelude.{◌≡◌, ◌≤◌, true, length, take, All, IfOk};
+ghost use Rattle.std.specs.List.{position};
 ghost use Rattle.apex_machine.specs.Events.{IsWithin};
 ghost use Rattle.apex_machine.specs.Machine.{events_of, opening, run};
 ghost use Rattle.apex_dispatch.specs.Kernel.{kernel_in};
 ghost use Rattle.apex_schedules.specs.Schedule.{are_cores_below, events_of_items};
-ghost use Rattle.apex_steps.specs.Sessions.{after_events, is_named, marked, marks_from, opening_session};
-ghost use Rattle.apex_steps.specs.Kept.{HasGoneBack};
+ghost use Rattle.apex_steps.specs.Sessions.{after_events, marked, opening_session};
+ghost use Rattle.apex_steps.specs.Kept.{HasGoneBack, is_kept_as};
 ghost use Rattle.apex_steps.specs.Answers.{has_room_for};
 
 use crate::events::{event_of, run_items};
@@ -35,17 +35,13 @@ pub struct Session {
 }
 
 impl Model for Session {
-    ghost use Rattle.std.specs.Prelude.{map, length};
+    ghost use Rattle.std.specs.Prelude.{length};
     ghost use Rattle.apex_steps.specs.Sessions.{Session as SessionState};
-    ghost use Rattle.apex_steps.specs.Kept.{AreKept, mark_kept};
+    ghost use Rattle.apex_steps.specs.Kept.{AreKept, session_kept};
 
     ghost Value = { SessionState };
 
-    ghost view = { λ s. record {
-      table = s.kernel.table;
-      machine = s.kernel.machine;
-      marks = map (mark_kept s.kernel.table s.kernel.machine.history) s.marks.items;
-    } };
+    ghost view = { λ s. session_kept s.kernel.table s.kernel.machine s.marks.items };
 
     ghost invariant = { λ s. AreKept (length s.kernel.machine.history) s.marks.items };
 }
@@ -72,6 +68,13 @@ fn replay(kernel: &mut Kernel<QueueStore>, log: &Log, entries: u32)
         // The log had room for it.
         let _ = kernel.accept(event);
     }
+}
+
+/// The place of the latest mark with this name.
+fn place_of(marks: &[Mark], name: &[u8]) -> Option<usize>
+    ensures { result ≡ position (is_kept_as name.now) marks.now }
+{
+    marks.iter().position(|mark| mark.name.as_slice() == name)
 }
 
 impl Session {
@@ -109,6 +112,8 @@ impl Session {
     {
         let mut kept = Vec::with_capacity(alloc, name.len())?;
         kept.extend_from_slice(name)?;
+        self.kernel.holds();
+        self.kernel.table().lawful();
         let entries = self.kernel.entries().len() as u32;
         let mark = Mark {
             name: kept,
@@ -120,31 +125,15 @@ impl Session {
         Ok(())
     }
 
-    /// The place of the latest mark with this name.
-    fn place_of(&self, name: &[u8]) -> Option<usize>
-        ensures found { IfSome result (λ place. place ≡
-            position_or_len (is_named name.now) self.now.marks) }
-        ensures within { IfSome result (λ place. place + 1 ≤ length self.now.marks) }
-        ensures none { IfNone result (marks_from name.now self.now.marks ≡ []) }
-    {
-        let mut place = 0;
-        while place < self.marks.len() {
-            if self.marks[place].name.as_slice() == name {
-                return Some(place);
-            }
-            place += 1;
-        }
-        None
-    }
-
     /// Goes back to the latest mark with this name, whose events are made anew. Without such a mark
     /// the session stays as it was.
     pub(crate) fn back(self, alloc: Global, name: &[u8]) -> Result<(Session, bool), AllocError>
         ensures { IfOk result (λ back. HasGoneBack name.now self back.1 back.0) }
     {
-        let Some(place) = self.place_of(name) else {
+        let Some(place) = place_of(self.marks.as_slice(), name) else {
             return Ok((self, false));
         };
+        self.kernel.holds();
         let Session { kernel, mut marks } = self;
         let entries = marks[place].entries;
         marks.drain(..place);

@@ -35,7 +35,10 @@ discipline = "FIFO"
 /// Lines, and what is said on them behind the eight init steps.
 const TALKS: [(&str, &str); 18] = [
     ("", ""),
-    ("0\n", "9 0 core0 1 WAIT_SEMAPHORE S infinite -> BLOCKED\nok 9\n"),
+    (
+        "0\n",
+        "9 0 core0 1 WAIT_SEMAPHORE S infinite -> BLOCKED\nok 9\n",
+    ),
     (
         "0\n1\n",
         "9 0 core0 1 WAIT_SEMAPHORE S infinite -> BLOCKED\nok 9\n\
@@ -91,19 +94,38 @@ const NO_COMMANDS: &str =
 /// The text of the table, of the line with the init steps, and of these lines.
 fn text_of<R: Abort>(rt: &R, alloc: Global, lines: &[u8]) -> Vec<u8> {
     let mut text = Vec::new(alloc);
-    text.extend_from_slice(TABLE.as_bytes()).expect(rt, "memory");
+    text.extend_from_slice(TABLE.as_bytes())
+        .expect(rt, "memory");
     text.extend_from_slice(b"0*8\n").expect(rt, "memory");
     text.extend_from_slice(lines).expect(rt, "memory");
     text
 }
 
+/// A session over these lines: its end, and all that it wrote on a device whose call of this number
+/// fails.
+fn talk<R: Abort>(
+    rt: &R,
+    alloc: Global,
+    lines: &[u8],
+    failing_read: u64,
+    failing_write: u64,
+) -> (Result<(), StepFault>, Vec<u8>) {
+    let text = text_of(rt, alloc, lines);
+    let mut reader = Counted::new(FailAt::new(text, failing_read));
+    let paper = Vec::with_capacity(alloc, 8_192).expect(rt, "memory");
+    let mut writer = Counted::new(FailAt::new(paper, failing_write));
+    let end = serve_steps(alloc, &mut reader, &mut writer);
+    let device = writer.into_inner();
+    let mut held = Vec::new(alloc);
+    held.extend_from_slice(device.held()).expect(rt, "memory");
+    (end, held)
+}
+
 /// What is said on these lines behind the init steps.
 fn said_on<R: Abort>(rt: &R, alloc: Global, lines: &[u8]) -> String {
-    let mut reader = Counted::new(FailAt::new(text_of(rt, alloc, lines), 0));
-    let mut writer = Counted::new(Vec::new(alloc));
-    let end = serve_steps(alloc, &mut reader, &mut writer);
+    let (end, held) = talk(rt, alloc, lines, 0, 0);
     assert!(rt; end.is_ok());
-    let said = String::from_utf8(writer.into_inner()).expect(rt, "the answers are text");
+    let said = String::from_utf8(held).expect(rt, "the answers are text");
     match said.as_str().split_once("| released 2\nok 8\n") {
         Some((_, behind)) => String::from_str(alloc, behind).expect(rt, "memory"),
         None => said,
@@ -116,4 +138,62 @@ fn each_line_is_answered(rt: HostRuntime) {
         let said = said_on(&rt, rt.alloc(), lines.as_bytes());
         assert_eq!(rt; said.as_str(), want, "on {lines}");
     }
+}
+
+/// The listing behind the ninth entry, a wait of process 1.
+const LISTING: &str = "time 0\nmode NORMAL\nhistory 9\ncore 0 running -\ncore 1 running 2\n\
+    process 1 name P1 state WAITING base 10 current 10 core 0 wait semaphore:1 due - deadline - \
+    suspended - owns - inbox -\n\
+    process 2 name P2 state RUNNING base 10 current 10 core 1 wait - due - deadline - suspended - \
+    owns - inbox -\nsemaphore 1 name S value 0 waiting 1\nok 9\n";
+
+#[test]
+fn the_state_is_listed(rt: HostRuntime) {
+    let said = said_on(&rt, rt.alloc(), b"0\nstate\n");
+    assert!(rt; said.as_str().ends_with(LISTING));
+}
+
+#[test]
+fn a_line_that_is_too_long_is_refused(rt: HostRuntime) {
+    let alloc = rt.alloc();
+    for length in [4_096, 4_097, 30_000] {
+        let mut lines = Vec::new(alloc);
+        lines.resize(length, b'x').expect(&rt, "memory");
+        let said = said_on(&rt, alloc, lines.as_slice());
+        assert_eq!(rt; said.as_str(), "fault no line feed\n", "at {length} bytes");
+        lines.extend_from_slice(b"\nfront\n").expect(&rt, "memory");
+        let want = if length == 4_096 {
+            "fault no command\nfront 8 0 1 2\nok 8\n"
+        } else {
+            "fault line too long\nfront 8 0 1 2\nok 8\n"
+        };
+        let said = said_on(&rt, alloc, lines.as_slice());
+        assert_eq!(rt; said.as_str(), want, "at {length} bytes");
+    }
+}
+
+#[test]
+fn a_failed_call_ends_the_session(rt: HostRuntime) {
+    let alloc = rt.alloc();
+    let lines = b"0\nstate\n1\n".as_slice();
+    let (end, whole) = talk(&rt, alloc, lines, 0, 0);
+    assert!(rt; end.is_ok());
+    let (end, held) = talk(&rt, alloc, lines, 1, 0);
+    assert!(rt; end == Err(StepFault::Read));
+    assert!(rt; held.is_empty());
+    let (end, held) = talk(&rt, alloc, lines, 2, 0);
+    assert!(rt; end == Err(StepFault::Read));
+    assert!(rt; held.as_slice() == whole.as_slice());
+    // Four answers, each written and flushed; the listing is written before its last line.
+    for call in 1..=9 {
+        let (end, held) = talk(&rt, alloc, lines, 0, call);
+        assert!(rt; end == Err(StepFault::Write), "call {call}");
+        assert!(rt;
+            whole.as_slice().starts_with(held.as_slice()),
+            "call {call}"
+        );
+    }
+    let (end, held) = talk(&rt, alloc, lines, 0, 10);
+    assert!(rt; end.is_ok());
+    assert!(rt; held.as_slice() == whole.as_slice());
 }

@@ -7,8 +7,8 @@ use Rattle.apex_check.specs.Ahead.{fuel}
 use Rattle.apex_check.specs.Texts.{IsOneLine}
 use Rattle.apex_steps.proofs.conversations.skip_line.Given as goal
 
-abbrev pub invariant-loop-held : goal.invariant-loop-held
-invariant-loop-held g l = record {
+abbrev pub invariant-loop-end : goal.invariant-loop-end
+invariant-loop-end g l = record {
   taken : (part : List ℕ) × IsOneLine part × (length l.fn.pending ≤ length part + length l.pending) × Consumes (prepend_known l.fn.pending (g.R.Source.remaining (inner_of l.fn.reader))) (prepend_known l.pending (g.R.Source.remaining (inner_of l.reader))) part;
   one : IsOneLine l.pending;
   some : 0 < length l.pending;
@@ -16,5 +16,5 @@ invariant-loop-held g l = record {
   fuel : fuel l.pending (reads_left_of l.reader) ≤ fuel l.fn.pending (reads_left_of l.fn.reader);
 }
 
-abbrev pub decreases-loop-held : goal.decreases-loop-held
-decreases-loop-held g l = fuel l.pending (reads_left_of l.reader)
+abbrev pub decreases-loop-end : goal.decreases-loop-end
+decreases-loop-end g l = fuel l.pending (reads_left_of l.reader)
