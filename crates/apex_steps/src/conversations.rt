@@ -49,9 +49,9 @@ fn skip_line<R: Source>(pending: &mut Pending, reader: &mut Counted<R>) -> io::R
 /// end of the text.
 ///
 /// A line that is no command, or has more than 4,096 bytes, is answered so and changes nothing, and
-/// so are bytes behind the last line feed. Memory is taken for the session's kernel, its marks and the
-/// items of a line. If a read or a write failed, or memory was refused, a prefix of all answers was
-/// written.
+/// so are bytes behind the last line feed. Memory is taken for a mark, for a kernel that goes back
+/// and for the items of a line. If a read or a write failed, or memory was refused, a prefix of all
+/// answers was written.
 pub fn converse<R: Source, W: Sink>(
     alloc: Global,
     session: Session,
