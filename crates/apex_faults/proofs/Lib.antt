@@ -1,0 +1,3 @@
+pub mod Depths
+pub mod Mendings
+pub mod Trees

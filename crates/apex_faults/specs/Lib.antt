@@ -1,0 +1,9 @@
+pub mod Depth
+pub mod Faults
+pub mod Mended
+pub mod Outside
+pub mod Paths
+pub mod Plain
+pub mod Suggestions
+pub mod Terms
+pub mod Trees
