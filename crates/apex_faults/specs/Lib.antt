@@ -1,5 +1,6 @@
 pub mod Depth
 pub mod Faults
+pub mod Locations
 pub mod Mended
 pub mod Outside
 pub mod Paths

@@ -5,4 +5,5 @@ pub use Rattle.apex_table.specs.declared.fault.TableFault.{TableFault}
 pub use Rattle.apex_table.specs.declared.key.Key.{Key}
 pub use Rattle.apex_table.specs.declared.subject.Part.{Part}
 pub use Rattle.apex_table.specs.declared.subject.Subject.{Subject}
+pub use Rattle.apex_faults.specs.declared.findings.Finding.{Finding}
 pub use Rattle.apex_faults.specs.declared.paths.PathStep.{PathStep}

@@ -8,6 +8,7 @@ mod objects;
 mod owning;
 mod process_warnings;
 mod reasons;
+mod report;
 mod step_warnings;
 mod steps;
 mod texts;
@@ -18,5 +19,6 @@ pub use process_warnings::ProcessWarning;
 pub use reasons::{
     aperiodic_waits_are_refused, periodic_processes_are_not_suspended, unfit_messages_are_refused,
 };
+pub use report::{Form, Report, Verdict, report_on};
 pub use step_warnings::StepWarning;
 pub use warnings::{Warning, lint};
