@@ -5,3 +5,4 @@ pub mod Gives
 pub mod Listed
 pub mod ListingEndings
 pub mod Parting
+pub mod Reporting

@@ -1,10 +1,11 @@
 -- The report is that of the kernel's history.
-use Rattle.std.proofs.Common.{arith}
+use Rattle.std.proofs.Common.{ap, arith}
 use Rattle.std.proofs.KnownBytes.{Keeps-refl}
 use Rattle.std.proofs.lemmas.Result.{err_from_is_err_and}
+use Rattle.apex_report.specs.Texts.{report_text}
 use Rattle.apex_lab.specs.Exits.{unbegun}
-use Rattle.apex_lab.specs.declared.words.Listing.TheVariants.{Report}
-use Rattle.apex_lab.proofs.ListingEndings.{lists_prefix, lists_whole}
+use Rattle.apex_lab.proofs.Endings.{shows_prefix, shows_whole}
+use Rattle.apex_lab.proofs.Reporting.{is_report}
 use Rattle.apex_lab.proofs.listings.write_report.Goals as goal
 
 pub report_of-requires : goal.report_of-requires
@@ -17,10 +18,19 @@ returns-in_err-report g c =
 
 pub print_report-requires : goal.print_report-requires
 print_report-requires g c =
-    rw c.table-2.ensures (c.args.kernel.now.machine.history, rw (c.table.ensures, c.entries.ensures) at c.in_ok-report.ensures)
+    (c.args.kernel.now.machine.history,
+    is_report c.table.ensures c.table-2.ensures c.entries.ensures c.in_ok-report.ensures)
 
 pub returns-in-Ok : goal.returns-in-Ok
-returns-in-Ok g c = lists_whole Report c.args.kernel.now.table c.args.kernel.now.machine (rw (c.table-2.ensures, c.in_ok-report.ensures, c.table.ensures, c.entries.ensures) at c.in-Ok.ensures.ok) c.in-Ok.ensures.counted
+returns-in-Ok g c =
+    let history = c.args.kernel.now.machine.history in
+    let is = is_report c.table.ensures c.table-2.ensures c.entries.ensures c.in_ok-report.ensures in
+    shows_whole (_, ap (λ t. report_text t history) c.table-2.ensures, c.in-Ok.ensures.ok history is)
+    c.in-Ok.ensures.counted
 
 pub returns : goal.returns
-returns g c = lists_prefix Report c.args.kernel.now.table c.args.kernel.now.machine (rw (c.table-2.ensures, c.in_ok-report.ensures, c.table.ensures, c.entries.ensures) at c.in-Err.ensures.err) c.in-Err.ensures.counted
+returns g c =
+    let history = c.args.kernel.now.machine.history in
+    let is = is_report c.table.ensures c.table-2.ensures c.entries.ensures c.in_ok-report.ensures in
+    shows_prefix (_, ap (λ t. report_text t history) c.table-2.ensures, c.in-Err.ensures.err history is)
+    c.in-Err.ensures.counted
