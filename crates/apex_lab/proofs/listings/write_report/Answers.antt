@@ -17,9 +17,10 @@ returns-in_err-report g c =
     rw (p.1, p.2) (unbegun (Keeps-refl _))
 
 pub print_report-requires : goal.print_report-requires
-print_report-requires g c =
-    (c.args.kernel.now.machine.history,
-    is_report c.table.ensures c.table-2.ensures c.entries.ensures c.in_ok-report.ensures)
+print_report-requires g c = (
+  c.args.kernel.now.machine.history,
+  is_report c.table.ensures c.table-2.ensures c.entries.ensures c.in_ok-report.ensures,
+)
 
 pub returns-in-Ok : goal.returns-in-Ok
 returns-in-Ok g c =
