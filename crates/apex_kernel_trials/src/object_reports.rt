@@ -7,8 +7,9 @@ use crate::reports::{called, normal, printed, push_next, ticked};
 use apex_history::Log;
 use apex_table::read_table;
 use apex_types::{
-    BufferCall, BufferId, BufferService, Call, Message, MutexCall, MutexId, MutexService, Notice,
-    Origin, ProcessId, Reply, ReturnCode, SemaphoreCall, SemaphoreId, SemaphoreService, Timeout,
+    BufferCall, BufferId, BufferService, Call, Caller, CoreId, LentEntry, Message, MutexCall,
+    MutexId, MutexService, Notice, Origin, ProcessId, Reply, ReturnCode, SemaphoreCall,
+    SemaphoreId, SemaphoreService, Timeout, Who,
 };
 use std::mem::drop;
 
@@ -66,6 +67,47 @@ fn of_buffer(service: BufferService) -> Call {
     Call::Buffer(BufferCall::KindService(BufferId::at(0), service))
 }
 
+const ACCEPTED: Reply = Reply::Code(ReturnCode::NoError);
+
+fn acquire() -> Call {
+    of_mutex(MutexService::Acquire(Timeout::Infinite))
+}
+
+fn signal() -> Call {
+    let service = SemaphoreService::Signal;
+    Call::Semaphore(SemaphoreCall::KindService(SemaphoreId::at(0), service))
+}
+
+fn message() -> Message {
+    Message {
+        origin: Origin::Script(ProcessId::at(0), 0),
+        length: 1,
+    }
+}
+
+fn send() -> Call {
+    of_buffer(BufferService::Send(message(), Timeout::Poll))
+}
+
+fn receive() -> Call {
+    of_buffer(BufferService::Receive(Timeout::Poll))
+}
+
+/// The entry at time 5 of the release that hands the mutex over.
+fn handed_over<'n>(woken: &'n [Notice]) -> LentEntry<'n>
+    requires { length woken.now ≤ 2 }
+{
+    LentEntry {
+        number: 1,
+        now: 5,
+        who: Who::Core(CoreId::new(0)),
+        process: Caller::Process(ProcessId::at(0)),
+        call: Some(of_mutex(MutexService::Release)),
+        reply: ACCEPTED,
+        notices: woken,
+    }
+}
+
 /// Puts the entries of the history into the log. Its notices are the releases of both processes, and
 /// SECOND woken with the mutex.
 fn fill(log: &mut Log, both: &[Notice], woken: &[Notice])
@@ -73,30 +115,21 @@ fn fill(log: &mut Log, both: &[Notice], woken: &[Notice])
     requires woken { length woken.now ≤ 2 }
 {
     let none: [Notice; 0] = [];
-    let accepted = Reply::Code(ReturnCode::NoError);
-    let acquire = of_mutex(MutexService::Acquire(Timeout::Infinite));
-    let release = of_mutex(MutexService::Release);
-    let signal = SemaphoreCall::KindService(SemaphoreId::at(0), SemaphoreService::Signal);
-    let message = Message {
-        origin: Origin::Script(ProcessId::at(0), 0),
-        length: 1,
-    };
-    let send = of_buffer(BufferService::Send(message, Timeout::Poll));
-    let receive = of_buffer(BufferService::Receive(Timeout::Poll));
     push_next(log, &normal(both));
-    push_next(log, &called(0, 0, acquire, accepted));
-    push_next(log, &called(0, 0, Call::Semaphore(signal), accepted));
-    push_next(log, &called(0, 1, acquire, Reply::Blocked));
+    push_next(log, &called(0, 0, acquire(), ACCEPTED));
+    push_next(log, &called(0, 0, signal(), ACCEPTED));
+    push_next(log, &called(0, 1, acquire(), Reply::Blocked));
     push_next(log, &ticked(5, 5, &none));
-    let mut handed = called(5, 0, release, accepted);
-    handed.notices = woken;
-    push_next(log, &handed);
-    push_next(log, &called(5, 0, send, accepted));
+    push_next(log, &handed_over(woken));
+    push_next(log, &called(5, 0, send(), ACCEPTED));
     push_next(log, &ticked(8, 3, &none));
-    push_next(log, &called(8, 0, send, accepted));
-    push_next(log, &called(8, 1, receive, Reply::Message(message)));
+    push_next(log, &called(8, 0, send(), ACCEPTED));
+    push_next(log, &called(8, 1, receive(), Reply::Message(message())));
     push_next(log, &ticked(12, 4, &none));
-    push_next(log, &called(12, 1, release, accepted));
+    push_next(
+        log,
+        &called(12, 1, of_mutex(MutexService::Release), ACCEPTED),
+    );
 }
 
 #[test]

@@ -1,12 +1,14 @@
 //! Searches of two tables for a missed deadline: an urgent process waits for a semaphore that a
 //! preempted one has taken, and the same with a mutex, which raises its owner.
 
-use crate::scans::booted;
+use crate::scans::{booted, turn_of};
+use apex_dispatch::Kernel;
 use apex_explore::Answer;
 use apex_pace::{Pace, USUAL_TURNS};
+use apex_process::QueueStore;
 use apex_search::{Fact, Question, TableSystem};
 use apex_table::read_table;
-use apex_types::{DeadlineType, Event, Notice, ProcessId};
+use apex_types::{DeadlineType, Event, LentEntry, MOST_TICKS, Notice, ProcessId};
 use std::alloc::Global;
 use std::mem::drop;
 use std::process::Abort;
@@ -113,8 +115,25 @@ fn found_by<R: Abort>(rt: &R, alloc: Global, system: &TableSystem) -> Vec<Event>
     system.schedule(alloc, path.as_slice()).expect(rt, "memory")
 }
 
+/// Makes the event in the kernel.
+fn make<R: Abort>(rt: &R, kernel: &mut Kernel<QueueStore>, event: Event) {
+    match event {
+        Event::Turn(core) => turn_of(rt, kernel, core),
+        Event::Tick(n) => {
+            assert!(rt; 1 <= n && n <= MOST_TICKS);
+            assert!(rt; kernel.tick(n).is_ok());
+        }
+    }
+}
+
+/// `high`, the second process, misses its deadline in the entry.
+fn is_late(entry: &LentEntry<'_>) -> bool {
+    let late = Notice::Missed(ProcessId::at(1), DeadlineType::Hard);
+    entry.notices.iter().any(|notice| *notice == late)
+}
+
 /// The shortest schedule that leads to a missed deadline has 40 events. In a kernel the entry of the
-/// last one is of the tick to 16, and `high`, the second process, misses its deadline.
+/// last one, and no other, says that `high` misses it, at time 16.
 #[test]
 fn an_inversion_is_found(rt: HostRuntime) {
     let alloc = rt.alloc();
@@ -124,18 +143,12 @@ fn an_inversion_is_found(rt: HostRuntime) {
     let table = read_table(alloc, SEMAPHORE.as_bytes()).expect(&rt, "the table is lawful");
     let mut kernel = booted(&rt, alloc, table);
     for event in &events {
-        assert!(&rt; kernel.accept(*event).is_ok());
+        make(&rt, &mut kernel, *event);
     }
-    let mut missed = 0;
     for entry in kernel.entries() {
-        for notice in entry.notices {
-            if *notice == Notice::Missed(ProcessId::at(1), DeadlineType::Hard) {
-                assert!(&rt; entry.number == 40 && entry.now == 16);
-                missed += 1;
-            }
-        }
+        assert!(&rt; is_late(&entry) == (entry.number == 40));
     }
-    assert!(&rt; missed == 1);
+    assert!(&rt; kernel.now() == 16);
     drop(kernel);
 }
 
