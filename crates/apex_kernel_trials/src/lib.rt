@@ -1,7 +1,7 @@
 //! The tests of the kernel and of the printing of lines that no stored case can show: how many
 //! records a turn looks at, lines that no run prints, a writer that fails, and the counters of a
-//! trace; the warnings of a table; the report of a history; and a search of a small system. It has no
-//! code of its own.
+//! trace; the warnings of a table; the report of a history; and searches of a small system and of two
+//! tables. It has no code of its own.
 #![tactic(auto)]
 
 #[cfg(test)]
@@ -10,6 +10,8 @@ mod devices;
 mod jugs;
 #[cfg(test)]
 mod lines;
+#[cfg(test)]
+mod object_reports;
 #[cfg(test)]
 mod outlines;
 #[cfg(test)]
@@ -20,6 +22,8 @@ mod papers;
 mod reports;
 #[cfg(test)]
 mod scans;
+#[cfg(test)]
+mod searches;
 #[cfg(test)]
 mod traces;
 #[cfg(test)]

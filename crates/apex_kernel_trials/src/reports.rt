@@ -43,21 +43,25 @@ discipline = "FIFO"
 "#;
 
 /// CONTROL is released at 0, 10 and 20. It ends its jobs at 3 and 18, so their responses are 3 and 8
-/// ticks. LOGGER is released at 0, and its script ends at 18.
+/// ticks. LOGGER is released at 0, and its script ends at 18. Work is open on core 0 from 10 to 16,
+/// which is 6 of 20 ticks. LOGGER waits for the semaphore from entry 2 on, and times out once.
 const REPORT: &str = "\
 history 15
-core 0 turns=5 idle=0 calls=3 lost=0 work_done=5 work_lost=0
-core 1 turns=4 idle=1 calls=3 lost=0 work_done=0 work_lost=0
+core 0 turns=5 idle=0 calls=3 lost=0 work_done=5 work_lost=0 \
+busy_ticks=6 idle_ticks=14 busy_percent=30
+core 1 turns=4 idle=1 calls=3 lost=0 work_done=0 work_lost=0 \
+busy_ticks=0 idle_ticks=20 busy_percent=0
 process CONTROL turns=4 misses=1 timeouts=0 releases=3 completions=2 stops=0 \
 open=20 best=3 worst=8 at=12 \
 NO_ACTION=0 NOT_AVAILABLE=0 INVALID_PARAM=0 INVALID_CONFIG=0 INVALID_MODE=0
 process LOGGER turns=3 misses=0 timeouts=1 releases=1 completions=1 stops=0 \
 open=- best=18 worst=18 at=13 \
 NO_ACTION=0 NOT_AVAILABLE=1 INVALID_PARAM=0 INVALID_CONFIG=0 INVALID_MODE=0
+semaphore S greatest=0 greatest_at=1 queue=1 queue_at=2 timeouts=1
 ";
 
 /// The entry of a call of the process at the core of its number.
-fn called(now: u64, process: u8, call: Call, reply: Reply) -> LentEntry<'static>
+pub(crate) fn called(now: u64, process: u8, call: Call, reply: Reply) -> LentEntry<'static>
     requires { process < 2 }
 {
     LentEntry {
@@ -72,7 +76,7 @@ fn called(now: u64, process: u8, call: Call, reply: Reply) -> LentEntry<'static>
 }
 
 /// The entry of a tick.
-fn ticked<'n>(now: u64, ticks: u32, notices: &'n [Notice]) -> LentEntry<'n>
+pub(crate) fn ticked<'n>(now: u64, ticks: u32, notices: &'n [Notice]) -> LentEntry<'n>
     requires { length notices.now ≤ 2 }
 {
     LentEntry {
@@ -87,7 +91,7 @@ fn ticked<'n>(now: u64, ticks: u32, notices: &'n [Notice]) -> LentEntry<'n>
 }
 
 /// The entry of core 0 that releases both processes.
-fn normal<'n>(notices: &'n [Notice]) -> LentEntry<'n>
+pub(crate) fn normal<'n>(notices: &'n [Notice]) -> LentEntry<'n>
     requires { length notices.now ≤ 2 }
 {
     let call = PartitionCall::SetPartitionMode(RequestedMode::Normal);
@@ -122,7 +126,7 @@ fn waits(timeout: Timeout) -> Call {
 }
 
 /// Puts the entry last, with its number.
-fn push_next(log: &mut Log, entry: &LentEntry<'_>) {
+pub(crate) fn push_next(log: &mut Log, entry: &LentEntry<'_>) {
     if log.is_full() {
         return;
     }
@@ -175,12 +179,18 @@ fn fill(log: &mut Log, control: &[Notice], both: &[Notice], timed_out: &[Notice]
     push_next(log, &ticked(20, 2, control));
 }
 
-/// The text of the report of this log.
-fn printed<R: Abort>(rt: &R, alloc: Global, table: &Table, log: &Log) -> FailAt {
+/// The text of the report of this log, of at most `room` bytes.
+pub(crate) fn printed<R: Abort>(
+    rt: &R,
+    alloc: Global,
+    table: &Table,
+    log: &Log,
+    room: usize,
+) -> FailAt {
     let limit = log.limit();
     prove!(limit <= MOST_ENTRIES);
     let report = report_of(alloc, table, log.entries()).expect(rt, "memory");
-    let mut paper = paper(rt, alloc, REPORT.len(), 0);
+    let mut paper = paper(rt, alloc, room, 0);
     print_report(table, &report, &mut Counted::new(&mut paper)).expect(rt, "room for the report");
     drop(report);
     paper
@@ -195,7 +205,7 @@ fn two_jobs_a_miss_and_a_timeout(rt: HostRuntime) {
     let timed_out = [Notice::Woken(logger, ReturnCode::TimedOut)];
     let missed = [Notice::Missed(control, DeadlineType::Soft)];
     fill(&mut log, &released[..1], &released, &timed_out, &missed);
-    let paper = printed(&rt, rt.alloc(), &table, &log);
+    let paper = printed(&rt, rt.alloc(), &table, &log, REPORT.len());
     assert!(rt; paper.held() == REPORT.as_bytes());
     drop(table);
 }

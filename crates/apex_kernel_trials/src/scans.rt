@@ -53,7 +53,7 @@ const STEPS: [(&str, &str, &str); 2] = [
     few_and_many!("STOP W2"),
 ];
 
-fn turn_of(rt: &impl Abort, kernel: &mut Kernel<QueueStore>, core: CoreId) {
+pub(crate) fn turn_of(rt: &impl Abort, kernel: &mut Kernel<QueueStore>, core: CoreId) {
     assert!(rt; core.number() < kernel.table().cores());
     assert!(rt; kernel.turn(core).is_ok());
 }

@@ -1,11 +1,10 @@
--- The requests of commands, by their parts.
+-- How a run is shown, by its parts.
 use Rattle.std.proofs.Common.{◌≡◌, refl, Option}
 use Rattle.clap.specs.Walk.{Text}
-use Rattle.apex_lab.specs.Words.{Given, Request, Shown, as_svg}
+use Rattle.apex_lab.specs.Words.{as_svg, given_by}
 
--- a request of these parts
-abbrev pub request : Given → Shown → Request
-request given shown = record { given = given; shown = shown }
+pub same_svg : {f k l m : Option Text} → f ≡ k → l ≡ m → as_svg f l ≡ as_svg k m
+same_svg a b = rw (a, b) refl
 
-pub same_svg : {g h : Given} {f k l m : Option Text} → g ≡ h → f ≡ k → l ≡ m → request g (as_svg f l) ≡ request h (as_svg k m)
-same_svg a b c = rw (a, b, c) refl
+pub same_given : {s t u v k l e f : Option Text} → s ≡ t → u ≡ v → k ≡ l → e ≡ f → given_by s u k e ≡ given_by t v l f
+same_given a b c d = rw (a, b, c, d) refl

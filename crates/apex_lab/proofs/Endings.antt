@@ -1,10 +1,10 @@
 -- What a source gives, and the ways in which the program ends, by what was at fault.
-use Rattle.std.proofs.Common.{◌≡◌, inl, inr, List, ℕ, Option, None, Some, refl, subst}
+use Rattle.std.proofs.Common.{◌≡◌, inl, inr, List, ℕ, Option, None, Some, Result, Ok, ap, refl, subst, sym}
 use Rattle.std.specs.Io.KnownBytes.{Keeps}
 use Rattle.apex_machine.specs.Machine.{Machine}
 use Rattle.apex_machine.specs.table.Table as tables
 use Rattle.apex_types.specs.declared.entries.Entry.{Entry}
-use Rattle.apex_history.specs.Counted.{CountsFault}
+use Rattle.apex_history.specs.Counted.{CountsFault, one_more}
 use Rattle.apex_history.specs.Ports.{NoneFails, Ports}
 use Rattle.apex_history.specs.declared.ReadFault.{ReadFault}
 use Rattle.apex_history.specs.declared.ReadFault.TheVariants as read
@@ -16,57 +16,79 @@ use Rattle.apex_check.specs.declared.CheckFault.{CheckFault}
 use Rattle.apex_check.specs.declared.CheckFault.TheVariants as checking
 use Rattle.apex_check.specs.declared.Verdict.{Verdict}
 use Rattle.apex_check.specs.declared.Verdict.TheVariants.{Legal, DepartsAt}
-use Rattle.apex_cli.specs.Faults.{IsUsageOrMemory, fault_of_checking, fault_of_read, fault_line}
-use Rattle.apex_cli.specs.Reports.{Refuses, answer_of, runs_to}
+use Rattle.apex_cli.specs.Exits.{Told}
+use Rattle.apex_cli.specs.Faults.{fault_of_checking, fault_of_read, fault_line}
+use Rattle.apex_cli.specs.Reports.{Answer, Refuses, refuses, runs_to}
 use Rattle.apex_cli.specs.declared.CliFault.{CliFault}
 use Rattle.apex_cli.specs.declared.CliFault.TheVariants.{Usage, Table, NoSeparator, BadLine, TooLong, HistoryFull, Memory, NoThread, Read, Write}
-use Rattle.apex_schedules.specs.declared.Item.{Item}
 use Rattle.apex_pictures.specs.Drawing.{CountsDrawFault}
 use Rattle.apex_pictures.specs.declared.DrawFault.{DrawFault}
 use Rattle.apex_pictures.specs.declared.DrawFault.TheVariants as draw
-use Rattle.apex_lab.specs.Exits.{Ends, Gives, Pictures, at_fault, cut_off, departed, departs, end_of, fails, first_fault, legal, line_of_fault, no_memory, ran, refused, shown, shows, stops, unasked, unread, unwritten, usage, whole}
-use Rattle.apex_lab.specs.Plans.{AppendsPicture, AppendsPrefixOfPicture, fault_of_drawing}
-use Rattle.apex_lab.specs.Tasks.{Asked, Source, View, history, schedule}
+use Rattle.apex_lab.specs.Exits.{Answers, Ends, Gives, Outcome, Shows, at_fault, cut_off, departed, departs, end_of, fails, first_fault, IsRunTo, legal, no_memory, outcome_in, ran, refused, shown, shows, stops, unasked, unread, unscheduled, unwritten, usage, whole}
+use Rattle.apex_lab.specs.Faults.{common_line}
+use Rattle.apex_lab.specs.Plans.{AppendsPrefixOfView, AppendsView, fault_of_drawing}
+use Rattle.apex_lab.specs.Tasks.{Asked, IsUnasked, Picture, Source, Unasked, View, drawn, history}
+use Rattle.apex_lab.specs.declared.faults.LabFault.{LabFault}
+use Rattle.apex_lab.specs.declared.sources.Given.{Given}
+use Rattle.apex_lab.specs.declared.sources.Given.TheVariants as given
+use Rattle.apex_lab.specs.declared.faults.LabFault.TheVariants.{Common, Schedule}
 
 -- ---- what a source gives
 
+-- the outcome of an answer
+abbrev pub outcome_of : Answer → Outcome
+outcome_of (refuses fault) = stops (fails (Common fault))
+outcome_of (runs_to table machine fault) = shows table machine fault
+
+-- the outcome of a run that is to be shown
+pub outcome_is : (answer : Answer) (run : Given) → IsRunTo answer run → outcome_in (Ok run) ≡ outcome_of answer
+outcome_is answer (given.Picture plan) is = sym (ap outcome_of is)
+outcome_is answer (given.Listing listing run) is = sym (ap outcome_of is)
+outcome_is answer (given.Departed verdict) is = absurd is
+
 module _ {left : Option (List ℕ)} {failed : ℕ} where
   -- memory was refused
-  pub gives_no_memory : {source : Source} (after : ℕ) → after ≡ failed → Gives left failed source (stops (fails Memory)) after
+  pub gives_no_memory : {source : Source} (after : ℕ) → after ≡ failed → Gives left failed source (stops (fails (Common Memory))) after
   gives_no_memory after same = rw same no_memory
 
   -- bytes that were not read
   pub gives_unread : {source : Source} (after : ℕ) (fault : ReadFault) → CountsFault fault failed after
-      → Gives left failed source (stops (fails (fault_of_read fault))) after
+      → Gives left failed source (stops (fails (Common (fault_of_read fault)))) after
   gives_unread after read.Memory counts = rw counts no_memory
   gives_unread after read.Read counts = rw counts unread
 
-  -- what the items of a schedule give, over the bytes that were read
-  module _ {source : Source} (after : ℕ) (items given : List Item) (bytes read : List ℕ) (is : source ≡ schedule items) (same : given ≡ items)
-      (all : read ≡ bytes) (ahead : IsAhead bytes left) (counts : after ≡ failed) where
+  -- what a source gives over the bytes that were read, by its answer to them
+  module _ {source : Source} (after : ℕ) (bytes : List ℕ) (answer : Answer) (ahead : IsAhead bytes left) (counts : after ≡ failed)
+      (answers : Answers source bytes answer) where
     -- bytes that are refused
-    pub gives_refused : (fault : CliFault) → Refuses fault (answer_of given read) → Gives left failed source (stops (fails fault)) after
+    pub gives_refused : (fault : CliFault) → Refuses fault answer → Gives left failed source (stops (fails (Common fault))) after
     gives_refused fault (inl memory) = rw (memory, counts) no_memory
-    gives_refused fault (inr refuses) = rw (is, counts) (refused bytes ahead (rw (same, all) at refuses))
+    gives_refused fault (inr is) = rw counts (refused bytes ahead (subst (λ (a : Answer). Answers source bytes a) is answers))
 
     -- events that are made
-    pub gives_run : (table : tables.Table) (machine : Machine) (fault : Option CliFault) → answer_of given read ≡ runs_to table machine fault
+    pub gives_run : (table : tables.Table) (machine : Machine) (fault : Option CliFault) → answer ≡ runs_to table machine fault
         → Gives left failed source (shows table machine fault) after
-    gives_run table machine fault answer = rw (is, counts) (ran bytes ahead (rw (same, all) at answer))
+    gives_run table machine fault is = rw counts (ran bytes ahead (subst (λ (a : Answer). Answers source bytes a) is answers))
+
+    -- the same of a run that is to be shown
+    pub gives_given : (run : Given) → IsRunTo answer run → Gives left failed source (outcome_in (Ok run)) after
+    gives_given (given.Picture plan) is = gives_run _ _ _ is
+    gives_given (given.Listing listing run) is = gives_run _ _ _ is
+    gives_given (given.Departed verdict) is = absurd is
 
   -- a text with a fault
   pub gives_fault : (after : ℕ) (fault : CheckFault) → IsFaultOf left fault → CountsRead fault failed after
-      → Gives left failed history (stops (fails (fault_of_checking fault))) after
+      → Gives left failed history (stops (fails (Common (fault_of_checking fault)))) after
   gives_fault after checking.Memory found counts = rw counts no_memory
   gives_fault after checking.Read found counts = rw counts unread
   gives_fault after fault (text, ahead, at) counts = rw counts (at_fault text ahead at)
 
   -- a legal history
-  pub gives_legal : (after : ℕ) (table made : tables.Table) (verdict : Verdict) (n : ℕ) (machine drawn : Machine) (fault : Option CliFault)
+  pub gives_legal : (after : ℕ) (table made : tables.Table) (verdict : Verdict) (n : ℕ) (machine seen : Machine) (fault : Option CliFault)
       → ((text : List ℕ) × IsAhead text left × HasFollowed text table verdict machine) → verdict ≡ Legal n
-      → made ≡ table → drawn ≡ machine → fault ≡ None → after ≡ failed
-      → Gives left failed history (shows made drawn fault) after
-  gives_legal after table made verdict n machine drawn fault (text, ahead, found) is of same none counts =
+      → made ≡ table → seen ≡ machine → fault ≡ None → after ≡ failed
+      → Gives left failed history (shows made seen fault) after
+  gives_legal after table made verdict n machine seen fault (text, ahead, found) is of same none counts =
       let (lawful, table_is, ran_is) = legal_machine text table n machine (subst (λ (v : Verdict). HasFollowed text table v machine) is found) in
       rw (of, same, none, counts) (subst (λ (t : tables.Table). Gives left failed history (shows t machine None) failed) table_is
       (subst (λ (m : Machine). Gives left failed history (shows lawful.table m None) failed) ran_is (legal text ahead lawful)))
@@ -83,38 +105,52 @@ module _ {left : Option (List ℕ)} {failed : ℕ} where
 
 -- ---- a run that is shown
 
--- a picture that was drawn whole, or not to its end
-pub pictures_whole : {view : View} {table : tables.Table} {machine : Machine} {held after : Option (List ℕ)} {failed failures : ℕ}
-    → AppendsPicture held after view table machine → failures ≡ failed
-    → Pictures view table machine held failed None after failures
-pictures_whole appends same = rw same (whole appends)
+-- a text that was written whole, or not to its end
+pub shows_whole : {view : View} {table : tables.Table} {machine : Machine} {held after : Option (List ℕ)} {failed failures : ℕ}
+    → AppendsView held after view table machine → failures ≡ failed
+    → Shows view table machine held failed None after failures
+shows_whole appends same = rw same (whole appends)
 
-pub pictures_failed : {view : View} {table : tables.Table} {machine : Machine} {held after : Option (List ℕ)} {failed failures : ℕ}
-    → (fault : DrawFault) → AppendsPrefixOfPicture held after view table machine → CountsDrawFault fault failed failures
-    → Pictures view table machine held failed (Some (fault_of_drawing fault)) after failures
-pictures_failed draw.Memory begun counts = rw counts (cut_off begun)
+pub shows_prefix : {view : View} {table : tables.Table} {machine : Machine} {held after : Option (List ℕ)} {failed failures : ℕ}
+    → AppendsPrefixOfView held after view table machine → failures ≡ one_more failed
+    → Shows view table machine held failed (Some Write) after failures
+shows_prefix begun same = rw same (unwritten begun)
+
+-- a picture that was not drawn to its end
+pub pictures_failed : {picture : Picture} {table : tables.Table} {machine : Machine} {held after : Option (List ℕ)} {failed failures : ℕ}
+    → (fault : DrawFault) → AppendsPrefixOfView held after (drawn picture) table machine → CountsDrawFault fault failed failures
+    → Shows (drawn picture) table machine held failed (Some (fault_of_drawing fault)) after failures
+pictures_failed draw.Memory begun counts = rw counts (cut_off refl begun)
 pictures_failed draw.Write begun counts = rw counts (unwritten begun)
 
 -- ---- the ends of the program
 
-module _ {asked : Option Asked} {before after : Ports} where
+module _ {asked : Result Asked Unasked} {before after : Ports} where
   -- words or a schedule that ask for nothing, or no memory
-  pub ends_unasked : (fault : CliFault) → IsUsageOrMemory fault → (fault ≡ Usage → asked ≡ None)
+  pub ends_unasked : (fault : LabFault) → IsUnasked asked fault
       → Keeps before.left after.left → Keeps before.held after.held
       → NoneFails before after → Ends asked before (fails fault) after
-  ends_unasked fault (inl e) none left held none_fails = rw e (usage (none e) left held none_fails)
-  ends_unasked fault (inr e) none left held none_fails = rw e (unasked held none_fails)
+  ends_unasked (Common fault) (inl e) left held none_fails = rw e (unasked left held none_fails)
+  ends_unasked (Common fault) (inr (e, none)) left held none_fails = rw e (usage none left held none_fails)
+  ends_unasked (Schedule bad) (text, none, has) left held none_fails = unscheduled text none has left held none_fails
 
-  -- a run that is shown
-  pub ends_shown : (task : Asked) (table : tables.Table) (machine : Machine) (fault reported ended : Option CliFault) → asked ≡ Some task
+  -- a run that is shown in the view that is asked for
+  pub ends_shown : (task : Asked) (view : View) (table : tables.Table) (machine : Machine) (fault reported ended : Option CliFault)
+      → asked ≡ Ok task → task.view ≡ view
       → Gives before.left before.failed_reads task.source (shows table machine reported) after.failed_reads
-      → Pictures task.view table machine before.held before.failed_writes fault after.held after.failed_writes
+      → Shows view table machine before.held before.failed_writes fault after.held after.failed_writes
       → ended ≡ first_fault fault reported → Ends asked before (end_of ended) after
-  ends_shown task table machine fault reported ended is gives pictures same =
-      rw same (shown table machine fault reported is gives pictures)
+  ends_shown task view table machine fault reported ended is seen gives showing same =
+      rw same (shown table machine fault reported is gives
+      (subst (λ (v : View). Shows v table machine before.held before.failed_writes fault after.held after.failed_writes) (sym seen) showing))
+
+-- the line that was told, by its other form
+pub told_line : {line other : List ℕ} (old new : Option (List ℕ)) (failed failures : ℕ) → other ≡ line → Told other old new failed failures
+    → Told line old new failed failures
+told_line old new failed failures same told = subst (λ (l : List ℕ). Told l old new failed failures) same told
 
 -- the line of a fault other than ill-formed words
-pub other_line : (fault : CliFault) → (fault ≡ Usage → ⊥) → fault_line (Some fault) ≡ line_of_fault fault
+pub other_line : (fault : CliFault) → (fault ≡ Usage → ⊥) → fault_line (Some fault) ≡ common_line fault
 other_line Usage other = absurd (other refl)
 other_line (Table fault) other = refl
 other_line NoSeparator other = refl

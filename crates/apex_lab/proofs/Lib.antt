@@ -1,3 +1,8 @@
 pub mod CommandLemmas
 pub mod Endings
+pub mod FaultPlaces
+pub mod Gives
 pub mod Listed
+pub mod ListingEndings
+pub mod Parting
+pub mod Reporting

@@ -1,5 +1,5 @@
 -- How the program ends.
-use Rattle.std.specs.Prelude.{◌≡◌, codes, ℕ, List, [], Option, None, Some, Result, Ok, Err}
+use Rattle.std.specs.Prelude.{◌≡◌, ℕ, List, [], Option, None, Some, Result, Ok, Err}
 use Rattle.std.specs.Io.KnownBytes.{Keeps}
 use Rattle.apex_history.specs.Counted.{one_more}
 use Rattle.apex_history.specs.Ports.{Ports, NoneFails}
@@ -8,20 +8,28 @@ use Rattle.apex_machine.specs.table.Table as tables
 use Rattle.apex_types.specs.declared.entries.Entry.{Entry}
 use Rattle.apex_check.specs.Ahead.{IsAhead}
 use Rattle.apex_check.specs.Legal.{IsLegal}
+use Rattle.apex_check.specs.Texts.{HasNoSeparator, IsParted}
 use Rattle.apex_check.specs.Verdicts.{IsAtFault, Judges, verdict_text}
 use Rattle.apex_check.specs.declared.CheckFault.{CheckFault}
 use Rattle.apex_check.specs.declared.Verdict.TheVariants.{DepartsAt}
-use Rattle.apex_cli.specs.Faults.{fault_of_checking, fault_line, status_of_fault}
-use Rattle.apex_cli.specs.Reports.{answer_of, refuses, runs_to}
+use Rattle.apex_cli.specs.Faults.{fault_of_checking}
+use Rattle.apex_cli.specs.Reports.{Answer, answer_of, refuses, runs_to}
 use Rattle.apex_cli.specs.declared.CliFault.{CliFault}
-use Rattle.apex_cli.specs.declared.CliFault.TheVariants.{Memory, Read, Usage, Write}
+use Rattle.apex_cli.specs.declared.CliFault.TheVariants.{Memory, NoSeparator, Read, Usage, Write}
+use Rattle.apex_schedules.specs.Readings.{AreItemsOf}
 use Rattle.apex_schedules.specs.declared.Item.{Item}
-use Rattle.apex_lab.specs.Plans.{AppendsPicture, AppendsPrefixOfPicture, IsPlanFor, machine_of}
-use Rattle.apex_lab.specs.Tasks.{Asked, Source, View, history, schedule}
+use Rattle.apex_lab.specs.Faults.{IsBadIn, line_of_fault, status_of_fault}
+use Rattle.apex_lab.specs.Paced.{paced_answer}
+use Rattle.apex_lab.specs.Plans.{AppendsPrefixOfView, AppendsView, IsPlanFor, machine_of}
+use Rattle.apex_lab.specs.Tasks.{Asked, Picture, Source, Unasked, View, drawn, history, ill_formed, listed, no_schedule, paced, schedule, schedule_read}
+use Rattle.apex_lab.specs.declared.faults.BadSchedule.{BadSchedule}
+use Rattle.apex_lab.specs.declared.faults.LabFault.{LabFault}
+use Rattle.apex_lab.specs.declared.faults.LabFault.TheVariants.{Common, Schedule as BadText}
+use Rattle.apex_lab.specs.declared.plans.Plan.{Plan}
 use Rattle.apex_lab.specs.declared.program.Ending.{Ending}
 use Rattle.apex_lab.specs.declared.program.Ending.TheVariants.{Shown, Departed}
-use Rattle.apex_lab.specs.declared.plans.Given.{Given}
-use Rattle.apex_lab.specs.declared.plans.Given.TheVariants as given
+use Rattle.apex_lab.specs.declared.sources.Given.{Given}
+use Rattle.apex_lab.specs.declared.sources.Given.TheVariants as given
 
 -- the end of the program
 pub data End : Type 0 where
@@ -30,32 +38,57 @@ pub data End : Type 0 where
   -- the history departs from what the partition does: the verdict's text is reported
   departs : List ℕ → End
   -- this fault is reported
-  fails : CliFault → End
+  fails : LabFault → End
 
 -- what a source gives: an end, or a machine to show, with the fault that is reported besides
 pub data Outcome : Type 0 where
   stops : End → Outcome
   shows : tables.Table → Machine → Option CliFault → Outcome
 
+-- This is the answer to the items of the schedule behind a table. The table comes before the first
+-- line `%%`, and the schedule behind it.
+pub record IsBehind (text : List ℕ) (answer : Answer) : Type 0 where
+  pub table : List ℕ
+  pub behind : List ℕ
+  pub items : List Item
+  pub parted : IsParted text table behind
+  pub read : AreItemsOf behind items
+  pub answers : answer_of items table ≡ answer
+
+-- this is the answer of a source to the bytes that are read, memory aside; a history has none
+abbrev pub Answers : Source → List ℕ → Answer → Type 0
+Answers (schedule items) bytes answer = answer_of items bytes ≡ answer
+Answers schedule_read bytes answer = IsBehind bytes answer
+Answers (paced pace until) bytes answer = paced_answer pace until bytes ≡ answer
+Answers history bytes answer = ⊥
+
 -- What a source gives, by the bytes that the reader had left and how many of its calls failed
 -- before, and how many failed afterwards.
 pub data Gives (left : Option (List ℕ)) (failed : ℕ) : Source → Outcome → ℕ → Type 0 where
   -- memory was refused
-  no_memory : {source : Source} → Gives left failed source (stops (fails Memory)) failed
+  no_memory : {source : Source} → Gives left failed source (stops (fails (Common Memory))) failed
   -- a read failed
-  unread : {source : Source} → Gives left failed source (stops (fails Read)) (one_more failed)
+  unread : {source : Source}
+      → Gives left failed source (stops (fails (Common Read))) (one_more failed)
   -- the bytes are refused
-  refused : (bytes : List ℕ) → {items : List Item} {fault : CliFault} → IsAhead bytes left
-      → answer_of items bytes ≡ refuses fault
-      → Gives left failed (schedule items) (stops (fails fault)) failed
-  -- the events of the items are made
-  ran : (bytes : List ℕ) → {items : List Item} {table : tables.Table} {machine : Machine}
+  refused : (bytes : List ℕ) → {source : Source} {fault : CliFault} → IsAhead bytes left
+      → Answers source bytes (refuses fault)
+      → Gives left failed source (stops (fails (Common fault))) failed
+  -- the events of a schedule, or those of a pace, are made
+  ran : (bytes : List ℕ) → {source : Source} {table : tables.Table} {machine : Machine}
       {fault : Option CliFault} → IsAhead bytes left
-      → answer_of items bytes ≡ runs_to table machine fault
-      → Gives left failed (schedule items) (shows table machine fault) failed
+      → Answers source bytes (runs_to table machine fault)
+      → Gives left failed source (shows table machine fault) failed
+  -- no line separates a table from a schedule
+  unparted : (bytes : List ℕ) → IsAhead bytes left → HasNoSeparator bytes
+      → Gives left failed schedule_read (stops (fails (Common NoSeparator))) failed
+  -- the text behind the table is no schedule
+  ill_scheduled : (bytes table behind : List ℕ) → {bad : BadSchedule} → IsAhead bytes left
+      → IsParted bytes table behind → IsBadIn behind bad
+      → Gives left failed schedule_read (stops (fails (BadText bad))) failed
   -- the text has a fault
   at_fault : (text : List ℕ) → {fault : CheckFault} → IsAhead text left → IsAtFault text fault
-      → Gives left failed history (stops (fails (fault_of_checking fault))) failed
+      → Gives left failed history (stops (fails (Common (fault_of_checking fault)))) failed
   -- the history departs from what the partition does
   departed : (text : List ℕ) (table : tables.Table) → {n : ℕ} {expected : Option Entry}
       → IsAhead text left → Judges text table (DepartsAt n expected)
@@ -68,21 +101,22 @@ pub data Gives (left : Option (List ℕ)) (failed : ℕ) : Source → Outcome �
 
 -- The ways in which the showing of a machine ends: by the view, the writer before and how many of
 -- its calls failed, the fault, and the writer afterwards and how many failed.
-pub data Pictures (view : View) (table : tables.Table) (machine : Machine)
+pub data Shows (view : View) (table : tables.Table) (machine : Machine)
     (held : Option (List ℕ)) (failed : ℕ)
     : Option CliFault → Option (List ℕ) → ℕ → Type 0 where
   -- memory was refused before anything was written
   unbegun : {after : Option (List ℕ)} → Keeps held after
-      → Pictures view table machine held failed (Some Memory) after failed
-  -- the whole picture was written
-  whole : {after : Option (List ℕ)} → AppendsPicture held after view table machine
-      → Pictures view table machine held failed None after failed
-  -- memory was refused: a prefix of the picture was written
-  cut_off : {after : Option (List ℕ)} → AppendsPrefixOfPicture held after view table machine
-      → Pictures view table machine held failed (Some Memory) after failed
-  -- a write failed: a prefix of the picture was written
-  unwritten : {after : Option (List ℕ)} → AppendsPrefixOfPicture held after view table machine
-      → Pictures view table machine held failed (Some Write) after (one_more failed)
+      → Shows view table machine held failed (Some Memory) after failed
+  -- the whole text was written
+  whole : {after : Option (List ℕ)} → AppendsView held after view table machine
+      → Shows view table machine held failed None after failed
+  -- memory was refused: a prefix of a picture was written
+  cut_off : {picture : Picture} {after : Option (List ℕ)} → view ≡ drawn picture
+      → AppendsPrefixOfView held after view table machine
+      → Shows view table machine held failed (Some Memory) after failed
+  -- a write failed: a prefix of the text was written
+  unwritten : {after : Option (List ℕ)} → AppendsPrefixOfView held after view table machine
+      → Shows view table machine held failed (Some Write) after (one_more failed)
 
 -- the fault of the showing, or else the one that is reported besides
 abbrev pub first_fault : Option CliFault → Option CliFault → Option CliFault
@@ -92,24 +126,40 @@ first_fault (Some fault) reported = Some fault
 -- the end with the fault, if there is one
 abbrev pub end_of : Option CliFault → End
 end_of None = complete
-end_of (Some fault) = fails fault
+end_of (Some fault) = fails (Common fault)
 
 -- the end of an outcome
-abbrev pub end_in : Result Ending CliFault → End
+abbrev pub end_in : Result Ending LabFault → End
 end_in (Ok Shown) = complete
 end_in (Ok (Departed verdict)) = departs verdict.items
 end_in (Err fault) = fails fault
 
 -- what a source gave
-abbrev pub outcome_in : Result Given CliFault → Outcome
-outcome_in (Ok (given.Run plan)) = shows plan.table (machine_of plan) plan.fault
+abbrev pub outcome_in : Result Given LabFault → Outcome
+outcome_in (Ok (given.Picture plan)) = shows plan.table (machine_of plan) plan.fault
+outcome_in (Ok (given.Listing listing run)) = shows run.kernel.table run.kernel.machine run.fault
 outcome_in (Ok (given.Departed verdict)) = stops (departs verdict.items)
 outcome_in (Err fault) = stops (fails fault)
 
--- a run that a source gave is planned for this view
+-- the plan is for the picture of this view
+pub record IsPlanIn (view : View) (plan : Plan) : Type 0 where
+  pub picture : Picture
+  pub is : view ≡ drawn picture
+  pub planned : IsPlanFor picture plan
+
+-- a run that a source gave is to be shown in this view: its picture is planned for the view, or the
+-- view is its listing
 abbrev pub IsGivenFor : View → Given → Type 0
-IsGivenFor view (given.Run plan) = IsPlanFor view plan
+IsGivenFor view (given.Picture plan) = IsPlanIn view plan
+IsGivenFor view (given.Listing listing run) = view ≡ listed listing
 IsGivenFor view (given.Departed verdict) = Unit {0}
+
+-- the run that was given is that of an answer
+abbrev pub IsRunTo : Answer → Given → Type 0
+IsRunTo answer (given.Picture plan) = answer ≡ runs_to plan.table (machine_of plan) plan.fault
+IsRunTo answer (given.Listing listing run) =
+    answer ≡ runs_to run.kernel.table run.kernel.machine run.fault
+IsRunTo answer (given.Departed verdict) = ⊥
 
 -- the exit status: 0 if the run was shown, 1 if the history departs, else the status of the fault
 abbrev pub status_of : End → ℕ
@@ -117,42 +167,37 @@ status_of complete = 0
 status_of (departs report) = 1
 status_of (fails fault) = status_of_fault fault
 
--- the line that reports ill-formed words
-abbrev pub usage_line : List ℕ
-usage_line =
-    codes "apex_lab: usage: apex_lab svg [--schedule S] [--from N] [--to M], apex_lab trace [--schedule S]\n"
-
--- the line that reports a fault; all others are lines of the program `apex`
-abbrev pub line_of_fault : CliFault → List ℕ
-line_of_fault Usage = usage_line
-line_of_fault fault = fault_line (Some fault)
-
 -- what is reported at the end
 abbrev pub report_of : End → List ℕ
 report_of complete = []
 report_of (departs report) = report
 report_of (fails fault) = line_of_fault fault
 
--- The ways in which the program ends: by what it is asked to show, the reader and the writer before,
--- the end, and the reader and the writer afterwards.
-pub data Ends (asked : Option Asked) (before : Ports) : End → Ports → Type 0 where
+-- The ways in which the program ends: by what it is asked to show, the reader and the writer
+-- before, the end, and the reader and the writer afterwards.
+pub data Ends (asked : Result Asked Unasked) (before : Ports) : End → Ports → Type 0 where
   -- memory was refused: nothing was read and nothing written
-  unasked : {after : Ports} → Keeps before.held after.held → NoneFails before after
-      → Ends asked before (fails Memory) after
-  -- the words, the schedule or a number are ill-formed: nothing was read and nothing written
-  usage : {after : Ports} → asked ≡ None → Keeps before.left after.left
+  unasked : {after : Ports} → Keeps before.left after.left → Keeps before.held after.held
+      → NoneFails before after → Ends asked before (fails (Common Memory)) after
+  -- the words or a number are ill-formed: nothing was read and nothing written
+  usage : {after : Ports} → asked ≡ Err ill_formed → Keeps before.left after.left
       → Keeps before.held after.held
-      → NoneFails before after → Ends asked before (fails Usage) after
+      → NoneFails before after → Ends asked before (fails (Common Usage)) after
+  -- the text of a schedule is none: nothing was read and nothing written
+  unscheduled : (text : List ℕ) → {bad : BadSchedule} {after : Ports}
+      → asked ≡ Err (no_schedule text) → IsBadIn text bad → Keeps before.left after.left
+      → Keeps before.held after.held
+      → NoneFails before after → Ends asked before (fails (BadText bad)) after
   -- the source gives nothing to show: nothing was written
-  stopped : {task : Asked} {ends : End} {after : Ports} → asked ≡ Some task
+  stopped : {task : Asked} {ends : End} {after : Ports} → asked ≡ Ok task
       → Gives before.left before.failed_reads task.source (stops ends) after.failed_reads
       → Keeps before.held after.held → after.failed_writes ≡ before.failed_writes
       → Ends asked before ends after
   -- the machine that the source gives is shown
   shown : {task : Asked} (table : tables.Table) (machine : Machine)
-      (fault reported : Option CliFault) → {after : Ports} → asked ≡ Some task
+      (fault reported : Option CliFault) → {after : Ports} → asked ≡ Ok task
       → Gives before.left before.failed_reads task.source (shows table machine reported)
       after.failed_reads
-      → Pictures task.view table machine before.held before.failed_writes fault
+      → Shows task.view table machine before.held before.failed_writes fault
       after.held after.failed_writes
       → Ends asked before (end_of (first_fault fault reported)) after

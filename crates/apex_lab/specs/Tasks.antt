@@ -1,80 +1,179 @@
 -- What the program is asked to show.
-use Rattle.std.specs.Prelude.{ℕ, ◌≤◌, List, Option, Some, None, option_and_then, option_map}
+use Rattle.std.specs.Prelude.{◌≡◌, ◌⊎◌, ℕ, ◌≤◌, List, Option, Some, None, Result, Ok, Err, length, nat_le, if◌then◌else◌, option_and_then, option_map}
 use Rattle.clap.specs.Words.{Text}
+use Rattle.apex_types.specs.Limits.{latest}
+use Rattle.apex_types.specs.Numbers.{at_least, at_most, number_of}
 use Rattle.apex_types.specs.declared.limits.TheConstants.{MOST_ENTRIES}
+use Rattle.apex_cli.specs.declared.CliFault.TheVariants.{Memory, Usage}
+use Rattle.apex_pace.specs.declared.paces.Pace.{Pace}
+use Rattle.apex_pace.specs.declared.paces.TheConstants.{USUAL_TURNS}
 use Rattle.apex_schedules.specs.declared.Item.{Item}
-use Rattle.apex_schedules.specs.Schedule.{items_of, positive_of}
-use Rattle.apex_lab.specs.Words.{Given, Request, Shown, as_svg, as_trace, by_history, by_schedule, request_of}
+use Rattle.apex_schedules.specs.Groups.{grouped_items_of}
+use Rattle.apex_schedules.specs.Schedule.{positive_of}
+use Rattle.apex_lab.specs.Faults.{IsBadIn}
+use Rattle.apex_lab.specs.Words.{Given, Request, Shown, as_listing, as_svg, as_trace, by_history, by_pace, by_schedule, by_schedule_read, request_of}
+use Rattle.apex_lab.specs.declared.faults.LabFault.{LabFault}
+use Rattle.apex_lab.specs.declared.faults.LabFault.TheVariants.{Common, Schedule as BadText}
+use Rattle.apex_lab.specs.declared.tasks.Picture.{Picture as PictureIn}
+use Rattle.apex_lab.specs.declared.tasks.Picture.TheVariants as pictures
 use Rattle.apex_lab.specs.declared.tasks.RunSource.{RunSource}
 use Rattle.apex_lab.specs.declared.tasks.RunSource.TheVariants as run
 use Rattle.apex_lab.specs.declared.tasks.Task.{Task}
 use Rattle.apex_lab.specs.declared.tasks.View.{View as ViewIn}
 use Rattle.apex_lab.specs.declared.tasks.View.TheVariants as shown
+use Rattle.apex_lab.specs.declared.words.Listing.{Listing}
 
 -- how a run is given
 pub data Source : Type 0 where
   -- by the items of a schedule, for the table that is read
   schedule : List Item → Source
+  -- by the schedule that is read, behind its table
+  schedule_read : Source
+  -- by the first schedule of a pace up to a time, for the table that is read
+  paced : Pace → ℕ → Source
   -- by the history that is read, behind its table
   history : Source
 
+-- how a picture shows a run
+pub data Picture : Type 0 where
+  -- as SVG, the entries from the first number to the last
+  svg : ℕ → ℕ → Picture
+  -- as a trace
+  trace : Picture
+
 -- how a run is shown
 pub data View : Type 0 where
-  -- as SVG, the entries from the first number to the last
-  svg : ℕ → ℕ → View
-  -- as a trace
-  trace : View
+  -- as a picture
+  drawn : Picture → View
+  -- as a listing
+  listed : Listing → View
 
 -- what the program is asked to show
 pub record Asked : Type 0 where
   pub source : Source
   pub view : View
 
--- the number of an entry that a text says, and this one if there is no text
+-- why words ask for nothing
+pub data Unasked : Type 0 where
+  -- the words or a number are ill-formed
+  ill_formed : Unasked
+  -- this text is no schedule
+  no_schedule : Text → Unasked
+
+-- the number of an entry, or of turns, that a text says, and this one if there is no text
 abbrev pub number_in : ℕ → Option Text → Option ℕ
 number_in otherwise None = Some otherwise
 number_in otherwise (Some text) = positive_of text
 
--- how a run is given; none if its schedule is ill-formed
-abbrev pub source_in : Given → Option Source
-source_in (by_schedule text) = option_map schedule (items_of text)
-source_in by_history = Some history
+-- the percentage that a text says, 1 to 100, and 100 if there is no text
+abbrev pub percent_in : Option Text → Option ℕ
+percent_in None = Some 100
+percent_in (Some text) = at_least 1 (at_most 100 (number_of text))
+
+-- the time that a text says, in ticks, 0 to 2^36
+abbrev pub time_of : Text → Option ℕ
+time_of text = at_most latest (number_of text)
+
+-- the pace of these turns a tick and this percentage
+abbrev pub pace_of : ℕ → ℕ → Pace
+pace_of turns percent = record { turns = turns; percent = percent }
+
+-- the pace of the texts of the turns a tick and of the percentage; none if one is ill-formed
+abbrev pub pace_in : Option Text → Option Text → Option Pace
+pace_in turns early =
+    option_and_then (λ k. option_map (pace_of k) (percent_in early)) (number_in USUAL_TURNS turns)
+
+-- the run of a pace, by the texts of its time, its turns and its percentage; none if one is
+-- ill-formed
+abbrev pub paced_source : Text → Option Text → Option Text → Option Source
+paced_source until turns early =
+    option_and_then (λ t. option_map (λ pace. paced pace t) (pace_in turns early)) (time_of until)
+
+-- the items, if they are not too many
+abbrev pub if_few : List Item → Option (List Item)
+if_few items = if nat_le (length items) MOST_ENTRIES then Some items else None
+
+-- the items of a schedule's text; none if it is ill-formed, or they are too many
+abbrev pub scheduled_items : Text → Option (List Item)
+scheduled_items text = option_and_then if_few (grouped_items_of text)
+
+-- what is there, or else the reason why words ask for nothing
+abbrev pub or_unasked : {X : Type 0} → Unasked → Option X → Result X Unasked
+or_unasked unasked None = Err unasked
+or_unasked unasked (Some x) = Ok x
+
+-- how a run is given
+abbrev pub source_in : Given → Result Source Unasked
+source_in (by_schedule text) =
+    or_unasked (no_schedule text) (option_map schedule (scheduled_items text))
+source_in by_schedule_read = Ok schedule_read
+source_in (by_pace until turns early) = or_unasked ill_formed (paced_source until turns early)
+source_in by_history = Ok history
+
+-- the SVG from the first number to the last, by their texts; none if one is ill-formed
+abbrev pub svg_between : Option Text → Option Text → Option Picture
+svg_between first last =
+    option_and_then (λ n. option_map (svg n) (number_in MOST_ENTRIES last)) (number_in 1 first)
 
 -- how a run is shown; none if a number is ill-formed
 abbrev pub view_in : Shown → Option View
-view_in (as_svg first last) =
-    option_and_then (λ n. option_map (svg n) (number_in MOST_ENTRIES last)) (number_in 1 first)
-view_in as_trace = Some trace
+view_in (as_svg first last) = option_map drawn (svg_between first last)
+view_in as_trace = Some (drawn trace)
+view_in (as_listing listing) = Some (listed listing)
 
 -- what is asked for by these
 abbrev pub asked_with : Source → View → Asked
 asked_with source view = record { source = source; view = view }
 
--- what a request asks for; none if its schedule or a number is ill-formed
-abbrev pub asked_in : Request → Option Asked
-asked_in request =
-    option_and_then (λ source. option_map (asked_with source) (view_in request.shown))
-    (source_in request.given)
+-- what is asked for by a source and a view, if both are there
+abbrev pub asked_of : Result Source Unasked → Option View → Result Asked Unasked
+asked_of source None = Err ill_formed
+asked_of (Err unasked) (Some view) = Err unasked
+asked_of (Ok source) (Some view) = Ok (asked_with source view)
+
+-- what a request asks for
+abbrev pub asked_in : Option Request → Result Asked Unasked
+asked_in None = Err ill_formed
+asked_in (Some request) = asked_of (source_in request.given) (view_in request.shown)
+
+-- what the words ask for
+abbrev pub asked_by : List Text → Result Asked Unasked
+asked_by words = asked_in (request_of words)
 
 -- how a run is given, of a value of the program
 abbrev pub source_said : RunSource → Source
 source_said (run.Schedule items) = schedule items.items
+source_said run.ReadSchedule = schedule_read
+source_said (run.Pace pace until) = paced pace until
 source_said run.History = history
+
+-- how a picture shows a run, of a value of the program
+abbrev pub picture_said : PictureIn → Picture
+picture_said (pictures.Svg first last) = svg first last
+picture_said pictures.Trace = trace
 
 -- how a run is shown, of a value of the program
 abbrev pub view_said : ViewIn → View
-view_said (shown.Svg first last) = svg first last
-view_said shown.Trace = trace
+view_said (shown.Picture picture) = drawn (picture_said picture)
+view_said (shown.Listing listing) = listed listing
 
 -- the task of a value of the program
 abbrev pub task_said : Task → Asked
 task_said task = asked_with (source_said task.source) (view_said task.view)
 
--- the first number is one that an entry may have
-abbrev pub IsOfEntries : ViewIn → Type 0
-IsOfEntries (shown.Svg first last) = (1 ≤ first) × (first ≤ MOST_ENTRIES)
-IsOfEntries shown.Trace = Unit {0}
+-- the first number of an SVG is one that an entry may have
+abbrev pub IsPictureOfEntries : PictureIn → Type 0
+IsPictureOfEntries (pictures.Svg first last) = (1 ≤ first) × (first ≤ MOST_ENTRIES)
+IsPictureOfEntries pictures.Trace = Unit {0}
 
--- what the words ask for
-abbrev pub asked_by : List Text → Option Asked
-asked_by words = option_and_then asked_in (request_of words)
+-- the same of any view
+abbrev pub IsOfEntries : ViewIn → Type 0
+IsOfEntries (shown.Picture picture) = IsPictureOfEntries picture
+IsOfEntries (shown.Listing listing) = Unit {0}
+
+-- the fault, memory aside, with which the program ends if words ask for nothing
+abbrev pub IsUnasked : {X : Type 0} → Result X Unasked → LabFault → Type 0
+IsUnasked asked (Common fault) =
+    (fault ≡ Memory) ⊎ ((fault ≡ Usage) × (asked ≡ Err ill_formed))
+IsUnasked asked (BadText bad) =
+    (text : Text) × (asked ≡ Err (no_schedule text)) × IsBadIn text bad

@@ -1,34 +1,58 @@
 -- What the words of the command line ask for; the first word is the program's name.
-use Rattle.std.specs.Prelude.{List, Option, Some, None, codes, if◌then◌else◌, option_map}
+use Rattle.std.specs.Prelude.{List, Option, Some, None, codes, if◌then◌else◌, option_and_then, option_map}
 use Rattle.std.specs.Str.{bytes_eq}
 use Rattle.clap.specs.Words.{App, Row, Text, first_of, new_app, with_rule, with_subcommand}
 use Rattle.apex_cli.specs.Words.{option_rule, program_alone, request_by}
+use Rattle.apex_lab.specs.declared.words.Listing.{Listing}
+use Rattle.apex_lab.specs.declared.words.Listing.TheVariants.{Lines, Status, Report, Schedule}
 use Rattle.apex_lab.specs.declared.words.Request.{Request as RequestIn}
 use Rattle.apex_lab.specs.declared.words.SourceWords.{SourceWords}
 use Rattle.apex_lab.specs.declared.words.SourceWords.TheVariants as source
 use Rattle.apex_lab.specs.declared.words.ViewWords.{ViewWords}
 use Rattle.apex_lab.specs.declared.words.ViewWords.TheVariants as view
 
--- `svg [--schedule S] [--from N] [--to M]`
+-- the command of this name, `[--schedule S] [--until T] [--turns K] [--early E]`
+abbrev pub view_command : Text → App
+view_command name =
+    with_rule
+    (with_rule
+    (with_rule (with_rule (new_app name) (option_rule (codes "schedule")))
+    (option_rule (codes "until")))
+    (option_rule (codes "turns")))
+    (option_rule (codes "early"))
+
+-- `svg`, which has `[--from N] [--to M]` too
 abbrev pub svg : App
 svg =
-    with_rule
-    (with_rule (with_rule (new_app (codes "svg")) (option_rule (codes "schedule")))
-    (option_rule (codes "from")))
+    with_rule (with_rule (view_command (codes "svg")) (option_rule (codes "from")))
     (option_rule (codes "to"))
 
--- `trace [--schedule S]`
-abbrev pub trace : App
-trace = with_rule (new_app (codes "trace")) (option_rule (codes "schedule"))
+-- the program's command line, with its commands for pictures
+abbrev pub lab_of_pictures : App
+lab_of_pictures =
+    with_subcommand (with_subcommand (program_alone (codes "apex_lab")) svg.top)
+    (view_command (codes "trace")).top
 
--- the program's command line, with its commands
+-- with those for listings too
 abbrev pub lab : App
-lab = with_subcommand (with_subcommand (program_alone (codes "apex_lab")) svg.top) trace.top
+lab =
+    with_subcommand
+    (with_subcommand
+    (with_subcommand
+    (with_subcommand lab_of_pictures (view_command (codes "lines")).top)
+    (view_command (codes "status")).top)
+    (view_command (codes "report")).top)
+    (view_command (codes "schedule")).top
 
 -- how a run is given
 pub data Given : Type 0 where
   -- by the schedule of this text
   by_schedule : Text → Given
+  -- by a schedule that is read
+  by_schedule_read : Given
+  -- by a pace, up to the time of the first text, with the texts of the turns a tick and of the
+  -- percentage, if they are given
+  by_pace : Text → Option Text → Option Text → Given
   -- by a history
   by_history : Given
 
@@ -38,6 +62,8 @@ pub data Shown : Type 0 where
   as_svg : Option Text → Option Text → Shown
   -- as a trace
   as_trace : Shown
+  -- as this listing
+  as_listing : Listing → Shown
 
 -- what the words ask for
 pub record Request : Type 0 where
@@ -47,6 +73,9 @@ pub record Request : Type 0 where
 -- how a run is given, of a value of the program
 abbrev pub given_said : SourceWords → Given
 given_said (source.Schedule text) = by_schedule text.now
+given_said source.ReadSchedule = by_schedule_read
+given_said (source.Pace until turns early) =
+    by_pace until.now (option_map (λ text. text.now) turns) (option_map (λ text. text.now) early)
 given_said source.History = by_history
 
 -- how a run is shown, of a value of the program
@@ -54,37 +83,57 @@ abbrev pub shown_said : ViewWords → Shown
 shown_said (view.Svg first last) =
     as_svg (option_map (λ text. text.now) first) (option_map (λ text. text.now) last)
 shown_said view.Trace = as_trace
+shown_said (view.Listing listing) = as_listing listing
 
 -- the request of a value of the program
 abbrev pub request_said : RequestIn → Request
 request_said request =
     record { given = given_said request.source; shown = shown_said request.view }
 
--- how a run is given, by the text of a schedule, if there is one
-abbrev pub given_by : Option Text → Given
-given_by None = by_history
-given_by (Some text) = by_schedule text
+-- how a run is given, by the text of a schedule: `-` stands for one that is read
+abbrev pub given_by_schedule : Text → Given
+given_by_schedule text =
+    if bytes_eq text (codes "-") then by_schedule_read else by_schedule text
+
+-- how a run is given, by the texts of a schedule, of a time, of the turns a tick and of the
+-- percentage, if they are given; none if a schedule and a pace are mixed
+abbrev pub given_by : Option Text → Option Text → Option Text → Option Text → Option Given
+given_by None (Some until) turns early = Some (by_pace until turns early)
+given_by (Some text) None None None = Some (given_by_schedule text)
+given_by None None None None = Some by_history
+given_by _ _ _ _ = None
 
 -- how a run is given, for the rows of a command
-abbrev pub given_in : List Row → Given
-given_in rows = given_by (first_of (codes "schedule") rows)
+abbrev pub given_in : List Row → Option Given
+given_in rows =
+    given_by (first_of (codes "schedule") rows) (first_of (codes "until") rows)
+    (first_of (codes "turns") rows) (first_of (codes "early") rows)
 
--- the SVG for the rows of a command
-abbrev pub svg_in : List Row → Request
-svg_in rows = record {
-  given = given_in rows;
-  shown = as_svg (first_of (codes "from") rows) (first_of (codes "to") rows);
-}
+-- a run that is given and shown in these ways
+abbrev pub request_with : Shown → Given → Request
+request_with shown given = record { given = given; shown = shown }
 
--- the trace for the rows of a command
-abbrev pub trace_in : List Row → Request
-trace_in rows = record { given = given_in rows; shown = as_trace }
+-- the request of a command that shows a run in this way, for its rows
+abbrev pub shown_in : Shown → List Row → Option Request
+shown_in shown rows = option_map (request_with shown) (given_in rows)
+
+-- how the SVG for the rows of a command is shown
+abbrev pub svg_in : List Row → Shown
+svg_in rows = as_svg (first_of (codes "from") rows) (first_of (codes "to") rows)
+
+-- how the command of this name shows a run, by its rows
+abbrev pub view_of : Text → List Row → Option Shown
+view_of name rows =
+    if bytes_eq name (codes "svg") then Some (svg_in rows)
+    else if bytes_eq name (codes "trace") then Some as_trace
+    else if bytes_eq name (codes "lines") then Some (as_listing Lines)
+    else if bytes_eq name (codes "status") then Some (as_listing Status)
+    else if bytes_eq name (codes "report") then Some (as_listing Report)
+    else if bytes_eq name (codes "schedule") then Some (as_listing Schedule) else None
 
 -- what the command of this name asks for, with its rows
 abbrev pub request_in : Text × List Row → Option Request
-request_in found =
-    if bytes_eq found.0 (codes "svg") then Some (svg_in found.1)
-    else if bytes_eq found.0 (codes "trace") then Some (trace_in found.1) else None
+request_in found = option_and_then (λ shown. shown_in shown found.1) (view_of found.0 found.1)
 
 -- what the words ask for; none if they ask for nothing that the program does
 abbrev pub request_of : List Text → Option Request

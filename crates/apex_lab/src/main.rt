@@ -1,9 +1,15 @@
-//! The program `apex_lab`: shows the run that a schedule gives, or a history that is legal, as SVG
-//! or as a trace.
+//! The program `apex_lab`: shows the run of a schedule or of a pace, or a history that is legal, as
+//! a picture or as a listing.
 #![tactic(auto)]
 
+mod faults;
+mod listings;
+mod numbers;
+mod parts;
 mod plans;
 mod program;
+mod runs;
+mod sources;
 mod tasks;
 mod words;
 

@@ -1,22 +1,20 @@
-//! The run that a source gives, and the picture that is drawn of it.
-ghost use Rattle.std.specs.Prelude.{◌≡◌, true, All, IfOk, IfErr, Option};
+//! The pictures that are drawn of a run.
+ghost use Rattle.std.specs.Prelude.{◌≡◌, true, All, IfOk, Option};
 ghost use Rattle.apex_machine.specs.Machine.{asked_ticks, event_of, events_of, opening};
 ghost use Rattle.apex_machine.specs.Events.{IsWithin};
 ghost use Rattle.apex_dispatch.specs.Kernel.{kernel_in};
 ghost use Rattle.apex_history.specs.Counted.{inner_of, failures_of};
 ghost use Rattle.apex_cli.specs.Faults.{fault_in};
-ghost use Rattle.apex_cli.specs.Reports.{Refuses, answer_of, runs_to};
 ghost use Rattle.apex_schedules.specs.Schedule.{are_cores_below, events_of_items};
 ghost use Rattle.apex_cli.specs.declared.CliFault.{CliFault as CliFaultOf};
-ghost use Rattle.apex_lab.specs.Exits.{Gives, IsGivenFor, Pictures, first_fault, outcome_in};
+ghost use Rattle.apex_lab.specs.Exits.{Shows, first_fault};
 ghost use Rattle.apex_lab.specs.Plans.{IsListOf, IsPlanFor, IsRunOf, IsStyleOf, fault_of_drawing, machine_of};
-ghost use Rattle.apex_lab.specs.Tasks.{IsOfEntries, View as ViewAsked, history, source_said, trace, view_said};
+ghost use Rattle.apex_lab.specs.Tasks.{IsPictureOfEntries, Picture as PictureAsked, drawn, picture_said, trace};
 
-use crate::tasks::{RunSource, Task, View};
-use apex_check::{Followed, Verdict, follow, verdict_text};
-use apex_cli::{CliFault, kernel_for, ran, repeated, table_for};
+use crate::tasks::Picture;
+use apex_cli::{CliFault, repeated};
 use apex_dispatch::Kernel;
-use apex_history::{Counted, Lines, Sink, Source, read_all};
+use apex_history::{Counted, Sink};
 use apex_pictures::{DrawFault, Frame, Style, draw};
 use apex_process::QueueStore;
 use apex_schedules::Item;
@@ -33,15 +31,6 @@ pub struct Plan {
     pub events: Vec<Event>,
     /// `HistoryFull` if there were more events.
     pub fault: Option<CliFault>,
-}
-
-/// What a source gives.
-#[derive(Drop)]
-pub enum Given {
-    /// A run that is to be shown.
-    Run(Plan),
-    /// The text of the verdict on a history that departs from what the partition does.
-    Departed(Lines),
 }
 
 /// How many ticks a tick asked for.
@@ -65,7 +54,7 @@ fn event_of(entry: &LentEntry<'_>) -> Event
 }
 
 /// The events of a kernel's history.
-fn events_in<S: Store>(alloc: Global, kernel: &Kernel<S>) -> Result<Vec<Event>, AllocError>
+pub fn events_in<S: Store>(alloc: Global, kernel: &Kernel<S>) -> Result<Vec<Event>, AllocError>
     ensures { IfOk result (λ events. events.items ≡ events_of kernel.now.machine.history) }
 {
     let mut events = Vec::new(alloc);
@@ -75,32 +64,32 @@ fn events_in<S: Store>(alloc: Global, kernel: &Kernel<S>) -> Result<Vec<Event>, 
     Ok(events)
 }
 
-/// The style in which a view shows a kernel's history.
-fn style_for<S: Store>(view: View, kernel: &Kernel<S>) -> Style
-    requires { IsOfEntries view }
-    ensures { IsStyleOf (view_said view) result }
+/// The style in which a picture shows a kernel's history.
+fn style_for<S: Store>(picture: Picture, kernel: &Kernel<S>) -> Style
+    requires { IsPictureOfEntries picture }
+    ensures { IsStyleOf (picture_said picture) result }
 {
-    match view {
-        View::Svg { first, last } => Style::Svg(Frame::new(kernel, first, last)),
-        View::Trace => Style::Trace,
+    match picture {
+        Picture::Svg { first, last } => Style::Svg(Frame::new(kernel, first, last)),
+        Picture::Trace => Style::Trace,
     }
 }
 
-/// The plan of a view of a kernel's history, with this fault.
-fn plan_in<S: Store>(
+/// The plan of a picture of a kernel's history, with this fault.
+pub fn plan_in<S: Store>(
     alloc: Global,
-    view: View,
+    picture: Picture,
     kernel: Kernel<S>,
     fault: Option<CliFault>,
 ) -> Result<Plan, AllocError>
-    requires { IsOfEntries view }
+    requires { IsPictureOfEntries picture }
     ensures table { IfOk result (λ plan. plan.table ≡ kernel.table) }
     ensures machine { IfOk result (λ plan. machine_of plan ≡ kernel.machine) }
     ensures fault { IfOk result (λ plan. plan.fault ≡ fault) }
-    ensures plan { IfOk result (IsPlanFor (view_said view)) }
+    ensures plan { IfOk result (IsPlanFor (picture_said picture)) }
 {
     kernel.holds();
-    let style = style_for(view, &kernel);
+    let style = style_for(picture, &kernel);
     let events = events_in(alloc, &kernel)?;
     Ok(Plan {
         style,
@@ -108,20 +97,6 @@ fn plan_in<S: Store>(
         events,
         fault,
     })
-}
-
-/// The plan of a view of the run of the items, on the table of this text.
-fn run_plan(alloc: Global, view: View, items: &[Item], text: &[u8]) -> Result<Plan, CliFault>
-    requires { IsOfEntries view }
-    ensures ok { IfOk result (λ plan.
-        answer_of items.now text.now ≡ runs_to plan.table (machine_of plan) plan.fault) }
-    ensures plan { IfOk result (IsPlanFor (view_said view)) }
-    ensures err { IfErr result (λ fault. Refuses fault (answer_of items.now text.now)) }
-{
-    let mut kernel: Kernel<QueueStore> = kernel_for(alloc, items, text)?;
-    let fault = ran(&mut kernel, items);
-    let plan = plan_in(alloc, view, kernel, fault)?;
-    Ok(plan)
 }
 
 /// The events for which items ask.
@@ -160,7 +135,7 @@ fn listed(alloc: Global, items: &[Item], table: &Table) -> Result<EventList, All
 
 /// The plan of a trace of the run of the items, on this table. Nothing is run: a trace has no
 /// frame.
-fn trace_plan(alloc: Global, items: &[Item], table: Table) -> Result<Plan, AllocError>
+pub fn trace_plan(alloc: Global, items: &[Item], table: Table) -> Result<Plan, AllocError>
     requires { are_cores_below table.cores items.now ≡ true }
     ensures table { IfOk result (λ plan. plan.table ≡ table) }
     ensures run { IfOk result (λ plan. IsRunOf items.now table plan.events.items plan.fault) }
@@ -178,70 +153,6 @@ fn trace_plan(alloc: Global, items: &[Item], table: Table) -> Result<Plan, Alloc
         events: found.events,
         fault,
     })
-}
-
-/// The plan of a view of the run of the items, on the table of this text.
-///
-/// The errors in the order of the checks: the table's fault, `Usage` if an item is of a core that
-/// the table lacks; `Memory` whenever memory is refused.
-fn plan_of_items(alloc: Global, view: View, items: &[Item], text: &[u8]) -> Result<Plan, CliFault>
-    requires { IsOfEntries view }
-    ensures ok { IfOk result (λ plan.
-        answer_of items.now text.now ≡ runs_to plan.table (machine_of plan) plan.fault) }
-    ensures plan { IfOk result (IsPlanFor (view_said view)) }
-    ensures err { IfErr result (λ fault. Refuses fault (answer_of items.now text.now)) }
-{
-    match view {
-        View::Svg { .. } => run_plan(alloc, view, items, text),
-        View::Trace => {
-            let table = table_for(alloc, items, text)?;
-            let plan = trace_plan(alloc, items, table)?;
-            Ok(plan)
-        }
-    }
-}
-
-/// What the history that the reader has gives, behind its table.
-fn given_by_history<R: Source>(
-    alloc: Global,
-    view: View,
-    reader: &mut Counted<R>,
-) -> Result<Given, CliFault>
-    requires { IsOfEntries view }
-    ensures gives { Gives (R.remaining (inner_of reader.old)) (failures_of reader.old)
-        history (outcome_in result) (failures_of reader.new) }
-    ensures plan { IfOk result (IsGivenFor (view_said view)) }
-{
-    let followed = follow(alloc, |table| QueueStore::new(alloc, table), reader)?;
-    let Followed { verdict, kernel } = followed;
-    match &verdict {
-        Verdict::Legal(_) => {
-            let plan = plan_in(alloc, view, kernel, None)?;
-            Ok(Given::Run(plan))
-        }
-        Verdict::DepartsAt(..) => Ok(Given::Departed(verdict_text(kernel.table(), &verdict))),
-    }
-}
-
-/// What the source of a task gives.
-pub fn given_by<R: Source>(
-    alloc: Global,
-    task: &Task,
-    reader: &mut Counted<R>,
-) -> Result<Given, CliFault>
-    requires { IsOfEntries task.now.view }
-    ensures gives { Gives (R.remaining (inner_of reader.old)) (failures_of reader.old)
-        (source_said task.now.source) (outcome_in result) (failures_of reader.new) }
-    ensures plan { IfOk result (IsGivenFor (view_said task.now.view)) }
-{
-    match &task.source {
-        RunSource::Schedule(items) => {
-            let text = read_all(alloc, reader)?;
-            let plan = plan_of_items(alloc, task.view, items.as_slice(), text.as_slice())?;
-            Ok(Given::Run(plan))
-        }
-        RunSource::History => given_by_history(alloc, task.view, reader),
-    }
 }
 
 /// The fault of a drawing.
@@ -265,8 +176,8 @@ fn booted(alloc: Global, table: Table) -> Result<Kernel<QueueStore>, AllocError>
 /// Draws the picture of a plan, and answers its fault once it is drawn.
 pub fn show<W: Sink>(alloc: Global, plan: Plan, writer: &mut Counted<W>) -> Result<(), CliFault>
     requires { All (IsWithin plan.table.cores) plan.events.items }
-    ensures { (view : ViewAsked) → IsStyleOf view plan.style → (fault : Option CliFaultOf)
-        × Pictures view plan.table (machine_of plan) (W.contents (inner_of writer.old))
+    ensures { (picture : PictureAsked) → IsStyleOf picture plan.style → (fault : Option CliFaultOf)
+        × Shows (drawn picture) plan.table (machine_of plan) (W.contents (inner_of writer.old))
         (failures_of writer.old) fault (W.contents (inner_of writer.new)) (failures_of writer.new)
         × (fault_in result ≡ first_fault fault plan.fault) }
 {

@@ -5,15 +5,16 @@ ghost use Rattle.apex_cli.specs.Exits.{Told};
 ghost use Rattle.apex_cli.specs.Streams.{ports_of};
 ghost use Rattle.apex_lab.specs.Exits.{End, Ends, end_in, fails, report_of, status_of};
 ghost use Rattle.apex_lab.specs.Tasks.{asked_by};
+ghost use Rattle.apex_lab.specs.declared.faults.LabFault.TheVariants.{Common};
 
-use crate::plans::{Given, given_by, show};
+use crate::faults::{LabFault, USAGE, schedule_line};
+use crate::listings::list;
+use crate::plans::show;
+use crate::sources::{Given, given_by};
 use crate::tasks::task_asked;
 use apex_cli::{CliFault, fault_line, write_error};
 use apex_history::{Counted, Lines, Sink, Source};
 use std::alloc::Global;
-
-const USAGE: &str =
-    "apex_lab: usage: apex_lab svg [--schedule S] [--from N] [--to M], apex_lab trace [--schedule S]\n";
 
 /// The end of the program if it meets no fault.
 #[derive(Drop)]
@@ -30,15 +31,19 @@ fn carry_out<R: Source, W: Sink>(
     words: &[String],
     reader: &mut Counted<R>,
     writer: &mut Counted<W>,
-) -> Result<Ending, CliFault>
+) -> Result<Ending, LabFault>
     ensures { Ends (asked_by (map string_bytes words.now))
         (ports_of R.remaining W.contents reader.old writer.old) (end_in result)
         (ports_of R.remaining W.contents reader.new writer.new) }
 {
     let task = task_asked(alloc, words)?;
     match given_by(alloc, &task, reader)? {
-        Given::Run(plan) => {
+        Given::Picture(plan) => {
             show(alloc, plan, writer)?;
+            Ok(Ending::Shown)
+        }
+        Given::Listing(listing, run) => {
+            list(alloc, listing, run, writer)?;
             Ok(Ending::Shown)
         }
         Given::Departed(verdict) => Ok(Ending::Departed(verdict)),
@@ -46,7 +51,7 @@ fn carry_out<R: Source, W: Sink>(
 }
 
 /// The program's exit status.
-fn status_of(outcome: &Result<Ending, CliFault>) -> u8
+fn status_of(outcome: &Result<Ending, LabFault>) -> u8
     ensures { result ≡ status_of (end_in outcome.now) }
 {
     match outcome {
@@ -58,7 +63,7 @@ fn status_of(outcome: &Result<Ending, CliFault>) -> u8
 
 /// Reports the departure or the fault, if there is one, on the error writer.
 #[tactic(auto, using(crate::proofs::Endings::other_line))]
-fn tell<E: Sink>(outcome: &Result<Ending, CliFault>, error_writer: &mut Counted<E>)
+fn tell<E: Sink>(outcome: &Result<Ending, LabFault>, error_writer: &mut Counted<E>)
     ensures { Told (report_of (end_in outcome.now))
         (E.contents (inner_of error_writer.old)) (E.contents (inner_of error_writer.new))
         (failures_of error_writer.old) (failures_of error_writer.new) }
@@ -66,8 +71,13 @@ fn tell<E: Sink>(outcome: &Result<Ending, CliFault>, error_writer: &mut Counted<
     match outcome {
         Ok(Ending::Shown) => {}
         Ok(Ending::Departed(verdict)) => write_error(verdict.as_slice(), error_writer),
-        Err(CliFault::Usage) => write_error(USAGE.as_bytes(), error_writer),
-        Err(fault) => write_error(fault_line(Some(*fault)).as_str().as_bytes(), error_writer),
+        Err(LabFault::Schedule(bad)) => {
+            write_error(schedule_line(*bad).as_str().as_bytes(), error_writer);
+        }
+        Err(LabFault::Common(CliFault::Usage)) => write_error(USAGE.as_bytes(), error_writer),
+        Err(LabFault::Common(fault)) => {
+            write_error(fault_line(Some(*fault)).as_str().as_bytes(), error_writer);
+        }
     }
 }
 
@@ -87,11 +97,11 @@ pub fn serve<R: Source, W: Sink, E: Sink>(
         (failures_of error_writer.old) (failures_of error_writer.new)
         × MatchResult words
         (λ given. Ends (asked_by (map string_bytes given.items)) before ends after)
-        (λ fault. (ends ≡ fails fault) × (after ≡ before)) }
+        (λ fault. (ends ≡ fails (Common fault)) × (after ≡ before)) }
 {
     let outcome = match words {
         Ok(words) => carry_out(alloc, words.as_slice(), reader, writer),
-        Err(fault) => Err(fault),
+        Err(fault) => Err(LabFault::Common(fault)),
     };
     tell(&outcome, error_writer);
     status_of(&outcome)

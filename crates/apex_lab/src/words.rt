@@ -1,8 +1,9 @@
 //! The words of the command line.
-ghost use Rattle.std.specs.Prelude.{◌≡◌, IfOk, IfErr, IsErrOf, Some, None, map, string_bytes, option_map, option_and_then};
+ghost use Rattle.std.specs.Prelude.{◌≡◌, false, IfOk, IfErr, IsErrOf, Some, None, map, string_bytes, option_map, option_and_then};
+ghost use Rattle.clap.specs.declared.builder.command.Command.TheViews.{out-Command as fields_of};
 ghost use Rattle.clap.specs.Words.{app_of, found_of, rows_of, subcommand_rows_of};
 ghost use Rattle.apex_cli.specs.Faults.{IsUsageOrMemory};
-ghost use Rattle.apex_lab.specs.Words.{given_in, given_said, lab, request_in, request_of, request_said, svg_in, trace_in};
+ghost use Rattle.apex_lab.specs.Words.{given_by, given_in, given_said, lab, lab_of_pictures, request_in, request_of, request_said, shown_said, svg, svg_in, view_command, view_of};
 
 use apex_cli::{CliFault, matches_of, option};
 use clap::{ArgMatches, Command};
@@ -13,8 +14,30 @@ use std::alloc::{AllocError, Global};
 pub enum SourceWords<'a> {
     /// By the schedule of this text.
     Schedule(&'a str),
+    /// By a schedule that is read.
+    ReadSchedule,
+    /// By a pace, up to a time, with the texts of the turns a tick and of the percentage, if they
+    /// are given.
+    Pace {
+        until: &'a str,
+        turns: Option<&'a str>,
+        early: Option<&'a str>,
+    },
     /// By a history.
     History,
+}
+
+/// A listing of a run.
+#[derive(Clone, Copy, Debug, PartialEq, Eq)]
+pub enum Listing {
+    /// The lines of its history.
+    Lines,
+    /// Its last state.
+    Status,
+    /// The figures of each core and each process.
+    Report,
+    /// The schedule of its events.
+    Schedule,
 }
 
 /// How a run is shown, by the words.
@@ -27,6 +50,8 @@ pub enum ViewWords<'a> {
     },
     /// As a trace.
     Trace,
+    /// As a listing.
+    Listing(Listing),
 }
 
 /// What the words ask for.
@@ -36,21 +61,48 @@ pub struct Request<'a> {
     pub view: ViewWords<'a>,
 }
 
+/// The command of this name, with the options that say how a run is given.
+fn view_command<'a>(alloc: Global, name: &'static str) -> Result<Command<'a>, AllocError>
+    ensures app { IfOk result (λ c. app_of c ≡ view_command name.now) }
+    ensures local { IfOk result (λ c. (fields_of c).has_globals ≡ false) }
+{
+    let with_schedule = Command::new(alloc, name).arg(option(alloc, "schedule"))?;
+    let with_until = with_schedule.arg(option(alloc, "until"))?;
+    let with_turns = with_until.arg(option(alloc, "turns"))?;
+    with_turns.arg(option(alloc, "early"))
+}
+
+fn svg_command<'a>(alloc: Global) -> Result<Command<'a>, AllocError>
+    ensures app { IfOk result (λ c. app_of c ≡ svg) }
+    ensures local { IfOk result (λ c. (fields_of c).has_globals ≡ false) }
+{
+    let with_from = view_command(alloc, "svg")?.arg(option(alloc, "from"))?;
+    with_from.arg(option(alloc, "to"))
+}
+
+/// The program's command line, with its commands for pictures.
+fn picture_commands<'a>(alloc: Global) -> Result<Command<'a>, AllocError>
+    ensures { IfOk result (λ c. app_of c ≡ lab_of_pictures) }
+{
+    let with_svg = Command::new(alloc, "apex_lab")
+        .subcommand_required(true)
+        .subcommand(svg_command(alloc)?)?;
+    with_svg.subcommand(view_command(alloc, "trace")?)
+}
+
 fn command<'a>(alloc: Global) -> Result<Command<'a>, AllocError>
     ensures { IfOk result (λ c. app_of c ≡ lab) }
 {
-    let svg_schedule = Command::new(alloc, "svg").arg(option(alloc, "schedule"))?;
-    let svg_from = svg_schedule.arg(option(alloc, "from"))?;
-    let svg = svg_from.arg(option(alloc, "to"))?;
-    let trace = Command::new(alloc, "trace").arg(option(alloc, "schedule"))?;
-    let with_svg = Command::new(alloc, "apex_lab")
-        .subcommand_required(true)
-        .subcommand(svg)?;
-    with_svg.subcommand(trace)
+    let pictures = picture_commands(alloc)?;
+    let with_lines = pictures.subcommand(view_command(alloc, "lines")?)?;
+    let with_status = with_lines.subcommand(view_command(alloc, "status")?)?;
+    let with_report = with_status.subcommand(view_command(alloc, "report")?)?;
+    with_report.subcommand(view_command(alloc, "schedule")?)
 }
 
-/// What the words ask for: `svg [--schedule S] [--from N] [--to M]` or `trace [--schedule S]`.
-/// Other words are `Usage`.
+/// What the words ask for: `svg`, `trace`, `lines`, `status`, `report` or `schedule`, with
+/// `--schedule S`, with `--until T [--turns K] [--early E]`, or with neither; `svg` also with
+/// `[--from N] [--to M]`. Other words are `Usage`.
 pub fn request_in<'a>(alloc: Global, words: &'a [String]) -> Result<Request<'a>, CliFault>
     ensures ok { IfOk result (λ r. request_of (map string_bytes words.entry.now)
         ≡ Some (request_said r)) }
@@ -68,36 +120,65 @@ pub fn request_in<'a>(alloc: Global, words: &'a [String]) -> Result<Request<'a>,
     }
 }
 
+/// How a run is given, by the texts of the options that are given. None if a schedule and a pace
+/// are mixed.
+fn source_by<'a>(
+    schedule: Option<&'a str>,
+    until: Option<&'a str>,
+    turns: Option<&'a str>,
+    early: Option<&'a str>,
+) -> Option<SourceWords<'a>>
+    ensures { option_map given_said result ≡ given_by
+        (option_map (λ text. text.now) schedule.entry) (option_map (λ text. text.now) until.entry)
+        (option_map (λ text. text.now) turns.entry) (option_map (λ text. text.now) early.entry) }
+{
+    match (schedule, until, turns, early) {
+        (None, Some(until), turns, early) => Some(SourceWords::Pace {
+            until,
+            turns,
+            early,
+        }),
+        (Some("-"), None, None, None) => Some(SourceWords::ReadSchedule),
+        (Some(schedule), None, None, None) => Some(SourceWords::Schedule(schedule)),
+        (None, None, None, None) => Some(SourceWords::History),
+        _ => None,
+    }
+}
+
 /// How a run is given, by a command's matches.
-fn source_given<'a>(matches: &ArgMatches<'a>) -> SourceWords<'a>
-    ensures { given_said result ≡ given_in (rows_of (found_of matches.now)) }
+fn source_given<'a>(matches: &ArgMatches<'a>) -> Option<SourceWords<'a>>
+    ensures { option_map given_said result ≡ given_in (rows_of (found_of matches.now)) }
 {
-    match matches.get_str("schedule") {
-        Some(schedule) => SourceWords::Schedule(schedule),
-        None => SourceWords::History,
+    source_by(
+        matches.get_str("schedule"),
+        matches.get_str("until"),
+        matches.get_str("turns"),
+        matches.get_str("early"),
+    )
+}
+
+/// The SVG for which a command's matches ask.
+fn svg_given<'a>(matches: &ArgMatches<'a>) -> ViewWords<'a>
+    ensures { shown_said result ≡ svg_in (rows_of (found_of matches.now)) }
+{
+    ViewWords::Svg {
+        first: matches.get_str("from"),
+        last: matches.get_str("to"),
     }
 }
 
-/// The SVG that a command's matches ask for.
-fn svg_given<'a>(matches: &ArgMatches<'a>) -> Request<'a>
-    ensures { request_said result ≡ svg_in (rows_of (found_of matches.now)) }
+/// How the command of this name shows a run, by its matches.
+fn view_given<'a>(name: &str, matches: &ArgMatches<'a>) -> Option<ViewWords<'a>>
+    ensures { option_map shown_said result ≡ view_of name.now (rows_of (found_of matches.now)) }
 {
-    Request {
-        source: source_given(matches),
-        view: ViewWords::Svg {
-            first: matches.get_str("from"),
-            last: matches.get_str("to"),
-        },
-    }
-}
-
-/// The trace that a command's matches ask for.
-fn trace_given<'a>(matches: &ArgMatches<'a>) -> Request<'a>
-    ensures { request_said result ≡ trace_in (rows_of (found_of matches.now)) }
-{
-    Request {
-        source: source_given(matches),
-        view: ViewWords::Trace,
+    match name {
+        "svg" => Some(svg_given(matches)),
+        "trace" => Some(ViewWords::Trace),
+        "lines" => Some(ViewWords::Listing(Listing::Lines)),
+        "status" => Some(ViewWords::Listing(Listing::Status)),
+        "report" => Some(ViewWords::Listing(Listing::Report)),
+        "schedule" => Some(ViewWords::Listing(Listing::Schedule)),
+        _ => None,
     }
 }
 
@@ -105,9 +186,8 @@ fn request_given<'a>(matches: &ArgMatches<'a>) -> Option<Request<'a>>
     ensures { option_map request_said result
         ≡ option_and_then request_in (subcommand_rows_of matches.now) }
 {
-    match matches.subcommand() {
-        Some(("svg", svg)) => Some(svg_given(svg)),
-        Some(("trace", trace)) => Some(trace_given(trace)),
-        _ => None,
-    }
+    let (name, found) = matches.subcommand()?;
+    let view = view_given(name, found)?;
+    let source = source_given(found)?;
+    Some(Request { source, view })
 }

@@ -1,21 +1,21 @@
 -- An entry adds at most one to each count, so no count is above the number of entries.
-use Rattle.std.proofs.Common.{◌≡◌, ℕ, ◌+◌, ◌<◌, ◌≤◌, zero, suc, Bool, true, false, Option, None, Some, List, [], ◌∷◌, ◌++◌, take, drop, length, map, get_or, option_to_list, if◌then◌else◌, arith}
+use Rattle.std.proofs.Common.{◌≡◌, ℕ, ◌+◌, ◌<◌, ◌≤◌, zero, suc, Bool, true, false, Option, None, Some, List, [], ◌∷◌, ◌++◌, take, drop, length, map, get_or, option_to_list, if◌then◌else◌, not, arith}
 use Rattle.std.specs.List.{AllByRecursion}
-use Rattle.apex_types.specs.declared.limits.TheConstants.{MOST_ENTRIES, MOST_SPAN}
-use Rattle.apex_report.specs.Cores.{core_figures, is_done_turn, is_idle_turn, is_lost_turn, is_service_turn, is_turn, units, units_if}
+use Rattle.apex_types.specs.declared.limits.TheConstants.{MOST_SPAN}
+use Rattle.apex_report.specs.Cores.{core_figures, is_done_turn, is_idle_turn, is_lost_turn, is_service_turn, is_turn, ticks_in, units, units_if}
 use Rattle.apex_report.specs.Jobs.{completes, ended_open, releases, stops}
 use Rattle.apex_report.specs.Processes.{is_answered, is_turn_of_process, misses, process_figures, times_out}
-use Rattle.apex_report.specs.Steps.{core_after, jobs_after, one_if, process_after, refusals_after, AreCounted, AreJobsUpTo, AreUpTo, IsCoreUpTo, IsProcessUpTo}
+use Rattle.apex_report.specs.Steps.{core_after, jobs_after, one_if, process_after, refusals_after, ticks_if, AreJobsUpTo, AreUpTo, IsCoreUpTo, IsProcessUpTo}
 use Rattle.apex_report.specs.Terms.{CoreFigures, Entry, JobFigures, ProcessFigures, Refusals}
 use Rattle.apex_types.specs.declared.entries.ReturnCode.TheVariants.{NoAction, NotAvailable, InvalidParam, InvalidConfig, InvalidMode}
 
 -- the facts of each element are those of its value
-all_mapped : {X : Type 0} (P Q : X → Type 0) (f : X → X) → ((x : X) → P x → Q (f x)) → (xs : List X)
+pub all_mapped : {X : Type 0} (P Q : X → Type 0) (f : X → X) → ((x : X) → P x → Q (f x)) → (xs : List X)
     → AllByRecursion P xs → AllByRecursion Q (map f xs)
 all_mapped P Q f each [] all = tt
 all_mapped P Q f each (x ∷ xs) all = (each x all.0, all_mapped P Q f each xs all.1)
 
-all_weaker : {X : Type 0} (P Q : X → Type 0) → ((x : X) → P x → Q x) → (xs : List X)
+pub all_weaker : {X : Type 0} (P Q : X → Type 0) → ((x : X) → P x → Q x) → (xs : List X)
     → AllByRecursion P xs → AllByRecursion Q xs
 all_weaker P Q each [] all = tt
 all_weaker P Q each (x ∷ xs) all = (each x all.0, all_weaker P Q each xs all.1)
@@ -27,11 +27,11 @@ not_yet P f [] i x all within is = absurd (omega (arith, within))
 not_yet P f (y ∷ xs) zero x all within is = rw is all.0
 not_yet P f (y ∷ xs) (suc i) x all within is = not_yet P f xs i x all.1 (omega (arith, within)) is
 
-one_at_most : (so : Bool) → one_if so ≤ 1
+pub one_at_most : (so : Bool) → one_if so ≤ 1
 one_at_most true = omega arith
 one_at_most false = omega arith
 
-one_job : {X : Type 0} (x : Option X) → length (option_to_list x) ≤ 1
+pub one_job : {X : Type 0} (x : Option X) → length (option_to_list x) ≤ 1
 one_job None = omega arith
 one_job (Some x) = omega arith
 
@@ -51,7 +51,7 @@ jobs_up_to n p e f up = record {
   stops = omega (arith, up.stops, one_job (ended_open (stops p e) f.open_since e));
 }
 
-process_up_to : (n : ℕ) (e : Entry) (f : ProcessFigures) → IsProcessUpTo n f → IsProcessUpTo (n + 1) (process_after e f)
+pub process_up_to : (n : ℕ) (e : Entry) (f : ProcessFigures) → IsProcessUpTo n f → IsProcessUpTo (n + 1) (process_after e f)
 process_up_to n e f up = record {
   turns = omega (arith, up.turns, one_at_most (is_turn_of_process f.process e));
   misses = omega (arith, up.misses, one_at_most (misses f.process e));
@@ -66,14 +66,20 @@ some_units passes core e few = by_test (passes core e) where
   by_test true = few
   by_test false = omega arith
 
-core_up_to : (n : ℕ) (e : Entry) → units e.call ≤ MOST_SPAN → (f : CoreFigures) → IsCoreUpTo n f → IsCoreUpTo (n + 1) (core_after e f)
-core_up_to n e few f up = record {
+some_ticks : (so : Bool) (ticks : ℕ) → ticks ≤ MOST_SPAN → ticks_if so ticks ≤ MOST_SPAN
+some_ticks true ticks few = few
+some_ticks false ticks few = omega arith
+
+pub core_up_to : (n : ℕ) (e : Entry) → units e.call ≤ MOST_SPAN → ticks_in e.reply ≤ MOST_SPAN → (f : CoreFigures) → IsCoreUpTo n f → IsCoreUpTo (n + 1) (core_after e f)
+core_up_to n e few few_ticks f up = record {
   turns = omega (arith, up.turns, one_at_most (is_turn f.core e));
   idle = omega (arith, up.idle, one_at_most (is_idle_turn f.core e));
   calls = omega (arith, up.calls, one_at_most (is_service_turn f.core e));
   lost = omega (arith, up.lost, one_at_most (is_lost_turn f.core e));
   work_done = omega (arith, up.work_done, some_units is_done_turn f.core e few);
   work_lost = omega (arith, up.work_lost, some_units is_lost_turn f.core e few);
+  busy_ticks = omega (arith, up.busy_ticks, some_ticks f.is_working (ticks_in e.reply) few_ticks);
+  idle_ticks = omega (arith, up.idle_ticks, some_ticks (not f.is_working) (ticks_in e.reply) few_ticks);
 }
 
 refusals_below : (n m : ℕ) → n ≤ m → (r : Refusals) → AreUpTo n r → AreUpTo m r
@@ -106,6 +112,8 @@ core_below n m le f up = record {
   lost = omega (arith, up.lost, le);
   work_done = omega (arith, up.work_done, le);
   work_lost = omega (arith, up.work_lost, le);
+  busy_ticks = omega (arith, up.busy_ticks, le);
+  idle_ticks = omega (arith, up.idle_ticks, le);
 }
 
 pub processes_below : (n m : ℕ) → n ≤ m → (fs : List ProcessFigures) → AllByRecursion (IsProcessUpTo n) fs → AllByRecursion (IsProcessUpTo m) fs
@@ -114,17 +122,8 @@ processes_below n m le fs all = all_weaker (IsProcessUpTo n) (IsProcessUpTo m) (
 pub cores_below : (n m : ℕ) → n ≤ m → (fs : List CoreFigures) → AllByRecursion (IsCoreUpTo n) fs → AllByRecursion (IsCoreUpTo m) fs
 cores_below n m le fs all = all_weaker (IsCoreUpTo n) (IsCoreUpTo m) (core_below n m le) fs all
 
--- the counts after one entry more
-pub counted_more : (n : ℕ) (ps : List ProcessFigures) (cs : List CoreFigures) (e : Entry) → AreCounted n ps cs → n < MOST_ENTRIES
-    → units e.call ≤ MOST_SPAN → AreCounted (n + 1) (map (process_after e) ps) (map (core_after e) cs)
-counted_more n ps cs e counts room few = record {
-  few = omega (arith, room);
-  each_process = all_mapped (IsProcessUpTo n) (IsProcessUpTo (n + 1)) (process_after e) (process_up_to n e) ps counts.each_process;
-  each_core = all_mapped (IsCoreUpTo n) (IsCoreUpTo (n + 1)) (core_after e) (core_up_to n e few) cs counts.each_core;
-}
-
 -- no count is above 0 before any entry
-processes_zero : (ps : List ℕ) → AllByRecursion (IsProcessUpTo 0) (map (process_figures []) ps)
+pub processes_zero : (ps : List ℕ) → AllByRecursion (IsProcessUpTo 0) (map (process_figures []) ps)
 processes_zero [] = tt
 processes_zero (p ∷ ps) = (
   record {
@@ -143,7 +142,7 @@ processes_zero (p ∷ ps) = (
   processes_zero ps,
 )
 
-cores_zero : (cs : List ℕ) → AllByRecursion (IsCoreUpTo 0) (map (core_figures []) cs)
+pub cores_zero : (cs : List ℕ) → AllByRecursion (IsCoreUpTo 0) (map (core_figures []) cs)
 cores_zero [] = tt
 cores_zero (c ∷ cs) = (
   record {
@@ -153,9 +152,8 @@ cores_zero (c ∷ cs) = (
     lost = omega arith;
     work_done = omega arith;
     work_lost = omega arith;
+    busy_ticks = omega arith;
+    idle_ticks = omega arith;
   },
   cores_zero cs,
 )
-
-pub none_counted : (ps cs : List ℕ) → AreCounted 0 (map (process_figures []) ps) (map (core_figures []) cs)
-none_counted ps cs = record { few = omega arith; each_process = processes_zero ps; each_core = cores_zero cs }

@@ -6,7 +6,7 @@
 -- one job from its start to its end. A job that others end is *stopped*: by a STOP of its process, by
 -- a HARD deadline that is missed, or by the mode IDLE. It has no response. A process that is started
 -- again begins a new job.
-use Rattle.std.specs.Prelude.{ℕ, ◌-◌, Bool, true, false, List, [], ◌∷◌, ◌++◌, Option, None, Some, fold, option_map, option_to_list, ◌==◌, ◌&&◌, ◌||◌, if◌then◌else◌}
+use Rattle.std.specs.Prelude.{ℕ, ◌-◌, Bool, true, false, List, [], Option, None, Some, fold, option_map, option_to_list, ◌==◌, ◌&&◌, ◌||◌, if◌then◌else◌}
 use Rattle.std.specs.List.{list_any}
 use Rattle.apex_types.specs.declared.calls.Call.TheVariants.{Partition, Process as ToProcess, Caller as ToCaller, Time}
 use Rattle.apex_types.specs.declared.calls.CallerCall.TheVariants.{StopSelf}
@@ -20,6 +20,7 @@ use Rattle.apex_types.specs.declared.entries.Reply.TheVariants.{Blocked, Gone}
 use Rattle.apex_types.specs.declared.modes.DeadlineType.TheVariants.{Hard}
 use Rattle.apex_machine.specs.services.Callers.{is_by_process}
 use Rattle.apex_machine.specs.services.Satisfied.{is_accepted}
+use Rattle.apex_report.specs.Along.{along}
 use Rattle.apex_report.specs.Terms.{Call, Entry, Job, Notice, Reply}
 
 -- the notice releases process p
@@ -84,19 +85,13 @@ ended_open is_end before e = if is_end then option_map (job_ended e) before else
 abbrev pub ended_by : (ℕ → Entry → Bool) → ℕ → List Entry → Entry → List Job
 ended_by ends p history e = option_to_list (ended_open (ends p e) (open_job p history) e)
 
--- the jobs that these entries end after a history, in order
-abbrev pub ended_from : (ℕ → Entry → Bool) → ℕ → List Entry → List Entry → List Job
-ended_from ends p before [] = []
-ended_from ends p before (e ∷ later) =
-    ended_by ends p before e ++ ended_from ends p (before ++ e ∷ []) later
-
 -- the jobs that process p completed, in order
 abbrev pub completed : ℕ → List Entry → List Job
-completed p history = ended_from completes p [] history
+completed p history = along (ended_by completes p) [] history
 
 -- the jobs of process p that others stopped, in order
 abbrev pub stopped : ℕ → List Entry → List Job
-stopped p history = ended_from stops p [] history
+stopped p history = along (ended_by stops p) [] history
 
 -- the response of a job, in ticks: from its release to its end
 abbrev pub response : Job → ℕ

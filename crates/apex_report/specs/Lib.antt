@@ -1,8 +1,16 @@
 pub mod Terms
+pub mod Along
+pub mod Unbeaten
 pub mod Jobs
 pub mod JobFigures
+pub mod Waits
+pub mod Latest
 pub mod Processes
 pub mod Cores
+pub mod Ownerships
+pub mod Objects
 pub mod Report
 pub mod Steps
+pub mod ObjectSteps
+pub mod ReportSteps
 pub mod Texts

@@ -7,6 +7,7 @@ use Rattle.apex_types.specs.declared.entries.ReturnCode.TheVariants.{NoError, No
 use Rattle.apex_machine.specs.services.Callers.{is_by_process}
 use Rattle.apex_report.specs.JobFigures.{job_figures}
 use Rattle.apex_report.specs.Terms.{Entry, Notice, ProcessFigures, Refusals, Reply, ReturnCode}
+use Rattle.apex_report.specs.Waits.{queue_in}
 
 -- the notice says that process p missed its deadline
 abbrev pub is_miss_of : ℕ → Notice → Bool
@@ -75,4 +76,5 @@ process_figures history p = record {
   timeouts = count_by (times_out p) history;
   refusals = refusals p history;
   jobs = job_figures p history;
+  waits_in = queue_in p history;
 }

@@ -1,15 +1,15 @@
 -- The figures after one entry more, by those before it: what the code does at an entry. That they
 -- are the figures of the longer history is proved.
-use Rattle.std.specs.Prelude.{ℕ, ◌+◌, ◌*◌, ◌≤◌, Bool, List, Option, None, Some, fold, length, map, option_to_list, if◌then◌else◌}
-use Rattle.std.specs.List.{AllByRecursion}
+use Rattle.std.specs.Prelude.{ℕ, ◌+◌, ◌*◌, ◌≤◌, Bool, fold, length, option_to_list, not, if◌then◌else◌}
 use Rattle.apex_types.specs.declared.entries.ReturnCode.TheVariants.{NoAction, NotAvailable, InvalidParam, InvalidConfig, InvalidMode}
-use Rattle.apex_types.specs.declared.limits.TheConstants.{MOST_ENTRIES, MOST_SPAN}
-use Rattle.apex_report.specs.Cores.{is_done_turn, is_idle_turn, is_lost_turn, is_service_turn, is_turn, units_if}
+use Rattle.apex_types.specs.declared.limits.TheConstants.{MOST_SPAN}
+use Rattle.apex_report.specs.Cores.{is_done_turn, is_idle_turn, is_lost_turn, is_service_turn, is_turn, is_working_after, ticks_in, units_if}
 use Rattle.apex_report.specs.Jobs.{completes, ended_open, open_after, releases, stops}
 use Rattle.apex_report.specs.JobFigures.{faster, slower}
 use Rattle.apex_report.specs.Processes.{is_answered, is_turn_of_process, misses, times_out}
-use Rattle.apex_report.specs.Report.{Report}
-use Rattle.apex_report.specs.Terms.{CoreFigures, Entry, Job, JobFigures, ProcessFigures, Refusals}
+use Rattle.apex_report.specs.Terms.{CoreFigures, Entry, JobFigures, ProcessFigures, Refusals}
+use Rattle.apex_report.specs.Unbeaten.{kept}
+use Rattle.apex_report.specs.Waits.{queue_after}
 
 -- 1 if it is so, else 0
 abbrev pub one_if : Bool → ℕ
@@ -24,11 +24,6 @@ refusals_after p before e = record {
   invalid_config = before.invalid_config + one_if (is_answered p InvalidConfig e);
   invalid_mode = before.invalid_mode + one_if (is_answered p InvalidMode e);
 }
-
--- the job that is kept when one more comes: the new one only if it beats the one before
-abbrev pub kept : (Job → Job → Bool) → Option Job → Job → Option Job
-kept beats None job = Some job
-kept beats (Some before) job = Some (if beats job before then job else before)
 
 -- the figures of the jobs of process p after an entry, which may complete one or stop one
 abbrev pub jobs_after : ℕ → JobFigures → Entry → JobFigures
@@ -52,6 +47,18 @@ process_after e f = record {
   timeouts = f.timeouts + one_if (times_out f.process e);
   refusals = refusals_after f.process f.refusals e;
   jobs = jobs_after f.process f.jobs e;
+  waits_in = queue_after f.process f.waits_in e;
+}
+
+-- these ticks if it is so, else 0
+abbrev pub ticks_if : Bool → ℕ → ℕ
+ticks_if so ticks = if so then ticks else 0
+
+-- the figures of a core once these ticks have passed
+abbrev pub core_with_ticks : ℕ → CoreFigures → CoreFigures
+core_with_ticks ticks f = record f {
+  busy_ticks = f.busy_ticks + ticks_if f.is_working ticks;
+  idle_ticks = f.idle_ticks + ticks_if (not f.is_working) ticks;
 }
 
 -- the figures of a core after an entry
@@ -64,14 +71,9 @@ core_after e f = record {
   lost = f.lost + one_if (is_lost_turn f.core e);
   work_done = f.work_done + units_if is_done_turn f.core e;
   work_lost = f.work_lost + units_if is_lost_turn f.core e;
-}
-
--- the report after an entry
-abbrev pub report_after : Report → Entry → Report
-report_after before e = record {
-  entries = before.entries + 1;
-  processes = map (process_after e) before.processes;
-  cores = map (core_after e) before.cores;
+  is_working = is_working_after f.core f.is_working e;
+  busy_ticks = f.busy_ticks + ticks_if f.is_working (ticks_in e.reply);
+  idle_ticks = f.idle_ticks + ticks_if (not f.is_working) (ticks_in e.reply);
 }
 
 -- no count of the replies is above n
@@ -96,7 +98,7 @@ pub record IsProcessUpTo (n : ℕ) (f : ProcessFigures) : Type 0 where
   pub refusals : AreUpTo n f.refusals
   pub jobs : AreJobsUpTo n f.jobs
 
--- no count of the core is above n, and no work above that of n spans
+-- no count of the core is above n, and neither work nor ticks are above those of n spans
 pub record IsCoreUpTo (n : ℕ) (f : CoreFigures) : Type 0 where
   pub turns : f.turns ≤ n
   pub idle : f.idle ≤ n
@@ -104,11 +106,5 @@ pub record IsCoreUpTo (n : ℕ) (f : CoreFigures) : Type 0 where
   pub lost : f.lost ≤ n
   pub work_done : f.work_done ≤ n * MOST_SPAN
   pub work_lost : f.work_lost ≤ n * MOST_SPAN
-
--- the facts that each report keeps: it has noted at most `MOST_ENTRIES` entries, and no count is above
--- their number
-pub record AreCounted (entries : ℕ) (processes : List ProcessFigures) (cores : List CoreFigures)
-    : Type 0 where
-  pub few : entries ≤ MOST_ENTRIES
-  pub each_process : AllByRecursion (IsProcessUpTo entries) processes
-  pub each_core : AllByRecursion (IsCoreUpTo entries) cores
+  pub busy_ticks : f.busy_ticks ≤ n * MOST_SPAN
+  pub idle_ticks : f.idle_ticks ≤ n * MOST_SPAN

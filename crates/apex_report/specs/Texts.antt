@@ -1,11 +1,14 @@
 -- The lines of a report (this profile).
-use Rattle.std.specs.Prelude.{◌≡◌, ℕ, ◌<◌, List, length, ◌++◌, flat_map, codes, decimal}
+use Rattle.std.specs.Prelude.{◌≡◌, ℕ, ◌<◌, List, [], length, ◌++◌, flat_map, codes, decimal}
 use Rattle.apex_machine.specs.table.Table.{Table}
 use Rattle.apex_machine.specs.text.Status.{history_line, instant_text, optional_text}
-use Rattle.apex_machine.specs.text.Texts.{process_name}
+use Rattle.apex_machine.specs.declared.records.Queue.TheVariants as queues
+use Rattle.apex_machine.specs.text.Texts.{blackboard_name, buffer_name, event_flag_name, mutex_name, process_name, semaphore_name}
+use Rattle.apex_report.specs.Cores.{busy_percent}
 use Rattle.apex_report.specs.Jobs.{response}
 use Rattle.apex_report.specs.Report.{Report, report}
-use Rattle.apex_report.specs.Terms.{CoreFigures, Entry, Job, JobFigures, ProcessFigures, Refusals}
+use Rattle.apex_report.specs.Ownerships.{held_ticks}
+use Rattle.apex_report.specs.Terms.{CoreFigures, Entry, Job, JobFigures, Level, ObjectFigures, Ownership, ProcessFigures, Queue, Refusals}
 
 -- the response of a job, in ticks
 abbrev pub response_text : Job → List ℕ
@@ -65,15 +68,98 @@ abbrev pub work_part : CoreFigures → List ℕ
 work_part f =
     figure (codes " work_done=") f.work_done ++ figure (codes " work_lost=") f.work_lost
 
--- `core C turns=T idle=I calls=N lost=L work_done=D work_lost=W`
+-- the ticks of a core; `-` in percent if no tick has passed
+abbrev pub ticks_part : CoreFigures → List ℕ
+ticks_part f =
+    figure (codes " busy_ticks=") f.busy_ticks ++ figure (codes " idle_ticks=") f.idle_ticks
+    ++ codes " busy_percent=" ++ instant_text (busy_percent f)
+
+-- `core C turns=T idle=I calls=N lost=L work_done=D work_lost=W busy_ticks=B idle_ticks=R
+-- busy_percent=P`, on one line
 abbrev pub core_line : CoreFigures → List ℕ
 core_line f =
-    codes "core " ++ decimal f.core ++ core_turns_part f ++ work_part f ++ codes "\n"
+    codes "core " ++ decimal f.core ++ core_turns_part f ++ work_part f ++ ticks_part f
+    ++ codes "\n"
 
--- the lines of a report: the number of entries, each core, and each process
+-- the kind of an object
+abbrev pub kind_text : Queue → List ℕ
+kind_text queues.Normal = []
+kind_text (queues.Semaphore s) = codes "semaphore "
+kind_text (queues.Buffer b) = codes "buffer "
+kind_text (queues.Blackboard b) = codes "blackboard "
+kind_text (queues.EventFlag e) = codes "event "
+kind_text (queues.Mutex m) = codes "mutex "
+
+-- the name that the table gives an object
+abbrev pub object_name : Table → Queue → List ℕ
+object_name table queues.Normal = []
+object_name table (queues.Semaphore s) = semaphore_name table s
+object_name table (queues.Buffer b) = buffer_name table b
+object_name table (queues.Blackboard b) = blackboard_name table b
+object_name table (queues.EventFlag e) = event_flag_name table e
+object_name table (queues.Mutex m) = mutex_name table m
+
+-- the count of a level, and the number of the first entry that has it
+abbrev pub count_text : Level → List ℕ
+count_text level = decimal level.count
+
+abbrev pub number_text : Level → List ℕ
+number_text level = decimal level.number
+
+-- the greatest value of a semaphore, or the greatest number of messages in a buffer
+abbrev pub greatest_part : ObjectFigures → List ℕ
+greatest_part f =
+    codes " greatest=" ++ optional_text count_text f.greatest
+    ++ codes " greatest_at=" ++ optional_text number_text f.greatest
+
+-- the same, if it is a semaphore or a buffer
+abbrev pub content_part : Queue → ObjectFigures → List ℕ
+content_part (queues.Semaphore s) f = greatest_part f
+content_part (queues.Buffer b) f = greatest_part f
+content_part _ f = []
+
+-- the longest queue, and the waits that timed out
+abbrev pub queue_part : ObjectFigures → List ℕ
+queue_part f =
+    codes " queue=" ++ optional_text count_text f.longest_queue
+    ++ codes " queue_at=" ++ optional_text number_text f.longest_queue
+    ++ figure (codes " timeouts=") f.timeouts
+
+-- the length of an ownership in ticks, its process, and the entry that ended it
+abbrev pub held_text : Ownership → List ℕ
+held_text ownership = decimal (held_ticks ownership)
+
+abbrev pub holder_text : Table → Ownership → List ℕ
+holder_text table ownership = process_name table ownership.process
+
+abbrev pub held_end_text : Ownership → List ℕ
+held_end_text ownership = decimal ownership.number
+
+-- the longest ownership
+abbrev pub longest_part : Table → ObjectFigures → List ℕ
+longest_part table f =
+    codes " held=" ++ optional_text held_text f.longest_ownership
+    ++ codes " held_by=" ++ optional_text (holder_text table) f.longest_ownership
+    ++ codes " held_at=" ++ optional_text held_end_text f.longest_ownership
+
+-- the same, if it is a mutex
+abbrev pub ownership_part : Table → Queue → ObjectFigures → List ℕ
+ownership_part table (queues.Mutex m) f = longest_part table f
+ownership_part table _ f = []
+
+-- `semaphore N greatest=G greatest_at=E queue=Q queue_at=E timeouts=T`, and so a buffer; a blackboard,
+-- an event flag and a mutex without the greatest content; and behind them for a mutex
+-- `held=H held_by=P held_at=E`
+abbrev pub object_line : Table → ObjectFigures → List ℕ
+object_line table f =
+    kind_text f.object ++ object_name table f.object ++ content_part f.object f ++ queue_part f
+    ++ ownership_part table f.object f ++ codes "\n"
+
+-- the lines of a report: the number of entries, each core, each process, and each object
 abbrev pub lines_of : Table → Report → List ℕ
 lines_of table r =
     history_line r.entries ++ flat_map core_line r.cores ++ flat_map (process_line table) r.processes
+    ++ flat_map (object_line table) r.objects
 
 -- the report of a history, as a text
 abbrev pub report_text : Table → List Entry → List ℕ
@@ -83,6 +169,10 @@ report_text table history = lines_of table (report table history)
 abbrev pub IsInTable : Table → ProcessFigures → Type 0
 IsInTable table f = f.process < length table.processes
 
+-- the report is that of this history of the table's partition
+abbrev pub IsReportOf : Table → List Entry → Report → Type 0
+IsReportOf table history r = r ≡ report table history
+
 -- the report is that of a history of the table's partition
 abbrev pub IsOfTable : Table → Report → Type 0
-IsOfTable table r = (history : List Entry) × (r ≡ report table history)
+IsOfTable table r = (history : List Entry) × IsReportOf table history r

@@ -1,8 +1,8 @@
 //! The figures of a core.
 ghost use Rattle.std.specs.Prelude.{◌≡◌, ◌≤◌, []};
 ghost use Rattle.apex_types.specs.declared.limits.TheConstants.{MOST_ENTRIES, MOST_SPAN};
-ghost use Rattle.apex_report.specs.Cores.{core_figures, is_done, is_idle, is_lost, is_service, is_turn, units};
-ghost use Rattle.apex_report.specs.Steps.{core_after, IsCoreUpTo};
+ghost use Rattle.apex_report.specs.Cores.{busy_percent, core_figures, is_begun, is_done, is_idle, is_lost, is_service, is_turn, percent_of, ticks_in, units};
+ghost use Rattle.apex_report.specs.Steps.{core_after, core_with_ticks, IsCoreUpTo};
 
 use apex_types::{Call, CoreId, LentEntry, Reply, Who};
 
@@ -21,6 +21,12 @@ pub struct CoreFigures {
     pub work_done: u64,
     /// The units of work that was lost.
     pub work_lost: u64,
+    /// Its last turn began work, which no turn has ended yet.
+    pub is_working: bool,
+    /// The ticks that passed while work that it had begun was open.
+    pub busy_ticks: u64,
+    /// The other ticks.
+    pub idle_ticks: u64,
 }
 
 /// The entry is a turn of the core.
@@ -54,7 +60,56 @@ pub(crate) fn units(call: &Option<Call>) -> u32
     }
 }
 
+/// The turn began work.
+fn is_begun(reply: &Reply) -> bool
+    ensures { result ≡ is_begun reply.now }
+{
+    matches!(reply, Reply::Begun)
+}
+
+/// The ticks by which time goes on with the reply.
+pub(crate) fn ticks_in(reply: &Reply) -> u32
+    ensures value { result ≡ ticks_in reply.now }
+    ensures range { result ≤ MOST_SPAN }
+{
+    match reply {
+        Reply::Advanced(_, went) => *went,
+        _ => 0,
+    }
+}
+
+/// How many of each hundred of these and those are of these, rounded down.
+fn percent_of(these: u64, those: u64) -> Option<u64>
+    ensures { result ≡ percent_of these those }
+{
+    let all = u128::from(these) + u128::from(those);
+    if all == 0 {
+        return None;
+    }
+    Some((u128::from(these) * 100 / all) as u64)
+}
+
 impl CoreFigures {
+    /// The part of the ticks in which it was busy, in percent and rounded down. None if no tick has
+    /// passed.
+    pub fn busy_percent(&self) -> Option<u64>
+        ensures { result ≡ busy_percent self.now }
+    {
+        percent_of(self.busy_ticks, self.idle_ticks)
+    }
+
+    /// Notes that these ticks pass.
+    fn note_ticks(&mut self, ticks: u32)
+        requires { IsCoreUpTo MOST_ENTRIES self.old }
+        ensures { self.new ≡ core_with_ticks ticks self.old }
+    {
+        if self.is_working {
+            self.busy_ticks += u64::from(ticks);
+        } else {
+            self.idle_ticks += u64::from(ticks);
+        }
+    }
+
     /// The figures of the core before any entry.
     pub(crate) fn before(core: CoreId) -> CoreFigures
         ensures { result ≡ core_figures [] core }
@@ -67,18 +122,24 @@ impl CoreFigures {
             lost: 0,
             work_done: 0,
             work_lost: 0,
+            is_working: false,
+            busy_ticks: 0,
+            idle_ticks: 0,
         }
     }
 
-    /// Notes what the entry, whose work has these units, says of the core.
-    pub(crate) fn note(&mut self, entry: &LentEntry<'_>, amount: u32)
+    /// Notes what the entry, whose work has these units and whose reply these ticks, says of the core.
+    pub(crate) fn note(&mut self, entry: &LentEntry<'_>, amount: u32, ticks: u32)
         requires up_to { IsCoreUpTo MOST_ENTRIES self.old }
         requires amount { amount ≡ units entry.now.call }
+        requires ticks { ticks ≡ ticks_in entry.now.reply }
         ensures { self.new ≡ core_after entry.entry.now self.old }
     {
+        self.note_ticks(ticks);
         if !is_turn(self.core, entry) {
             return;
         }
+        self.is_working = is_begun(&entry.reply);
         self.turns += 1;
         self.calls += u32::from(is_service(&entry.call));
         match entry.reply {

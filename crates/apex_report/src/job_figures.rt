@@ -3,7 +3,8 @@ ghost use Rattle.std.specs.Prelude.{◌≡◌, []};
 ghost use Rattle.apex_types.specs.declared.limits.TheConstants.{MOST_ENTRIES};
 ghost use Rattle.apex_report.specs.Jobs.{ended_open};
 ghost use Rattle.apex_report.specs.JobFigures.{faster, job_figures, slower};
-ghost use Rattle.apex_report.specs.Steps.{jobs_after, kept, AreJobsUpTo};
+ghost use Rattle.apex_report.specs.Steps.{jobs_after, AreJobsUpTo};
+ghost use Rattle.apex_report.specs.Unbeaten.{kept};
 
 use crate::jobs::{Job, completes, releases, stops};
 use apex_types::{LentEntry, ProcessId};

@@ -75,7 +75,7 @@ pub(crate) fn completes(process: ProcessId, entry: &LentEntry<'_>) -> bool
     is_by_process(process, &entry.process) && ends_own_job(&entry.call, &entry.reply)
 }
 
-fn is_accepted(reply: &Reply) -> bool
+pub(crate) fn is_accepted(reply: &Reply) -> bool
     ensures { result ≡ is_accepted reply.now }
 {
     match reply {

@@ -3,7 +3,7 @@ ghost use Rattle.std.specs.Prelude.{◌≡◌, ◌+◌, ◌<◌, ◌≤◌, ◌+
 ghost use Rattle.arrayvec.specs.ArrayVec.{array_vec_len};
 ghost use Rattle.apex_machine.specs.text.Status.{history_line, instant_text, optional_text};
 ghost use Rattle.apex_report.specs.declared.lines.TheConstants.{LINE_ROOM};
-ghost use Rattle.apex_report.specs.Texts.{core_line, core_turns_part, end_text, figure, jobs_part, process_line, refusals_part, response_text, responses_part, turns_part, work_part};
+ghost use Rattle.apex_report.specs.Texts.{core_line, core_turns_part, end_text, figure, jobs_part, process_line, refusals_part, response_text, responses_part, ticks_part, turns_part, work_part};
 
 use crate::cores::CoreFigures;
 use crate::job_figures::JobFigures;
@@ -20,7 +20,7 @@ pub(crate) const LINE_ROOM: usize = 512;
 /// A line of a report.
 pub(crate) type Line = ArrayVec<u8, LINE_ROOM>;
 
-fn put_bytes(line: &mut Line, text: &[u8])
+pub(crate) fn put_bytes(line: &mut Line, text: &[u8])
     requires { array_vec_len line.old + length text.now ≤ LINE_ROOM }
     ensures text { line.new.items ≡ line.old.items ++ text.now }
     ensures len { array_vec_len line.new ≡ array_vec_len line.old + length text.now }
@@ -30,7 +30,7 @@ fn put_bytes(line: &mut Line, text: &[u8])
     prove!(fits);
 }
 
-fn put(line: &mut Line, text: &str)
+pub(crate) fn put(line: &mut Line, text: &str)
     requires { array_vec_len line.old + length text.now ≤ LINE_ROOM }
     ensures text { line.new.items ≡ line.old.items ++ text.now }
     ensures len { array_vec_len line.new ≡ array_vec_len line.old + length text.now }
@@ -38,7 +38,7 @@ fn put(line: &mut Line, text: &str)
     put_bytes(line, text.as_bytes());
 }
 
-fn put_number(line: &mut Line, number: u32)
+pub(crate) fn put_number(line: &mut Line, number: u32)
     requires { array_vec_len line.old + 10 ≤ LINE_ROOM }
     ensures text { line.new.items ≡ line.old.items ++ decimal number }
     ensures short { array_vec_len line.new ≤ array_vec_len line.old + 10 }
@@ -47,7 +47,7 @@ fn put_number(line: &mut Line, number: u32)
     put(line, buffer.format(number));
 }
 
-fn put_long_number(line: &mut Line, number: u64)
+pub(crate) fn put_long_number(line: &mut Line, number: u64)
     requires { array_vec_len line.old + 20 ≤ LINE_ROOM }
     ensures text { line.new.items ≡ line.old.items ++ decimal number }
     ensures short { array_vec_len line.new ≤ array_vec_len line.old + 20 }
@@ -69,7 +69,7 @@ fn put_figure(line: &mut Line, key: &str, number: u32)
 
 /// A long figure behind its key.
 #[tactic(auto, using(std::proofs::Common::append_assoc), unfolding(crate::specs::Texts::figure))]
-fn put_long_figure(line: &mut Line, key: &str, number: u64)
+pub(crate) fn put_long_figure(line: &mut Line, key: &str, number: u64)
     requires { array_vec_len line.old + length key.now + 20 ≤ LINE_ROOM }
     ensures text { line.new.items ≡ line.old.items ++ figure key.now number }
     ensures short { array_vec_len line.new ≤ array_vec_len line.old + length key.now + 20 }
@@ -217,6 +217,19 @@ fn put_work(line: &mut Line, figures: &CoreFigures)
     put_long_figure(line, " work_lost=", figures.work_lost);
 }
 
+/// The ticks of a core.
+#[tactic(auto, using(std::proofs::Common::append_assoc))]
+fn put_ticks(line: &mut Line, figures: &CoreFigures)
+    requires { array_vec_len line.old + 110 ≤ LINE_ROOM }
+    ensures text { line.new.items ≡ line.old.items ++ ticks_part figures.now }
+    ensures short { array_vec_len line.new ≤ array_vec_len line.old + 110 }
+{
+    put_long_figure(line, " busy_ticks=", figures.busy_ticks);
+    put_long_figure(line, " idle_ticks=", figures.idle_ticks);
+    put(line, " busy_percent=");
+    put_instant(line, &figures.busy_percent());
+}
+
 /// The line of a core.
 #[tactic(auto, using(std::proofs::Common::append_assoc))]
 pub(crate) fn core_line(figures: &CoreFigures) -> Line
@@ -227,6 +240,7 @@ pub(crate) fn core_line(figures: &CoreFigures) -> Line
     put_number(&mut line, u32::from(figures.core.number()));
     put_core_turns(&mut line, figures);
     put_work(&mut line, figures);
+    put_ticks(&mut line, figures);
     put(&mut line, "\n");
     line
 }

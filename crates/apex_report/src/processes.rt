@@ -1,5 +1,5 @@
 //! The figures of a process.
-ghost use Rattle.std.specs.Prelude.{◌≡◌, []};
+ghost use Rattle.std.specs.Prelude.{◌≡◌, [], ◌∷◌, ◌++◌, IfOk, OnOk};
 ghost use Rattle.apex_types.specs.declared.limits.TheConstants.{MOST_ENTRIES};
 ghost use Rattle.apex_report.specs.Processes.{is_miss_of, is_timeout_of, misses, times_out, process_figures};
 ghost use Rattle.apex_report.specs.Steps.{process_after, IsProcessUpTo};
@@ -7,7 +7,11 @@ ghost use Rattle.apex_report.specs.Steps.{process_after, IsProcessUpTo};
 use crate::job_figures::JobFigures;
 use crate::jobs::is_by_process;
 use crate::refusals::Refusals;
+use crate::waits::queue_after;
+use apex_machine::Queue;
 use apex_types::{LentEntry, Notice, ProcessId, ReturnCode};
+use std::alloc::{AllocError, Global};
+use std::marker::Model;
 
 /// The figures of a process over a history (this profile). Times are in ticks.
 #[derive(Clone, Copy)]
@@ -22,6 +26,8 @@ pub struct ProcessFigures {
     /// The replies to its calls, other than NO_ERROR.
     pub refusals: Refusals,
     pub jobs: JobFigures,
+    /// The queue of the object for which it waits, if it waits for one.
+    pub waits_in: Option<Queue>,
 }
 
 fn is_miss_of(process: ProcessId, notice: &Notice) -> bool
@@ -74,6 +80,7 @@ impl ProcessFigures {
             timeouts: 0,
             refusals: Refusals::none(process),
             jobs: JobFigures::none(process),
+            waits_in: None,
         }
     }
 
@@ -87,5 +94,46 @@ impl ProcessFigures {
         self.timeouts += u32::from(times_out(self.process, entry));
         self.refusals.note(self.process, entry);
         self.jobs.note(self.process, entry);
+        self.waits_in = queue_after(self.process, self.waits_in, entry);
+    }
+}
+
+/// The figures of processes, as they are put together.
+#[derive(Drop)]
+pub(crate) struct ProcessList {
+    figures: Vec<ProcessFigures>,
+}
+
+impl Model for ProcessList {
+    ghost use Rattle.std.specs.Prelude.{List};
+    ghost use Rattle.apex_report.specs.declared.processes.ProcessFigures.{ProcessFigures};
+
+    ghost Value = { List ProcessFigures };
+
+    ghost view = { λ l. l.figures.items };
+}
+
+impl ProcessList {
+    pub(crate) fn with_capacity(alloc: Global, count: usize) -> Result<ProcessList, AllocError>
+        ensures { IfOk result (λ made. made ≡ []) }
+    {
+        Ok(ProcessList {
+            figures: Vec::with_capacity(alloc, count)?,
+        })
+    }
+
+    pub(crate) fn push(&mut self, figures: ProcessFigures) -> Result<(), AllocError>
+        ensures { OnOk result (self.new ≡ self.old ++ figures ∷ []) }
+    {
+        // The prover finds this type only if the function names it.
+        let _waits_in: Option<Queue> = None;
+        self.figures.push(figures)?;
+        Ok(())
+    }
+
+    pub(crate) fn into_vec(self) -> Vec<ProcessFigures>
+        ensures { result.items ≡ self }
+    {
+        self.figures
     }
 }

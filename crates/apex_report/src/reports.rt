@@ -1,32 +1,39 @@
 //! The report of a history.
-ghost use Rattle.std.specs.Prelude.{◌≡◌, ◌+◌, ◌<◌, ◌≤◌, [], length, map, IfOk};
+ghost use Rattle.std.specs.Prelude.{◌≡◌, ◌+◌, ◌<◌, ◌≤◌, [], ◌++◌, length, map, IfOk, OnOk};
 ghost use Rattle.std.specs.List.{range_with_len, AllByRecursion};
-ghost use Rattle.apex_types.specs.declared.limits.TheConstants.{MOST_ENTRIES};
-ghost use Rattle.apex_report.specs.Cores.{core_figures, units};
+ghost use Rattle.apex_types.specs.declared.limits.TheConstants.{MOST_ENTRIES, MOST_NOTICES, MOST_OBJECTS, MOST_PROCESSES};
+ghost use Rattle.apex_report.specs.Cores.{core_figures, ticks_in, units};
+ghost use Rattle.apex_report.specs.Objects.{object_figures, objects_of, queues_of};
+ghost use Rattle.apex_report.specs.ObjectSteps.{object_after, IsObjectUpTo};
 ghost use Rattle.apex_report.specs.Processes.{process_figures};
 ghost use Rattle.apex_report.specs.Report.{report, Grows};
 ghost use Rattle.apex_report.specs.Steps.{core_after, process_after, IsCoreUpTo, IsProcessUpTo};
 
-use crate::cores::{CoreFigures, units};
-use crate::processes::ProcessFigures;
+use crate::cores::{CoreFigures, ticks_in, units};
+use crate::objects::{Kind, ObjectFigures, ObjectList};
+use crate::processes::{ProcessFigures, ProcessList};
+use crate::waits::{LatestCalls, Waking, Wakings};
 use apex_history::Entries;
 use apex_table::Table;
 use apex_types::{CoreId, LentEntry, ProcessId};
 use std::alloc::{AllocError, Global};
 use std::marker::Model;
 
-/// The figures of each process and each core of a partition over a history (this profile). A report
+/// The figures of each process, each core and each object of a partition over a history (this profile). A report
 /// is made beforehand, and notes the entries one by one.
 #[derive(Drop)]
 pub struct Report {
     entries: u32,
     processes: Vec<ProcessFigures>,
     cores: Vec<CoreFigures>,
+    objects: Vec<ObjectFigures>,
+    latest: LatestCalls,
+    wakings: Wakings,
 }
 
 impl Model for Report {
     ghost use Rattle.apex_report.specs.Report.{Report};
-    ghost use Rattle.apex_report.specs.Steps.{AreCounted};
+    ghost use Rattle.apex_report.specs.ReportSteps.{AreCounted};
 
     ghost Value = { Report };
 
@@ -34,9 +41,24 @@ impl Model for Report {
       entries = r.entries;
       processes = r.processes.items;
       cores = r.cores.items;
+      objects = r.objects.items;
+      latest = r.latest;
     } };
 
-    ghost invariant = { λ r. AreCounted r.entries r.processes.items r.cores.items };
+    ghost invariant = { λ r. AreCounted r.entries r.processes.items r.cores.items
+        r.objects.items };
+}
+
+/// Puts the figures of the first processes before any entry.
+fn put_processes(count: usize, list: &mut ProcessList) -> Result<(), AllocError>
+    requires few { count ≤ MOST_PROCESSES }
+    requires none { list.old ≡ [] }
+    ensures { OnOk result (list.new ≡ map (process_figures []) (range_with_len 0 count)) }
+{
+    for place in 0..count {
+        list.push(ProcessFigures::before(ProcessId::at(place as u8)))?;
+    }
+    Ok(())
 }
 
 /// The figures of each process before any entry.
@@ -45,12 +67,9 @@ fn processes_before(alloc: Global, table: &Table) -> Result<Vec<ProcessFigures>,
         ≡ map (process_figures []) (range_with_len 0 (length table.now.processes))) }
 {
     let count = table.process_count();
-    let mut processes = Vec::with_capacity(alloc, count)?;
-    for place in 0..count {
-        let process = ProcessId::at(place as u8);
-        processes.push(ProcessFigures::before(process))?;
-    }
-    Ok(processes)
+    let mut list = ProcessList::with_capacity(alloc, count)?;
+    put_processes(count, &mut list)?;
+    Ok(list.into_vec())
 }
 
 /// The figures of each core before any entry.
@@ -76,14 +95,80 @@ fn note_processes(processes: &mut Vec<ProcessFigures>, entry: &LentEntry<'_>)
     }
 }
 
-/// Notes what the entry, whose work has these units, says of each core.
-fn note_cores(cores: &mut Vec<CoreFigures>, entry: &LentEntry<'_>, amount: u32)
+/// Notes what the entry, whose work has these units and whose reply these ticks, says of each core.
+fn note_cores(cores: &mut Vec<CoreFigures>, entry: &LentEntry<'_>, amount: u32, ticks: u32)
     requires up_to { AllByRecursion (IsCoreUpTo MOST_ENTRIES) cores.old.items }
     requires amount { amount ≡ units entry.now.call }
+    requires ticks { ticks ≡ ticks_in entry.now.reply }
     ensures { cores.new.items ≡ map (core_after entry.entry.now) cores.old.items }
 {
     for figures in cores.iter_mut() {
-        figures.note(entry, amount);
+        figures.note(entry, amount, ticks);
+    }
+}
+
+/// Puts the figures of the first objects of a kind before any entry.
+fn put_objects(
+    table: &Table,
+    kind: Kind,
+    count: usize,
+    objects: &mut ObjectList,
+) -> Result<(), AllocError>
+    requires { count ≤ MOST_OBJECTS }
+    ensures { OnOk result (objects.new
+        ≡ objects.old ++ map (object_figures table.now []) (queues_of kind count)) }
+{
+    for place in 0..count {
+        objects.push(ObjectFigures::before(table, kind.queue_at(place as u8)))?;
+    }
+    Ok(())
+}
+
+/// The figures of each object before any entry.
+#[tactic(auto, using(crate::proofs::ObjectGrowth::kinds_joined))]
+fn objects_before(alloc: Global, table: &Table) -> Result<Vec<ObjectFigures>, AllocError>
+    ensures { IfOk result (λ objects. objects.items
+        ≡ map (object_figures table.now []) (objects_of table.now)) }
+{
+    let mut objects = ObjectList::new(alloc);
+    put_objects(
+        table,
+        Kind::Semaphore,
+        table.semaphore_count(),
+        &mut objects,
+    )?;
+    put_objects(table, Kind::Buffer, table.buffer_count(), &mut objects)?;
+    put_objects(
+        table,
+        Kind::Blackboard,
+        table.blackboard_count(),
+        &mut objects,
+    )?;
+    put_objects(
+        table,
+        Kind::EventFlag,
+        table.event_flag_count(),
+        &mut objects,
+    )?;
+    put_objects(table, Kind::Mutex, table.mutex_count(), &mut objects)?;
+    Ok(objects.into_vec())
+}
+
+/// Notes what the entry, which wakes these processes, says of each object. The figures of the processes
+/// are those after the entry.
+fn note_objects(
+    objects: &mut Vec<ObjectFigures>,
+    entry: &LentEntry<'_>,
+    wakings: &[Waking],
+    processes: &[ProcessFigures],
+)
+    requires up_to { AllByRecursion (IsObjectUpTo MOST_ENTRIES) objects.old.items }
+    requires few { length wakings.now ≤ MOST_NOTICES }
+    ensures { objects.new.items
+        ≡ map (object_after entry.entry.now wakings.now processes.now) objects.old.items }
+{
+    for figures in objects.iter_mut() {
+        figures.note(entry, wakings, processes);
     }
 }
 
@@ -94,10 +179,16 @@ impl Report {
     {
         let processes = processes_before(alloc, table)?;
         let cores = cores_before(alloc, table)?;
+        let objects = objects_before(alloc, table)?;
+        let latest = LatestCalls::none(alloc)?;
+        let wakings = Wakings::none(alloc)?;
         Ok(Report {
             entries: 0,
             processes,
             cores,
+            objects,
+            latest,
+            wakings,
         })
     }
 
@@ -109,8 +200,13 @@ impl Report {
         ensures entries { self.new.entries ≡ self.old.entries + 1 }
     {
         let amount = units(&entry.call);
+        let ticks = ticks_in(&entry.reply);
+        self.latest.find(entry, &mut self.wakings);
         note_processes(&mut self.processes, entry);
-        note_cores(&mut self.cores, entry, amount);
+        note_cores(&mut self.cores, entry, amount, ticks);
+        let processes = self.processes.as_slice();
+        note_objects(&mut self.objects, entry, self.wakings.as_slice(), processes);
+        self.latest.note(entry);
         self.entries += 1;
     }
 
@@ -134,6 +230,14 @@ impl Report {
         ensures { result.now ≡ self.now.cores }
     {
         self.cores.as_slice()
+    }
+
+    /// The figures of each object: the semaphores, buffers, blackboards, event flags and mutexes, each
+    /// in the order of the table.
+    pub fn objects(&self) -> &[ObjectFigures]
+        ensures { result.now ≡ self.now.objects }
+    {
+        self.objects.as_slice()
     }
 }
 

@@ -24,3 +24,9 @@ returns-in_err-matches-clause-usage c =
     let p = err_from_is_err_and c.from_residual.result c.from_residual.ensures.1 in
     rw (p.1, p.2) (λ e. asks_nothing request_in lab words (subst (λ (a : App). HasFault a words) c.in-Ok.ensures
     (c.in_err-matches.ensures.usage (ap Err (same_fault _ c.in_err-matches.field-0.0 Usage refl e)))))
+
+pub returns-clause-usage : goal.returns-clause-usage
+returns-clause-usage c =
+    let words = map string_bytes c.args.words.now in
+    let names = subst (λ (a : App). NamesCommand a words (subcommand_rows_of c.in_ok-matches.matches)) c.in-Ok.ensures c.in_ok-matches.ensures.ok in
+    λ _. rw (names.0, names.1) (sym c.in-None.ensures)

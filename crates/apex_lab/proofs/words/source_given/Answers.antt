@@ -1,13 +1,13 @@
-use Rattle.std.proofs.Common.{◌∙◌, ap, codes}
+use Rattle.std.proofs.Common.{◌∙◌, codes}
 use Rattle.clap.proofs.WalkLemmas.{first_value-rows}
 use Rattle.clap.specs.Words.{found_of}
-use Rattle.apex_lab.specs.Words.{given_by}
+use Rattle.apex_lab.proofs.CommandLemmas.{same_given}
 use Rattle.apex_lab.proofs.words.source_given.Goals as goal
 
-pub returns-in-Some : goal.returns-in-Some
-returns-in-Some c =
-    ap given_by (rw c.in-Some.is at (c.get_str.ensures ∙ first_value-rows (found_of c.args.matches.now) (codes "schedule")))
-
-pub returns-in-None : goal.returns-in-None
-returns-in-None c =
-    ap given_by (rw c.in-None.is at (c.get_str.ensures ∙ first_value-rows (found_of c.args.matches.now) (codes "schedule")))
+pub returns : goal.returns
+returns c =
+    let found = found_of c.args.matches.now in
+    c.source_by.ensures ∙ same_given (c.get_str.ensures ∙ first_value-rows found (codes "schedule"))
+    (c.get_str-2.ensures ∙ first_value-rows found (codes "until"))
+    (c.get_str-3.ensures ∙ first_value-rows found (codes "turns"))
+    (c.get_str-4.ensures ∙ first_value-rows found (codes "early"))

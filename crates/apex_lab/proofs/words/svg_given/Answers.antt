@@ -7,5 +7,5 @@ use Rattle.apex_lab.proofs.words.svg_given.Goals as goal
 pub returns : goal.returns
 returns c =
     let found = found_of c.args.matches.now in
-    same_svg c.source_given.ensures (c.get_str.ensures ∙ first_value-rows found (codes "from"))
+    same_svg (c.get_str.ensures ∙ first_value-rows found (codes "from"))
     (c.get_str-2.ensures ∙ first_value-rows found (codes "to"))

@@ -1,7 +1,0 @@
-use Rattle.std.proofs.Common.{◌≡◌, [], map}
-use Rattle.std.specs.List.{range_with_len}
-use Rattle.apex_report.specs.Processes.{process_figures}
-use Rattle.apex_report.proofs.reports.processes_before.Given as goal
-
-abbrev pub invariant-loop-place : goal.invariant-loop-place
-invariant-loop-place l = l.processes.items ≡ map (process_figures []) (range_with_len 0 l.place)

@@ -1,0 +1,47 @@
+-- The first state of a search.
+use Rattle.std.proofs.Common.{◌≡◌, ◌≤◌, ◌<◌, ◌^◌, false, List, [], ◌∷◌, length, get_or, sym, ap, subst, arith}
+use Rattle.apex_laws.specs.Laws.{OfEachTable}
+use Rattle.apex_machine.specs.Deeds.{Objects}
+use Rattle.apex_machine.specs.Machine.{objects_after}
+use Rattle.apex_machine.specs.services.Objects.{objects_of}
+use Rattle.apex_machine.specs.services.ProcessServices.{ProcessObject, process_kind}
+use Rattle.apex_machine.specs.table.Table.{IsLawful, ProcessConfig, Table}
+use Rattle.apex_pace.specs.Laws.{IsPace}
+use Rattle.apex_pace.specs.Pace.{Paced, paced_opening}
+use Rattle.apex_search.specs.Counts.{IsSamePaced}
+use Rattle.apex_search.specs.Forms.{canonical_paced}
+use Rattle.apex_search.specs.Laws.{FormsReach}
+use Rattle.apex_search.specs.Restored.{IsOfTable}
+use Rattle.apex_search.specs.Steps.{FormIsReady, FormsAreReady, PartsAreKept, form_words}
+use Rattle.apex_search.specs.Stored.{FitsWords, words_of}
+use Rattle.apex_search.specs.Terms.{Pace}
+use Rattle.apex_search.proofs.Stepping.{paced_is}
+
+-- no process is created before any event
+blank_of : (entries : List ProcessConfig) (o : ProcessObject) → 1 ≤ length entries
+    → o ≡ get_or (objects_of process_kind [] entries) 0 o → o.created ≡ false
+blank_of [] o some is = absurd (omega (arith, some))
+blank_of (entry ∷ entries) o some is = ap (λ (x : ProcessObject). x.created) is
+
+pub blank_is : (table : Table) → IsLawful table → (objects : Objects) (o : ProcessObject) → objects ≡ objects_after table []
+    → o ≡ get_or objects.processes 0 o → o.created ≡ false
+blank_is table lawful objects o is first =
+    blank_of table.processes o lawful.process_count.0
+    (subst (λ (x : Objects). o ≡ get_or x.processes 0 o) is first)
+
+pub opened_parts : (table : Table) → IsLawful table → FormsReach table → OfEachTable PartsAreKept → (opened : Paced) → IsSamePaced opened (paced_opening table)
+    → IsOfTable table opened.situation
+opened_parts table lawful bounds kept opened same =
+    subst (λ (p : Paced). IsOfTable table p.situation) (sym (paced_is same)) (kept table lawful (paced_opening table) bounds.opens)
+
+module _ (pace : Pace) (is_pace : IsPace pace) (few : pace.turns < 2 ^ 32) (table : Table) (lawful : IsLawful table)
+    (bounds : FormsReach table) (ready : OfEachTable FormsAreReady) where
+  pub start_ready : FormIsReady pace table (paced_opening table)
+  start_ready = ready table lawful pace is_pace few (paced_opening table) bounds.opens
+
+  module _ (form : Paced) (same : IsSamePaced form (canonical_paced pace (paced_opening table))) where
+    pub start_fits : FitsWords table form
+    start_fits = subst (FitsWords table) (sym (paced_is same)) start_ready.fits
+
+    pub start_words_are : words_of table form ≡ form_words pace table (paced_opening table)
+    start_words_are = ap (words_of table) (paced_is same)

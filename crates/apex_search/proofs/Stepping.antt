@@ -1,0 +1,201 @@
+-- One choice of a search, made in a situation that is in canonical form.
+use Rattle.std.proofs.Common.{◌≡◌, ◌∙◌, ℕ, ◌+◌, ◌<◌, ◌≤◌, ◌^◌, true, false, List, [], length, Option, None, Some, inl, inr, refl, sym, ap, subst, arith}
+use Rattle.std.proofs.Math.Path.{fun_ext}
+use Rattle.std.proofs.lemmas.Bool.{cases_lt}
+use Rattle.apex_types.specs.Limits.{latest}
+use Rattle.apex_types.specs.declared.calls.Call.{Call}
+use Rattle.apex_types.specs.declared.entries.Event.TheVariants.{Tick}
+use Rattle.apex_types.specs.declared.limits.TheConstants.{MOST_CORES, MOST_PROCESSES}
+use Rattle.apex_machine.specs.Deeds.{Deed, Objects}
+use Rattle.apex_machine.specs.Events.{IsWithin}
+use Rattle.apex_machine.specs.Situations.{Situation, deed, step}
+use Rattle.apex_machine.specs.Ticks.{pass_time, tick_goal}
+use Rattle.apex_machine.specs.processes.Roster.{Roster}
+use Rattle.apex_machine.specs.processes.Stamps.{advance_to}
+use Rattle.apex_machine.specs.table.Table.{IsLawful, Table}
+use Rattle.apex_types.proofs.Places.{length-map_places}
+use Rattle.apex_machine.proofs.BothProfiles.{lawful_count}
+use Rattle.apex_machine.proofs.Dues.{goal_before_deadlines, goal_before_dues, goal_forward, goal_near}
+use Rattle.apex_machine.proofs.Reaches.{Arrives, arrives_of, in_time_later}
+use Rattle.apex_laws.proofs.DuesServed.{IsServable}
+use Rattle.apex_laws.proofs.TickTold.{reach_serve_instant}
+use Rattle.apex_laws.specs.GoesOn.{CanGoOn}
+use Rattle.apex_laws.specs.Laws.{OfEachTable}
+use Rattle.apex_laws.specs.Premises.{most_given}
+use Rattle.apex_alike.specs.Canonical.{IsFit, canonical, canonical_record, oldest_age}
+use Rattle.apex_alike.specs.Closed.{IsSameSituation}
+use Rattle.apex_dispatch.specs.Deeds.{Does}
+use Rattle.apex_explore.specs.Systems.{step_of}
+use Rattle.apex_explore.specs.declared.systems.Taken.TheVariants.{Refused, Next, Hit}
+use Rattle.apex_pace.specs.Laws.{IsPace}
+use Rattle.apex_pace.specs.Pace.{Paced, is_allowed, paced_step}
+use Rattle.apex_search.specs.Counts.{IsSameOnCores, IsSamePaced}
+use Rattle.apex_search.specs.Facts.{has_fact, is_asked}
+use Rattle.apex_search.specs.Forms.{canonical_paced, kept_turns, kept_worked}
+use Rattle.apex_search.specs.Laws.{FormsReach}
+use Rattle.apex_search.specs.Reached.{IsReached}
+use Rattle.apex_search.specs.Restored.{IsOfTable}
+use Rattle.apex_search.specs.Steps.{AreWordsAfter, FormIsReady, FormsAreReady, IsEntryOf, IsForm, IsFormed, PartsAreKept, event_of, form_words, searched, step_by}
+use Rattle.apex_search.specs.Stored.{FitsWords, words_of}
+use Rattle.apex_search.specs.Terms.{Caller, Event, Notice, OpenWork, Pace, Question, Reply}
+use Rattle.apex_search.proofs.Schedules.{event_allowed}
+
+-- situations that are the same are equal
+pub situation_is : {one other : Situation} → IsSameSituation one other → one ≡ other
+situation_is {one} {other} same =
+    ap (λ (r : Roster). record one { roster = r }) same.roster
+    ∙ ap (λ (o : Objects). record one { roster = other.roster; objects = o }) same.objects
+    ∙ ap (λ (w : ℕ → Option OpenWork). record other { works = w; made = one.made }) (fun_ext same.works)
+    ∙ ap (λ (n : ℕ). record other { made = n }) same.made
+
+pub paced_is : {one other : Paced} → IsSamePaced one other → one ≡ other
+paced_is {one} {other} same =
+    ap (λ (s : Situation). record one { situation = s }) (situation_is same.situation)
+    ∙ ap (λ (t : ℕ → ℕ). record one { situation = other.situation; turns = t }) (fun_ext same.turns)
+    ∙ ap (λ (w : ℕ → ℕ). record other { worked = w }) (fun_ext same.worked)
+
+-- a tick of n goes n on at the most
+pub tick_near : (table : Table) → IsLawful table → (s : Situation) → CanGoOn table 1 s → (n : ℕ)
+    → (step table s (Tick n)).roster.now ≤ s.roster.now + n
+unfolding pass_time
+tick_near table lawful s can n =
+    let roster = s.roster in
+    let goal = tick_goal roster n in
+    let forward = goal_forward roster n (λ p. (can.times p).due) (λ p. (can.times p).deadline) in
+    let times = in_time_later roster goal can.times forward (goal_before_dues roster n) (goal_before_deadlines roster n) in
+    let starts = can.starts in
+    let servable : IsServable (advance_to roster goal) =
+    record { starts = record { dormant = starts.dormant; early = starts.early; undue = starts.undue }; times = times } in
+    let few : length roster.records ≤ MOST_PROCESSES = omega (arith, can.records, lawful_count table lawful) in
+    let arrives : Arrives most_given (advance_to roster goal) (step table s (Tick n)).roster =
+    arrives_of (reach_serve_instant (advance_to roster goal) servable few) in
+    omega (arith, arrives.moves.time, goal_near roster n)
+
+-- the entry of a deed that was done
+pub entry_of : (d : Deed) (who : Caller) (asked : Option Call) (answer : Reply) (left : Roster) (objects : Objects) (after : List Notice)
+    → Does d who asked answer left objects [] after → IsEntryOf d who answer after
+entry_of d who asked answer left objects after does = record {
+  caller = does.caller;
+  reply = does.outcome.reply;
+  notices = does.outcome.notices;
+}
+
+-- has the fact if the deed has it
+pub entry_has : (question : Question) (d : Deed) (who : Caller) (answer : Reply) (told : List Notice) → IsEntryOf d who answer told
+    → is_asked question who answer told ≡ has_fact question d
+entry_has question d who answer told entry =
+    ap (λ (c : Caller). is_asked question c answer told) entry.caller
+    ∙ ap (λ (r : Reply). is_asked question d.caller r told) entry.reply
+    ∙ ap (is_asked question d.caller d.outcome.reply) entry.notices
+
+-- the forms of situations that are the same on the cores
+same_forms : (pace : Pace) (one other : Paced) → IsSameOnCores one other
+    → ((core : ℕ) → MOST_CORES ≤ core → other.situation.works core ≡ None)
+    → IsSamePaced (canonical_paced pace one) (canonical_paced pace other)
+same_forms pace one other same none = record {
+  situation = record {
+    roster = ap (λ (s : Situation). (canonical s).roster) (situation_is same.situation);
+    objects = same.situation.objects;
+    works = same.situation.works;
+    made = same.situation.made;
+  };
+  turns = λ core. ap (kept_turns pace) (same.turns core);
+  worked = λ core.
+      ap (λ (begun : Option OpenWork). kept_worked begun (one.worked core)) (same.situation.works core)
+      ∙ elim (cases_lt core MOST_CORES) [
+        | inl within ↦ ap (kept_worked (other.situation.works core)) (same.worked core within)
+        | inr past ↦ rw (none core past) refl
+      ];
+}
+
+-- the canonical form keeps the fixed parts
+canonical_parts : (pace : Pace) (table : Table) (s : Paced) → IsOfTable table s.situation
+    → IsOfTable table (canonical_paced pace s).situation
+canonical_parts pace table s of =
+    let roster = s.situation.roster in
+    record {
+      cores = of.cores;
+      records = length-map_places (canonical_record roster (oldest_age roster.now roster.records)) 0 roster.records ∙ of.records;
+      disciplines = of.disciplines;
+      rules = of.rules;
+      objects = of.objects;
+    }
+
+module _ (pace : Pace) (is_pace : IsPace pace) (few : pace.turns < 2 ^ 32) (table : Table) (lawful : IsLawful table)
+    (bounds : FormsReach table) (ready : OfEachTable FormsAreReady) (here : Paced) (formed : IsFormed pace table here) where
+  is : here ≡ canonical_paced pace formed.paced
+  is = paced_is formed.same
+
+  facts : FormIsReady pace table formed.paced
+  facts = ready table lawful pace is_pace few formed.paced formed.reached
+
+  pub here_parts : OfEachTable PartsAreKept → IsOfTable table here.situation
+  here_parts kept =
+      subst (λ (p : Paced). IsOfTable table p.situation) (sym is)
+      (canonical_parts pace table formed.paced (kept table lawful formed.paced formed.reached))
+
+  pub here_can : CanGoOn table 1 here.situation
+  here_can = subst (λ (p : Paced). CanGoOn table 1 p.situation) (sym is) facts.can
+
+  pub here_time : here.situation.roster.now ≤ latest
+  here_time = omega (arith, here_can.ticks)
+
+  pub here_counts : (event : Event) → IsWithin table.cores event → AreWordsAfter event here
+  here_counts event range = subst (AreWordsAfter event) (sym is) (facts.counts event range)
+
+  module _ (choice : ℕ) (event : Event) (found : event_of pace table here choice ≡ Some event) where
+    pub next_reached : IsReached table (paced_step table here event)
+    next_reached =
+        subst (λ (p : Paced). is_allowed pace table p event ≡ true → IsReached table (paced_step table p event)) (sym is)
+        (bounds.steps pace formed.paced formed.reached event) (event_allowed pace table here choice event found)
+
+    next_ready : FormIsReady pace table (paced_step table here event)
+    next_ready = ready table lawful pace is_pace few (paced_step table here event) next_reached
+
+    module _ (made : Paced) (same : IsSameOnCores made (paced_step table here event)) where
+      pub made_fit : IsFit made.situation.roster
+      made_fit = subst IsFit (sym same.situation.roster) next_reached.fit
+
+      pub made_parts : OfEachTable PartsAreKept → IsOfTable table made.situation
+      made_parts kept =
+          subst (IsOfTable table) (sym (situation_is same.situation)) (kept table lawful (paced_step table here event) next_reached)
+
+      module _ (form : Paced) (forms : IsSamePaced form (canonical_paced pace made)) where
+        pub form_is : form ≡ canonical_paced pace (paced_step table here event)
+        form_is =
+            paced_is forms
+            ∙ paced_is (same_forms pace made (paced_step table here event) same
+            (λ core past. next_reached.works core (omega (arith, past, lawful.cores))))
+
+        pub form_fits : FitsWords table form
+        form_fits = subst (FitsWords table) (sym form_is) next_ready.fits
+
+        pub form_parts : OfEachTable PartsAreKept → IsOfTable table form.situation
+        form_parts kept =
+            subst (λ (p : Paced). IsOfTable table p.situation) (sym form_is)
+            (canonical_parts pace table (paced_step table here event) (kept table lawful (paced_step table here event) next_reached))
+
+        pub form_words_are : (words : List ℕ) → words ≡ words_of table form → words ≡ form_words pace table (paced_step table here event)
+        form_words_are words is = is ∙ ap (words_of table) form_is
+
+        pub is_form : (words : List ℕ) → words ≡ words_of table form → IsForm pace table words
+        is_form words is = record { paced = paced_step table here event; form = form_words_are words is; reached = next_reached }
+
+  -- what came of the choice
+  pub step_refused : (question : Question) (choice : ℕ) (next : List ℕ) → None ≡ event_of pace table here choice
+      → step_of Refused next ≡ step_by (searched table pace question) here (event_of pace table here choice)
+  step_refused question choice next none = ap (step_by (searched table pace question) here) none
+
+  pub step_hit : (question : Question) (choice : ℕ) (next : List ℕ) (event : Event) → Some event ≡ event_of pace table here choice
+      → true ≡ has_fact question (deed table here.situation event)
+      → step_of Hit next ≡ step_by (searched table pace question) here (event_of pace table here choice)
+  step_hit question choice next event found has =
+      let struck : step_of Hit next ≡ step_by (searched table pace question) here (Some event) = rw (← has) refl in
+      struck ∙ ap (step_by (searched table pace question) here) found
+
+  pub step_next : (question : Question) (choice : ℕ) (next : List ℕ) (event : Event) → Some event ≡ event_of pace table here choice
+      → false ≡ has_fact question (deed table here.situation event) → next ≡ form_words pace table (paced_step table here event)
+      → step_of Next next ≡ step_by (searched table pace question) here (event_of pace table here choice)
+  step_next question choice next event found has words =
+      let gone : step_of Next next ≡ step_by (searched table pace question) here (Some event) = rw (← has, words) refl in
+      gone ∙ ap (step_by (searched table pace question) here) found

@@ -1,0 +1,12 @@
+use Rattle.std.proofs.Common.{◌∙◌, refl}
+use Rattle.apex_search.specs.Counts.{paced_in}
+use Rattle.apex_search.proofs.Starting.{blank_is, opened_parts}
+use Rattle.apex_search.proofs.systems.Workplace.new.Goals as goal
+
+pub returns : goal.returns
+returns c = record {
+  stored = c.in_ok-opening.field-0;
+  here = refl;
+  of = opened_parts c.args.table.now c.lawful.ensures c.requires c.parts_are_kept.ensures (paced_in c.in_ok-opening.field-0) c.in_ok-opening.ensures;
+  blank = blank_is c.args.table.now c.lawful.ensures _ c.index-blank.result.now (c.objects.view_is ∙ c.in_ok-objects.ensures) c.index-blank.ensures;
+}

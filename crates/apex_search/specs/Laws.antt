@@ -1,0 +1,76 @@
+-- The laws on which the answers of a search rest. Each holds of every lawful table.
+use Rattle.std.specs.Prelude.{◌≡◌, ℕ, true}
+use Rattle.apex_alike.specs.AlikeSteps.{AreAlikeSituations}
+use Rattle.apex_machine.specs.Situations.{deed}
+use Rattle.apex_machine.specs.table.Table.{Table}
+use Rattle.apex_pace.specs.Laws.{IsPace}
+use Rattle.apex_pace.specs.Pace.{Paced, is_allowed, paced_opening, paced_step}
+use Rattle.apex_search.specs.Counts.{IsSamePaced}
+use Rattle.apex_search.specs.Facts.{has_fact}
+use Rattle.apex_search.specs.Forms.{canonical_paced, kept_turns, kept_worked}
+use Rattle.apex_search.specs.Reached.{HasUsualCalls, IsReached}
+use Rattle.apex_search.specs.Restored.{paced_from}
+use Rattle.apex_explore.specs.Answers.{Says}
+use Rattle.apex_explore.specs.Systems.{step_within}
+use Rattle.apex_explore.specs.declared.answers.Answer.{Answer}
+use Rattle.apex_search.specs.Answers.{SaysOfSchedules}
+use Rattle.apex_search.specs.Steps.{Searched, choices_of, form_words, search_start, search_step}
+use Rattle.apex_search.specs.Terms.{Event, Pace, Question}
+
+-- the situation before any event is such a one, and so is what comes of an event that is allowed in a
+-- canonical form
+pub record FormsReach (table : Table) : Type 0 where
+  pub opens : IsReached table (paced_opening table)
+  pub steps : (pace : Pace) (s : Paced) → IsReached table s → (event : Event)
+      → is_allowed pace table (canonical_paced pace s) event ≡ true
+      → IsReached table (paced_step table (canonical_paced pace s) event)
+
+-- so it is with every table whose calls have usual numbers
+abbrev pub UsualFormsReach : Table → Type 0
+UsualFormsReach table = HasUsualCalls table → FormsReach table
+
+-- the words of the canonical form hold all of it: so two canonical forms with the same words are the
+-- same
+abbrev pub WordsAreExact : Table → Type 0
+WordsAreExact table = (pace : Pace) (s : Paced) → IsReached table s
+    → IsSamePaced (paced_from table (form_words pace table s)) (canonical_paced pace s)
+
+-- the same words, so the same form, whenever the forms are the same
+abbrev pub FormsHaveWords : Table → Type 0
+FormsHaveWords table = (pace : Pace) (one other : Paced)
+    → IsSamePaced (canonical_paced pace one) (canonical_paced pace other)
+    → form_words pace table one ≡ form_words pace table other
+
+-- the form stands for the situation, which is alike to it and d later: the form counts turns and the
+-- ticks of work as the situation does, as far as they matter at the pace
+pub record StandsFor (pace : Pace) (d : ℕ) (form s : Paced) : Type 0 where
+  pub alike : AreAlikeSituations d form.situation s.situation
+  pub turns : (core : ℕ) → form.turns core ≡ kept_turns pace (s.turns core)
+  pub worked : (core : ℕ)
+      → form.worked core ≡ kept_worked (s.situation.works core) (s.worked core)
+
+-- an event is allowed in the form exactly if it is allowed in the situation, and its entry has the
+-- same facts; and what comes of it in the form stands, in canonical form, for what comes of it in
+-- the situation
+pub record StepsFor (pace : Pace) (table : Table) (form s : Paced) (event : Event) : Type 0 where
+  pub allowed : is_allowed pace table form event ≡ is_allowed pace table s event
+  pub fact : (question : Question) → has_fact question (deed table form.situation event)
+      ≡ has_fact question (deed table s.situation event)
+  pub later : ℕ
+  pub stands : is_allowed pace table s event ≡ true
+      → StandsFor pace later (canonical_paced pace (paced_step table form event))
+      (paced_step table s event)
+
+-- so it is with every event in every situation for which a canonical form stands
+abbrev pub FormsStandFor : Table → Type 0
+FormsStandFor table = (pace : Pace) → IsPace pace → (form : Paced) → IsReached table form
+    → (d : ℕ) (s : Paced) → StandsFor pace d (canonical_paced pace form) s
+    → (event : Event) → StepsFor pace table (canonical_paced pace form) s event
+
+-- an answer about the words of a search says as much of the schedules of the pace
+abbrev pub AnswersSay : Table → Type 0
+AnswersSay table = HasUsualCalls table → (pace : Pace) → IsPace pace → (question : Question) →
+    let system : Searched = record { table = table; pace = pace; question = question } in
+    (room : ℕ) (answer : Answer)
+    → Says (step_within (choices_of system) (search_step system)) (search_start system) room answer
+    → SaysOfSchedules system answer

@@ -1,0 +1,255 @@
+//! A table under a pace, and a question, as a system to search.
+ghost use Rattle.std.specs.Prelude.{◌≡◌, All, IfOk, length};
+ghost use Rattle.apex_machine.specs.Events.{IsWithin};
+ghost use Rattle.apex_pace.specs.Laws.{IsPace};
+ghost use Rattle.apex_pace.specs.Pace.{paced_opening};
+ghost use Rattle.apex_search.specs.Answers.{SaysOfSchedules, schedule_of};
+ghost use Rattle.apex_search.specs.Counts.{IsSamePaced, paced_in};
+ghost use Rattle.apex_search.specs.Forms.{canonical_paced};
+ghost use Rattle.apex_search.specs.Laws.{FormsReach};
+ghost use Rattle.apex_search.specs.Restored.{IsStored, paced_from};
+ghost use Rattle.apex_search.specs.Steps.{IsWorkplace, form_words};
+ghost use Rattle.apex_search.specs.Stored.{word_count};
+
+use crate::facts::Question;
+use crate::laws::{forms_stand_for_situations, same_forms_have_the_same_words, words_are_exact};
+use crate::paced::PacedSituation;
+use crate::premises::{forms_are_ready, forms_reach, parts_are_kept, turns_are_few};
+use crate::stored::word_count;
+use crate::usual::calls_are_usual;
+use apex_dispatch::{Objects, ProcessObject};
+use apex_explore::{Answer, System, Taken, explore};
+use apex_pace::Pace;
+use apex_table::Table;
+use apex_types::{Event, Notices};
+use std::alloc::{AllocError, Global};
+use std::marker::Model;
+
+/// A table under a pace, and the fact that is looked for in the entries of its runs.
+///
+/// A choice below the number of cores is a turn of that core, and the last choice is the tick that
+/// may come. A state is a situation in canonical form with what the pace counts, as words.
+#[derive(Drop)]
+pub struct TableSystem {
+    table: Table,
+    pace: Pace,
+    question: Question,
+    /// The words of the situation before any event.
+    start: Vec<u64>,
+}
+
+/// What an event of a search is made in.
+#[derive(Drop)]
+pub struct Workplace {
+    paced: Option<PacedSituation>,
+    /// A process that isn't created.
+    blank: ProcessObject,
+    notices: Notices,
+}
+
+impl Model for TableSystem {
+    ghost use Rattle.std.specs.Prelude.{◌≡◌};
+    ghost use Rattle.apex_pace.specs.Laws.{IsPace};
+    ghost use Rattle.apex_search.specs.Laws.{FormsReach};
+    ghost use Rattle.apex_search.specs.Steps.{Searched, search_start};
+
+    ghost Value = { Searched };
+
+    ghost view = { λ s. record { table = s.table; pace = s.pace; question = s.question } };
+
+    ghost invariant = { λ s. IsPace s.pace × FormsReach s.table × (s.start.items
+        ≡ search_start (record { table = s.table; pace = s.pace; question = s.question })) };
+}
+
+impl Workplace {
+    /// Takes the memory for the table's situations. Fails only for want of it.
+    fn new(alloc: Global, table: &Table) -> Result<Workplace, AllocError>
+        requires { FormsReach table.now }
+        ensures { IfOk result (IsWorkplace table.now) }
+    {
+        table.lawful();
+        parts_are_kept();
+        let objects = Objects::new(alloc, table)?;
+        let blank = objects.processes[0];
+        Ok(Workplace {
+            paced: Some(PacedSituation::opening(alloc, table)?),
+            blank,
+            notices: Notices::new(),
+        })
+    }
+
+    /// The situation of these words, in the memory of the last one.
+    fn restored(&mut self, table: &Table, words: &[u64]) -> PacedSituation
+        requires workplace { IsWorkplace table.now self.old }
+        requires words { IsStored table.now words.now }
+        ensures paced { IsSamePaced (paced_in result) (paced_from table.now words.now) }
+        ensures blank { self.new.blank ≡ self.old.blank }
+    {
+        match self.paced.take() {
+            Some(paced) => paced.restored(table, self.blank, words),
+            None => unreachable!(),
+        }
+    }
+}
+
+/// Puts the words of this situation, which is the canonical form of that before any event.
+fn put_start(paced: &PacedSituation, table: &Table, pace: Pace, words: &mut [u64])
+    requires pace { IsPace pace }
+    requires reach { FormsReach table.now }
+    requires start { IsSamePaced (paced_in paced.now)
+        (canonical_paced pace (paced_opening table.now)) }
+    requires room { length words.old ≡ word_count table.now }
+    ensures { words.new ≡ form_words pace table.now (paced_opening table.now) }
+{
+    table.lawful();
+    turns_are_few(pace);
+    forms_are_ready();
+    paced.put_words(table, words);
+}
+
+/// The words of the canonical form of the situation before any event. Fails only for want of
+/// memory.
+fn start_words(alloc: Global, table: &Table, pace: Pace) -> Result<Vec<u64>, AllocError>
+    requires pace { IsPace pace }
+    requires reach { FormsReach table.now }
+    ensures { IfOk result (λ words. words.items
+        ≡ form_words pace table.now (paced_opening table.now)) }
+{
+    let paced = PacedSituation::opening(alloc, table)?.canonical(pace);
+    let mut words = vec![in alloc; 0; word_count(table)]?;
+    put_start(&paced, table, pace, words.as_mut_slice());
+    Ok(words)
+}
+
+impl TableSystem {
+    /// The table under this pace, with this question. Fails only for want of memory.
+    pub fn new(
+        alloc: Global,
+        table: Table,
+        pace: Pace,
+        question: Question,
+    ) -> Result<TableSystem, AllocError>
+        requires pace { IsPace pace }
+        ensures table { IfOk result (λ system. system.table ≡ table) }
+        ensures pace { IfOk result (λ system. system.pace ≡ pace) }
+        ensures question { IfOk result (λ system. system.question ≡ question) }
+    {
+        calls_are_usual(&table);
+        forms_reach(&table);
+        let start = start_words(alloc, &table, pace)?;
+        Ok(TableSystem {
+            table,
+            pace,
+            question,
+            start,
+        })
+    }
+
+    /// Searches the schedules of the pace, the shortest first, for one that leads to the fact. The
+    /// room for `room` states is taken before the first event. Fails only for want of memory.
+    ///
+    /// [`TableSystem::schedule`] gives the events of a path that is found.
+    pub fn search(&self, alloc: Global, room: u32) -> Result<Answer, AllocError>
+        ensures { IfOk result (SaysOfSchedules self.now) }
+    {
+        self.table.lawful();
+        words_are_exact();
+        same_forms_have_the_same_words();
+        forms_stand_for_situations();
+        explore(alloc, self, room)
+    }
+
+    /// The events of the choices of a path, up to one that is not allowed. Fails only for want of
+    /// memory.
+    pub fn schedule(&self, alloc: Global, path: &[u32]) -> Result<Vec<Event>, AllocError>
+        ensures events { IfOk result (λ events. events.items ≡ schedule_of self.now path.now) }
+        ensures within { IfOk result (λ events. All (IsWithin self.now.table.cores) events.items) }
+    {
+        self.table.lawful();
+        turns_are_few(self.pace);
+        forms_are_ready();
+        forms_stand_for_situations();
+        let mut events = Vec::with_capacity(alloc, path.len())?;
+        let mut paced = PacedSituation::opening(alloc, &self.table)?.canonical(self.pace);
+        let mut notices = Notices::new();
+        for choice in path {
+            let Some(event) = paced.event(self.pace, &self.table, *choice) else {
+                return Ok(events);
+            };
+            events.push(event)?;
+            let _ = paced.make(&self.table, self.question, event, &mut notices);
+            paced = paced.canonical(self.pace);
+        }
+        Ok(events)
+    }
+
+    /// The table.
+    pub fn table(&self) -> &Table
+        ensures { result.now ≡ self.now.table }
+    {
+        &self.table
+    }
+}
+
+impl System for TableSystem {
+    ghost use Rattle.apex_search.specs.Steps.{IsForm, IsWorkplace, choices_of, search_start, search_step};
+    ghost use Rattle.apex_search.specs.Stored.{word_count};
+
+    type Workspace = Workplace;
+
+    ghost word_count = { λ s. word_count s.table };
+
+    ghost choice_count = { choices_of };
+
+    ghost start = { search_start };
+
+    ghost step = { search_step };
+
+    ghost is_state = { λ s. IsForm s.pace s.table };
+
+    ghost is_workspace = { λ s. IsWorkplace s.table };
+
+    fn width(&self) -> usize {
+        word_count(&self.table)
+    }
+
+    fn choices(&self) -> u32 {
+        u32::from(self.table.cores()) + 1
+    }
+
+    fn workspace(&self, alloc: Global) -> Result<Workplace, AllocError> {
+        Workplace::new(alloc, &self.table)
+    }
+
+    fn first(&self, state: &mut [u64]) {
+        self.table.lawful();
+        turns_are_few(self.pace);
+        forms_are_ready();
+        state.copy_from_slice(self.start.as_slice());
+    }
+
+    fn next(
+        &self,
+        workplace: &mut Workplace,
+        state: &[u64],
+        choice: u32,
+        next: &mut [u64],
+    ) -> Taken {
+        self.table.lawful();
+        turns_are_few(self.pace);
+        words_are_exact();
+        forms_are_ready();
+        let paced = workplace.restored(&self.table, state);
+        let notices = &mut workplace.notices;
+        let (taken, paced) = paced.step(
+            self.pace,
+            &self.table,
+            self.question,
+            choice,
+            notices,
+            next,
+        );
+        workplace.paced = Some(paced);
+        taken
+    }
+}
