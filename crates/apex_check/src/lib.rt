@@ -11,4 +11,6 @@ mod tables;
 mod verdicts;
 
 pub use checking::{Followed, check, follow};
+pub use pending::{Next, Pending};
+pub use tables::leading_table;
 pub use verdicts::{CheckFault, Verdict, verdict_text};

@@ -26,7 +26,7 @@ const NEAR_ROOM: usize = 128;
 
 /// The next part of a text.
 #[derive(Clone, Copy, PartialEq, Eq)]
-pub(crate) enum Next {
+pub enum Next {
     /// A line of n bytes, and its line feed.
     Line(usize),
     /// All that was read ahead is a part of a line that is longer than any.
@@ -39,7 +39,7 @@ pub(crate) enum Next {
 
 /// The bytes that were read ahead. It takes no memory.
 #[derive(Drop)]
-pub(crate) struct Pending {
+pub struct Pending {
     room: [u8; PENDING_ROOM],
     /// The place of the first byte that was not taken.
     start: usize,
@@ -93,7 +93,8 @@ fn near_line(bytes: &[u8]) -> Option<usize>
 }
 
 impl Pending {
-    pub(crate) fn new() -> Pending
+    /// No bytes: nothing was read yet.
+    pub fn new() -> Pending
         ensures { length result ≡ 0 }
     {
         Pending {
@@ -103,14 +104,15 @@ impl Pending {
         }
     }
 
-    pub(crate) fn bytes(&self) -> &[u8]
+    /// The bytes that were read and not taken.
+    pub fn bytes(&self) -> &[u8]
         ensures { result.now ≡ self.now }
     {
         &self.room[self.start..self.end]
     }
 
     /// Takes `count` bytes from the front.
-    pub(crate) fn take(&mut self, count: usize)
+    pub fn take(&mut self, count: usize)
         requires { count ≤ length self.old }
         ensures { self.new ≡ drop count self.old }
     {
@@ -173,7 +175,7 @@ impl Pending {
     /// The next part of the text. It reads only if no line feed was read ahead.
     // Inlined: a near line is found without a call.
     #[inline(always)]
-    pub(crate) fn next<R: Source>(&mut self, reader: &mut Counted<R>) -> Result<Next>
+    pub fn next<R: Source>(&mut self, reader: &mut Counted<R>) -> Result<Next>
         ensures kept { OnOk result
             (Keeps (prepend_known self.old (R.remaining (inner_of reader.old)))
             (prepend_known self.new (R.remaining (inner_of reader.new)))) }

@@ -72,7 +72,7 @@ fn table_text<R: Source>(
 /// The table with which the text begins. The separator is taken too.
 ///
 /// The errors in the order of the checks: `Read`, `NoSeparator`, `Table`; `Memory` at any point.
-pub(crate) fn leading_table<R: Source>(
+pub fn leading_table<R: Source>(
     alloc: Global,
     pending: &mut Pending,
     reader: &mut Counted<R>,

@@ -1,8 +1,12 @@
 pub mod Encoding
 pub mod Growth
+pub mod Hitting
 pub mod Leading
 pub mod Levels
 pub mod Packing
 pub mod Probing
+pub mod Registering
 pub mod Storing
 pub mod Trails
+pub mod Trees
+pub mod Weaker

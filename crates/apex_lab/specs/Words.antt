@@ -2,7 +2,9 @@
 use Rattle.std.specs.Prelude.{List, Option, Some, None, codes, if◌then◌else◌, option_and_then, option_map}
 use Rattle.std.specs.Str.{bytes_eq}
 use Rattle.clap.specs.Words.{App, Row, Text, first_of, new_app, with_rule, with_subcommand}
-use Rattle.apex_cli.specs.Words.{option_rule, program_alone, request_by}
+use Rattle.apex_cli.specs.Words.{flag_rule, option_rule, program_alone, request_by, says_given}
+use Rattle.apex_lab.specs.declared.words.Form.{Form}
+use Rattle.apex_lab.specs.declared.words.Form.TheVariants as forms
 use Rattle.apex_lab.specs.declared.words.Listing.{Listing}
 use Rattle.apex_lab.specs.declared.words.Listing.TheVariants.{Lines, Status, Report, Schedule}
 use Rattle.apex_lab.specs.declared.words.Request.{Request as RequestIn}
@@ -27,6 +29,10 @@ svg =
     with_rule (with_rule (view_command (codes "svg")) (option_rule (codes "from")))
     (option_rule (codes "to"))
 
+-- `report`, which has `[--json]` too
+abbrev pub report : App
+report = with_rule (view_command (codes "report")) (flag_rule (codes "json"))
+
 -- the program's command line, with its commands for pictures
 abbrev pub lab_of_pictures : App
 lab_of_pictures =
@@ -41,7 +47,7 @@ lab =
     (with_subcommand
     (with_subcommand lab_of_pictures (view_command (codes "lines")).top)
     (view_command (codes "status")).top)
-    (view_command (codes "report")).top)
+    report.top)
     (view_command (codes "schedule")).top
 
 -- how a run is given
@@ -121,6 +127,14 @@ shown_in shown rows = option_map (request_with shown) (given_in rows)
 abbrev pub svg_in : List Row → Shown
 svg_in rows = as_svg (first_of (codes "from") rows) (first_of (codes "to") rows)
 
+-- the form of a report, by the text of the flag
+abbrev pub form_of : Option Text → Form
+form_of json = if says_given json then forms.Json else forms.Text
+
+-- the form of the report for the rows of a command
+abbrev pub form_in : List Row → Form
+form_in rows = form_of (first_of (codes "json") rows)
+
 -- how the command of this name shows a run, by its rows
 abbrev pub view_of : Text → List Row → Option Shown
 view_of name rows =
@@ -128,7 +142,7 @@ view_of name rows =
     else if bytes_eq name (codes "trace") then Some as_trace
     else if bytes_eq name (codes "lines") then Some (as_listing Lines)
     else if bytes_eq name (codes "status") then Some (as_listing Status)
-    else if bytes_eq name (codes "report") then Some (as_listing Report)
+    else if bytes_eq name (codes "report") then Some (as_listing (Report (form_in rows)))
     else if bytes_eq name (codes "schedule") then Some (as_listing Schedule) else None
 
 -- what the command of this name asks for, with its rows

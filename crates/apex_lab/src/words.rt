@@ -1,12 +1,13 @@
 //! The words of the command line.
 ghost use Rattle.std.specs.Prelude.{◌≡◌, false, IfOk, IfErr, IsErrOf, Some, None, map, string_bytes, option_map, option_and_then};
 ghost use Rattle.clap.specs.declared.builder.command.Command.TheViews.{out-Command as fields_of};
-ghost use Rattle.clap.specs.Words.{app_of, found_of, rows_of, subcommand_rows_of};
+ghost use Rattle.clap.specs.Words.{app_of, found_of, rows_of, rule_of, subcommand_rows_of};
 ghost use Rattle.apex_cli.specs.Faults.{IsUsageOrMemory};
-ghost use Rattle.apex_lab.specs.Words.{given_by, given_in, given_said, lab, lab_of_pictures, request_in, request_of, request_said, shown_said, svg, svg_in, view_command, view_of};
+ghost use Rattle.apex_cli.specs.Words.{flag_rule};
+ghost use Rattle.apex_lab.specs.Words.{form_in, form_of, given_by, given_in, given_said, lab, lab_of_pictures, report, request_in, request_of, request_said, shown_said, svg, svg_in, view_command, view_of};
 
 use apex_cli::{CliFault, matches_of, option};
-use clap::{ArgMatches, Command};
+use clap::{Arg, ArgAction, ArgMatches, Command};
 use std::alloc::{AllocError, Global};
 
 /// How a run is given, by the words.
@@ -27,6 +28,15 @@ pub enum SourceWords<'a> {
     History,
 }
 
+/// The form of a report.
+#[derive(Clone, Copy, Debug, PartialEq, Eq)]
+pub enum Form {
+    /// As lines.
+    Text,
+    /// As one JSON object.
+    Json,
+}
+
 /// A listing of a run.
 #[derive(Clone, Copy, Debug, PartialEq, Eq)]
 pub enum Listing {
@@ -35,7 +45,7 @@ pub enum Listing {
     /// Its last state.
     Status,
     /// The figures of each core and each process.
-    Report,
+    Report(Form),
     /// The schedule of its events.
     Schedule,
 }
@@ -80,6 +90,21 @@ fn svg_command<'a>(alloc: Global) -> Result<Command<'a>, AllocError>
     with_from.arg(option(alloc, "to"))
 }
 
+/// An option without a value, which may be given.
+fn flag<'a>(alloc: Global, name: &'static str) -> Arg<'a>
+    ensures rule { rule_of result ≡ flag_rule name.now }
+    ensures local { result.global ≡ false }
+{
+    Arg::new(alloc, name).long(name).action(ArgAction::SetTrue)
+}
+
+fn report_command<'a>(alloc: Global) -> Result<Command<'a>, AllocError>
+    ensures app { IfOk result (λ c. app_of c ≡ report) }
+    ensures local { IfOk result (λ c. (fields_of c).has_globals ≡ false) }
+{
+    view_command(alloc, "report")?.arg(flag(alloc, "json"))
+}
+
 /// The program's command line, with its commands for pictures.
 fn picture_commands<'a>(alloc: Global) -> Result<Command<'a>, AllocError>
     ensures { IfOk result (λ c. app_of c ≡ lab_of_pictures) }
@@ -96,13 +121,13 @@ fn command<'a>(alloc: Global) -> Result<Command<'a>, AllocError>
     let pictures = picture_commands(alloc)?;
     let with_lines = pictures.subcommand(view_command(alloc, "lines")?)?;
     let with_status = with_lines.subcommand(view_command(alloc, "status")?)?;
-    let with_report = with_status.subcommand(view_command(alloc, "report")?)?;
+    let with_report = with_status.subcommand(report_command(alloc)?)?;
     with_report.subcommand(view_command(alloc, "schedule")?)
 }
 
 /// What the words ask for: `svg`, `trace`, `lines`, `status`, `report` or `schedule`, with
 /// `--schedule S`, with `--until T [--turns K] [--early E]`, or with neither; `svg` also with
-/// `[--from N] [--to M]`. Other words are `Usage`.
+/// `[--from N] [--to M]`, and `report` with `[--json]`. Other words are `Usage`.
 pub fn request_in<'a>(alloc: Global, words: &'a [String]) -> Result<Request<'a>, CliFault>
     ensures ok { IfOk result (λ r. request_of (map string_bytes words.entry.now)
         ≡ Some (request_said r)) }
@@ -167,6 +192,25 @@ fn svg_given<'a>(matches: &ArgMatches<'a>) -> ViewWords<'a>
     }
 }
 
+/// The form of a report, by the text of the flag `--json`.
+fn form_by(json: Option<&str>) -> Form
+    ensures { result ≡ form_of (option_map (λ text. text.now) json.entry) }
+{
+    match json {
+        Some("true") => Form::Json,
+        _ => Form::Text,
+    }
+}
+
+/// The form of the report for which a command's matches ask.
+fn form_given(matches: &ArgMatches<'_>) -> Form
+    ensures { result ≡ form_in (rows_of (found_of matches.now)) }
+{
+    // The text is read, since the contract of `get_flag` is silent on texts that are no truth
+    // value.
+    form_by(matches.get_str("json"))
+}
+
 /// How the command of this name shows a run, by its matches.
 fn view_given<'a>(name: &str, matches: &ArgMatches<'a>) -> Option<ViewWords<'a>>
     ensures { option_map shown_said result ≡ view_of name.now (rows_of (found_of matches.now)) }
@@ -176,7 +220,7 @@ fn view_given<'a>(name: &str, matches: &ArgMatches<'a>) -> Option<ViewWords<'a>>
         "trace" => Some(ViewWords::Trace),
         "lines" => Some(ViewWords::Listing(Listing::Lines)),
         "status" => Some(ViewWords::Listing(Listing::Status)),
-        "report" => Some(ViewWords::Listing(Listing::Report)),
+        "report" => Some(ViewWords::Listing(Listing::Report(form_given(matches)))),
         "schedule" => Some(ViewWords::Listing(Listing::Schedule)),
         _ => None,
     }

@@ -13,3 +13,4 @@ pub mod Reached
 pub mod Steps
 pub mod Answers
 pub mod Laws
+pub mod Census

@@ -1,0 +1,3 @@
+pub mod Further
+pub mod Mendings
+pub mod Trees

@@ -1,0 +1,11 @@
+pub mod Depth
+pub mod Faults
+pub mod Findings
+pub mod Locations
+pub mod Mended
+pub mod Outside
+pub mod Paths
+pub mod Plain
+pub mod Suggestions
+pub mod Terms
+pub mod Trees

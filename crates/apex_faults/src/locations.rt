@@ -1,0 +1,221 @@
+//! Where the subject of a fault stands in the table's text.
+ghost use Rattle.std.specs.Prelude.{◌≡◌, ◌+◌, ◌-◌, ◌^◌, ◌≤◌, ◌<◌, length, take, IfSome};
+ghost use Rattle.apex_faults.specs.Locations.{IsLocationIn, after_byte, location_after};
+
+use crate::scanning::{Expression, after_value, from_next, next_expression};
+use apex_table::{Key, Part, Place, Section, Subject};
+
+/// A line and a column of a text, both counted from 1; a column counts characters.
+#[derive(Clone, Copy, Debug, PartialEq, Eq)]
+pub struct Location {
+    pub line: usize,
+    pub column: usize,
+}
+
+impl Location {
+    /// The location of the byte after one that is here; the later bytes of a character in UTF-8 take
+    /// no column.
+    fn after(self, byte: u8) -> Location
+        requires { (self.line < 2 ^ 63) × (self.column < 2 ^ 63) }
+        ensures value { result ≡ after_byte self byte }
+        ensures bounds { (result.line ≤ self.line + 1) × (result.column ≤ self.column + 1) }
+    {
+        match byte {
+            b'\n' => Location {
+                line: self.line + 1,
+                column: 1,
+            },
+            0x80..=0xbf => self,
+            _ => Location {
+                line: self.line,
+                column: self.column + 1,
+            },
+        }
+    }
+}
+
+/// The location behind these bytes, which are the front of a text.
+pub fn location_after(bytes: &[u8]) -> Location
+    ensures { result ≡ location_after bytes.now }
+{
+    let mut here = Location { line: 1, column: 1 };
+    'each: for byte in bytes {
+        here = here.after(*byte);
+    }
+    here
+}
+
+/// The location in the text at which its end `rest` begins.
+fn location_of(text: &[u8], rest: &[u8]) -> Location
+    requires { length rest.now ≤ length text.now }
+    ensures { result ≡ location_after (take (length text.now - length rest.now) text.now) }
+{
+    location_after(&text[..text.len() - rest.len()])
+}
+
+/// The name of a header or a key is this word, but for blanks and quotes.
+fn is_word(name: &[u8], word: &[u8]) -> bool {
+    let mut name_left = name;
+    let mut word_left = word;
+    'bytes: while let [byte, name @ ..] = name_left {
+        name_left = name;
+        match word_left {
+            [wanted, word @ ..] if *byte == *wanted => word_left = word,
+            _ if matches!(byte, b' ' | b'\t' | b'"' | b'\'') => {}
+            _ => return false,
+        }
+    }
+    word_left.is_empty()
+}
+
+/// The header of this number that has this word, from where it stands, and the text behind it.
+fn header_of<'t>(text: &'t [u8], word: &str, number: u32) -> Option<Expression<'t>>
+    ensures { IfSome result (λ e. (length e.start.now ≤ length text.now)
+        × (length e.value.now < length e.start.now)) }
+{
+    let mut rest = text;
+    let mut left = number;
+    'headers: while let Some(expression) = next_expression(rest) {
+        if expression.is_header && is_word(expression.name, word.as_bytes()) {
+            if left <= 1 {
+                return Some(expression);
+            }
+            left -= 1;
+        }
+        rest = if expression.is_header {
+            expression.value
+        } else {
+            after_value(expression.value)
+        };
+    }
+    None
+}
+
+/// The key of this word before the next header.
+fn key_in<'t>(text: &'t [u8], word: &str) -> Option<Expression<'t>>
+    ensures { IfSome result (λ e. (length e.start.now ≤ length text.now)
+        × (length e.value.now < length e.start.now)) }
+{
+    let mut rest = text;
+    'keys: while let Some(expression) = next_expression(rest) {
+        if expression.is_header {
+            return None;
+        }
+        if is_word(expression.name, word.as_bytes()) {
+            return Some(expression);
+        }
+        rest = after_value(expression.value);
+    }
+    None
+}
+
+/// The element at this place of the array at the front, counted from 0.
+fn element(text: &[u8], place: usize) -> &[u8]
+    ensures { length result.now ≤ length text.now }
+{
+    let mut rest = match from_next(text) {
+        [b'[', inner @ ..] => from_next(inner),
+        other => other,
+    };
+    'elements: for _ in 0..place {
+        rest = from_next(after_value(rest));
+    }
+    rest
+}
+
+/// The word at this place of the string at the front, counted from 0; words have a space between
+/// them.
+fn word_in(text: &[u8], place: usize) -> &[u8]
+    ensures { length result.now ≤ length text.now }
+{
+    let mut rest = match text {
+        [b'"' | b'\'', inner @ ..] => inner,
+        other => other,
+    };
+    let mut left = place;
+    'bytes: while let [byte, after @ ..] = rest {
+        if left == 0 || *byte == b'\n' {
+            return rest;
+        }
+        if *byte == b' ' {
+            left -= 1;
+        }
+        rest = after;
+    }
+    rest
+}
+
+/// The text from the step on: from that of a script, or from that of the init list.
+fn step<'t>(text: &'t [u8], entry: &'t [u8], section: Section, place: usize) -> &'t [u8]
+    requires { length entry.now ≤ length text.now }
+    ensures { length result.now ≤ length text.now }
+{
+    let found = if section == Section::Init {
+        key_in(text, section.word())
+    } else {
+        key_in(entry, Key::Script.word())
+    };
+    match found {
+        Some(script) => element(script.value, place),
+        None => entry,
+    }
+}
+
+/// The text from the header of the place on, and from behind it; from its key at the top on, if it
+/// has no header.
+fn place_in<'t>(text: &'t [u8], place: Place) -> (&'t [u8], &'t [u8])
+    ensures { (length result.0.now ≤ length text.now) × (length result.1.now ≤ length text.now) }
+{
+    let found = match place.section {
+        Section::Top => return (text, text),
+        Section::Init => None,
+        section => header_of(text, section.word(), place.number),
+    };
+    match found {
+        Some(header) => (header.start, header.value),
+        None => match key_in(text, place.section.word()) {
+            Some(key) => (key.start, key.start),
+            None => (text, text),
+        },
+    }
+}
+
+/// The text from the first header of this word on, or else all of it.
+fn top_header<'t>(text: &'t [u8], word: &str) -> &'t [u8]
+    ensures { length result.now ≤ length text.now }
+{
+    match header_of(text, word, 1) {
+        Some(header) => header.start,
+        None => text,
+    }
+}
+
+/// The text from the subject on, or from its entry on if it is not there. `other` is the key that
+/// the subject is about, if it is one that the section does not have.
+fn subject_in<'t>(text: &'t [u8], subject: Subject, other: &str) -> &'t [u8]
+    ensures { length result.now ≤ length text.now }
+{
+    let (start, body) = place_in(text, subject.place);
+    let word = match subject.part {
+        Part::Whole => return start,
+        Part::Step(place) => return step(text, body, subject.place.section, place),
+        Part::Word(place, word) => {
+            return word_in(step(text, body, subject.place.section, place), word);
+        }
+        Part::Key(key) => key.word(),
+        Part::OtherKey(_) => other,
+    };
+    match (key_in(body, word), subject.place.section) {
+        (Some(key), _) => key.start,
+        (None, Section::Top) => top_header(text, word),
+        (None, _) => start,
+    }
+}
+
+/// Where the subject stands in the text, or where its entry begins if it is not there. `other` is
+/// the key that the subject is about, if it is one that the section does not have.
+pub fn locate(text: &[u8], subject: Subject, other: &str) -> Location
+    ensures { IsLocationIn text.now result }
+{
+    location_of(text, subject_in(text, subject, other))
+}
