@@ -1,6 +1,5 @@
-//! The report of a history that is written by hand: services that refuse calls of the init list and
-//! of two processes, and work that is done and lost.
-ghost use Rattle.std.specs.Prelude.{◌≤◌};
+//! The report of a history that is written by hand: services that refuse calls of the init list and of two
+//! processes, and work that is done and lost.
 
 use crate::reports::{called, normal, printed, push_next, ticked};
 use apex_history::Log;

@@ -4,7 +4,7 @@ ghost use Rattle.clap.specs.declared.builder.command.Command.TheViews.{out-Comma
 ghost use Rattle.clap.specs.Words.{app_of, found_of, rows_of, rule_of, subcommand_rows_of};
 ghost use Rattle.apex_cli.specs.Faults.{IsUsageOrMemory};
 ghost use Rattle.apex_cli.specs.Words.{flag_rule};
-ghost use Rattle.apex_lab.specs.Words.{form_in, form_of, given_by, given_in, given_said, lab, lab_of_pictures, report, request_in, request_of, request_said, shown_said, svg, svg_in, view_command, view_of};
+ghost use Rattle.apex_lab.specs.Words.{form_in, form_of, given_by, given_in, given_said, lab, lab_of_pictures, lab_of_views, report, request_in, request_of, request_said, search_command, search_in, search_said, shown_in, shown_said, showing_in, svg, svg_in, view_command, view_of};
 
 use apex_cli::{CliFault, matches_of, option};
 use clap::{Arg, ArgAction, ArgMatches, Command};
@@ -64,11 +64,28 @@ pub enum ViewWords<'a> {
     Listing(Listing),
 }
 
+/// What a search is for, by the texts of its options.
+#[derive(Clone, Copy)]
+pub struct SearchWords<'a> {
+    /// The word of the fact.
+    pub fact: &'a str,
+    /// The name or the number of a process, if it is given.
+    pub process: Option<&'a str>,
+    /// The turns a tick of the pace, if they are given.
+    pub turns: Option<&'a str>,
+    /// The percentage of the pace, if it is given.
+    pub early: Option<&'a str>,
+    /// The number of states for which there is room, if it is given.
+    pub states: Option<&'a str>,
+}
+
 /// What the words ask for.
 #[derive(Clone, Copy)]
-pub struct Request<'a> {
-    pub source: SourceWords<'a>,
-    pub view: ViewWords<'a>,
+pub enum Request<'a> {
+    /// To show a run that is given in this way.
+    Show(SourceWords<'a>, ViewWords<'a>),
+    /// To search the schedules of a pace.
+    Search(SearchWords<'a>),
 }
 
 /// The command of this name, with the options that say how a run is given.
@@ -115,8 +132,9 @@ fn picture_commands<'a>(alloc: Global) -> Result<Command<'a>, AllocError>
     with_svg.subcommand(view_command(alloc, "trace")?)
 }
 
-fn command<'a>(alloc: Global) -> Result<Command<'a>, AllocError>
-    ensures { IfOk result (λ c. app_of c ≡ lab) }
+/// The program's command line, with its commands that show a run.
+fn view_commands<'a>(alloc: Global) -> Result<Command<'a>, AllocError>
+    ensures { IfOk result (λ c. app_of c ≡ lab_of_views) }
 {
     let pictures = picture_commands(alloc)?;
     let with_lines = pictures.subcommand(view_command(alloc, "lines")?)?;
@@ -125,9 +143,29 @@ fn command<'a>(alloc: Global) -> Result<Command<'a>, AllocError>
     with_report.subcommand(view_command(alloc, "schedule")?)
 }
 
+/// The command `search`.
+fn search_command<'a>(alloc: Global) -> Result<Command<'a>, AllocError>
+    ensures app { IfOk result (λ c. app_of c ≡ search_command) }
+    ensures local { IfOk result (λ c. (fields_of c).has_globals ≡ false) }
+{
+    let with_fact = Command::new(alloc, "search").arg(option(alloc, "for"))?;
+    let with_process = with_fact.arg(option(alloc, "process"))?;
+    let with_turns = with_process.arg(option(alloc, "turns"))?;
+    let with_early = with_turns.arg(option(alloc, "early"))?;
+    with_early.arg(option(alloc, "states"))
+}
+
+fn command<'a>(alloc: Global) -> Result<Command<'a>, AllocError>
+    ensures { IfOk result (λ c. app_of c ≡ lab) }
+{
+    let views = view_commands(alloc)?;
+    views.subcommand(search_command(alloc)?)
+}
+
 /// What the words ask for: `svg`, `trace`, `lines`, `status`, `report` or `schedule`, with
 /// `--schedule S`, with `--until T [--turns K] [--early E]`, or with neither; `svg` also with
-/// `[--from N] [--to M]`, and `report` with `[--json]`. Other words are `Usage`.
+/// `[--from N] [--to M]`, and `report` with `[--json]`; or `search` with `--for WORD [--process P]
+/// [--turns K] [--early E] [--states N]`. Other words are `Usage`.
 pub fn request_in<'a>(alloc: Global, words: &'a [String]) -> Result<Request<'a>, CliFault>
     ensures ok { IfOk result (λ r. request_of (map string_bytes words.entry.now)
         ≡ Some (request_said r)) }
@@ -226,12 +264,45 @@ fn view_given<'a>(name: &str, matches: &ArgMatches<'a>) -> Option<ViewWords<'a>>
     }
 }
 
+/// The run that the command of this name shows, by its matches.
+fn showing_given<'a>(name: &str, matches: &ArgMatches<'a>) -> Option<Request<'a>>
+    ensures { option_map request_said result
+        ≡ showing_in name.now (rows_of (found_of matches.now)) }
+{
+    let view = view_given(name, matches)?;
+    let source = source_given(matches)?;
+    Some(Request::Show(source, view))
+}
+
+/// The search for which a command's matches ask. None if it is for no fact.
+fn search_given<'a>(matches: &ArgMatches<'a>) -> Option<SearchWords<'a>>
+    ensures { option_map search_said result ≡ search_in (rows_of (found_of matches.now)) }
+{
+    let fact = matches.get_str("for")?;
+    Some(SearchWords {
+        fact,
+        process: matches.get_str("process"),
+        turns: matches.get_str("turns"),
+        early: matches.get_str("early"),
+        states: matches.get_str("states"),
+    })
+}
+
+/// What the command of this name asks for, by its matches.
+fn asked_by<'a>(name: &str, matches: &ArgMatches<'a>) -> Option<Request<'a>>
+    ensures { option_map request_said result
+        ≡ request_in (name.now, rows_of (found_of matches.now)) }
+{
+    match name {
+        "search" => Some(Request::Search(search_given(matches)?)),
+        _ => showing_given(name, matches),
+    }
+}
+
 fn request_given<'a>(matches: &ArgMatches<'a>) -> Option<Request<'a>>
     ensures { option_map request_said result
         ≡ option_and_then request_in (subcommand_rows_of matches.now) }
 {
     let (name, found) = matches.subcommand()?;
-    let view = view_given(name, found)?;
-    let source = source_given(found)?;
-    Some(Request { source, view })
+    asked_by(name, found)
 }

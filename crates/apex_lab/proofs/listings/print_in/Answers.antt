@@ -6,13 +6,6 @@ use Rattle.apex_lab.specs.Plans.{report_in}
 use Rattle.apex_lab.specs.declared.words.Form.{Form}
 use Rattle.apex_lab.proofs.listings.print_in.Goals as goal
 
-pub returns-in-Text-clause-ok : goal.returns-in-Text-clause-ok
-returns-in-Text-clause-ok g c = λ history is.
-    subst
-    (λ (text : List ℕ). OnOk c.print_report.result (HasWritten g.W.Sink.contents c.args.writer.now c.print_report.new.writer text))
-    (sym (ap (λ (form : Form). report_in form c.args.table.now history) c.in-Text.is))
-    (c.print_report.ensures.ok history is)
-
 pub returns-in-Text-clause-err : goal.returns-in-Text-clause-err
 returns-in-Text-clause-err g c = λ history is.
     subst
