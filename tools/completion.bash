@@ -6,7 +6,7 @@ _apex() {
         lab:2 | picture:2) words='svg trace lines status report schedule' ;;
         replay:* | status:*) words='--schedule' ;;
         run:*) words='--turns --ticks --front' ;;
-        lab:* | picture:*) words='--schedule --schedule-file --until --turns --early --from --to --json' ;;
+        lab:* | picture:*) words='--schedule --schedule-file --until --turns --early --from --to' ;;
     esac
     case $before in
         --schedule | --turns | --ticks | --until | --early | --from | --to) return ;;

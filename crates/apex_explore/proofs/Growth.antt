@@ -5,8 +5,7 @@ use Rattle.std.proofs.lemmas.Option.{same_Some}
 use Rattle.std.specs.List.{slice_get}
 use Rattle.apex_explore.specs.Systems.{Step, refuses, goes, step_within}
 use Rattle.apex_explore.specs.declared.states.Origin.{Origin}
-use Rattle.apex_explore.specs.Levels.{IsAmong, Keeps, IsChild, Grows}
-use Rattle.apex_explore.specs.Lists.{AllAre, IsFront}
+use Rattle.apex_explore.specs.Levels.{AllAre, IsAmong, Keeps, IsFront, IsChild, Grows}
 use Rattle.apex_explore.proofs.Levels.{at_old_place, IsFront-refl, IsFront-trans, IsFront-push, Keeps-widen, IsChild-widen}
 
 slice_get-push : {X : Type 0} (xs : List X) (y : X) → slice_get (xs ++ y ∷ []) (length xs) ≡ Some y

@@ -9,8 +9,7 @@ use Rattle.apex_explore.specs.Systems.{Step}
 use Rattle.apex_explore.specs.Systems.{refuses, goes, hits}
 use Rattle.apex_explore.specs.declared.states.Origin.{Origin}
 use Rattle.apex_explore.specs.Paths.{Leads, IsHit, NoHit, NoHitWithin, IsShortestHit, IsReachableWithin, ReachesExactly, ReachesWithin}
-use Rattle.apex_explore.specs.Levels.{IsAmong, Keeps, IsTrail, IsChild, IsTraced, IsLevel, Grows, turned}
-use Rattle.apex_explore.specs.Lists.{IsFront}
+use Rattle.apex_explore.specs.Levels.{IsAmong, Keeps, IsFront, IsTrail, IsChild, IsTraced, IsLevel, Grows, turned}
 use Rattle.apex_explore.specs.declared.fronts.Front.{Front}
 use Rattle.apex_explore.proofs.Leading.{Leads-push, Ends-from_Leads}
 
@@ -145,62 +144,7 @@ module _ {K : Type 0} (step : K → ℕ → Step K) where
       let fronts : front ≡ front' = IsTrail-unique origins depth o'.parent front front' (subst P e rest) rest' in
       rw (split, split', e, fronts) refl
 
-  -- What is stored for the state at `at` is one choice farther.
-  pub IsLevel-grown : (first : K) (states : List K) (origins : List Origin) (states' : List K) (origins' : List Origin) (at depth level_end : ℕ)
-      → at < level_end
-      → IsLevel step states origins first at depth level_end
-      → Grows step at states origins states' origins'
-      → IsLevel step states' origins' first at depth level_end
-  IsLevel-grown first states origins states' origins' at depth level_end here old grows =
-      let front = grows.states_front in
-      let front' = grows.origins_front in
-      record {
-        paired = grows.paired;
-        root = front.same 0 first old.root;
-        before = λ place below. let was = old.before place below in (was.0, was.1, IsTraced-widen was.0 place front front' was.2);
-        now = λ place above below. IsTraced-widen depth place front front' (old.now place above below);
-        later = λ place above below.
-            elim (cases_lt place (length states)) [
-              | inl lt ↦ IsTraced-widen (suc depth) place front front' (old.later place above lt)
-              | inr ge ↦ (at, grows.children place ge below, IsTraced-widen depth at front front' (old.now at (omega arith) here))
-            ];
-        done = λ place k choice below is.
-            Keeps-widen (step k choice) front (old.done place k choice below (at_old_place states states' place k front (omega (arith, old.in_order, old.in_states)) is));
-        near = λ path n short leads. IsAmong-widen at at front (omega arith) (old.near path n short leads);
-        level = λ path n short leads. IsAmong-widen level_end level_end front (omega arith) (old.level path n short leads);
-        in_order = old.in_order;
-        in_states = omega (arith, old.in_states, front.longer);
-        deep = old.deep;
-      }
-
-  -- One more state is done.
-  IsLevel-past : (first : K) (states : List K) (origins : List Origin) (at depth level_end : ℕ)
-      → at < level_end
-      → IsLevel step states origins first at depth level_end
-      → ((k : K) (choice : ℕ) → slice_get states at ≡ Some k → Keeps states (step k choice))
-      → IsLevel step states origins first (at + 1) depth level_end
-  IsLevel-past first states origins at depth level_end here old kept = record {
-    paired = old.paired;
-    root = old.root;
-    before = λ place below.
-        elim (cases_lt place at) [
-          | inl lt ↦ old.before place lt
-          | inr ge ↦ (depth, omega arith, old.now place ge (omega arith))
-        ];
-    now = λ place above below. old.now place (omega arith) below;
-    later = old.later;
-    done = λ place k choice below is.
-        elim (cases_lt place at) [
-          | inl lt ↦ old.done place k choice lt is
-          | inr ge ↦ let e : place ≡ at = omega arith in kept k choice (rw e at is)
-        ];
-    near = λ path n short leads. IsAmong-widen at (at + 1) (IsFront-refl states) (omega arith) (old.near path n short leads);
-    level = old.level;
-    in_order = omega arith;
-    in_states = old.in_states;
-    deep = old.deep;
-  }
-
+  -- One more state is done, and what was stored for it is one choice farther.
   pub IsLevel-done : (first : K) (states : List K) (origins : List Origin) (states' : List K) (origins' : List Origin) (at depth level_end : ℕ)
       → at < level_end
       → IsLevel step states origins first at depth level_end
@@ -208,8 +152,33 @@ module _ {K : Type 0} (step : K → ℕ → Step K) where
       → ((k : K) (choice : ℕ) → slice_get states' at ≡ Some k → Keeps states' (step k choice))
       → IsLevel step states' origins' first (at + 1) depth level_end
   IsLevel-done first states origins states' origins' at depth level_end here old grows kept =
-      IsLevel-past first states' origins' at depth level_end here
-      (IsLevel-grown first states origins states' origins' at depth level_end here old grows) kept
+      let front = grows.states_front in
+      let front' = grows.origins_front in
+      record {
+        paired = grows.paired;
+        root = front.same 0 first old.root;
+        before = λ place below.
+            elim (cases_lt place at) [
+              | inl lt ↦ let was = old.before place lt in (was.0, was.1, IsTraced-widen was.0 place front front' was.2)
+              | inr ge ↦ (depth, omega arith, IsTraced-widen depth place front front' (old.now place ge (omega arith)))
+            ];
+        now = λ place above below. IsTraced-widen depth place front front' (old.now place (omega arith) below);
+        later = λ place above below.
+            elim (cases_lt place (length states)) [
+              | inl lt ↦ IsTraced-widen (suc depth) place front front' (old.later place above lt)
+              | inr ge ↦ (at, grows.children place ge below, IsTraced-widen depth at front front' (old.now at (omega arith) here))
+            ];
+        done = λ place k choice below is.
+            elim (cases_lt place at) [
+              | inl lt ↦ Keeps-widen (step k choice) front (old.done place k choice lt (at_old_place states states' place k front (omega (arith, old.in_order, old.in_states)) is))
+              | inr ge ↦ let e : place ≡ at = omega arith in kept k choice (rw e at is)
+            ];
+        near = λ path n short leads. IsAmong-widen at (at + 1) front (omega arith) (old.near path n short leads);
+        level = λ path n short leads. IsAmong-widen level_end level_end front (omega arith) (old.level path n short leads);
+        in_order = omega arith;
+        in_states = omega (arith, old.in_states, front.longer);
+        deep = old.deep;
+      }
 
   -- At the end of a level the next one begins.
   pub IsLevel-next : (first : K) (states : List K) (origins : List Origin) (at depth : ℕ)
@@ -314,17 +283,19 @@ module _ {K : Type 0} (step : K → ℕ → Step K) where
       (trail.path, omega (arith, trail.long, trace.1), trail.leads)
 
   -- A choice that hits in the state at `at`, after the path that was read off the origins.
-  pub IsLevel-found : (first : K) (states : List K) (origins : List Origin) (at depth level_end : ℕ) (path : List ℕ) (k : K) (choice : ℕ)
+  pub IsLevel-found : (first : K) (states : List K) (origins : List Origin) (states' : List K) (origins' : List Origin) (at depth level_end : ℕ) (path : List ℕ) (k : K) (choice : ℕ)
       → at < level_end
       → IsLevel step states origins first at depth level_end
-      → slice_get states at ≡ Some k
+      → Grows step at states origins states' origins'
+      → slice_get states' at ≡ Some k
       → step k choice ≡ hits
-      → IsTrail origins depth at path
+      → IsTrail origins' depth at path
       → IsShortestHit step first (path ++ choice ∷ [])
-  IsLevel-found first states origins at depth level_end path k choice here level is hit_is read =
-      let traced = level.now at (omega arith) here in
-      let trail = Trail-from_IsTraced states origins first level.root depth at k is traced in
-      let e : trail.path ≡ path = IsTrail-unique origins depth at trail.path path trail.trail read in
+  IsLevel-found first states origins states' origins' at depth level_end path k choice here old grows is hit_is read =
+      let root : slice_get states' 0 ≡ Some first = grows.states_front.same 0 first old.root in
+      let traced = IsTraced-widen depth at grows.states_front grows.origins_front (old.now at (omega arith) here) in
+      let trail = Trail-from_IsTraced states' origins' first root depth at k is traced in
+      let e : trail.path ≡ path = IsTrail-unique origins' depth at trail.path path trail.trail read in
       let Goes : List ℕ → Type 0 = λ p. Leads step first p k in
       let Long : List ℕ → Type 0 = λ p. length p ≡ depth in
       let leads : Leads step first path k = subst Goes e trail.leads in
@@ -333,20 +304,22 @@ module _ {K : Type 0} (step : K → ℕ → Step K) where
         λ other hit.
             elim (cases_lt depth (length other)) [
               | inl lt ↦ simp length-append (omega (arith, long))
-              | inr le ↦ absurd (no_hit states first at depth level.near level.done other le hit)
+              | inr le ↦ absurd (no_hit states first at depth old.near old.done other le hit)
             ],
       )
 
   -- Where each path of the origins is a trail, one is there to be read.
-  pub IsLevel-trail : (first : K) (states : List K) (origins : List Origin) (at depth level_end : ℕ)
+  pub IsLevel-trail : (first : K) (states : List K) (origins : List Origin) (states' : List K) (origins' : List Origin) (at depth level_end : ℕ)
       → at < level_end
       → IsLevel step states origins first at depth level_end
-      → (path : List ℕ) × IsTrail origins depth at path
-  IsLevel-trail first states origins at depth level_end here level =
-      let traced = level.now at (omega arith) here in
-      let below : at < length states = omega (arith, level.in_states) in
-      let is = slice_get-get_or states at first below in
-      let trail = Trail-from_IsTraced states origins first level.root depth at (get_or states at first) is traced in
+      → Grows step at states origins states' origins'
+      → (path : List ℕ) × IsTrail origins' depth at path
+  IsLevel-trail first states origins states' origins' at depth level_end here old grows =
+      let root : slice_get states' 0 ≡ Some first = grows.states_front.same 0 first old.root in
+      let traced = IsTraced-widen depth at grows.states_front grows.origins_front (old.now at (omega arith) here) in
+      let below : at < length states' = omega (arith, old.in_states, grows.states_front.longer) in
+      let is = slice_get-get_or states' at first below in
+      let trail = Trail-from_IsTraced states' origins' first root depth at (get_or states' at first) is traced in
       (trail.path, trail.trail)
 
   -- The search is over with each state done.
@@ -371,26 +344,33 @@ module _ {K : Type 0} (step : K → ℕ → Step K) where
       )
 
   -- The search is over with a state for which there is no room.
-  pub IsLevel-full : (first : K) (states : List K) (origins : List Origin) (at depth level_end : ℕ) (k n : K) (choice : ℕ)
+  pub IsLevel-full : (first : K) (states : List K) (origins : List Origin) (states' : List K) (origins' : List Origin) (at depth level_end : ℕ) (k n : K) (choice : ℕ)
       → at < level_end
-      → AllPairs (λ a b. a ≢ b) (states ++ n ∷ [])
+      → AllPairs (λ a b. a ≢ b) (states' ++ n ∷ [])
       → IsLevel step states origins first at depth level_end
-      → slice_get states at ≡ Some k
+      → Grows step at states origins states' origins'
+      → slice_get states' at ≡ Some k
       → step k choice ≡ goes n
-      → NoHitWithin step first depth × ReachesWithin step first (depth + 1) (length states + 1)
-  IsLevel-full first states origins at depth level_end k n choice here apart level is goes_is =
-      let to_at = level.now at (omega arith) here in
-      let before = Trail-from_IsTraced states origins first level.root depth at k is to_at in
-      let known : (m : K) → Contains states m → IsReachableWithin step first (depth + 1) m =
-      reach_from_trace first states origins (depth + 1) level.root (within_next first states origins at depth level_end level) in
+      → NoHitWithin step first depth × ReachesWithin step first (depth + 1) (length states' + 1)
+  IsLevel-full first states origins states' origins' at depth level_end k n choice here apart old grows is goes_is =
+      let root : slice_get states' 0 ≡ Some first = grows.states_front.same 0 first old.root in
+      let to_at = IsTraced-widen depth at grows.states_front grows.origins_front (old.now at (omega arith) here) in
+      let before = Trail-from_IsTraced states' origins' first root depth at k is to_at in
+      let known : (m : K) → Contains states' m → IsReachableWithin step first (depth + 1) m = λ m has.
+      reach_from_trace first states' origins' (depth + 1) root (λ place below.
+      elim (cases_lt place (length states)) [
+        | inl lt ↦ let was = within_next first states origins at depth level_end old place lt in (was.0, was.1, IsTraced-widen was.0 place grows.states_front grows.origins_front was.2)
+        | inr ge ↦ (suc depth, omega arith, (at, grows.children place ge below, to_at))
+      ]) m has
+      in
       let newest : IsReachableWithin step first (depth + 1) n =
       (before.path ++ choice ∷ [], simp length-append (omega (arith, before.long)), Leads-push step first before.path choice k n before.leads goes_is) in (
-        no_hit states first at depth level.near level.done,
+        no_hit states first at depth old.near old.done,
         (
-          states ++ n ∷ [],
-          length-append states (n ∷ []),
+          states' ++ n ∷ [],
+          length-append states' (n ∷ []),
           apart,
-          λ m has. reach_more states n m newest known has,
+          λ m has. reach_more states' n m newest known has,
         ),
       )
     where

@@ -1,12 +1,8 @@
 pub mod Encoding
 pub mod Growth
-pub mod Hitting
 pub mod Leading
 pub mod Levels
 pub mod Packing
 pub mod Probing
-pub mod Registering
 pub mod Storing
 pub mod Trails
-pub mod Trees
-pub mod Weaker

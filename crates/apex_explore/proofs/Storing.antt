@@ -1,24 +1,35 @@
 -- The states that are stored.
-use Rattle.std.proofs.Common.{◌≡◌, ℕ, zero, suc, ◌*◌, ◌≤◌, true, false, List, [], ◌∷◌, ◌++◌, length, length-append, map, take, drop, Some, refl, sym, ap, ◌∙◌, subst, arith, inl, inr}
-use Rattle.std.proofs.lemmas.List.{length-drop, length-map, map-append}
-use Rattle.std.proofs.lemmas.Option.{same_Some, slice_get-map, slice_get_within}
-use Rattle.std.specs.List.{slice_get}
-use Rattle.std.specs.Prelude.{slice_index_or}
-use Rattle.std.specs.Option.{option_map}
-use Rattle.apex_explore.specs.declared.nodes.Nodes.{Nodes}
-use Rattle.apex_explore.specs.declared.registers.Entered.TheVariants.{Known, New, Full}
+use Rattle.std.proofs.Common.{◌≡◌, ◌≢◌, ℕ, ◌+◌, ◌*◌, ◌^◌, ◌<◌, ◌≤◌, true, List, [], ◌∷◌, ◌++◌, length, length-append, replicate, Option, None, Some, refl, sym, ap, ◌∙◌, arith, inl, inr, get_or}
+use Rattle.std.proofs.lemmas.List.{length-replicate}
+use Rattle.std.proofs.lemmas.Option.{slice_get-get_or, slice_get_within}
+use Rattle.std.specs.List.{slice_get, slice_set, AllPairs}
 use Rattle.apex_explore.specs.declared.states.Origin.{Origin}
-use Rattle.apex_explore.specs.declared.states.TheConstants.{DEPTH}
-use Rattle.apex_explore.specs.Index.{IsKnown}
-use Rattle.apex_explore.specs.Lists.{AllAre}
-use Rattle.apex_explore.specs.Nodes.{IsExact, IsHeld, IsTree, Joins, no_nodes}
-use Rattle.apex_explore.specs.Registers.{AreApart, IsEntered}
-use Rattle.apex_explore.specs.Rows.{Packed, no_rows}
-use Rattle.apex_explore.specs.States.{IsHere, IsKept, IsRoot, IsStored, Reached, state_of, states_in, with_state}
+use Rattle.apex_explore.specs.Index.{IsKnown, IsVacant}
+use Rattle.apex_explore.specs.Rows.{Packed}
+use Rattle.apex_explore.specs.States.{AreApart, IsKept, IsStored, Reached}
 use Rattle.apex_explore.proofs.Growth.{IsLaid}
-use Rattle.apex_explore.proofs.Probing.{last_or_before}
-use Rattle.apex_explore.proofs.Registering.{AreApart-push}
-use Rattle.apex_explore.proofs.Trees.{joined-root, same_root, single, Joins-held, Joins-single}
+use Rattle.apex_explore.proofs.Probing.{last_or_before, length_set, IsIndexed-enter, IsIndexed-start}
+
+-- a new state is apart from the others
+pub AreApart-push : (states : List (List ℕ)) (n : List ℕ) → AreApart states → (IsKnown states n → ⊥) → AreApart (states ++ n ∷ [])
+AreApart-push states n apart new first second k one other =
+    elim (last_or_before states n first k one) [
+      | inl there ↦ elim (last_or_before states n second k other) [
+        | inl here ↦ apart first second k there here
+        | inr last ↦ absurd (new (first, there ∙ ap Some (sym last.1)))
+      ]
+      | inr last ↦ elim (last_or_before states n second k other) [
+        | inl here ↦ absurd (new (second, here ∙ ap Some (sym last.1)))
+        | inr again ↦ last.0 ∙ sym again.0
+      ]
+    ]
+
+pub AllPairs-from_apart : (states : List (List ℕ)) → AreApart states → AllPairs (λ a b. a ≢ b) states
+AllPairs-from_apart states apart = λ i j d before within same.
+    let one : slice_get states i ≡ Some (get_or states i d) = slice_get-get_or states i d (omega arith) in
+    let other : slice_get states j ≡ Some (get_or states j d) = slice_get-get_or states j d within in
+    let e : i ≡ j = apart i j (get_or states i d) one (other ∙ ap Some (sym same)) in
+    omega arith
 
 -- a state that is kept is laid
 pub laid_from_kept : (old : Reached) (k : List ℕ) (origin : Origin) (new : Reached) → IsKept old k origin true new → IsLaid old.states old.origins k origin new.states new.origins
@@ -38,246 +49,45 @@ kept_first old k origin new states origins (inr (fresh, e)) =
     let origins_are : new.origins ≡ old.origins ++ origin ∷ [] = ap (λ (s : Reached). s.origins) e in
     (states_are ∙ ap (λ xs. xs ++ k ∷ []) states, ap length (origins_are ∙ ap (λ xs. xs ++ origin ∷ []) origins))
 
--- The states of the rows.
-
-take_front : (xs ys : List ℕ) → take (length xs) (xs ++ ys) ≡ xs
-take_front [] ys = refl
-take_front (x ∷ xs) ys = ap (λ zs. x ∷ zs) (take_front xs ys)
-
-pub drop_front : (xs ys : List ℕ) → drop (length xs) (xs ++ ys) ≡ ys
-drop_front [] ys = refl
-drop_front (x ∷ xs) ys = drop_front xs ys
-
-map_back : (f : List ℕ → List ℕ) (rows : List (List ℕ)) (place : ℕ) (k : List ℕ) → slice_get (map f rows) place ≡ Some k → (row : List ℕ) × (slice_get rows place ≡ Some row) × (f row ≡ k)
-map_back f [] place k is = cc
-map_back f (row ∷ rows) zero k is = (row, refl, same_Some (f row) k is)
-map_back f (row ∷ rows) (suc place) k is = map_back f rows place k is
-
-map_same : (f g : List ℕ → List ℕ) (rows : List (List ℕ)) → ((place : ℕ) (row : List ℕ) → slice_get rows place ≡ Some row → f row ≡ g row) → map f rows ≡ map g rows
-map_same f g [] each = refl
-map_same f g (row ∷ rows) each =
-    let first : f row ≡ g row = each 0 row refl in
-    let rest : map f rows ≡ map g rows = map_same f g rows (λ place other is. each (suc place) other is) in
-    rw (first, rest) refl
-
--- the state of a row
-pub state_of-is : (nodes : Nodes) (width : ℕ) (rest row k : List ℕ) → length k ≡ width → Joins (IsTree nodes DEPTH) row (k ++ rest) → state_of nodes width row ≡ k
-state_of-is nodes width rest row k long joins =
-    let Taken : ℕ → Type 0 = λ n. take n (k ++ rest) ≡ k in
-    ap (take width) (joined-root nodes DEPTH row (k ++ rest) joins) ∙ subst Taken long (take_front k rest)
-
-pub state_at : (nodes : Nodes) (width : ℕ) (rest : List ℕ) (rows : List (List ℕ)) (place : ℕ) (row k : List ℕ) → slice_get rows place ≡ Some row → length k ≡ width → Joins (IsTree nodes DEPTH) row (k ++ rest) → slice_get (states_in nodes width rows) place ≡ Some k
-state_at nodes width rest rows place row k there long joins =
-    slice_get-map (state_of nodes width) rows place
-    ∙ (ap (option_map (state_of nodes width)) there ∙ ap Some (state_of-is nodes width rest row k long joins))
-
--- the row of a state
-pub root_at : (nodes : Nodes) (width : ℕ) (rest : List ℕ) (rows : List (List ℕ)) (place : ℕ) (k : List ℕ) → AllAre (IsRoot nodes width rest) rows → slice_get (states_in nodes width rows) place ≡ Some k → (row : List ℕ) × (slice_get rows place ≡ Some row) × (length k ≡ width) × Joins (IsTree nodes DEPTH) row (k ++ rest)
-root_at nodes width rest rows place k valid is =
-    let (row, there, of) = map_back (state_of nodes width) rows place k is in
-    let root = valid place row there in
-    let e : root.state ≡ k = sym (state_of-is nodes width rest row root.state root.long root.joins) ∙ of in
-    let Long : List ℕ → Type 0 = λ l. length l ≡ width in
-    let Is : List ℕ → Type 0 = λ l. Joins (IsTree nodes DEPTH) row (l ++ rest) in
-    (row, there, subst Long e root.long, subst Is e root.joins)
-
-pub states_apart : (nodes : Nodes) (width : ℕ) (rest : List ℕ) (rows : List (List ℕ)) → IsExact nodes → AllAre (IsRoot nodes width rest) rows → AreApart rows → AreApart (states_in nodes width rows)
-states_apart nodes width rest rows exact valid apart first second k one other =
-    let (row, there, long, joins) = root_at nodes width rest rows first k valid one in
-    let (row', there', long', joins') = root_at nodes width rest rows second k valid other in
-    let e : row ≡ row' = same_root nodes DEPTH row row' (k ++ rest) exact joins joins' in
-    apart first second row' (there ∙ ap Some e) there'
-
--- nodes that hold the others keep the states
-pub AllAre-held : (old new : Nodes) (width : ℕ) (rest : List ℕ) (rows : List (List ℕ)) → IsHeld old new → AllAre (IsRoot old width rest) rows → AllAre (IsRoot new width rest) rows
-AllAre-held old new width rest rows held valid place row there =
-    let root = valid place row there in
-    record { state = root.state; long = root.long; joins = Joins-held old new DEPTH row (root.state ++ rest) held root.joins }
-
-pub states_held : (old new : Nodes) (width : ℕ) (rest : List ℕ) (rows : List (List ℕ)) → IsHeld old new → AllAre (IsRoot old width rest) rows → states_in new width rows ≡ states_in old width rows
-states_held old new width rest rows held valid = map_same (state_of new width) (state_of old width) rows (λ place row there.
-    let root = valid place row there in
-    let joins = Joins-held old new DEPTH row (root.state ++ rest) held root.joins in
-    state_of-is new width rest row root.state root.long joins ∙ sym (state_of-is old width rest row root.state root.long root.joins))
-
 -- What is kept in memory.
 
-pub IsStored-start : (width part room size : ℕ) (roots : Packed) (nodes : Nodes) (origins : List Origin) (capacity : ℕ) (words : List ℕ)
-    → roots ≡ no_rows 1 room
-    → nodes ≡ no_nodes part 64
+pub IsStored-start : (width room : ℕ) (rows : Packed) (cells : List (Option ℕ)) (origins : List Origin) (capacity : ℕ)
+    → rows ≡ record { width = width; room = room; rows = [] }
+    → cells ≡ replicate (2 * room + 1) None
     → origins ≡ []
     → room ≤ capacity
-    → length words ≡ 32 * part
-    → width ≤ 32 * part
-    → IsStored width roots nodes origins capacity words
-IsStored-start width part room size roots nodes origins capacity words roots_is nodes_is origins_is reserved long wide = rw (roots_is, nodes_is, origins_is) (record {
-  one = refl;
-  apart = λ i j k one other. cc;
-  exact = record { parts = λ i j k one other. cc; pairs = λ i j k one other. cc; one = refl };
-  long = omega (arith, long);
-  wide = omega (arith, long);
-  valid = λ place row is. cc;
-  paired = refl;
-  reserved = reserved;
-})
+    → room < 2 ^ 32
+    → IsStored rows cells origins capacity
+IsStored-start width room rows cells origins capacity rows_is cells_is origins_is reserved few = rw (rows_is, cells_is, origins_is) (start) where
+  start : IsStored (record { width = width; room = room; rows = [] }) (replicate (2 * room + 1) None) [] capacity
+  start = record {
+    apart = λ i j k one other. cc;
+    indexed = IsIndexed-start (2 * room + 1);
+    vacant = omega (arith, length-replicate {A = Option ℕ} (2 * room + 1) None);
+    paired = refl;
+    within = omega arith;
+    reserved = reserved;
+    few = few;
+  }
 
--- the states are apart
-pub stored_apart : (width : ℕ) (roots : Packed) (nodes : Nodes) (origins : List Origin) (capacity : ℕ) (words : List ℕ) → IsStored width roots nodes origins capacity words → AreApart (states_in nodes width roots.rows)
-stored_apart width roots nodes origins capacity words stored = states_apart nodes width (drop width words) roots.rows stored.exact stored.valid stored.apart
-
--- other words with the same rest, and nodes that hold the others
-pub IsStored-held : (width : ℕ) (roots : Packed) (nodes nodes' : Nodes) (origins : List Origin) (capacity : ℕ) (words words' : List ℕ)
-    → IsStored width roots nodes origins capacity words
-    → IsHeld nodes nodes' → IsExact nodes'
-    → length words' ≡ length words → drop width words' ≡ drop width words
-    → IsStored width roots nodes' origins capacity words'
-IsStored-held width roots nodes nodes' origins capacity words words' old held exact long rest =
-    let Valid : List ℕ → Type 0 = λ r. AllAre (IsRoot nodes' width r) roots.rows in
-    record {
-      one = old.one;
-      apart = old.apart;
-      exact = exact;
-      long = rw held.width (long ∙ old.long);
-      wide = omega (arith, long, old.wide);
-      valid = subst Valid (sym rest) (AllAre-held nodes nodes' width (drop width words) roots.rows held old.valid);
-      paired = old.paired;
-      reserved = old.reserved;
-    }
-
--- the words of a state, put before the rest
-pub fronted : (width : ℕ) (words k words' : List ℕ) → length k ≡ width → width ≤ length words → words' ≡ k ++ drop (length k) words → (length words' ≡ length words) × (drop width words' ≡ drop width words) × (words' ≡ k ++ drop width words)
-fronted width words k words' long wide is =
-    let Is : ℕ → Type 0 = λ n. words' ≡ k ++ drop n words in
-    let at : words' ≡ k ++ drop width words = subst Is long is in
-    let Rest : ℕ → Type 0 = λ n. drop n (k ++ drop width words) ≡ drop width words in
-    (ap length at ∙ omega (arith, length-append k (drop width words), length-drop width words), ap (drop width) at ∙ subst Rest long (drop_front k (drop width words)), at)
-
-pub IsStored-same : (width : ℕ) (roots roots' : Packed) (nodes : Nodes) (origins : List Origin) (capacity : ℕ) (words : List ℕ)
-    → roots' ≡ roots → IsStored width roots nodes origins capacity words → IsStored width roots' nodes origins capacity words
-IsStored-same width roots roots' nodes origins capacity words same stored =
-    let Stored : Packed → Type 0 = λ r. IsStored width r nodes origins capacity words in
-    subst Stored (sym same) stored
-
-pub IsStored-enter : (width : ℕ) (roots roots' : Packed) (nodes : Nodes) (origins origins' : List Origin) (origin : Origin) (capacity capacity' number : ℕ) (words k row : List ℕ)
-    → IsStored width roots nodes origins capacity words
-    → length k ≡ width
-    → Joins (IsTree nodes DEPTH) row (k ++ drop width words)
-    → IsEntered roots row (New number) roots'
+pub IsStored-keep : (rows : Packed) (cells : List (Option ℕ)) (origins : List Origin) (capacity : ℕ) (k : List ℕ) (slot : ℕ) (origin : Origin) (rows' : Packed) (cells' : List (Option ℕ)) (origins' : List Origin) (capacity' : ℕ)
+    → IsStored rows cells origins capacity
+    → IsVacant cells rows.rows k slot
+    → length rows.rows < rows.room
+    → rows' ≡ record rows { rows = rows.rows ++ k ∷ [] }
+    → cells' ≡ slice_set cells slot (Some (length rows.rows))
     → origins' ≡ origins ++ origin ∷ []
     → capacity' ≡ capacity
-    → IsStored width roots' nodes origins' capacity' words
-IsStored-enter width roots roots' nodes origins origins' origin capacity capacity' number words k row old long joins entered origins_are same = rw (entered.3, origins_are, same) (record {
-  one = old.one;
-  apart = AreApart-push roots.rows row old.apart entered.0;
-  exact = old.exact;
-  long = old.long;
-  wide = old.wide;
-  valid = λ place other there. elim (last_or_before roots.rows row place other there) [
-    | inl before ↦ old.valid place other before
-    | inr last ↦ subst (IsRoot nodes width (drop width words)) last.1 (record { state = k; long = long; joins = joins })
-  ];
-  paired = omega (arith, length-append origins (origin ∷ []), length-append roots.rows (row ∷ []), old.paired);
-  reserved = old.reserved;
-})
-
--- words that were lent and given back
-pub given_back : (len : ℕ) (new old : List ℕ) → len ≡ length old → length new ≡ length old → take len (new ++ drop (length new) old) ≡ new
-given_back len new old long same =
-    let e : length new ≡ len = same ∙ sym long in
-    let Is : ℕ → Type 0 = λ n. take n (new ++ drop (length new) old) ≡ new in
-    subst Is e (take_front new (drop (length new) old))
-
--- the words of a state, put before the rest of words that were lent
-pub fronted_back : (width len : ℕ) (words lent k put : List ℕ) → length k ≡ width → width ≤ length words → length lent ≡ len → lent ≡ words → put ≡ k ++ drop (length k) lent
-    → (length (take len (put ++ drop (length put) words)) ≡ length words)
-    × (drop width (take len (put ++ drop (length put) words)) ≡ drop width words)
-    × (take len (put ++ drop (length put) words) ≡ k ++ drop width words)
-fronted_back width len words lent k put long wide len_is lent_is put_is =
-    let at : put ≡ k ++ drop (length k) words = put_is ∙ ap (λ ws. k ++ drop (length k) ws) lent_is in
-    let split = fronted width words k put long wide at in
-    let back : take len (put ++ drop (length put) words) ≡ put = given_back len put words (sym len_is ∙ ap length lent_is) split.0 in
-    (ap length back ∙ split.0, ap (drop width) back ∙ split.1, back ∙ split.2)
-
--- the words of a state that were restored
-pub restored : (width : ℕ) (roots : Packed) (nodes : Nodes) (origins : List Origin) (capacity place : ℕ) (words row words' : List ℕ)
-    → IsStored width roots nodes origins capacity words
-    → slice_get roots.rows place ≡ Some row
-    → Joins (IsTree nodes DEPTH) row words'
-    → (length words' ≡ length words) × (drop width words' ≡ drop width words) × (slice_get (states_in nodes width roots.rows) place ≡ Some (take width words'))
-restored width roots nodes origins capacity place words row words' stored there joins =
-    let root = stored.valid place row there in
-    let all : words' ≡ root.state ++ drop width words = sym (joined-root nodes DEPTH row words' joins) ∙ joined-root nodes DEPTH row (root.state ++ drop width words) root.joins in
-    let Rest : ℕ → Type 0 = λ n. drop n (root.state ++ drop width words) ≡ drop width words in (
-      ap length all ∙ omega (arith, root.long, stored.wide, length-append root.state (drop width words), length-drop width words),
-      ap (drop width) all ∙ subst Rest root.long (drop_front root.state (drop width words)),
-      slice_get-map (state_of nodes width) roots.rows place ∙ (ap (option_map (state_of nodes width)) there ∙ ap (λ ws. Some (take width ws)) (joined-root nodes DEPTH row words' joins)),
-    )
-
-pub restored_back : (width : ℕ) (roots : Packed) (nodes : Nodes) (origins : List Origin) (capacity place len : ℕ) (words here lent row here' : List ℕ)
-    → IsStored width roots nodes origins capacity words
-    → length here ≡ length words
-    → slice_get roots.rows place ≡ Some row
-    → length row ≡ 1
-    → length lent ≡ len → lent ≡ here
-    → Joins (IsTree nodes DEPTH) (slice_index_or row 0 0 ∷ []) here'
-    → IsHere nodes words (take len (here' ++ drop (length here') here)) (slice_index_or row 0 0)
-    × (slice_get (states_in nodes width roots.rows) place ≡ Some (take width (take len (here' ++ drop (length here') here))))
-restored_back width roots nodes origins capacity place len words here lent row here' stored as_long there one len_is lent_is joins =
-    let Is : List ℕ → Type 0 = λ r. Joins (IsTree nodes DEPTH) r here' in
-    let done = restored width roots nodes origins capacity place words row here' stored there (subst Is (sym (single row one)) joins) in
-    let back : take len (here' ++ drop (length here') here) ≡ here' = given_back len here' here (sym len_is ∙ ap length lent_is) (done.0 ∙ sym as_long) in
-    let Here : List ℕ → Type 0 = λ ws. IsHere nodes words ws (slice_index_or row 0 0) in
-    (subst Here (sym back) (record { long = done.0; joins = joins }), done.2 ∙ ap (λ ws. Some (take width ws)) (sym back))
-
--- the words that are asked for where a state is restored
-pub to_restore : (width : ℕ) (roots : Packed) (nodes : Nodes) (origins : List Origin) (capacity place : ℕ) (words here lent row : List ℕ)
-    → IsStored width roots nodes origins capacity words
-    → length here ≡ length words
-    → slice_get roots.rows place ≡ Some row
-    → length row ≡ 1
-    → lent ≡ here
-    → (k : List ℕ) × (length k ≡ length lent) × Joins (IsTree nodes DEPTH) (slice_index_or row 0 0 ∷ []) k
-to_restore width roots nodes origins capacity place words here lent row stored as_long there one lent_is =
-    let root = stored.valid place row there in
-    (root.state ++ drop width words, omega (arith, ap length lent_is, as_long, root.long, stored.wide, length-append root.state (drop width words), length-drop width words), Joins-single (IsTree nodes DEPTH) row (root.state ++ drop width words) one root.joins)
-
-pub IsHere-held : (nodes nodes' : Nodes) (words words' here : List ℕ) (pair : ℕ) → IsHere nodes words here pair → IsHeld nodes nodes' → length words' ≡ length words → IsHere nodes' words' here pair
-IsHere-held nodes nodes' words words' here pair old held long = record { long = old.long ∙ sym long; joins = Joins-held nodes nodes' DEPTH (pair ∷ []) here held old.joins }
-
--- What came of a state that was to be kept.
-
-module _ (width : ℕ) (roots : Packed) (nodes nodes' : Nodes) (origins : List Origin) (capacity : ℕ) (words k row : List ℕ)
-    (old : IsStored width roots nodes origins capacity words) (held : IsHeld nodes nodes') (exact : IsExact nodes') (long : length k ≡ width)
-    (joins : Joins (IsTree nodes' DEPTH) row (k ++ drop width words)) where
-  abbrev pub seen : Nodes → Packed → List Origin → Reached
-  seen ns rs os = record { width = width; room = rs.room; states = states_in ns width rs.rows; origins = os }
-
-  same : states_in nodes' width roots.rows ≡ states_in nodes width roots.rows
-  same = states_held nodes nodes' width (drop width words) roots.rows held old.valid
-
-  -- a state whose row is none of the rows is none of the states
-  unknown : (IsKnown roots.rows row → ⊥) → IsKnown (states_in nodes width roots.rows) k → ⊥
-  unknown new (place, is) =
-      let (other, there, _, other_joins) = root_at nodes width (drop width words) roots.rows place k old.valid is in
-      let e : other ≡ row = same_root nodes' DEPTH other row (k ++ drop width words) exact (Joins-held nodes nodes' DEPTH other (k ++ drop width words) held other_joins) joins in
-      new (place, there ∙ ap Some e)
-
-  pub keep_known : (number : ℕ) (roots' : Packed) (origin : Origin) → IsEntered roots row (Known number) roots' → IsKept (seen nodes roots origins) k origin true (seen nodes' roots' origins)
-  keep_known number roots' origin entered =
-      let there : slice_get (states_in nodes width roots.rows) number ≡ Some k = ap (λ ks. slice_get ks number) (sym same) ∙ state_at nodes' width (drop width words) roots.rows number row k entered.0 long joins in
-      let Seen : Packed → Type 0 = λ rs. seen nodes' rs origins ≡ seen nodes roots origins in
-      inl ((number, there), subst Seen (sym entered.1) (ap (λ ks. record { width = width; room = roots.room; states = ks; origins = origins }) same))
-
-  pub keep_new : (number : ℕ) (roots' : Packed) (origin : Origin) → IsEntered roots row (New number) roots' → IsKept (seen nodes roots origins) k origin true (seen nodes' roots' (origins ++ origin ∷ []))
-  keep_new number roots' origin entered =
-      let more : states_in nodes' width (roots.rows ++ row ∷ []) ≡ states_in nodes width roots.rows ++ k ∷ [] =
-      map-append (state_of nodes' width) roots.rows (row ∷ [])
-      ∙ (ap (λ ks. ks ++ state_of nodes' width row ∷ []) same
-      ∙ ap (λ l. states_in nodes width roots.rows ++ l ∷ []) (state_of-is nodes' width (drop width words) row k long joins)) in
-      let Seen : Packed → Type 0 = λ rs. seen nodes' rs (origins ++ origin ∷ []) ≡ with_state (seen nodes roots origins) k origin in
-      inr (unknown entered.0, subst Seen (sym entered.3) (ap (λ ks. record { width = width; room = roots.room; states = ks; origins = origins ++ origin ∷ [] }) more))
-
-  pub keep_full : (roots' : Packed) (origin : Origin) → IsEntered roots row Full roots' → IsKept (seen nodes roots origins) k origin false (seen nodes' roots' origins)
-  keep_full roots' origin entered =
-      let Seen : Packed → Type 0 = λ rs. seen nodes' rs origins ≡ seen nodes roots origins in
-      (unknown entered.0, length-map roots.rows (state_of nodes width) ∙ entered.1, subst Seen (sym entered.2) (ap (λ ks. record { width = width; room = roots.room; states = ks; origins = origins }) same))
+    → IsStored rows' cells' origins' capacity'
+IsStored-keep rows cells origins capacity k slot origin rows' cells' origins' capacity' old vacant room rows_is cells_is origins_is same =
+    rw (rows_is, cells_is, origins_is, same) (kept) where
+      kept : IsStored (record rows { rows = rows.rows ++ k ∷ [] }) (slice_set cells slot (Some (length rows.rows))) (origins ++ origin ∷ []) capacity
+      kept = record {
+        apart = AreApart-push rows.rows k old.apart vacant.new;
+        indexed = IsIndexed-enter cells rows.rows k slot old.indexed vacant;
+        vacant = omega (arith, length_set cells slot (Some (length rows.rows)), old.vacant);
+        paired = omega (arith, length-append origins (origin ∷ []), length-append rows.rows (k ∷ []), old.paired);
+        within = omega (arith, length-append rows.rows (k ∷ []));
+        reserved = old.reserved;
+        few = old.few;
+      }

@@ -1,8 +1,6 @@
 -- The index of the states: a list of cells, each with the place of a state or none.
 use Rattle.std.specs.Prelude.{◌≡◌, ◌≢◌, ℕ, ◌+◌, ◌-◌, ◌*◌, ◌/◌, ◌%◌, ◌^◌, ◌<◌, ◌==◌, nat_lt, if◌then◌else◌, bit_xor, suc, List, [], ◌∷◌, length, map, slice_get, Option, Some, None}
 use Rattle.std.specs.List.{fold}
-use Rattle.apex_explore.specs.declared.index.Found.{Found}
-use Rattle.apex_explore.specs.declared.index.Found.TheVariants.{At, Nowhere}
 use Rattle.apex_explore.specs.declared.index.Index.{Index}
 use Rattle.apex_explore.specs.declared.index.Slot.{Slot}
 use Rattle.apex_explore.specs.declared.index.TheConstants.{FACTOR}
@@ -78,7 +76,7 @@ module _ (cells : List (Option ℕ)) where
     pub way : (i : ℕ) → i < steps → IsOther states k (cell_after k i)
     pub new : IsKnown states k → ⊥
 
-  -- the row is at this place, or is none of the rows and has a vacant cell
-  abbrev pub IsFoundAmong : List (List ℕ) → List ℕ → Found → Type 0
-  IsFoundAmong states k (At place) = slice_get states place ≡ Some k
-  IsFoundAmong states k (Nowhere cell) = IsVacant states k cell
+  -- a state that is there needs no slot; any other has a vacant one
+  abbrev pub IsSlotFor : List (List ℕ) → List ℕ → Option ℕ → Type 0
+  IsSlotFor states k None = IsKnown states k
+  IsSlotFor states k (Some cell) = IsVacant states k cell

@@ -4,11 +4,8 @@ use Rattle.std.specs.Prelude.{◌≡◌, ℕ, ◌+◌, ◌<◌, ◌≤◌, ◌==
 use Rattle.apex_explore.specs.declared.fronts.Front.{Front}
 use Rattle.apex_explore.specs.declared.search.Expanded.{Expanded}
 use Rattle.apex_explore.specs.declared.search.Expanded.TheVariants.{All, Struck, Over}
-use Rattle.apex_explore.specs.declared.search.Stop.{Stop}
-use Rattle.apex_explore.specs.declared.search.Stop.TheVariants as stops
 use Rattle.apex_explore.specs.declared.states.Origin.{Origin}
 use Rattle.apex_explore.specs.Index.{IsKnown}
-use Rattle.apex_explore.specs.Lists.{IsFront}
 use Rattle.apex_explore.specs.Paths.{Leads}
 use Rattle.apex_explore.specs.States.{Reached}
 use Rattle.apex_explore.specs.Systems.{Step, refuses, goes, hits}
@@ -32,6 +29,15 @@ abbrev pub Keeps : {K : Type 0} → List K → Step K → Type 0
 Keeps states refuses = Unit {0}
 Keeps states (goes n) = IsAmong states (length states) n
 Keeps states hits = ⊥
+
+-- each state is as P says
+abbrev pub AllAre : {K : Type 0} → (K → Type 0) → List K → Type 0
+AllAre P states = (place : ℕ) (k : _) → slice_get states place ≡ Some k → P k
+
+-- what is in the old list is at the same place of the new one
+pub record IsFront {X : Type 0} (old new : List X) : Type 0 where
+  pub same : (place : ℕ) (x : X) → slice_get old place ≡ Some x → slice_get new place ≡ Some x
+  pub longer : length old ≤ length new
 
 -- the path is that of the origins from `place` back, over this many states
 abbrev pub IsTrail : List Origin → ℕ → ℕ → List ℕ → Type 0
@@ -98,17 +104,3 @@ Comes step states room place (Struck choice) =
 Comes step states room place Over = (k : List ℕ) × (n : List ℕ) × (choice : ℕ)
     × (slice_get states place ≡ Some k) × (step k choice ≡ goes n)
     × (IsKnown states n → ⊥) × (length states ≡ room)
-
--- the search by this step from this first state has come as far as the front
-abbrev pub IsAt : (List ℕ → ℕ → Step (List ℕ)) → List ℕ → Reached → Front → Type 0
-IsAt step first reached front =
-    IsLevel step reached.states reached.origins first front.at front.depth front.level_end
-
--- why the search stops at the front: a choice hits in the state there, one goes on to a state for
--- which there is no room, or each state is done
-abbrev pub Stops : (List ℕ → ℕ → Step (List ℕ)) → Reached → Front → Stop → Type 0
-Stops step reached front (stops.Struck choice) = (front.at < front.level_end)
-    × Comes step reached.states reached.room front.at (Struck choice)
-Stops step reached front stops.Over = (front.at < front.level_end)
-    × Comes step reached.states reached.room front.at Over
-Stops step reached front stops.Done = length reached.states ≤ front.at

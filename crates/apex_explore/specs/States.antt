@@ -1,12 +1,7 @@
 -- The states that a search has reached, as contracts see them, and what is kept of them in memory.
-use Rattle.std.specs.Prelude.{◌≡◌, ℕ, ◌+◌, ◌≤◌, ◌⊎◌, Bool, true, false, List, [], ◌∷◌, ◌++◌, length, map, take, drop}
-use Rattle.apex_explore.specs.declared.nodes.Nodes.{Nodes}
+use Rattle.std.specs.Prelude.{◌≡◌, ℕ, ◌^◌, ◌<◌, ◌≤◌, ◌⊎◌, Bool, true, false, List, [], ◌∷◌, ◌++◌, length, slice_get, Option, Some}
 use Rattle.apex_explore.specs.declared.states.Origin.{Origin}
-use Rattle.apex_explore.specs.declared.states.TheConstants.{DEPTH}
-use Rattle.apex_explore.specs.Index.{IsKnown}
-use Rattle.apex_explore.specs.Nodes.{IsExact, IsTree, Joins, joined, spread, words_of}
-use Rattle.apex_explore.specs.Lists.{AllAre}
-use Rattle.apex_explore.specs.Registers.{AreApart}
+use Rattle.apex_explore.specs.Index.{IsIndexed, IsKnown}
 use Rattle.apex_explore.specs.Rows.{Packed}
 
 -- how many words a state has, for how many states there is room, the states, and the origin of each
@@ -20,36 +15,21 @@ pub record Reached : Type 0 where
 abbrev pub no_states : ℕ → ℕ → Reached
 no_states width room = record { width = width; room = room; states = []; origins = [] }
 
--- the words of the state whose halves have the numbers of this row
-abbrev pub state_of : Nodes → ℕ → List ℕ → List ℕ
-state_of nodes width row = take width (joined (words_of nodes DEPTH) row)
+-- no state is at two places
+abbrev pub AreApart : List (List ℕ) → Type 0
+AreApart states = (first second : ℕ) (k : List ℕ)
+    → slice_get states first ≡ Some k → slice_get states second ≡ Some k → first ≡ second
 
--- the states of these rows
-abbrev pub states_in : Nodes → ℕ → List (List ℕ) → List (List ℕ)
-states_in nodes width rows = map (state_of nodes width) rows
-
--- the row has the numbers of the halves of a state's words, with this rest behind them
-pub record IsRoot (nodes : Nodes) (width : ℕ) (rest row : List ℕ) : Type 0 where
-  pub state : List ℕ
-  pub long : length state ≡ width
-  pub joins : Joins (IsTree nodes DEPTH) row (state ++ rest)
-
--- the rows are apart, each is that of a state and has its origin, and room is taken for the rest
-pub record IsStored (width : ℕ) (roots : Packed) (nodes : Nodes) (origins : List Origin)
-    (capacity : ℕ) (words : List ℕ) : Type 0 where
-  pub one : roots.width ≡ 1
-  pub apart : AreApart roots.rows
-  pub exact : IsExact nodes
-  pub long : length words ≡ spread nodes.parts.width DEPTH + spread nodes.parts.width DEPTH
-  pub wide : width ≤ length words
-  pub valid : AllAre (IsRoot nodes width (drop width words)) roots.rows
-  pub paired : length origins ≡ length roots.rows
-  pub reserved : roots.room ≤ capacity
-
--- the pair is that of the words that were restored last
-pub record IsHere (nodes : Nodes) (words here : List ℕ) (pair : ℕ) : Type 0 where
-  pub long : length here ≡ length words
-  pub joins : Joins (IsTree nodes DEPTH) (pair ∷ []) here
+-- the rows are apart and indexed, each has its origin, and room is taken for the rest
+pub record IsStored (rows : Packed) (cells : List (Option ℕ)) (origins : List Origin)
+    (capacity : ℕ) : Type 0 where
+  pub apart : AreApart rows.rows
+  pub indexed : IsIndexed cells rows.rows
+  pub vacant : rows.room < length cells
+  pub paired : length origins ≡ length rows.rows
+  pub within : length rows.rows ≤ rows.room
+  pub reserved : rows.room ≤ capacity
+  pub few : rows.room < 2 ^ 32
 
 -- the state is put after the others
 abbrev pub with_state : Reached → List ℕ → Origin → Reached

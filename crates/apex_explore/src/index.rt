@@ -1,6 +1,6 @@
-//! Which rows are there already: their places, by a hash of their words.
+//! Which states are there already: their places, by a hash of their words.
 ghost use Rattle.std.specs.Prelude.{◌≡◌, ◌<◌, ◌+◌, ◌*◌, length, replicate, None, Some, slice_set, IfOk};
-ghost use Rattle.apex_explore.specs.Index.{after, cells_of, home_of, mixed, place_in, IsFoundAmong, IsIndexed};
+ghost use Rattle.apex_explore.specs.Index.{after, cells_of, home_of, mixed, place_in, IsIndexed, IsSlotFor};
 
 use crate::rows::Rows;
 use std::alloc::{AllocError, Global};
@@ -8,16 +8,7 @@ use std::alloc::{AllocError, Global};
 /// An odd number whose bits look random.
 const FACTOR: u64 = 0x9e37_79b9_7f4a_7c15;
 
-/// Where a row is, or which slot is free for it.
-#[derive(Clone, Copy)]
-pub(crate) enum Found {
-    /// The row is at this place.
-    At(usize),
-    /// The row isn't there, and this slot is free for it.
-    Nowhere(usize),
-}
-
-/// The place of a row, or none.
+/// The place of a state, or none.
 #[derive(Clone, Copy)]
 pub(crate) struct Slot {
     /// One more than the place; 0 for none, so that a slot has 4 bytes.
@@ -54,13 +45,13 @@ fn mix(hash: u64, word: u64) -> u64
     product ^ (product >> 32)
 }
 
-/// The slot at which the search for a row begins.
+/// The slot at which the search for a state begins.
 #[tactic(auto, unfolding(crate::specs::Index::home_of))]
-fn home(row: &[u64], size: usize) -> usize
+fn home(state: &[u64], size: usize) -> usize
     requires { 0 < size }
-    ensures { result ≡ home_of size row.now }
+    ensures { result ≡ home_of size state.now }
 {
-    let hash = row.iter().fold(0, |hash, word| mix(hash, *word));
+    let hash = state.iter().fold(0, |hash, word| mix(hash, *word));
     (hash % size as u64) as usize
 }
 
@@ -77,14 +68,14 @@ fn slot_after(size: usize, slot: usize, steps: usize) -> usize
     }
 }
 
-/// A slot for each row that there is room for, and as many vacant ones.
+/// A slot for each state that there is room for, and as many vacant ones.
 #[derive(Drop)]
 pub(crate) struct Index {
     slots: Vec<Slot>,
 }
 
 impl Index {
-    /// Vacant slots, for at most `room` rows. Fails only for want of memory.
+    /// Vacant slots, for at most `room` states. Fails only for want of memory.
     pub(crate) fn new(alloc: Global, room: u32) -> Result<Index, AllocError>
         ensures { IfOk result (λ index. cells_of index ≡ replicate (2 * room + 1) None) }
     {
@@ -93,19 +84,19 @@ impl Index {
         })
     }
 
-    /// Where this row is among the rows, or the slot that is free for it.
-    pub(crate) fn find(&self, rows: &Rows, row: &[u64]) -> Found
+    /// The slot for this state, or none if it is one of the rows.
+    pub(crate) fn slot_for(&self, rows: &Rows, state: &[u64]) -> Option<usize>
         requires indexed { IsIndexed (cells_of self.now) rows.now.rows }
         requires vacant { length rows.now.rows < length self.now.slots.items }
-        ensures { IsFoundAmong (cells_of self.now) rows.now.rows row.now result }
+        ensures { IsSlotFor (cells_of self.now) rows.now.rows state.now result }
     {
         let size = self.slots.len();
-        let home = home(row, size);
+        let home = home(state, size);
         for steps in 0..size {
             let slot = slot_after(size, home, steps);
             match self.slots[slot].place() {
-                None => return Found::Nowhere(slot),
-                Some(place) if rows.row(place) == row => return Found::At(place),
+                None => return Some(slot),
+                Some(place) if rows.row(place) == state => return None,
                 Some(_) => {}
             }
         }

@@ -4,19 +4,13 @@
 
 mod answers;
 mod fronts;
-mod hits;
 mod index;
-mod nodes;
 mod paths;
-mod registers;
 mod rows;
 mod search;
-mod searches;
 mod states;
 mod systems;
 
 pub use answers::Answer;
-pub use hits::is_hit;
 pub use search::explore;
-pub use searches::Search;
 pub use systems::{System, Taken};

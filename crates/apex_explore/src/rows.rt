@@ -46,12 +46,6 @@ impl Rows {
         })
     }
 
-    pub(crate) fn width(&self) -> usize
-        ensures { result ≡ self.now.width }
-    {
-        self.width
-    }
-
     pub(crate) fn len(&self) -> usize
         ensures { result ≡ length self.now.rows }
     {

@@ -1,13 +1,12 @@
-//! The choices in one state, and the search from the first state to an answer.
-ghost use Rattle.std.specs.Prelude.{◌≡◌, ◌^◌, ◌<◌, length, IfOk};
+//! The search.
+ghost use Rattle.std.specs.Prelude.{◌≡◌, ◌^◌, ◌<◌, [], length, IfOk};
 ghost use Rattle.apex_explore.specs.Answers.{Says};
-ghost use Rattle.apex_explore.specs.Levels.{Comes, GoesOn, IsAt, Stops};
-ghost use Rattle.apex_explore.specs.Lists.{AllAre};
+ghost use Rattle.apex_explore.specs.Levels.{AllAre, Comes, GoesOn};
 ghost use Rattle.apex_explore.specs.Systems.{step_within};
 
 use crate::answers::Answer;
 use crate::fronts::Front;
-use crate::searches::Search;
+use crate::paths::path_to;
 use crate::states::{Origin, States};
 use crate::systems::{System, Taken};
 use std::alloc::{AllocError, Global};
@@ -19,112 +18,103 @@ enum Expanded {
     Over,
 }
 
-/// Why a search stops.
-pub(crate) enum Stop {
-    /// The choice hits in the state at the front.
-    Struck(u32),
-    /// There is no room for a state to which a choice there goes on.
-    Over,
-    /// Each state is done.
-    Done,
-}
-
 /// Makes each choice in the state at `place`, until one hits or goes on to a state for which there
-/// is no room. Fails only for want of memory.
+/// is no room.
 fn expand<S: System>(
-    alloc: Global,
     system: &S,
     workspace: &mut S::Workspace,
-    state: &mut [u64],
     next: &mut [u64],
     states: &mut States,
     place: usize,
-) -> Result<Expanded, AllocError>
+) -> Expanded
     requires paired { length states.old.origins ≡ length states.old.states }
     requires place { place < length states.old.states }
     requires fits { place < 2 ^ 32 }
     requires width { states.old.width ≡ S.word_count system.now }
-    requires state { length state.old ≡ S.word_count system.now }
     requires next { length next.old ≡ S.word_count system.now }
     requires workspace { S.is_workspace system.now workspace.old }
     requires states { AllAre (S.is_state system.now) states.old.states }
     ensures grows { let step = step_within (S.choice_count system.now) (S.step system.now) in
-        IfOk result (λ _. GoesOn step place states.old states.new) }
+        GoesOn step place states.old states.new }
     ensures outcome { let step = step_within (S.choice_count system.now) (S.step system.now) in
-        IfOk result (Comes step states.new.states states.old.room place) }
-    ensures width { IfOk result (λ _. states.new.width ≡ states.old.width) }
-    ensures room { IfOk result (λ _. states.new.room ≡ states.old.room) }
-    ensures workspace { IfOk result (λ _. S.is_workspace system.now workspace.new) }
-    ensures states { IfOk result (λ _. AllAre (S.is_state system.now) states.new.states) }
+        Comes step states.new.states states.old.room place result }
+    ensures width { states.new.width ≡ states.old.width }
+    ensures room { states.new.room ≡ states.old.room }
+    ensures workspace { S.is_workspace system.now workspace.new }
+    ensures states { AllAre (S.is_state system.now) states.new.states }
 {
-    states.restore(place, state);
     for choice in 0..system.choices() {
-        match system.next(workspace, state, choice, next) {
+        match system.next(workspace, states.state(place), choice, next) {
             Taken::Refused => {}
-            Taken::Hit => return Ok(Expanded::Struck(choice)),
+            Taken::Hit => return Expanded::Struck(choice),
             Taken::Next => {
                 let origin = Origin {
                     parent: place as u32,
                     choice,
                 };
-                let kept = states.keep(alloc, next, origin)?;
-                if !kept {
-                    return Ok(Expanded::Over);
+                if !states.keep(next, origin) {
+                    return Expanded::Over;
                 }
             }
         }
     }
-    Ok(Expanded::All)
+    Expanded::All
 }
 
-/// Goes on from the front, state by state, until a choice hits or goes on to a state for which there
-/// is no room, or each state is done. Fails only for want of memory.
-pub(crate) fn advance<S: System>(
+/// Searches from the first state; `states` has none yet.
+fn search<S: System>(
     alloc: Global,
     system: &S,
     workspace: &mut S::Workspace,
-    state: &mut [u64],
     next: &mut [u64],
-    states: &mut States,
-    front: &mut Front,
-) -> Result<Stop, AllocError>
-    requires level { let step = step_within (S.choice_count system.now) (S.step system.now) in
-        IsAt step (S.start system.now) states.old front.old }
-    requires width { states.old.width ≡ S.word_count system.now }
-    requires state { length state.old ≡ S.word_count system.now }
+    mut states: States,
+) -> Result<Answer, AllocError>
+    requires states { states.states ≡ [] }
+    requires origins { states.origins ≡ [] }
+    requires width { states.width ≡ S.word_count system.now }
     requires next { length next.old ≡ S.word_count system.now }
     requires workspace { S.is_workspace system.now workspace.old }
-    requires states { AllAre (S.is_state system.now) states.old.states }
-    ensures level { let step = step_within (S.choice_count system.now) (S.step system.now) in
-        IfOk result (λ _. IsAt step (S.start system.now) states.new front.new) }
-    ensures stop { let step = step_within (S.choice_count system.now) (S.step system.now) in
-        IfOk result (Stops step states.new front.new) }
-    ensures width { IfOk result (λ _. states.new.width ≡ states.old.width) }
-    ensures room { IfOk result (λ _. states.new.room ≡ states.old.room) }
-    ensures workspace { IfOk result (λ _. S.is_workspace system.now workspace.new) }
-    ensures states { IfOk result (λ _. AllAre (S.is_state system.now) states.new.states) }
+    ensures { let step = step_within (S.choice_count system.now) (S.step system.now) in
+        IfOk result (Says step (S.start system.now) states.room) }
 {
+    system.first(next);
+    let nowhere = Origin {
+        parent: 0,
+        choice: 0,
+    };
+    if !states.keep(next, nowhere) {
+        return Ok(Answer::Full { depth: 0 });
+    }
+    let mut front = Front::first();
     while front.at < states.len() {
-        *front = front.turned(states.len());
-        let expanded = expand(alloc, system, workspace, state, next, states, front.at)?;
-        match expanded {
+        front = front.turned(states.len());
+        match expand(system, workspace, next, &mut states, front.at) {
             Expanded::All => front.at += 1,
-            Expanded::Struck(choice) => return Ok(Stop::Struck(choice)),
-            Expanded::Over => return Ok(Stop::Over),
+            Expanded::Struck(choice) => {
+                let mut path = path_to(alloc, states.origins(), front.at, front.depth)?;
+                path.push(choice)?;
+                return Ok(Answer::Found(path));
+            }
+            Expanded::Over => return Ok(Answer::Full { depth: front.depth }),
         }
     }
-    Ok(Stop::Done)
+    Ok(Answer::Closed {
+        states: states.len(),
+    })
 }
 
 /// Searches the system's states, nearest first, for a choice that hits.
 ///
-/// The room for `room` states and for their index is taken before the first step; a workspace and
-/// the words of two states, too. What states have in common is kept once: the room for that grows
-/// with the states, and the path that is found takes memory. Fails only for want of it.
+/// The room for `room` states, of the system's words each, and for their index is taken before the
+/// first step; a workspace and the words of one more state, too. After that only the path that is
+/// found takes memory. Fails only for want of it.
 pub fn explore<S: System>(alloc: Global, system: &S, room: u32) -> Result<Answer, AllocError>
     ensures { let step = step_within (S.choice_count system.now) (S.step system.now) in
         IfOk result (Says step (S.start system.now) room) }
 {
-    let mut search = Search::new(alloc, system, room)?;
-    search.go_on(alloc, system)
+    let width = system.width();
+    let states = States::new(alloc, width, room)?;
+    let mut workspace = system.workspace(alloc)?;
+    let mut next = vec![in alloc; 0; width]?;
+    search(alloc, system, &mut workspace, next.as_mut_slice(), states)
 }

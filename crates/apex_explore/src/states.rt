@@ -1,26 +1,11 @@
 //! The states that a search has reached, and where each of them comes from.
-ghost use Rattle.std.specs.Prelude.{◌≡◌, ◌^◌, ◌<◌, ◌≤◌, ◌++◌, drop, length, slice_get, Some, IfOk};
-ghost use Rattle.apex_explore.specs.Registers.{AreApart};
-ghost use Rattle.apex_explore.specs.States.{no_states, IsKept};
+ghost use Rattle.std.specs.Prelude.{◌≡◌, ◌^◌, ◌<◌, ◌≤◌, [], length, slice_get, Some, IfOk};
+ghost use Rattle.apex_explore.specs.States.{no_states, AreApart, IsKept};
 
-use crate::nodes::Nodes;
-use crate::registers::{Entered, Register};
+use crate::index::Index;
+use crate::rows::Rows;
 use std::alloc::{AllocError, Global};
 use std::marker::Model;
-
-/// How many pairs lie above a part in each half of a state.
-const DEPTH: u32 = 4;
-
-/// The parts of a state: 2 ^ `DEPTH` in each half.
-const PARTS: usize = 32;
-
-/// Puts these words in place of the first ones.
-fn put_front(words: &mut [u64], front: &[u64])
-    requires { length front.now ≤ length words.old }
-    ensures { words.new ≡ front.now ++ drop (length front.now) words.old }
-{
-    words[..front.len()].copy_from_slice(front);
-}
 
 /// The choice by which a state was found, and the place of the state that it was made in.
 #[derive(Clone, Copy)]
@@ -29,40 +14,31 @@ pub(crate) struct Origin {
     pub(crate) choice: u32,
 }
 
-/// States in the order in which they were found, each once, and the origin of each.
-///
-/// A state is kept as the pair of the numbers of its halves, and its halves as trees. The room for
-/// the pairs, their index and the origins is taken when the value is made; that for the trees grows.
+/// States in the order in which they were found, each once, and the origin of each. The room for
+/// them is taken when the value is made.
 #[derive(Drop)]
 pub(crate) struct States {
-    width: usize,
-    roots: Register,
-    nodes: Nodes,
+    rows: Rows,
+    index: Index,
     origins: Vec<Origin>,
-    /// The words of a state, and some more that never change, so that all are cut into equal parts.
-    words: Vec<u64>,
-    /// Those of the state that was restored last. A state that is kept next is nearly this one.
-    here: Vec<u64>,
-    /// The numbers of its halves.
-    pair: u64,
 }
 
 impl Model for States {
     ghost use Rattle.std.specs.Prelude.{vec_capacity};
-    ghost use Rattle.apex_explore.specs.States.{Reached, IsHere, IsStored, states_in};
+    ghost use Rattle.apex_explore.specs.Index.{cells_of};
+    ghost use Rattle.apex_explore.specs.States.{Reached, IsStored};
 
     ghost Value = { Reached };
 
     ghost view = { λ s. record {
-      width = s.width;
-      room = s.roots.room;
-      states = states_in s.nodes s.width s.roots.rows;
+      width = s.rows.width;
+      room = s.rows.room;
+      states = s.rows.rows;
       origins = s.origins.items;
     } };
 
     ghost invariant = { λ s.
-        IsStored s.width s.roots s.nodes s.origins.items (vec_capacity s.origins) s.words.items
-        × IsHere s.nodes s.words.items s.here.items s.pair };
+        IsStored s.rows (cells_of s.index) s.origins.items (vec_capacity s.origins) };
 }
 
 impl States {
@@ -71,24 +47,10 @@ impl States {
     pub(crate) fn new(alloc: Global, width: usize, room: u32) -> Result<States, AllocError>
         ensures { IfOk result (λ states. states ≡ no_states width room) }
     {
-        let part = width / PARTS + 1;
-        let Some(size) = part.checked_mul(PARTS) else {
-            return Err(AllocError);
-        };
-        let roots = Register::new(alloc, 1, room)?;
-        let mut nodes = Nodes::new(alloc, part)?;
-        let words = vec![in alloc; 0; size]?;
-        let here = vec![in alloc; 0; size]?;
-        let pair = nodes.number_halves(alloc, DEPTH, here.as_slice())?;
-        let origins = Vec::with_capacity(alloc, room as usize)?;
         Ok(States {
-            width,
-            roots,
-            nodes,
-            origins,
-            words,
-            here,
-            pair,
+            rows: Rows::new(alloc, width, room)?,
+            index: Index::new(alloc, room)?,
+            origins: Vec::with_capacity(alloc, room as usize)?,
         })
     }
 
@@ -98,21 +60,15 @@ impl States {
         ensures few { self.now.room < 2 ^ 32 }
         ensures apart { AreApart self.now.states }
     {
-        self.roots.len()
+        self.rows.len()
     }
 
-    /// Puts the words of the state at the place into these.
-    pub(crate) fn restore(&mut self, place: usize, state: &mut [u64])
-        requires place { place < length self.old.states }
-        requires width { length state.old ≡ self.old.width }
-        ensures state { slice_get self.old.states place ≡ Some state.new }
-        ensures same { self.new ≡ self.old }
+    pub(crate) fn state(&self, place: usize) -> &[u64]
+        requires { place < length self.now.states }
+        ensures state { slice_get self.now.states place ≡ Some result.now }
+        ensures width { length result.now ≡ self.now.width }
     {
-        let word = self.roots.row(place)[0];
-        self.nodes
-            .restore_halves(DEPTH, word, self.here.as_mut_slice());
-        self.pair = word;
-        state.copy_from_slice(&self.here.as_slice()[..self.width]);
+        self.rows.row(place)
     }
 
     pub(crate) fn origins(&self) -> &[Origin]
@@ -122,28 +78,19 @@ impl States {
     }
 
     /// Keeps the state as the last one if it is not there yet: false if there is no room for it.
-    /// Fails only for want of memory.
-    pub(crate) fn keep(
-        &mut self,
-        alloc: Global,
-        state: &[u64],
-        origin: Origin,
-    ) -> Result<bool, AllocError>
+    pub(crate) fn keep(&mut self, state: &[u64], origin: Origin) -> bool
         requires { length state.now ≡ self.old.width }
-        ensures { IfOk result (λ kept. IsKept self.old state.now origin kept self.new) }
+        ensures { IsKept self.old state.now origin result self.new }
     {
-        put_front(self.words.as_mut_slice(), state);
-        let (words, here) = (self.words.as_slice(), self.here.as_slice());
-        let word = self
-            .nodes
-            .number_halves_like(alloc, DEPTH, words, here, self.pair)?;
-        match self.roots.enter(&[word]) {
-            Entered::Known(_) => Ok(true),
-            Entered::New(_) => {
-                self.origins.push_reserved(origin);
-                Ok(true)
-            }
-            Entered::Full => Ok(false),
+        let Some(slot) = self.index.slot_for(&self.rows, state) else {
+            return true;
+        };
+        if self.rows.is_full() {
+            return false;
         }
+        self.index.enter(slot, self.rows.len() as u32);
+        self.rows.push(state);
+        self.origins.push_reserved(origin);
+        true
     }
 }

@@ -15,6 +15,8 @@ mod plain;
 mod scanning;
 mod shown;
 mod suggestions;
+#[cfg(test)]
+mod tests;
 mod wanted;
 
 pub use findings::{Finding, LONGEST_LISTED, findings_of};

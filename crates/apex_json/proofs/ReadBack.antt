@@ -1,11 +1,11 @@
 -- Strings are read back as they are.
-use Rattle.std.proofs.Common.{◌≡◌, ◌∙◌, ◌<◌, ◌+◌, ◌*◌, ◌/◌, ◌%◌, ℕ, true, false, ◌==◌, List, [], ◌∷◌, ◌++◌, Some, refl, ap, inl, inr, arith, subst, sym, append_assoc, eqb-true, zero-add}
-use Rattle.std.proofs.lemmas.Bool.{cases_Bool, lt-leb, lt-ltb, ltb-true}
+use Rattle.std.proofs.Common.{◌≡◌, ◌∙◌, ◌<◌, ◌≤◌, ◌+◌, ◌*◌, ◌/◌, ◌%◌, ℕ, true, false, ◌==◌, List, [], ◌∷◌, ◌++◌, Some, refl, ap, inl, inr, arith, subst, sym, append_assoc, eqb-true, zero-add}
+use Rattle.std.proofs.lemmas.Bool.{cases_Bool, lt-leb, lt-ltb, ltb-true, ltb-false}
 use Rattle.std.proofs.lemmas.Nat.{div-add-mod'}
 use Rattle.std.proofs.lemmas.Str.{digit_value-digit_char, encode_ascii}
-use Rattle.std.specs.Prelude.{encode_utf8, nat_lt, option_and_then}
+use Rattle.std.specs.Prelude.{encode_utf8, nat_lt, nat_le, option_and_then}
 use Rattle.std.specs.Char.{digit_char}
-use Rattle.apex_json.specs.Strings.{AreReadBack, between, json_byte, json_read, json_text, read_behind, unit_of}
+use Rattle.apex_json.specs.Strings.{AreReadBack, behind_unit, between, json_byte, json_read, json_text, read_behind, unit_of}
 
 -- a reader takes the byte back
 abbrev IsTaken : ℕ → Type 0

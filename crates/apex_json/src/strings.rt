@@ -1,5 +1,5 @@
 //! Bytes in a string of JSON, between its quotes.
-ghost use Rattle.std.specs.Prelude.{◌≡◌, ◌+◌, ◌*◌, ◌<◌, ◌≤◌, [], ◌∷◌, ◌++◌, ℕ, IsTrue, OnErr, OnOk, length, take};
+ghost use Rattle.std.specs.Prelude.{◌≡◌, ◌+◌, ◌*◌, ◌<◌, ◌≤◌, ◌++◌, ℕ, OnErr, OnOk, length, take};
 ghost use Rattle.std.specs.Char.{digit_char};
 ghost use Rattle.arrayvec.specs.ArrayVec.{array_vec_len};
 ghost use Rattle.apex_json.specs.Strings.{json_byte, json_text};
@@ -61,33 +61,13 @@ pub fn add_json<const N: usize>(line: &mut ArrayVec<u8, N>, bytes: &[u8])
     }
 }
 
-// In a function of its own, as few names have such a byte.
-#[inline(never)]
-fn put_escape(text: &mut Vec<u8>, byte: u8) -> Result<(), AllocError>
+fn put_json_byte(text: &mut Vec<u8>, byte: u8) -> Result<(), AllocError>
     ensures ok { OnOk result (text.new.items ≡ text.old.items ++ json_byte byte) }
     ensures err { OnErr result (text.new.items ≡ text.old.items) }
 {
     let mut escape: ArrayVec<u8, MOST_ESCAPE> = ArrayVec::new();
     add_json_byte(&mut escape, byte);
     text.extend_from_slice(escape.as_slice())
-}
-
-/// The byte is its own text in a string.
-fn is_plain(byte: u8) -> bool
-    ensures { IsTrue result → json_byte byte ≡ byte ∷ [] }
-{
-    byte >= b' ' && byte != b'"' && byte != b'\\'
-}
-
-fn put_json_byte(text: &mut Vec<u8>, byte: u8) -> Result<(), AllocError>
-    ensures ok { OnOk result (text.new.items ≡ text.old.items ++ json_byte byte) }
-    ensures err { OnErr result (text.new.items ≡ text.old.items) }
-{
-    if !is_plain(byte) {
-        return put_escape(text, byte);
-    }
-    text.push(byte)?;
-    Ok(())
 }
 
 /// Puts the bytes behind the text so that JSON reads them back as they are, between the quotes of a

@@ -1,19 +1,11 @@
 //! The tests of the kernel and of the printing of lines that no stored case can show: how many
 //! records a turn looks at, lines that no run prints, a writer that fails, and the counters of a
-//! trace; the faults and the warnings of a table; the report of a history; and searches of a small
-//! system and of two tables. It has no code of its own.
+//! trace; the warnings of a table; the report of a history; and searches of a small system and of two
+//! tables. It has no code of its own.
 #![tactic(auto)]
 
 #[cfg(test)]
-mod censuses;
-#[cfg(test)]
 mod devices;
-#[cfg(test)]
-mod facts;
-#[cfg(test)]
-mod faults;
-#[cfg(test)]
-mod json_reports;
 #[cfg(test)]
 mod jugs;
 #[cfg(test)]
@@ -32,8 +24,6 @@ mod reports;
 mod scans;
 #[cfg(test)]
 mod searches;
-#[cfg(test)]
-mod service_reports;
 #[cfg(test)]
 mod traces;
 #[cfg(test)]

@@ -44,23 +44,20 @@ discipline = "FIFO"
 
 /// CONTROL is released at 0, 10 and 20. It ends its jobs at 3 and 18, so their responses are 3 and 8
 /// ticks. LOGGER is released at 0, and its script ends at 18. Work is open on core 0 from 10 to 16,
-/// which is 6 of 20 ticks; its 5 units are CONTROL's. LOGGER waits for the semaphore from entry 2 on, and
-/// times out once; its second wait is refused.
+/// which is 6 of 20 ticks. LOGGER waits for the semaphore from entry 2 on, and times out once.
 const REPORT: &str = "\
 history 15
 core 0 turns=5 idle=0 calls=3 lost=0 work_done=5 work_lost=0 \
 busy_ticks=6 idle_ticks=14 busy_percent=30
 core 1 turns=4 idle=1 calls=3 lost=0 work_done=0 work_lost=0 \
 busy_ticks=0 idle_ticks=20 busy_percent=0
-process CONTROL turns=4 misses=1 timeouts=0 work_done=5 work_lost=0 releases=3 completions=2 stops=0 \
+process CONTROL turns=4 misses=1 timeouts=0 releases=3 completions=2 stops=0 \
 open=20 best=3 worst=8 at=12 \
 NO_ACTION=0 NOT_AVAILABLE=0 INVALID_PARAM=0 INVALID_CONFIG=0 INVALID_MODE=0
-process LOGGER turns=3 misses=0 timeouts=1 work_done=0 work_lost=0 releases=1 completions=1 stops=0 \
+process LOGGER turns=3 misses=0 timeouts=1 releases=1 completions=1 stops=0 \
 open=- best=18 worst=18 at=13 \
 NO_ACTION=0 NOT_AVAILABLE=1 INVALID_PARAM=0 INVALID_CONFIG=0 INVALID_MODE=0
 semaphore S greatest=0 greatest_at=1 queue=1 queue_at=2 timeouts=1
-service WAIT_SEMAPHORE \
-NO_ACTION=0 NOT_AVAILABLE=1 INVALID_PARAM=0 INVALID_CONFIG=0 INVALID_MODE=0
 ";
 
 /// The entry of a call of the process at the core of its number.
@@ -148,13 +145,7 @@ pub(crate) fn push_next(log: &mut Log, entry: &LentEntry<'_>) {
 
 /// Puts the entries of the history into the log. Its notices are the release of CONTROL, those of both
 /// processes, a wait of LOGGER that times out, and the deadline that CONTROL misses.
-pub(crate) fn fill(
-    log: &mut Log,
-    control: &[Notice],
-    both: &[Notice],
-    timed_out: &[Notice],
-    missed: &[Notice],
-)
+fn fill(log: &mut Log, control: &[Notice], both: &[Notice], timed_out: &[Notice], missed: &[Notice])
     requires control { length control.now ≤ 2 }
     requires both { length both.now ≤ 2 }
     requires timed_out { length timed_out.now ≤ 2 }

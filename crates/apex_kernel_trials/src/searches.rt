@@ -6,7 +6,7 @@ use apex_dispatch::Kernel;
 use apex_explore::Answer;
 use apex_pace::{Pace, USUAL_TURNS};
 use apex_process::QueueStore;
-use apex_search::{Fact, Facts, Question, TableSystem};
+use apex_search::{Fact, Question, TableSystem};
 use apex_table::read_table;
 use apex_types::{DeadlineType, Event, LentEntry, MOST_TICKS, Notice, ProcessId};
 use std::alloc::Global;
@@ -14,7 +14,7 @@ use std::mem::drop;
 use std::process::Abort;
 
 /// `low` holds the semaphore when `mid` preempts it, and `high` waits beyond its deadline.
-pub(crate) const SEMAPHORE: &str = r#"
+const SEMAPHORE: &str = r#"
 cores = 1
 
 [[process]]
@@ -51,7 +51,7 @@ discipline = "PRIORITY"
 "#;
 
 /// The same with a mutex: its owner has the priority of `high`, so `mid` doesn't preempt it.
-pub(crate) const MUTEX: &str = r#"
+const MUTEX: &str = r#"
 cores = 1
 
 [[process]]
@@ -99,9 +99,8 @@ fn system_of<R: Abort>(
         percent: 100,
     };
     let question = Question {
-        facts: Facts::one(Fact::HardMissed),
+        fact: Fact::HardMissed,
         process,
-        service: None,
     };
     TableSystem::new(alloc, table, pace, question).expect(rt, "memory")
 }
@@ -117,7 +116,7 @@ fn found_by<R: Abort>(rt: &R, alloc: Global, system: &TableSystem) -> Vec<Event>
 }
 
 /// Makes the event in the kernel.
-pub(crate) fn make<R: Abort>(rt: &R, kernel: &mut Kernel<QueueStore>, event: Event) {
+fn make<R: Abort>(rt: &R, kernel: &mut Kernel<QueueStore>, event: Event) {
     match event {
         Event::Turn(core) => turn_of(rt, kernel, core),
         Event::Tick(n) => {

@@ -2,7 +2,9 @@ pub mod CommandLemmas
 pub mod Endings
 pub mod FaultPlaces
 pub mod Gives
+pub mod LastEntries
 pub mod Listed
 pub mod ListingEndings
 pub mod Parting
 pub mod Reporting
+pub mod Searching

@@ -5,12 +5,10 @@ use Rattle.apex_machine.specs.Machine.{Machine, events_of, opening, run}
 use Rattle.apex_machine.specs.Events.{IsWithin}
 use Rattle.apex_machine.specs.table.Table as tables
 use Rattle.apex_machine.specs.text.Listing.{listing}
-use Rattle.apex_types.specs.declared.entries.Entry.{Entry}
 use Rattle.apex_types.specs.declared.entries.Event.{Event}
 use Rattle.apex_calls.specs.Lines.{lines_of}
 use Rattle.apex_history.specs.Counted.{AppendsBeginning}
 use Rattle.apex_cli.specs.Reports.{fault_of_events}
-use Rattle.apex_report.specs.Json.{report_json}
 use Rattle.apex_report.specs.Texts.{report_text}
 use Rattle.apex_schedules.specs.Printing.{schedule_text}
 use Rattle.apex_schedules.specs.Schedule.{events_of_items}
@@ -24,8 +22,6 @@ use Rattle.apex_pictures.specs.declared.Style.{Style}
 use Rattle.apex_pictures.specs.declared.Style.TheVariants as style
 use Rattle.apex_lab.specs.Tasks.{Picture, View, drawn, listed, svg, trace}
 use Rattle.apex_lab.specs.declared.plans.Plan.{Plan}
-use Rattle.apex_lab.specs.declared.words.Form.{Form}
-use Rattle.apex_lab.specs.declared.words.Form.TheVariants as forms
 use Rattle.apex_lab.specs.declared.words.Listing.{Listing}
 use Rattle.apex_lab.specs.declared.words.Listing.TheVariants as lists
 
@@ -61,17 +57,12 @@ pub record IsPlanFor (picture : Picture) (plan : Plan) : Type 0 where
   pub within : All (IsWithin plan.table.cores) plan.events.items
   pub style : IsStyleOf picture plan.style
 
--- the report of a history, in this form
-abbrev pub report_in : Form → tables.Table → List Entry → List ℕ
-report_in forms.Text table history = report_text table history
-report_in forms.Json table history = report_json table history
-
 -- the text of a listing of a machine: the lines of its history, its last state, the report of its
 -- history, or the schedule of its events with a line feed
 abbrev pub listing_text : Listing → tables.Table → Machine → List ℕ
 listing_text lists.Lines table machine = lines_of table machine.history
 listing_text lists.Status table machine = listing table machine
-listing_text (lists.Report form) table machine = report_in form table machine.history
+listing_text lists.Report table machine = report_text table machine.history
 listing_text lists.Schedule table machine =
     schedule_text (events_of machine.history) ++ codes "\n"
 

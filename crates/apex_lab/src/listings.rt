@@ -1,27 +1,23 @@
 //! The listings of a run, written from the kernel that made it.
-ghost use Rattle.std.specs.Prelude.{◌≡◌, ◌++◌, List, Option, codes, OnErr, OnOk};
+ghost use Rattle.std.specs.Prelude.{◌≡◌, ◌++◌, Option, codes, OnErr, OnOk};
 ghost use Rattle.apex_history.specs.Counted.{inner_of, failures_of, CountsFailure};
 ghost use Rattle.apex_cli.specs.Faults.{fault_in};
 ghost use Rattle.apex_cli.specs.Streams.{HasWritten, HasWrittenSome};
 ghost use Rattle.apex_cli.specs.declared.CliFault.{CliFault as CliFaultOf};
-ghost use Rattle.apex_report.specs.Texts.{IsOfTable, IsReportOf};
 ghost use Rattle.apex_schedules.specs.Printing.{schedule_text};
-ghost use Rattle.apex_types.specs.declared.entries.Entry.{Entry};
 ghost use Rattle.apex_lab.specs.Exits.{Shows, first_fault};
-ghost use Rattle.apex_lab.specs.Plans.{report_in};
 ghost use Rattle.apex_lab.specs.Tasks.{listed};
-ghost use Rattle.apex_lab.specs.declared.words.Listing.TheVariants.{Lines, Status, Report as ReportIn, Schedule};
+ghost use Rattle.apex_lab.specs.declared.words.Listing.TheVariants.{Lines, Status, Report, Schedule};
 
 use crate::plans::events_in;
 use crate::runs::Run;
-use crate::words::{Form, Listing};
+use crate::words::Listing;
 use apex_cli::CliFault;
 use apex_dispatch::Kernel;
 use apex_history::{Counted, Page, Sink, print_history};
 use apex_process::QueueStore;
-use apex_report::{Report, print_report, print_report_json, report_of};
+use apex_report::{print_report, report_of};
 use apex_schedules::print_schedule;
-use apex_table::Table;
 use apex_types::Event;
 use std::alloc::Global;
 use std::io;
@@ -62,40 +58,19 @@ fn write_status<W: Sink>(
     }
 }
 
-/// Writes a report in this form.
-fn print_in<W: Sink>(
-    form: Form,
-    table: &Table,
-    report: &Report,
-    writer: &mut Counted<W>,
-) -> io::Result<()>
-    requires { IsOfTable table.now report.now }
-    ensures ok { (history : List Entry) → IsReportOf table.now history report.now → OnOk result
-        (HasWritten W.contents writer.old writer.new (report_in form table.now history)) }
-    ensures err { (history : List Entry) → IsReportOf table.now history report.now → OnErr result
-        (HasWrittenSome W.contents writer.old writer.new (report_in form table.now history)) }
-    ensures counted { CountsFailure result (failures_of writer.old) (failures_of writer.new) }
-{
-    match form {
-        Form::Text => print_report(table, report, writer),
-        Form::Json => print_report_json(table, report, writer),
-    }
-}
-
-/// Writes the report of a kernel's history, in this form.
+/// Writes the report of a kernel's history.
 fn write_report<W: Sink>(
     alloc: Global,
-    form: Form,
     kernel: &Kernel<QueueStore>,
     writer: &mut Counted<W>,
 ) -> Result<(), CliFault>
-    ensures { Shows (listed (ReportIn form)) kernel.now.table kernel.now.machine
+    ensures { Shows (listed Report) kernel.now.table kernel.now.machine
         (W.contents (inner_of writer.old)) (failures_of writer.old) (fault_in result)
         (W.contents (inner_of writer.new)) (failures_of writer.new) }
 {
     kernel.holds();
     let report = report_of(alloc, kernel.table(), kernel.entries())?;
-    match print_in(form, kernel.table(), &report, writer) {
+    match print_report(kernel.table(), &report, writer) {
         Ok(()) => Ok(()),
         Err(_) => Err(CliFault::Write),
     }
@@ -144,7 +119,7 @@ fn write_listing<W: Sink>(
     match listing {
         Listing::Lines => write_lines(alloc, kernel, writer),
         Listing::Status => write_status(alloc, kernel, writer),
-        Listing::Report(form) => write_report(alloc, form, kernel, writer),
+        Listing::Report => write_report(alloc, kernel, writer),
         Listing::Schedule => write_schedule(alloc, kernel, writer),
     }
 }

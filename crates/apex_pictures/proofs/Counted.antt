@@ -7,7 +7,7 @@ use Rattle.apex_machine.specs.text.Listing.{texts_of}
 use Rattle.apex_pictures.specs.Counters.{change_text, changed_text, content_at, count_text, counter_text, counters_text, same_count, value_at}
 use Rattle.apex_pictures.specs.Counts.{Counts, HasCounts, content_of, counts_of, value_of, with_contents, with_values}
 use Rattle.apex_pictures.specs.Places.{of_places}
-use Rattle.apex_json.specs.Strings.{json_text}
+use Rattle.apex_pictures.specs.Texts.{json_text}
 use Rattle.apex_pictures.proofs.Places.{found_at, length_of}
 
 -- seven texts, one behind the other

@@ -1,7 +1,7 @@
 -- Texts are read back as they are.
-use Rattle.std.proofs.Common.{◌≡◌, ◌∙◌, ℕ, true, ◌==◌, List, [], ◌∷◌, ◌++◌, None, refl, ap, inl, inr, eqb-true}
+use Rattle.std.proofs.Common.{◌≡◌, ◌∙◌, ℕ, true, false, ◌==◌, List, [], ◌∷◌, ◌++◌, None, refl, ap, inl, inr, eqb-true}
 use Rattle.std.proofs.lemmas.Bool.{cases_Bool}
-use Rattle.apex_pictures.specs.Texts.{AreReadBack, xml_byte, xml_read, xml_text}
+use Rattle.apex_pictures.specs.Texts.{AreReadBack, json_byte, json_read, json_text, xml_byte, xml_read, xml_text}
 
 -- a byte that has a name
 named : (byte name : ℕ) (rest : List ℕ) → (byte == name) ≡ true
@@ -24,6 +24,27 @@ xml_byte_back byte rest = elim (cases_Bool (byte == 38)) [
   ]
 ]
 
+xml_back : (bytes : List ℕ) → xml_read None (xml_text bytes) ≡ bytes
+xml_back [] = refl
+xml_back (byte ∷ bytes) = xml_byte_back byte (xml_text bytes) ∙ ap (λ rest. byte ∷ rest) (xml_back bytes)
+
+marked : (byte name : ℕ) (rest : List ℕ) → (byte == name) ≡ true
+    → json_read false (json_byte name ++ rest) ≡ name ∷ json_read false rest
+    → json_read false (json_byte byte ++ rest) ≡ byte ∷ json_read false rest
+marked byte name rest is back = rw (eqb-true byte name is) back
+
+json_byte_back : (byte : ℕ) (rest : List ℕ) → json_read false (json_byte byte ++ rest) ≡ byte ∷ json_read false rest
+json_byte_back byte rest = elim (cases_Bool (byte == 34)) [
+  | inl quot ↦ marked byte 34 rest quot refl
+  | inr q ↦ elim (cases_Bool (byte == 92)) [
+    | inl slash ↦ marked byte 92 rest slash refl
+    | inr s ↦ rw (q, s) (rw s refl)
+  ]
+]
+
+json_back : (bytes : List ℕ) → json_read false (json_text bytes) ≡ bytes
+json_back [] = refl
+json_back (byte ∷ bytes) = json_byte_back byte (json_text bytes) ∙ ap (λ rest. byte ∷ rest) (json_back bytes)
+
 pub read_back : AreReadBack
-read_back [] = refl
-read_back (byte ∷ bytes) = xml_byte_back byte (xml_text bytes) ∙ ap (λ rest. byte ∷ rest) (read_back bytes)
+read_back = record { xml = xml_back; json = json_back }

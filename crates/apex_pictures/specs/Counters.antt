@@ -7,7 +7,7 @@ use Rattle.apex_machine.specs.table.Table.{Table}
 use Rattle.apex_machine.specs.text.Texts.{buffer_name, semaphore_name}
 use Rattle.apex_pictures.specs.Counts.{Counts}
 use Rattle.apex_pictures.specs.Svg.{texts}
-use Rattle.apex_json.specs.Strings.{json_text}
+use Rattle.apex_pictures.specs.Texts.{json_text}
 
 -- the count of the object of this kind and name, in this unit
 unfoldable pub count_text : List ℕ → List ℕ → List ℕ → ℕ → ℕ → List ℕ

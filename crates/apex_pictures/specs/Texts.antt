@@ -1,7 +1,6 @@
 -- The parts of a picture's text: bytes are escaped, and read back.
-use Rattle.std.specs.Prelude.{◌≡◌, ℕ, List, [], ◌∷◌, ◌++◌, ◌==◌, Option, None, Some, codes, decimal, flat_map, if◌then◌else◌}
+use Rattle.std.specs.Prelude.{◌≡◌, ℕ, Bool, true, false, List, [], ◌∷◌, ◌++◌, ◌==◌, ◌||◌, Option, None, Some, codes, decimal, flat_map, if◌then◌else◌}
 use Rattle.std.specs.Str.{bytes_eq}
-use Rattle.apex_json.specs.Strings.{json_text}
 use Rattle.apex_pictures.specs.declared.texts.Part.{Part}
 use Rattle.apex_pictures.specs.declared.texts.Part.TheVariants.{Plain, Number, Xml, Json}
 
@@ -16,6 +15,14 @@ xml_byte byte =
 -- bytes as XML shows them
 abbrev pub xml_text : List ℕ → List ℕ
 xml_text bytes = flat_map xml_byte bytes
+
+-- a byte in a string of JSON: `"` (34) and `\` (92) have a `\` before them
+abbrev pub json_byte : ℕ → List ℕ
+json_byte byte = if byte == 34 || byte == 92 then 92 ∷ byte ∷ [] else byte ∷ []
+
+-- bytes in a string of JSON
+abbrev pub json_text : List ℕ → List ℕ
+json_text bytes = flat_map json_byte bytes
 
 -- the byte that XML has by this name
 abbrev pub xml_named : List ℕ → ℕ
@@ -35,6 +42,14 @@ xml_read (Some name) (byte ∷ rest) =
     if byte == 59 then xml_named name ∷ xml_read None rest
     else xml_read (Some (name ++ byte ∷ [])) rest
 
+-- The bytes that a reader of JSON takes from a string's text: a byte as it is, and the byte behind
+-- a `\` (92).
+abbrev pub json_read : Bool → List ℕ → List ℕ
+json_read escaped [] = []
+json_read true (byte ∷ rest) = byte ∷ json_read false rest
+json_read false (byte ∷ rest) =
+    if byte == 92 then json_read true rest else byte ∷ json_read false rest
+
 -- the text of a part
 abbrev pub part_text : Part → List ℕ
 part_text (Plain text) = text.now
@@ -43,5 +58,6 @@ part_text (Xml bytes) = xml_text bytes.now
 part_text (Json bytes) = json_text bytes.now
 
 -- each text is read back as it is
-abbrev pub AreReadBack : Type 0
-AreReadBack = (bytes : List ℕ) → xml_read None (xml_text bytes) ≡ bytes
+pub record AreReadBack : Type 0 where
+  pub xml : (bytes : List ℕ) → xml_read None (xml_text bytes) ≡ bytes
+  pub json : (bytes : List ℕ) → json_read false (json_text bytes) ≡ bytes

@@ -14,7 +14,7 @@ use Rattle.apex_pictures.specs.Moments.{Shown, no_cell, none_shown}
 use Rattle.apex_pictures.specs.Svg.{texts}
 use Rattle.apex_types.specs.declared.modes.DeadlineType.{DeadlineType}
 use Rattle.apex_pictures.specs.Terms.{Entry, Notice, State}
-use Rattle.apex_json.specs.Strings.{json_text}
+use Rattle.apex_pictures.specs.Texts.{json_text}
 use Rattle.apex_pictures.specs.declared.trace.Spot.{Spot}
 
 -- the name of a core's track

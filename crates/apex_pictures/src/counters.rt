@@ -8,9 +8,8 @@ ghost use Rattle.apex_pictures.specs.Counts.{content_of, no_counts, value_of, wi
 ghost use Rattle.apex_pictures.specs.Places.{of_places};
 
 use crate::counts::{Counts, content_of, count_at, value_of};
-use crate::texts::{put, put_number};
+use crate::texts::{put, put_json, put_number};
 use apex_dispatch::Kernel;
-use apex_json::put_json;
 use apex_store::Store;
 use apex_table::Table;
 use apex_types::{BufferId, SemaphoreId};

@@ -9,8 +9,8 @@ pub fn columns_say_entries()
     ensures { ArePictures }
 {}
 
-/// A reader of XML takes back every text as it is: the name of a process is read from an SVG as the
-/// table gives it.
+/// Readers of XML and of JSON take back every text as it is: the name of a process is read from a
+/// picture as the table gives it.
 pub fn texts_are_read_back()
     ensures { AreReadBack }
 {}

@@ -1,14 +1,16 @@
 //! The pieces of a trace: what an entry changes on a track is put together in a buffer of fixed
 //! room, and goes to the trace's text at once.
-ghost use Rattle.std.specs.Prelude.{◌≡◌, ◌+◌, ◌/◌, ◌%◌, ◌<◌, ◌≤◌, [], ◌∷◌, ◌++◌, decimal, length};
+ghost use Rattle.std.specs.Prelude.{◌≡◌, ◌+◌, ◌*◌, ◌/◌, ◌%◌, ◌<◌, ◌≤◌, [], ◌∷◌, ◌++◌, decimal, length};
 ghost use Rattle.arrayvec.specs.ArrayVec.{array_vec_len};
+ghost use Rattle.apex_types.specs.declared.limits.TheConstants.{MOST_NAME};
+ghost use Rattle.apex_pictures.specs.Texts.{json_byte, json_text};
 ghost use Rattle.apex_pictures.specs.declared.pieces.TheConstants.{PIECE_ROOM};
 
 use arrayvec::ArrayVec;
 use itoa::Buffer;
 
 /// The most bytes of a piece.
-pub(crate) const PIECE_ROOM: usize = 384;
+pub(crate) const PIECE_ROOM: usize = 256;
 
 /// The end of a slice of a track, and the next slice's beginning.
 pub(crate) type Piece = ArrayVec<u8, PIECE_ROOM>;
@@ -92,5 +94,30 @@ pub(crate) fn add_number(piece: &mut Piece, number: u32)
         add_two_digits(piece, number as u8);
     } else {
         add_digits(piece, number);
+    }
+}
+
+#[inline(always)]
+fn add_json_byte(piece: &mut Piece, byte: u8)
+    requires { array_vec_len piece.old + 2 ≤ PIECE_ROOM }
+    ensures text { piece.new.items ≡ piece.old.items ++ json_byte byte }
+    ensures short { array_vec_len piece.new ≤ array_vec_len piece.old + 2 }
+{
+    if byte == b'"' || byte == b'\\' {
+        piece.push(b'\\');
+    }
+    piece.push(byte);
+}
+
+/// Adds the bytes so that JSON reads them back as they are, between the quotes of a string.
+#[inline(always)]
+pub(crate) fn add_json(piece: &mut Piece, bytes: &[u8])
+    requires few { length bytes.now ≤ MOST_NAME }
+    requires room { array_vec_len piece.old + 2 * MOST_NAME ≤ PIECE_ROOM }
+    ensures text { piece.new.items ≡ piece.old.items ++ json_text bytes.now }
+    ensures short { array_vec_len piece.new ≤ array_vec_len piece.old + 2 * MOST_NAME }
+{
+    for byte in bytes {
+        add_json_byte(piece, *byte);
     }
 }

@@ -1,8 +1,7 @@
 //! The parts of a picture's text, and the bytes that are escaped in it.
 ghost use Rattle.std.specs.Prelude.{◌≡◌, ◌<◌, ◌≤◌, [], ◌∷◌, ◌++◌, flat_map, decimal, OnOk};
-ghost use Rattle.apex_pictures.specs.Texts.{part_text, xml_byte, xml_text};
+ghost use Rattle.apex_pictures.specs.Texts.{json_byte, json_text, part_text, xml_byte, xml_text};
 
-use apex_json::put_json;
 use itoa::Buffer;
 use std::alloc::AllocError;
 
@@ -83,6 +82,25 @@ pub(crate) fn put_xml(text: &mut Vec<u8>, bytes: &[u8]) -> Result<(), AllocError
 {
     for byte in bytes {
         put_xml_byte(text, *byte)?;
+    }
+    Ok(())
+}
+
+fn put_json_byte(text: &mut Vec<u8>, byte: u8) -> Result<(), AllocError>
+    ensures { OnOk result (text.new.items ≡ text.old.items ++ json_byte byte) }
+{
+    if byte == b'"' || byte == b'\\' {
+        return text.extend_from_slice(&[b'\\', byte]);
+    }
+    put_byte(text, byte)
+}
+
+/// Puts the bytes so that JSON reads them back as they are, between the quotes of a string.
+pub(crate) fn put_json(text: &mut Vec<u8>, bytes: &[u8]) -> Result<(), AllocError>
+    ensures { OnOk result (text.new.items ≡ text.old.items ++ json_text bytes.now) }
+{
+    for byte in bytes {
+        put_json_byte(text, *byte)?;
     }
     Ok(())
 }

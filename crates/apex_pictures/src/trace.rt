@@ -16,13 +16,12 @@ ghost use Rattle.apex_pictures.specs.Tracks.{bare, bare_cells, cell_on, track_of
 
 use crate::counters::put_first_counts;
 use crate::moments::{CORES, running_at};
-use crate::pieces::{Piece, add, add_number, add_text};
+use crate::pieces::{Piece, add, add_json, add_number, add_text};
 use crate::stamps::{BEGIN_ROOM, END_ROOM, FRONT, Stamp, begin_front, end_front};
 use crate::texts::{Part, put, put_all};
 use crate::tracks::{Track, Tracks, state_on, track_of};
 use crate::words::{deadline_word, id_part, name_of};
 use apex_dispatch::Kernel;
-use apex_json::{MOST_ESCAPE, add_json};
 use apex_store::Store;
 use apex_table::Table;
 use apex_types::{CoreId, DeadlineType, LentEntry, MOST_NAME, Notice, ProcessId, State};
@@ -121,7 +120,7 @@ const BEGIN: usize = FRONT + 10 + BEGIN_ROOM;
 
 /// The most bytes of the name of a slice and of what is behind it: the number of a process, and its
 /// name, of which JSON escapes each byte at the most.
-const NAME: usize = 10 + 1 + MOST_ESCAPE * MOST_NAME + 2;
+const NAME: usize = 10 + 1 + 2 * MOST_NAME + 2;
 
 /// Adds the end of a slice.
 #[inline(always)]

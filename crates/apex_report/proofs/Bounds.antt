@@ -1,14 +1,12 @@
 -- An entry adds at most one to each count, so no count is above the number of entries.
-use Rattle.std.proofs.Common.{◌≡◌, ℕ, ◌+◌, ◌<◌, ◌≤◌, zero, suc, Bool, true, false, Option, None, Some, List, [], ◌∷◌, ◌++◌, take, drop, length, map, get_or, option_to_list, if◌then◌else◌, not, ◌&&◌, arith}
+use Rattle.std.proofs.Common.{◌≡◌, ℕ, ◌+◌, ◌<◌, ◌≤◌, zero, suc, Bool, true, false, Option, None, Some, List, [], ◌∷◌, ◌++◌, take, drop, length, map, get_or, option_to_list, if◌then◌else◌, not, arith}
 use Rattle.std.specs.List.{AllByRecursion}
 use Rattle.apex_types.specs.declared.limits.TheConstants.{MOST_SPAN}
 use Rattle.apex_report.specs.Cores.{core_figures, is_done_turn, is_idle_turn, is_lost_turn, is_service_turn, is_turn, ticks_in, units, units_if}
 use Rattle.apex_report.specs.Jobs.{completes, ended_open, releases, stops}
-use Rattle.apex_report.specs.Processes.{is_done_by, is_lost_by, is_turn_of_process, misses, process_figures, times_out}
-use Rattle.apex_report.specs.Refusals.{is_reply}
-use Rattle.apex_report.specs.Services.{is_call_of, service_figures}
-use Rattle.apex_report.specs.Steps.{core_after, jobs_after, one_if, process_after, refusals_with, service_after, ticks_if, AreJobsUpTo, AreUpTo, IsCoreUpTo, IsProcessUpTo, IsServiceUpTo}
-use Rattle.apex_report.specs.Terms.{CoreFigures, Entry, JobFigures, ProcessFigures, Refusals, Reply, Service, ServiceFigures}
+use Rattle.apex_report.specs.Processes.{is_answered, is_turn_of_process, misses, process_figures, times_out}
+use Rattle.apex_report.specs.Steps.{core_after, jobs_after, one_if, process_after, refusals_after, ticks_if, AreJobsUpTo, AreUpTo, IsCoreUpTo, IsProcessUpTo}
+use Rattle.apex_report.specs.Terms.{CoreFigures, Entry, JobFigures, ProcessFigures, Refusals}
 use Rattle.apex_types.specs.declared.entries.ReturnCode.TheVariants.{NoAction, NotAvailable, InvalidParam, InvalidConfig, InvalidMode}
 
 -- the facts of each element are those of its value
@@ -37,17 +35,14 @@ pub one_job : {X : Type 0} (x : Option X) → length (option_to_list x) ≤ 1
 one_job None = omega arith
 one_job (Some x) = omega arith
 
-refusals_up_to : (n : ℕ) (so : Bool) (reply : Reply) (r : Refusals) → AreUpTo n r → AreUpTo (n + 1) (refusals_with so reply r)
-refusals_up_to n so reply r up = record {
-  no_action = omega (arith, up.no_action, one_at_most (so && is_reply NoAction reply));
-  not_available = omega (arith, up.not_available, one_at_most (so && is_reply NotAvailable reply));
-  invalid_param = omega (arith, up.invalid_param, one_at_most (so && is_reply InvalidParam reply));
-  invalid_config = omega (arith, up.invalid_config, one_at_most (so && is_reply InvalidConfig reply));
-  invalid_mode = omega (arith, up.invalid_mode, one_at_most (so && is_reply InvalidMode reply));
+refusals_up_to : (n p : ℕ) (e : Entry) (r : Refusals) → AreUpTo n r → AreUpTo (n + 1) (refusals_after p r e)
+refusals_up_to n p e r up = record {
+  no_action = omega (arith, up.no_action, one_at_most (is_answered p NoAction e));
+  not_available = omega (arith, up.not_available, one_at_most (is_answered p NotAvailable e));
+  invalid_param = omega (arith, up.invalid_param, one_at_most (is_answered p InvalidParam e));
+  invalid_config = omega (arith, up.invalid_config, one_at_most (is_answered p InvalidConfig e));
+  invalid_mode = omega (arith, up.invalid_mode, one_at_most (is_answered p InvalidMode e));
 }
-
-pub service_up_to : (n : ℕ) (e : Entry) (f : ServiceFigures) → IsServiceUpTo n f → IsServiceUpTo (n + 1) (service_after e f)
-service_up_to n e f up = record { refusals = refusals_up_to n (is_call_of f.service e) e.reply f.refusals up.refusals }
 
 jobs_up_to : (n p : ℕ) (e : Entry) (f : JobFigures) → AreJobsUpTo n f → AreJobsUpTo (n + 1) (jobs_after p f e)
 jobs_up_to n p e f up = record {
@@ -56,22 +51,20 @@ jobs_up_to n p e f up = record {
   stops = omega (arith, up.stops, one_job (ended_open (stops p e) f.open_since e));
 }
 
+pub process_up_to : (n : ℕ) (e : Entry) (f : ProcessFigures) → IsProcessUpTo n f → IsProcessUpTo (n + 1) (process_after e f)
+process_up_to n e f up = record {
+  turns = omega (arith, up.turns, one_at_most (is_turn_of_process f.process e));
+  misses = omega (arith, up.misses, one_at_most (misses f.process e));
+  timeouts = omega (arith, up.timeouts, one_at_most (times_out f.process e));
+  refusals = refusals_up_to n f.process e f.refusals up.refusals;
+  jobs = jobs_up_to n f.process e f.jobs up.jobs;
+}
+
 some_units : (passes : ℕ → Entry → Bool) (core : ℕ) (e : Entry) → units e.call ≤ MOST_SPAN → units_if passes core e ≤ MOST_SPAN
 some_units passes core e few = by_test (passes core e) where
   by_test : (b : Bool) → (if b then units e.call else 0) ≤ MOST_SPAN
   by_test true = few
   by_test false = omega arith
-
-pub process_up_to : (n : ℕ) (e : Entry) → units e.call ≤ MOST_SPAN → (f : ProcessFigures) → IsProcessUpTo n f → IsProcessUpTo (n + 1) (process_after e f)
-process_up_to n e few f up = record {
-  turns = omega (arith, up.turns, one_at_most (is_turn_of_process f.process e));
-  misses = omega (arith, up.misses, one_at_most (misses f.process e));
-  timeouts = omega (arith, up.timeouts, one_at_most (times_out f.process e));
-  work_done = omega (arith, up.work_done, some_units is_done_by f.process e few);
-  work_lost = omega (arith, up.work_lost, some_units is_lost_by f.process e few);
-  refusals = refusals_up_to n (is_turn_of_process f.process e) e.reply f.refusals up.refusals;
-  jobs = jobs_up_to n f.process e f.jobs up.jobs;
-}
 
 some_ticks : (so : Bool) (ticks : ℕ) → ticks ≤ MOST_SPAN → ticks_if so ticks ≤ MOST_SPAN
 some_ticks true ticks few = few
@@ -103,8 +96,6 @@ process_below n m le f up = record {
   turns = omega (arith, up.turns, le);
   misses = omega (arith, up.misses, le);
   timeouts = omega (arith, up.timeouts, le);
-  work_done = omega (arith, up.work_done, le);
-  work_lost = omega (arith, up.work_lost, le);
   refusals = refusals_below n m le f.refusals up.refusals;
   jobs = record {
     releases = omega (arith, up.jobs.releases, le);
@@ -131,12 +122,6 @@ processes_below n m le fs all = all_weaker (IsProcessUpTo n) (IsProcessUpTo m) (
 pub cores_below : (n m : ℕ) → n ≤ m → (fs : List CoreFigures) → AllByRecursion (IsCoreUpTo n) fs → AllByRecursion (IsCoreUpTo m) fs
 cores_below n m le fs all = all_weaker (IsCoreUpTo n) (IsCoreUpTo m) (core_below n m le) fs all
 
-service_below : (n m : ℕ) → n ≤ m → (f : ServiceFigures) → IsServiceUpTo n f → IsServiceUpTo m f
-service_below n m le f up = record { refusals = refusals_below n m le f.refusals up.refusals }
-
-pub services_below : (n m : ℕ) → n ≤ m → (fs : List ServiceFigures) → AllByRecursion (IsServiceUpTo n) fs → AllByRecursion (IsServiceUpTo m) fs
-services_below n m le fs all = all_weaker (IsServiceUpTo n) (IsServiceUpTo m) (service_below n m le) fs all
-
 -- no count is above 0 before any entry
 pub processes_zero : (ps : List ℕ) → AllByRecursion (IsProcessUpTo 0) (map (process_figures []) ps)
 processes_zero [] = tt
@@ -145,8 +130,6 @@ processes_zero (p ∷ ps) = (
     turns = omega arith;
     misses = omega arith;
     timeouts = omega arith;
-    work_done = omega arith;
-    work_lost = omega arith;
     refusals = record {
       no_action = omega arith;
       not_available = omega arith;
@@ -173,19 +156,4 @@ cores_zero (c ∷ cs) = (
     idle_ticks = omega arith;
   },
   cores_zero cs,
-)
-
-pub services_zero : (ss : List Service) → AllByRecursion (IsServiceUpTo 0) (map (service_figures []) ss)
-services_zero [] = tt
-services_zero (s ∷ ss) = (
-  record {
-    refusals = record {
-      no_action = omega arith;
-      not_available = omega arith;
-      invalid_param = omega arith;
-      invalid_config = omega arith;
-      invalid_mode = omega arith;
-    };
-  },
-  services_zero ss,
 )

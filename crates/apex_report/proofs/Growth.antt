@@ -1,17 +1,15 @@
 -- The figures of a history with one entry more are the figures after that entry.
-use Rattle.std.proofs.Common.{◌≡◌, ℕ, ◌+◌, Bool, true, false, not, if◌then◌else◌, cond, List, [], ◌∷◌, ◌++◌, None, map, refl, sym, ap, append_assoc, append-nil, length-append, arith}
+use Rattle.std.proofs.Common.{◌≡◌, ℕ, ◌+◌, Bool, true, false, not, if◌then◌else◌, cond, List, [], ◌∷◌, ◌++◌, None, map, refl, sym, append_assoc, append-nil, length-append, arith}
 use Rattle.std.proofs.lemmas.List.Sums.{fold_push, sum_by_push}
 use Rattle.std.specs.List.{count_by, sum}
 use Rattle.apex_types.specs.declared.entries.ReturnCode.TheVariants.{NoAction, NotAvailable, InvalidParam, InvalidConfig, InvalidMode}
 use Rattle.apex_report.specs.Cores.{core_figures, is_done_turn, is_idle_turn, is_lost_turn, is_service_turn, is_turn, is_working, is_working_after, idle_by, busy_by, ticks_in, units_if}
 use Rattle.apex_report.specs.Jobs.{completed, completes, ended_by, open_after, releases, stopped, stops}
 use Rattle.apex_report.specs.JobFigures.{job_figures}
-use Rattle.apex_report.specs.Processes.{is_done_by, is_lost_by, is_turn_of_process, misses, process_figures, times_out}
-use Rattle.apex_report.specs.Refusals.{is_answered, refusals}
-use Rattle.apex_report.specs.Services.{is_call_of, service_figures}
-use Rattle.apex_report.specs.Steps.{core_after, jobs_after, one_if, process_after, refusals_with, service_after, ticks_if}
+use Rattle.apex_report.specs.Processes.{is_answered, is_turn_of_process, misses, process_figures, refusals, times_out}
+use Rattle.apex_report.specs.Steps.{core_after, jobs_after, one_if, process_after, refusals_after, ticks_if}
 use Rattle.apex_report.specs.Along.{along}
-use Rattle.apex_report.specs.Terms.{Entry, Refusals, Service, ServiceFigures}
+use Rattle.apex_report.specs.Terms.{Entry}
 use Rattle.apex_report.specs.Waits.{queue_after}
 use Rattle.apex_report.proofs.Unbeaten.{best_grows, worst_grows}
 
@@ -57,15 +55,15 @@ jobs_grow p history e =
     )
     refl
 
-pub refusals_grow : (passes : Entry → Bool) (history : List Entry) (e : Entry)
-    → refusals passes (history ++ e ∷ []) ≡ refusals_with (passes e) e.reply (refusals passes history)
-refusals_grow passes history e =
+pub refusals_grow : (p : ℕ) (history : List Entry) (e : Entry)
+    → refusals p (history ++ e ∷ []) ≡ refusals_after p (refusals p history) e
+refusals_grow p history e =
     rw (
-      counted (is_answered passes NoAction) history e,
-      counted (is_answered passes NotAvailable) history e,
-      counted (is_answered passes InvalidParam) history e,
-      counted (is_answered passes InvalidConfig) history e,
-      counted (is_answered passes InvalidMode) history e,
+      counted (is_answered p NoAction) history e,
+      counted (is_answered p NotAvailable) history e,
+      counted (is_answered p InvalidParam) history e,
+      counted (is_answered p InvalidConfig) history e,
+      counted (is_answered p InvalidMode) history e,
     )
     refl
 
@@ -76,19 +74,11 @@ process_grows history e p =
       counted (is_turn_of_process p) history e,
       counted (misses p) history e,
       counted (times_out p) history e,
-      sum_by_push (units_if is_done_by p) history e,
-      sum_by_push (units_if is_lost_by p) history e,
-      refusals_grow (is_turn_of_process p) history e,
+      refusals_grow p history e,
       jobs_grow p history e,
       fold_push (queue_after p) None history e,
     )
     refl
-
-pub service_grows : (history : List Entry) (e : Entry) (service : Service)
-    → service_figures (history ++ e ∷ []) service ≡ service_after e (service_figures history service)
-service_grows history e service =
-    let figures : Refusals → ServiceFigures = λ counts. record { service = service; refusals = counts } in
-    ap figures (refusals_grow (is_call_of service) history e)
 
 pub core_grows : (history : List Entry) (e : Entry) (core : ℕ)
     → core_figures (history ++ e ∷ []) core ≡ core_after e (core_figures history core)

@@ -2,11 +2,6 @@ pub mod Growth
 pub mod ObjectGrowth
 pub mod LatestCalls
 pub mod ReportGrowth
-pub mod Tests
-pub mod Settled
-pub mod Unconcerned
-pub mod UnconcernedObjects
-pub mod Refused
 pub mod ObjectBounds
 pub mod Bounds
 pub mod Printed

@@ -4,18 +4,15 @@ use Rattle.std.specs.List.{AllByRecursion}
 use Rattle.std.proofs.lemmas.List.Sums.{count_by-le-length}
 use Rattle.apex_types.specs.declared.limits.TheConstants.{MOST_ENTRIES, MOST_NOTICES, MOST_SPAN}
 use Rattle.apex_machine.specs.table.Table.{Table}
-use Rattle.apex_report.specs.Concerned.{IsSettled}
 use Rattle.apex_report.specs.Cores.{core_figures, ticks_in, units}
 use Rattle.apex_report.specs.Objects.{is_late, object_figures}
 use Rattle.apex_report.specs.ObjectSteps.{gives_now, gives_then, object_after, takes_now, takes_then, IsObjectUpTo, IsOwnerUpTo}
 use Rattle.apex_report.specs.Ownerships.{depth_after, gives_up, is_acquired, is_released, next_owner, owner_after, owner_from}
 use Rattle.apex_report.specs.Processes.{process_figures}
 use Rattle.apex_report.specs.ReportSteps.{AreCounted}
-use Rattle.apex_report.specs.Services.{service_figures}
-use Rattle.apex_report.specs.Steps.{core_after, process_after, service_after, IsCoreUpTo, IsProcessUpTo, IsServiceUpTo}
-use Rattle.apex_report.specs.Terms.{CoreFigures, Entry, ObjectFigures, Owner, ProcessFigures, Queue, Service, ServiceFigures, Waking}
-use Rattle.apex_report.proofs.Bounds.{all_mapped, all_weaker, core_up_to, cores_zero, one_at_most, process_up_to, processes_zero, service_up_to, services_zero}
-use Rattle.apex_report.proofs.Settled.{settled_more}
+use Rattle.apex_report.specs.Steps.{core_after, process_after, IsCoreUpTo, IsProcessUpTo}
+use Rattle.apex_report.specs.Terms.{CoreFigures, Entry, ObjectFigures, Owner, ProcessFigures, Queue, Waking}
+use Rattle.apex_report.proofs.Bounds.{all_mapped, all_weaker, core_up_to, cores_zero, one_at_most, process_up_to, processes_zero}
 
 new_owner_up_to : (n : ℕ) (e : Entry) (p : Option ℕ) → IsOwnerUpTo (n + 1) (option_map (owner_from e) p)
 new_owner_up_to n e None = tt
@@ -62,21 +59,17 @@ pub objects_below : (n m : ℕ) → n ≤ m → (fs : List ObjectFigures) → Al
 objects_below n m le fs all = all_weaker (IsObjectUpTo n) (IsObjectUpTo m) (object_below n m le) fs all
 
 -- the counts after one entry more
-pub counted_more : (n : ℕ) (ps : List ProcessFigures) (cs : List CoreFigures) (os : List ObjectFigures)
-    (ss : List ServiceFigures) (e : Entry) (woken : List Waking) → AreCounted n ps cs os ss
+pub counted_more : (n : ℕ) (ps : List ProcessFigures) (cs : List CoreFigures) (os : List ObjectFigures) (e : Entry)
+    (woken : List Waking) (processes : List ProcessFigures) → AreCounted n ps cs os
     → n < MOST_ENTRIES → units e.call ≤ MOST_SPAN → ticks_in e.reply ≤ MOST_SPAN → length woken ≤ MOST_NOTICES
-    → AreCounted (n + 1) (map (process_after e) ps) (map (core_after e) cs)
-    (map (object_after e woken (map (process_after e) ps)) os) (map (service_after e) ss)
-counted_more n ps cs os ss e woken counts room few few_ticks few_woken =
-    let processes = map (process_after e) ps in record {
-      few = omega (arith, room);
-      each_process = all_mapped (IsProcessUpTo n) (IsProcessUpTo (n + 1)) (process_after e) (process_up_to n e few) ps counts.each_process;
-      each_core = all_mapped (IsCoreUpTo n) (IsCoreUpTo (n + 1)) (core_after e) (core_up_to n e few few_ticks) cs counts.each_core;
-      each_object = all_mapped (IsObjectUpTo n) (IsObjectUpTo (n + 1)) (object_after e woken processes)
-          (object_up_to n e woken processes few_woken) os counts.each_object;
-      each_settled = settled_more e woken processes os;
-      each_service = all_mapped (IsServiceUpTo n) (IsServiceUpTo (n + 1)) (service_after e) (service_up_to n e) ss counts.each_service;
-    }
+    → AreCounted (n + 1) (map (process_after e) ps) (map (core_after e) cs) (map (object_after e woken processes) os)
+counted_more n ps cs os e woken processes counts room few few_ticks few_woken = record {
+  few = omega (arith, room);
+  each_process = all_mapped (IsProcessUpTo n) (IsProcessUpTo (n + 1)) (process_after e) (process_up_to n e) ps counts.each_process;
+  each_core = all_mapped (IsCoreUpTo n) (IsCoreUpTo (n + 1)) (core_after e) (core_up_to n e few few_ticks) cs counts.each_core;
+  each_object = all_mapped (IsObjectUpTo n) (IsObjectUpTo (n + 1)) (object_after e woken processes)
+      (object_up_to n e woken processes few_woken) os counts.each_object;
+}
 
 -- no count is above that of no entry before any
 objects_zero : (table : Table) (queues : List Queue)
@@ -87,21 +80,11 @@ objects_zero table (queue ∷ queues) = (
   objects_zero table queues,
 )
 
--- no object has a highest level before any entry
-settled_zero : (table : Table) (processes : List ProcessFigures) (queues : List Queue)
-    → AllByRecursion (IsSettled processes) (map (object_figures table []) queues)
-settled_zero table processes [] = tt
-settled_zero table processes (queue ∷ queues) =
-    (record { content = tt; queue = tt }, settled_zero table processes queues)
-
-pub none_counted : (table : Table) (ps cs : List ℕ) (qs : List Queue) (ss : List Service)
+pub none_counted : (table : Table) (ps cs : List ℕ) (qs : List Queue)
     → AreCounted 0 (map (process_figures []) ps) (map (core_figures []) cs) (map (object_figures table []) qs)
-    (map (service_figures []) ss)
-none_counted table ps cs qs ss = record {
+none_counted table ps cs qs = record {
   few = omega arith;
   each_process = processes_zero ps;
   each_core = cores_zero cs;
   each_object = objects_zero table qs;
-  each_settled = settled_zero table (map (process_figures []) ps) qs;
-  each_service = services_zero ss;
 }

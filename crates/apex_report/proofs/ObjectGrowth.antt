@@ -28,7 +28,7 @@ use Rattle.apex_report.specs.Waits.{waiting, waking_by, wakings}
 use Rattle.apex_report.proofs.Growth.{along_more, sum_push}
 use Rattle.apex_report.proofs.Unbeaten.{unbeaten_grows}
 
-pub count_cons : {X : Type 0} (p : X → Bool) (x : X) (xs : List X) → count_by p (x ∷ xs) ≡ one_if (p x) + count_by p xs
+count_cons : {X : Type 0} (p : X → Bool) (x : X) (xs : List X) → count_by p (x ∷ xs) ≡ one_if (p x) + count_by p xs
 count_cons p x xs = sum_by-cons (λ y. cond (p y) 1 0) x xs
 
 count_joined : {X : Type 0} (p : X → Bool) (xs ys : List X) → count_by p (xs ++ ys) ≡ count_by p xs + count_by p ys

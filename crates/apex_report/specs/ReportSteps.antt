@@ -2,12 +2,11 @@
 use Rattle.std.specs.Prelude.{ℕ, ◌+◌, ◌≤◌, List, map}
 use Rattle.std.specs.List.{AllByRecursion}
 use Rattle.apex_types.specs.declared.limits.TheConstants.{MOST_ENTRIES}
-use Rattle.apex_report.specs.Concerned.{IsSettled}
 use Rattle.apex_report.specs.Latest.{latest_set}
 use Rattle.apex_report.specs.ObjectSteps.{object_after, IsObjectUpTo}
 use Rattle.apex_report.specs.Report.{Report}
-use Rattle.apex_report.specs.Steps.{core_after, process_after, service_after, IsCoreUpTo, IsProcessUpTo, IsServiceUpTo}
-use Rattle.apex_report.specs.Terms.{CoreFigures, Entry, ObjectFigures, ProcessFigures, ServiceFigures, Waking}
+use Rattle.apex_report.specs.Steps.{core_after, process_after, IsCoreUpTo, IsProcessUpTo}
+use Rattle.apex_report.specs.Terms.{CoreFigures, Entry, ObjectFigures, ProcessFigures, Waking}
 
 -- the report after an entry, which wakes these processes
 abbrev pub report_after : Report → Entry → List Waking → Report
@@ -17,17 +16,14 @@ report_after before e woken =
       processes = processes;
       cores = map (core_after e) before.cores;
       objects = map (object_after e woken processes) before.objects;
-      services = map (service_after e) before.services;
       latest = latest_set e before.latest;
     }
 
 -- the facts that each report keeps: it has noted at most `MOST_ENTRIES` entries, and no count is above
--- what that many entries give; and no content and no queue is above the highest one
+-- what that many entries give
 pub record AreCounted (entries : ℕ) (processes : List ProcessFigures) (cores : List CoreFigures)
-    (objects : List ObjectFigures) (services : List ServiceFigures) : Type 0 where
+    (objects : List ObjectFigures) : Type 0 where
   pub few : entries ≤ MOST_ENTRIES
   pub each_process : AllByRecursion (IsProcessUpTo entries) processes
   pub each_core : AllByRecursion (IsCoreUpTo entries) cores
   pub each_object : AllByRecursion (IsObjectUpTo entries) objects
-  pub each_settled : AllByRecursion (IsSettled processes) objects
-  pub each_service : AllByRecursion (IsServiceUpTo entries) services

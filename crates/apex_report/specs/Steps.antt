@@ -1,15 +1,13 @@
 -- The figures after one entry more, by those before it: what the code does at an entry. That they
 -- are the figures of the longer history is proved.
-use Rattle.std.specs.Prelude.{ℕ, ◌+◌, ◌*◌, ◌≤◌, Bool, true, fold, length, option_to_list, not, ◌&&◌, if◌then◌else◌}
+use Rattle.std.specs.Prelude.{ℕ, ◌+◌, ◌*◌, ◌≤◌, Bool, fold, length, option_to_list, not, if◌then◌else◌}
 use Rattle.apex_types.specs.declared.entries.ReturnCode.TheVariants.{NoAction, NotAvailable, InvalidParam, InvalidConfig, InvalidMode}
 use Rattle.apex_types.specs.declared.limits.TheConstants.{MOST_SPAN}
-use Rattle.apex_report.specs.Cores.{is_done, is_done_turn, is_idle_turn, is_lost, is_lost_turn, is_service_turn, is_turn, is_working_after, ticks_in, units_if}
+use Rattle.apex_report.specs.Cores.{is_done_turn, is_idle_turn, is_lost_turn, is_service_turn, is_turn, is_working_after, ticks_in, units_if}
 use Rattle.apex_report.specs.Jobs.{completes, ended_open, open_after, releases, stops}
 use Rattle.apex_report.specs.JobFigures.{faster, slower}
-use Rattle.apex_report.specs.Processes.{is_done_by, is_lost_by, is_turn_of_process, misses, times_out}
-use Rattle.apex_report.specs.Refusals.{is_reply, some_refused}
-use Rattle.apex_report.specs.Services.{is_call_of}
-use Rattle.apex_report.specs.Terms.{CoreFigures, Entry, JobFigures, ProcessFigures, Refusals, Reply, ServiceFigures}
+use Rattle.apex_report.specs.Processes.{is_answered, is_turn_of_process, misses, times_out}
+use Rattle.apex_report.specs.Terms.{CoreFigures, Entry, JobFigures, ProcessFigures, Refusals}
 use Rattle.apex_report.specs.Unbeaten.{kept}
 use Rattle.apex_report.specs.Waits.{queue_after}
 
@@ -17,33 +15,15 @@ use Rattle.apex_report.specs.Waits.{queue_after}
 abbrev pub one_if : Bool → ℕ
 one_if so = if so then 1 else 0
 
--- these ticks if it is so, else 0
-abbrev pub ticks_if : Bool → ℕ → ℕ
-ticks_if so ticks = if so then ticks else 0
-
--- the counts of replies with one more, if it is so
-abbrev pub refusals_with : Bool → Reply → Refusals → Refusals
-refusals_with so reply before = record {
-  no_action = before.no_action + one_if (so && is_reply NoAction reply);
-  not_available = before.not_available + one_if (so && is_reply NotAvailable reply);
-  invalid_param = before.invalid_param + one_if (so && is_reply InvalidParam reply);
-  invalid_config = before.invalid_config + one_if (so && is_reply InvalidConfig reply);
-  invalid_mode = before.invalid_mode + one_if (so && is_reply InvalidMode reply);
+-- the replies to process p after an entry
+abbrev pub refusals_after : ℕ → Refusals → Entry → Refusals
+refusals_after p before e = record {
+  no_action = before.no_action + one_if (is_answered p NoAction e);
+  not_available = before.not_available + one_if (is_answered p NotAvailable e);
+  invalid_param = before.invalid_param + one_if (is_answered p InvalidParam e);
+  invalid_config = before.invalid_config + one_if (is_answered p InvalidConfig e);
+  invalid_mode = before.invalid_mode + one_if (is_answered p InvalidMode e);
 }
-
--- the counts of replies before any
-abbrev pub no_refusals : Refusals
-no_refusals = record {
-  no_action = 0;
-  not_available = 0;
-  invalid_param = 0;
-  invalid_config = 0;
-  invalid_mode = 0;
-}
-
--- the reply refuses its call
-abbrev pub is_refusal : Reply → Bool
-is_refusal reply = some_refused (refusals_with true reply no_refusals)
 
 -- the figures of the jobs of process p after an entry, which may complete one or stop one
 abbrev pub jobs_after : ℕ → JobFigures → Entry → JobFigures
@@ -65,44 +45,14 @@ process_after e f = record {
   turns = f.turns + one_if (is_turn_of_process f.process e);
   misses = f.misses + one_if (misses f.process e);
   timeouts = f.timeouts + one_if (times_out f.process e);
-  work_done = f.work_done + units_if is_done_by f.process e;
-  work_lost = f.work_lost + units_if is_lost_by f.process e;
-  refusals = refusals_with (is_turn_of_process f.process e) e.reply f.refusals;
+  refusals = refusals_after f.process f.refusals e;
   jobs = jobs_after f.process f.jobs e;
   waits_in = queue_after f.process f.waits_in e;
 }
 
--- the figures of a process with a turn of its own that has this reply, and whose work has these units
-abbrev pub with_own : Reply → ℕ → ProcessFigures → ProcessFigures
-with_own reply amount f = record f {
-  turns = f.turns + 1;
-  work_done = f.work_done + ticks_if (is_done reply) amount;
-  work_lost = f.work_lost + ticks_if (is_lost reply) amount;
-  refusals = refusals_with true reply f.refusals;
-}
-
--- the figures of a process with the turn of an entry, if it is its own
-abbrev pub with_turn : Entry → ProcessFigures → ProcessFigures
-with_turn e f = record f {
-  turns = f.turns + one_if (is_turn_of_process f.process e);
-  work_done = f.work_done + units_if is_done_by f.process e;
-  work_lost = f.work_lost + units_if is_lost_by f.process e;
-  refusals = refusals_with (is_turn_of_process f.process e) e.reply f.refusals;
-}
-
--- the figures of a process with what the notices of an entry say of it, and its jobs and its wait
-abbrev pub with_changes : Entry → ProcessFigures → ProcessFigures
-with_changes e f = record f {
-  misses = f.misses + one_if (misses f.process e);
-  timeouts = f.timeouts + one_if (times_out f.process e);
-  jobs = jobs_after f.process f.jobs e;
-  waits_in = queue_after f.process f.waits_in e;
-}
-
--- the figures of a service after an entry
-abbrev pub service_after : Entry → ServiceFigures → ServiceFigures
-service_after e f =
-    record f { refusals = refusals_with (is_call_of f.service e) e.reply f.refusals }
+-- these ticks if it is so, else 0
+abbrev pub ticks_if : Bool → ℕ → ℕ
+ticks_if so ticks = if so then ticks else 0
 
 -- the figures of a core once these ticks have passed
 abbrev pub core_with_ticks : ℕ → CoreFigures → CoreFigures
@@ -140,19 +90,13 @@ pub record AreJobsUpTo (n : ℕ) (f : JobFigures) : Type 0 where
   pub completions : f.completions ≤ n
   pub stops : f.stops ≤ n
 
--- no count of the process is above n, and its work is not above that of n spans
+-- no count of the process is above n
 pub record IsProcessUpTo (n : ℕ) (f : ProcessFigures) : Type 0 where
   pub turns : f.turns ≤ n
   pub misses : f.misses ≤ n
   pub timeouts : f.timeouts ≤ n
-  pub work_done : f.work_done ≤ n * MOST_SPAN
-  pub work_lost : f.work_lost ≤ n * MOST_SPAN
   pub refusals : AreUpTo n f.refusals
   pub jobs : AreJobsUpTo n f.jobs
-
--- no count of the service is above n
-pub record IsServiceUpTo (n : ℕ) (f : ServiceFigures) : Type 0 where
-  pub refusals : AreUpTo n f.refusals
 
 -- no count of the core is above n, and neither work nor ticks are above those of n spans
 pub record IsCoreUpTo (n : ℕ) (f : CoreFigures) : Type 0 where

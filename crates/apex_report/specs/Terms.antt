@@ -8,7 +8,6 @@ pub use Rattle.apex_types.specs.declared.entries.Reply.{Reply}
 pub use Rattle.apex_types.specs.declared.entries.ReturnCode.{ReturnCode}
 pub use Rattle.apex_types.specs.declared.entries.Who.{Who}
 pub use Rattle.apex_machine.specs.declared.records.Queue.{Queue}
-pub use Rattle.apex_calls.specs.declared.catalogue.Service.{Service}
 pub use Rattle.apex_report.specs.declared.cores.CoreFigures.{CoreFigures}
 pub use Rattle.apex_report.specs.declared.job_figures.JobFigures.{JobFigures}
 pub use Rattle.apex_report.specs.declared.jobs.Job.{Job}
@@ -18,5 +17,4 @@ pub use Rattle.apex_report.specs.declared.ownerships.Owner.{Owner}
 pub use Rattle.apex_report.specs.declared.ownerships.Ownership.{Ownership}
 pub use Rattle.apex_report.specs.declared.processes.ProcessFigures.{ProcessFigures}
 pub use Rattle.apex_report.specs.declared.refusals.Refusals.{Refusals}
-pub use Rattle.apex_report.specs.declared.services.ServiceFigures.{ServiceFigures}
 pub use Rattle.apex_report.specs.declared.waits.Waking.{Waking}

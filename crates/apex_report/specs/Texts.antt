@@ -1,16 +1,14 @@
 -- The lines of a report (this profile).
-use Rattle.std.specs.Prelude.{◌≡◌, ℕ, ◌<◌, List, [], length, ◌++◌, flat_map, codes, decimal, if◌then◌else◌}
-use Rattle.apex_calls.specs.Catalogue.{row_of}
+use Rattle.std.specs.Prelude.{◌≡◌, ℕ, ◌<◌, List, [], length, ◌++◌, flat_map, codes, decimal}
 use Rattle.apex_machine.specs.table.Table.{Table}
 use Rattle.apex_machine.specs.text.Status.{history_line, instant_text, optional_text}
 use Rattle.apex_machine.specs.declared.records.Queue.TheVariants as queues
 use Rattle.apex_machine.specs.text.Texts.{blackboard_name, buffer_name, event_flag_name, mutex_name, process_name, semaphore_name}
 use Rattle.apex_report.specs.Cores.{busy_percent}
 use Rattle.apex_report.specs.Jobs.{response}
-use Rattle.apex_report.specs.Refusals.{some_refused}
 use Rattle.apex_report.specs.Report.{Report, report}
 use Rattle.apex_report.specs.Ownerships.{held_ticks}
-use Rattle.apex_report.specs.Terms.{CoreFigures, Entry, Job, JobFigures, Level, ObjectFigures, Ownership, ProcessFigures, Queue, Refusals, ServiceFigures}
+use Rattle.apex_report.specs.Terms.{CoreFigures, Entry, Job, JobFigures, Level, ObjectFigures, Ownership, ProcessFigures, Queue, Refusals}
 
 -- the response of a job, in ticks
 abbrev pub response_text : Job → List ℕ
@@ -52,17 +50,11 @@ turns_part f =
     figure (codes " turns=") f.turns ++ figure (codes " misses=") f.misses
     ++ figure (codes " timeouts=") f.timeouts
 
--- the work of a process or a core: what is done, and what was lost
-abbrev pub work_part : ℕ → ℕ → List ℕ
-work_part done lost = figure (codes " work_done=") done ++ figure (codes " work_lost=") lost
-
--- `process N turns=T misses=M timeouts=O work_done=D work_lost=L releases=R completions=C stops=S
--- open=I best=B worst=W at=E`, and then each code with the number of its replies
+-- `process N turns=T misses=M timeouts=O releases=R completions=C stops=S open=I best=B worst=W at=E`,
+-- and then each code with the number of its replies
 abbrev pub process_line : Table → ProcessFigures → List ℕ
 process_line table f =
-    codes "process " ++ process_name table f.process ++ turns_part f
-    ++ work_part f.work_done f.work_lost
-    ++ jobs_part f.jobs
+    codes "process " ++ process_name table f.process ++ turns_part f ++ jobs_part f.jobs
     ++ responses_part f.jobs ++ refusals_part f.refusals ++ codes "\n"
 
 -- the turns of a core
@@ -70,6 +62,11 @@ abbrev pub core_turns_part : CoreFigures → List ℕ
 core_turns_part f =
     figure (codes " turns=") f.turns ++ figure (codes " idle=") f.idle
     ++ figure (codes " calls=") f.calls ++ figure (codes " lost=") f.lost
+
+-- the work of a core
+abbrev pub work_part : CoreFigures → List ℕ
+work_part f =
+    figure (codes " work_done=") f.work_done ++ figure (codes " work_lost=") f.work_lost
 
 -- the ticks of a core; `-` in percent if no tick has passed
 abbrev pub ticks_part : CoreFigures → List ℕ
@@ -81,8 +78,7 @@ ticks_part f =
 -- busy_percent=P`, on one line
 abbrev pub core_line : CoreFigures → List ℕ
 core_line f =
-    codes "core " ++ decimal f.core ++ core_turns_part f ++ work_part f.work_done f.work_lost
-    ++ ticks_part f
+    codes "core " ++ decimal f.core ++ core_turns_part f ++ work_part f ++ ticks_part f
     ++ codes "\n"
 
 -- the kind of an object
@@ -159,22 +155,11 @@ object_line table f =
     kind_text f.object ++ object_name table f.object ++ content_part f.object f ++ queue_part f
     ++ ownership_part table f.object f ++ codes "\n"
 
--- `service S`, and each code with the number of its replies
-abbrev pub service_line : ServiceFigures → List ℕ
-service_line f =
-    codes "service " ++ (row_of f.service).word ++ refusals_part f.refusals ++ codes "\n"
-
--- the line of a service if it refused a call
-abbrev pub refused_line : ServiceFigures → List ℕ
-refused_line f = if some_refused f.refusals then service_line f else []
-
--- the lines of a report: the number of entries, each core, each process, each object, and each service
--- that refused a call
+-- the lines of a report: the number of entries, each core, each process, and each object
 abbrev pub lines_of : Table → Report → List ℕ
 lines_of table r =
     history_line r.entries ++ flat_map core_line r.cores ++ flat_map (process_line table) r.processes
     ++ flat_map (object_line table) r.objects
-    ++ flat_map refused_line r.services
 
 -- the report of a history, as a text
 abbrev pub report_text : Table → List Entry → List ℕ

@@ -84,7 +84,7 @@ pub(crate) fn is_accepted(reply: &Reply) -> bool
     }
 }
 
-pub(crate) fn is_stop_of(process: ProcessId, call: &Option<Call>, reply: &Reply) -> bool
+fn is_stop_of(process: ProcessId, call: &Option<Call>, reply: &Reply) -> bool
     ensures { result ≡ is_stop_of process call.now reply.now }
 {
     match call {

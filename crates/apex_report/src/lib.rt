@@ -1,18 +1,12 @@
-//! The report of one avionics partition: figures of each process, each core, each object and each
-//! service, computed from a history in one pass. They answer whether a process misses its deadline, what
-//! its response times are, what each core does, how full the objects and their queues get, and which
-//! services refuse calls.
+//! The report of one avionics partition: figures of each process, each core and each object, computed
+//! from a history in one pass. They answer whether a process misses its deadline, what its response
+//! times are, what each core does, and how full the objects and their queues get.
 #![tactic(auto)]
 
 mod cores;
 mod job_figures;
 mod jobs;
-mod json_lines;
-mod json_printing;
 mod lines;
-mod members;
-mod names;
-mod object_json;
 mod object_lines;
 mod objects;
 mod ownerships;
@@ -21,17 +15,14 @@ mod processes;
 mod queues;
 mod refusals;
 mod reports;
-mod services;
 mod waits;
 
 pub use cores::CoreFigures;
 pub use job_figures::JobFigures;
 pub use jobs::Job;
-pub use json_printing::print_report_json;
 pub use objects::{Level, ObjectFigures};
 pub use ownerships::{Owner, Ownership};
 pub use printing::print_report;
 pub use processes::ProcessFigures;
 pub use refusals::Refusals;
 pub use reports::{Report, report_of};
-pub use services::ServiceFigures;

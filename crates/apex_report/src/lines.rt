@@ -3,21 +3,19 @@ ghost use Rattle.std.specs.Prelude.{◌≡◌, ◌+◌, ◌<◌, ◌≤◌, ◌+
 ghost use Rattle.arrayvec.specs.ArrayVec.{array_vec_len};
 ghost use Rattle.apex_machine.specs.text.Status.{history_line, instant_text, optional_text};
 ghost use Rattle.apex_report.specs.declared.lines.TheConstants.{LINE_ROOM};
-ghost use Rattle.apex_report.specs.Texts.{core_line, core_turns_part, end_text, figure, jobs_part, process_line, refusals_part, refused_line, response_text, responses_part, service_line, ticks_part, turns_part, work_part};
+ghost use Rattle.apex_report.specs.Texts.{core_line, core_turns_part, end_text, figure, jobs_part, process_line, refusals_part, response_text, responses_part, ticks_part, turns_part, work_part};
 
 use crate::cores::CoreFigures;
 use crate::job_figures::JobFigures;
 use crate::jobs::Job;
 use crate::processes::ProcessFigures;
 use crate::refusals::Refusals;
-use crate::services::ServiceFigures;
-use apex_calls::row_of;
 use apex_table::Table;
 use arrayvec::ArrayVec;
 use itoa::Buffer;
 
-/// The most bytes of a line of a report, also of one of JSON.
-pub(crate) const LINE_ROOM: usize = 1024;
+/// The most bytes of a line of a report.
+pub(crate) const LINE_ROOM: usize = 512;
 
 /// A line of a report.
 pub(crate) type Line = ArrayVec<u8, LINE_ROOM>;
@@ -126,17 +124,6 @@ fn put_turns(line: &mut Line, figures: &ProcessFigures)
     put_figure(line, " timeouts=", figures.timeouts);
 }
 
-/// The work of a process or a core.
-#[tactic(auto, using(std::proofs::Common::append_assoc))]
-fn put_work(line: &mut Line, done: u64, lost: u64)
-    requires { array_vec_len line.old + 70 ≤ LINE_ROOM }
-    ensures text { line.new.items ≡ line.old.items ++ work_part done lost }
-    ensures short { array_vec_len line.new ≤ array_vec_len line.old + 70 }
-{
-    put_long_figure(line, " work_done=", done);
-    put_long_figure(line, " work_lost=", lost);
-}
-
 #[tactic(auto, using(std::proofs::Common::append_assoc))]
 fn put_jobs(line: &mut Line, jobs: &JobFigures)
     requires { array_vec_len line.old + 60 ≤ LINE_ROOM }
@@ -199,7 +186,6 @@ pub(crate) fn process_line(table: &Table, figures: &ProcessFigures) -> Line
     put(&mut line, "process ");
     put_bytes(&mut line, table.process(figures.process).name().as_bytes());
     put_turns(&mut line, figures);
-    put_work(&mut line, figures.work_done, figures.work_lost);
     put_jobs(&mut line, &figures.jobs);
     put_responses(&mut line, &figures.jobs);
     put_refusals(&mut line, &figures.refusals);
@@ -218,6 +204,17 @@ fn put_core_turns(line: &mut Line, figures: &CoreFigures)
     put_figure(line, " idle=", figures.idle);
     put_figure(line, " calls=", figures.calls);
     put_figure(line, " lost=", figures.lost);
+}
+
+/// The work of a core.
+#[tactic(auto, using(std::proofs::Common::append_assoc))]
+fn put_work(line: &mut Line, figures: &CoreFigures)
+    requires { array_vec_len line.old + 70 ≤ LINE_ROOM }
+    ensures text { line.new.items ≡ line.old.items ++ work_part figures.now }
+    ensures short { array_vec_len line.new ≤ array_vec_len line.old + 70 }
+{
+    put_long_figure(line, " work_done=", figures.work_done);
+    put_long_figure(line, " work_lost=", figures.work_lost);
 }
 
 /// The ticks of a core.
@@ -242,31 +239,8 @@ pub(crate) fn core_line(figures: &CoreFigures) -> Line
     put(&mut line, "core ");
     put_number(&mut line, u32::from(figures.core.number()));
     put_core_turns(&mut line, figures);
-    put_work(&mut line, figures.work_done, figures.work_lost);
+    put_work(&mut line, figures);
     put_ticks(&mut line, figures);
     put(&mut line, "\n");
     line
-}
-
-/// The line of a service.
-#[tactic(auto, using(std::proofs::Common::append_assoc))]
-fn service_line(figures: &ServiceFigures) -> Line
-    ensures { result.items ≡ service_line figures.now }
-{
-    let mut line = Line::new();
-    put(&mut line, "service ");
-    put(&mut line, row_of(figures.service).word);
-    put_refusals(&mut line, &figures.refusals);
-    put(&mut line, "\n");
-    line
-}
-
-/// The line of a service if it refused a call, else nothing.
-pub(crate) fn refused_line(figures: &ServiceFigures) -> Line
-    ensures { result.items ≡ refused_line figures.now }
-{
-    if figures.refusals.are_some() {
-        return service_line(figures);
-    }
-    Line::new()
 }

@@ -8,7 +8,6 @@ ghost use Rattle.apex_report.specs.declared.lines.TheConstants.{LINE_ROOM};
 ghost use Rattle.apex_report.specs.Texts.{content_part, count_text, greatest_part, held_end_text, held_text, holder_text, kind_text, longest_part, number_text, object_line, object_name, ownership_part, queue_part};
 
 use crate::lines::{Line, put, put_bytes, put_long_figure, put_long_number, put_number};
-use crate::names::{object_name, process_name};
 use crate::objects::{Level, ObjectFigures};
 use crate::ownerships::Ownership;
 use apex_machine::Queue;
@@ -36,7 +35,24 @@ fn put_name(line: &mut Line, table: &Table, queue: &Queue)
     ensures text { line.new.items ≡ line.old.items ++ object_name table.now queue.now }
     ensures short { array_vec_len line.new ≤ array_vec_len line.old + MOST_NAME }
 {
-    put_bytes(line, object_name(table, queue));
+    match queue {
+        Queue::Semaphore(id) if id.place() < table.semaphore_count() => {
+            put_bytes(line, table.semaphore(*id).name().as_bytes())
+        }
+        Queue::Buffer(id) if id.place() < table.buffer_count() => {
+            put_bytes(line, table.buffer(*id).name().as_bytes())
+        }
+        Queue::Blackboard(id) if id.place() < table.blackboard_count() => {
+            put_bytes(line, table.blackboard(*id).name().as_bytes())
+        }
+        Queue::EventFlag(id) if id.place() < table.event_flag_count() => {
+            put_bytes(line, table.event_flag(*id).name().as_bytes())
+        }
+        Queue::Mutex(id) if id.place() < table.mutex_count() => {
+            put_bytes(line, table.mutex(*id).name().as_bytes())
+        }
+        _ => (),
+    }
 }
 
 /// The name that the table gives a process.
@@ -45,7 +61,9 @@ fn put_process(line: &mut Line, table: &Table, process: ProcessId)
     ensures text { line.new.items ≡ line.old.items ++ process_name table.now process }
     ensures short { array_vec_len line.new ≤ array_vec_len line.old + MOST_NAME }
 {
-    put_bytes(line, process_name(table, process));
+    if process.place() < table.process_count() {
+        put_bytes(line, table.process(process).name().as_bytes());
+    }
 }
 
 /// The count of a level, or `-`.

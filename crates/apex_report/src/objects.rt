@@ -3,12 +3,11 @@ ghost use Rattle.std.specs.Prelude.{◌≡◌, ◌+◌, ◌*◌, ◌≤◌, [], 
 ghost use Rattle.apex_types.specs.declared.limits.TheConstants.{MOST_ENTRIES, MOST_NOTICES};
 ghost use Rattle.apex_machine.specs.services.Satisfied.{is_no_error, is_satisfied};
 ghost use Rattle.apex_report.specs.Objects.{initial, is_about, is_given, is_higher, is_late, is_taken, object_figures, queue_at};
-ghost use Rattle.apex_report.specs.Concerned.{is_awaited, is_object_concerned, IsLevel};
 ghost use Rattle.apex_report.specs.ObjectSteps.{given_by, gives_now, gives_then, object_after, passes, taken_by, takes_now, takes_then, waiters_among, with_content, with_owner, with_queue, IsObjectUpTo, IsOwnerUpTo};
 ghost use Rattle.apex_report.specs.Ownerships.{is_longer};
 ghost use Rattle.apex_report.specs.Unbeaten.{kept};
 
-use crate::ownerships::{Owner, Ownership, ended_with, is_owner_stopped, owner_after};
+use crate::ownerships::{Owner, Ownership, ended_with, owner_after};
 use crate::processes::ProcessFigures;
 use crate::queues::{is_queue, names};
 use crate::waits::Waking;
@@ -258,13 +257,6 @@ fn longer(longest: Option<Ownership>, ownership: Ownership) -> Option<Ownership>
     }
 }
 
-/// One of these processes waited for the object.
-fn is_awaited(queue: &Queue, wakings: &[Waking]) -> bool
-    ensures { result ≡ is_awaited queue.now wakings.now }
-{
-    wakings.iter().any(|waking| is_about(queue, &waking.call))
-}
-
 /// The number of these processes that wait in the queue.
 fn waiters_among(queue: &Queue, processes: &[ProcessFigures]) -> u64
     ensures { result ≡ waiters_among queue.now processes.now }
@@ -339,21 +331,9 @@ impl ObjectFigures {
         self.owner = owner_after(&self.object, entry, wakings, &self.owner);
     }
 
-    /// The entry, which wakes these processes, may change a figure of the object: it is the first one,
-    /// its call names the object, a process is woken that waited for it, or its owner is stopped.
-    fn is_concerned(&self, entry: &LentEntry<'_>, wakings: &[Waking]) -> bool
-        ensures { result ≡ is_object_concerned entry.entry.now wakings.now self.now }
-    {
-        self.greatest.is_none()
-            || self.longest_queue.is_none()
-            || is_about(&self.object, &entry.call)
-            || is_awaited(&self.object, wakings)
-            || is_owner_stopped(&self.owner, entry)
-    }
-
-    /// Notes the content, the queue and the owner after the entry, which wakes these processes. The figures
-    /// of the processes are those after the entry.
-    fn note_concerned(
+    /// Notes what the entry, which wakes these processes, says of the object. The figures of the
+    /// processes are those after the entry.
+    pub(crate) fn note(
         &mut self,
         entry: &LentEntry<'_>,
         wakings: &[Waking],
@@ -366,25 +346,6 @@ impl ObjectFigures {
         self.note_content(entry, wakings);
         self.note_queue(entry, wakings, processes);
         self.note_owner(entry, wakings);
-    }
-
-    /// Notes what the entry, which wakes these processes, says of the object: nothing if it does not concern
-    /// the object. The figures of the processes are those after the entry.
-    #[tactic(auto, using(crate::proofs::UnconcernedObjects::object_kept))]
-    pub(crate) fn note(
-        &mut self,
-        entry: &LentEntry<'_>,
-        wakings: &[Waking],
-        processes: &[ProcessFigures],
-    )
-        requires up_to { IsObjectUpTo MOST_ENTRIES self.old }
-        requires few { length wakings.now ≤ MOST_NOTICES }
-        requires level { IsLevel entry.now processes.now self.old }
-        ensures { self.new ≡ object_after entry.entry.now wakings.now processes.now self.old }
-    {
-        if self.is_concerned(entry, wakings) {
-            self.note_concerned(entry, wakings, processes);
-        }
     }
 }
 

@@ -1,7 +1,6 @@
 //! The ownerships of a mutex.
 ghost use Rattle.std.specs.Prelude.{◌≡◌, ◌≤◌, None};
 ghost use Rattle.apex_types.specs.declared.limits.TheConstants.{MOST_ENTRIES};
-ghost use Rattle.apex_report.specs.Concerned.{is_owner_stopped};
 ghost use Rattle.apex_report.specs.ObjectSteps.{IsOwnerUpTo};
 ghost use Rattle.apex_report.specs.Ownerships.{acquires, calling, depth_after, ended_with, gives_up, heir, heir_after, held_ticks, inherits, is_acquire, is_acquired, is_release, is_released, is_stopped, next_owner, owner_after, releases_mutex, taker};
 
@@ -83,16 +82,6 @@ fn is_stopped(process: ProcessId, entry: &LentEntry<'_>) -> bool
 {
     let is_gone = entry.reply == Reply::Gone;
     is_by_process(process, &entry.process) && is_gone || stops(process, entry)
-}
-
-/// There is an owner, and it is stopped with the entry.
-pub(crate) fn is_owner_stopped(owner: &Option<Owner>, entry: &LentEntry<'_>) -> bool
-    ensures { result ≡ is_owner_stopped owner.now entry.entry.now }
-{
-    match owner {
-        Some(owner) => is_stopped(owner.process, entry),
-        None => false,
-    }
 }
 
 fn calling(caller: &Caller) -> Option<ProcessId>

@@ -4,15 +4,14 @@ ghost use Rattle.std.specs.List.{AllByRecursion};
 ghost use Rattle.std.specs.Io.KnownBytes.{Appends};
 ghost use Rattle.apex_types.specs.declared.entries.Entry.{Entry};
 ghost use Rattle.apex_history.specs.Counted.{inner_of, failures_of, CountsFailure, AppendsBeginning, IsOfWrite};
-ghost use Rattle.apex_report.specs.Texts.{core_line, lines_of, object_line, process_line, refused_line, report_text, IsInTable, IsOfTable, IsReportOf};
+ghost use Rattle.apex_report.specs.Texts.{core_line, lines_of, object_line, process_line, report_text, IsInTable, IsOfTable, IsReportOf};
 
 use crate::cores::CoreFigures;
-use crate::lines::{core_line, history_line, process_line, refused_line};
+use crate::lines::{core_line, history_line, process_line};
 use crate::object_lines::object_line;
 use crate::objects::ObjectFigures;
 use crate::processes::ProcessFigures;
 use crate::reports::Report;
-use crate::services::ServiceFigures;
 use apex_history::{Counted, Sink};
 use apex_table::Table;
 use std::io::{Result, Write};
@@ -77,25 +76,7 @@ fn print_objects<W: Sink>(
     Ok(())
 }
 
-/// Writes the line of each service that refused a call.
-fn print_services<W: Sink>(services: &[ServiceFigures], writer: &mut Counted<W>) -> Result<()>
-    ensures ok { OnOk result
-        (Appends (W.contents (inner_of writer.old)) (W.contents (inner_of writer.new))
-        (flat_map refused_line services.now)) }
-    ensures err { OnErr result
-        (AppendsBeginning (W.contents (inner_of writer.old)) (W.contents (inner_of writer.new))
-        (flat_map refused_line services.now)) }
-    ensures counted { CountsFailure result (failures_of writer.old) (failures_of writer.new) }
-    ensures failed { IfErr result (IsOfWrite W.accepts (inner_of writer.new)) }
-{
-    for figures in services {
-        writer.write_all(refused_line(figures).as_slice())?;
-    }
-    Ok(())
-}
-
-/// Writes the lines of the report: the number of entries, each core, each process, each object, and each
-/// service that refused a call.
+/// Writes the lines of the report: the number of entries, each core, each process and each object.
 fn print_lines<W: Sink>(table: &Table, report: &Report, writer: &mut Counted<W>) -> Result<()>
     requires { IsOfTable table.now report.now }
     ensures ok { OnOk result
@@ -110,12 +91,11 @@ fn print_lines<W: Sink>(table: &Table, report: &Report, writer: &mut Counted<W>)
     writer.write_all(history_line(report.entries()).as_slice())?;
     print_cores(report.cores(), writer)?;
     print_processes(table, report.processes(), writer)?;
-    print_objects(table, report.objects(), writer)?;
-    print_services(report.services(), writer)
+    print_objects(table, report.objects(), writer)
 }
 
 /// Writes the report of a history of the table's partition: the lines of the number of entries, of
-/// each core, of each process, of each object, and of each service that refused a call. Takes no memory.
+/// each core, of each process and of each object. Takes no memory.
 ///
 /// If a write failed, a prefix of the lines was written.
 pub fn print_report<W: Sink>(table: &Table, report: &Report, writer: &mut Counted<W>) -> Result<()>

@@ -1,13 +1,14 @@
-//! The replies that refused a call.
-ghost use Rattle.std.specs.Prelude.{◌≡◌, true};
+//! The replies to a process that refused its calls.
+ghost use Rattle.std.specs.Prelude.{◌≡◌, []};
 ghost use Rattle.apex_types.specs.declared.limits.TheConstants.{MOST_ENTRIES};
-ghost use Rattle.apex_report.specs.Refusals.{some_refused};
-ghost use Rattle.apex_report.specs.Steps.{is_refusal, no_refusals, refusals_with, AreUpTo};
+ghost use Rattle.apex_report.specs.Processes.{refusals};
+ghost use Rattle.apex_report.specs.Steps.{refusals_after, AreUpTo};
 
-use apex_types::{Reply, ReturnCode};
+use crate::jobs::is_by_process;
+use apex_types::{LentEntry, ProcessId, Reply, ReturnCode};
 
-/// The number of replies with each return code that refuses a call (this profile). TIMED_OUT is no
-/// reply: it ends a wait by a notice.
+/// The number of replies to a process with each return code that refuses a call (this profile).
+/// TIMED_OUT is no reply: it ends a wait by a notice.
 #[derive(Clone, Copy)]
 pub struct Refusals {
     pub no_action: u32,
@@ -17,21 +18,10 @@ pub struct Refusals {
     pub invalid_mode: u32,
 }
 
-/// The reply refuses the call.
-pub(crate) fn is_refusal(reply: &Reply) -> bool
-    ensures { result ≡ is_refusal reply.now }
-{
-    match reply {
-        Reply::Code(ReturnCode::NoError | ReturnCode::TimedOut) => false,
-        Reply::Code(_) => true,
-        _ => false,
-    }
-}
-
 impl Refusals {
     /// There are none.
-    pub(crate) fn none() -> Refusals
-        ensures { result ≡ no_refusals }
+    pub(crate) fn none(process: ProcessId) -> Refusals
+        ensures { result ≡ refusals process [] }
     {
         Refusals {
             no_action: 0,
@@ -42,12 +32,15 @@ impl Refusals {
         }
     }
 
-    /// Counts the reply if it refuses its call.
-    pub(crate) fn note(&mut self, reply: &Reply)
+    /// Counts the reply of the entry if the process asked for its call.
+    pub(crate) fn note(&mut self, process: ProcessId, entry: &LentEntry<'_>)
         requires { AreUpTo MOST_ENTRIES self.old }
-        ensures { self.new ≡ refusals_with true reply.now self.old }
+        ensures { self.new ≡ refusals_after process self.old entry.entry.now }
     {
-        match reply {
+        if !is_by_process(process, &entry.process) {
+            return;
+        }
+        match entry.reply {
             Reply::Code(ReturnCode::NoAction) => self.no_action += 1,
             Reply::Code(ReturnCode::NotAvailable) => self.not_available += 1,
             Reply::Code(ReturnCode::InvalidParam) => self.invalid_param += 1,
@@ -55,16 +48,5 @@ impl Refusals {
             Reply::Code(ReturnCode::InvalidMode) => self.invalid_mode += 1,
             _ => (),
         }
-    }
-
-    /// There is one with some code.
-    pub fn are_some(&self) -> bool
-        ensures { result ≡ some_refused self.now }
-    {
-        self.no_action > 0
-            || self.not_available > 0
-            || self.invalid_param > 0
-            || self.invalid_config > 0
-            || self.invalid_mode > 0
     }
 }

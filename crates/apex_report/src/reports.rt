@@ -2,7 +2,6 @@
 ghost use Rattle.std.specs.Prelude.{◌≡◌, ◌+◌, ◌<◌, ◌≤◌, [], ◌++◌, length, map, IfOk, OnOk};
 ghost use Rattle.std.specs.List.{range_with_len, AllByRecursion};
 ghost use Rattle.apex_types.specs.declared.limits.TheConstants.{MOST_ENTRIES, MOST_NOTICES, MOST_OBJECTS, MOST_PROCESSES};
-ghost use Rattle.apex_report.specs.Concerned.{IsLevel};
 ghost use Rattle.apex_report.specs.Cores.{core_figures, ticks_in, units};
 ghost use Rattle.apex_report.specs.Objects.{object_figures, objects_of, queues_of};
 ghost use Rattle.apex_report.specs.ObjectSteps.{object_after, IsObjectUpTo};
@@ -13,7 +12,6 @@ ghost use Rattle.apex_report.specs.Steps.{core_after, process_after, IsCoreUpTo,
 use crate::cores::{CoreFigures, ticks_in, units};
 use crate::objects::{Kind, ObjectFigures, ObjectList};
 use crate::processes::{ProcessFigures, ProcessList};
-use crate::services::{ServiceFigures, note_services, services_before};
 use crate::waits::{LatestCalls, Waking, Wakings};
 use apex_history::Entries;
 use apex_table::Table;
@@ -21,15 +19,14 @@ use apex_types::{CoreId, LentEntry, ProcessId};
 use std::alloc::{AllocError, Global};
 use std::marker::Model;
 
-/// The figures of each process, each core, each object and each service of a partition over a history (this
-/// profile). A report is made beforehand, and notes the entries one by one.
+/// The figures of each process, each core and each object of a partition over a history (this profile). A report
+/// is made beforehand, and notes the entries one by one.
 #[derive(Drop)]
 pub struct Report {
     entries: u32,
     processes: Vec<ProcessFigures>,
     cores: Vec<CoreFigures>,
     objects: Vec<ObjectFigures>,
-    services: Vec<ServiceFigures>,
     latest: LatestCalls,
     wakings: Wakings,
 }
@@ -45,12 +42,11 @@ impl Model for Report {
       processes = r.processes.items;
       cores = r.cores.items;
       objects = r.objects.items;
-      services = r.services.items;
       latest = r.latest;
     } };
 
     ghost invariant = { λ r. AreCounted r.entries r.processes.items r.cores.items
-        r.objects.items r.services.items };
+        r.objects.items };
 }
 
 /// Puts the figures of the first processes before any entry.
@@ -89,14 +85,13 @@ fn cores_before(alloc: Global, table: &Table) -> Result<Vec<CoreFigures>, AllocE
     Ok(cores)
 }
 
-/// Notes what the entry, whose work has these units, says of each process.
-fn note_processes(processes: &mut Vec<ProcessFigures>, entry: &LentEntry<'_>, amount: u32)
-    requires up_to { AllByRecursion (IsProcessUpTo MOST_ENTRIES) processes.old.items }
-    requires amount { amount ≡ units entry.now.call }
+/// Notes what the entry says of each process.
+fn note_processes(processes: &mut Vec<ProcessFigures>, entry: &LentEntry<'_>)
+    requires { AllByRecursion (IsProcessUpTo MOST_ENTRIES) processes.old.items }
     ensures { processes.new.items ≡ map (process_after entry.entry.now) processes.old.items }
 {
     for figures in processes.iter_mut() {
-        figures.note(entry, amount);
+        figures.note(entry);
     }
 }
 
@@ -169,7 +164,6 @@ fn note_objects(
 )
     requires up_to { AllByRecursion (IsObjectUpTo MOST_ENTRIES) objects.old.items }
     requires few { length wakings.now ≤ MOST_NOTICES }
-    requires level { AllByRecursion (IsLevel entry.now processes.now) objects.old.items }
     ensures { objects.new.items
         ≡ map (object_after entry.entry.now wakings.now processes.now) objects.old.items }
 {
@@ -186,7 +180,6 @@ impl Report {
         let processes = processes_before(alloc, table)?;
         let cores = cores_before(alloc, table)?;
         let objects = objects_before(alloc, table)?;
-        let services = services_before(alloc)?;
         let latest = LatestCalls::none(alloc)?;
         let wakings = Wakings::none(alloc)?;
         Ok(Report {
@@ -194,7 +187,6 @@ impl Report {
             processes,
             cores,
             objects,
-            services,
             latest,
             wakings,
         })
@@ -210,11 +202,10 @@ impl Report {
         let amount = units(&entry.call);
         let ticks = ticks_in(&entry.reply);
         self.latest.find(entry, &mut self.wakings);
-        note_processes(&mut self.processes, entry, amount);
+        note_processes(&mut self.processes, entry);
         note_cores(&mut self.cores, entry, amount, ticks);
         let processes = self.processes.as_slice();
         note_objects(&mut self.objects, entry, self.wakings.as_slice(), processes);
-        note_services(&mut self.services, entry);
         self.latest.note(entry);
         self.entries += 1;
     }
@@ -247,13 +238,6 @@ impl Report {
         ensures { result.now ≡ self.now.objects }
     {
         self.objects.as_slice()
-    }
-
-    /// The figures of each service, in the order of the catalogue.
-    pub fn services(&self) -> &[ServiceFigures]
-        ensures { result.now ≡ self.now.services }
-    {
-        self.services.as_slice()
     }
 }
 

@@ -64,7 +64,7 @@ module _ (system : Searched) (is_pace : IsPace system.pace) (lawful : IsLawful s
   }
 
   -- what is known of the situations whose forms are the states
-  pub stand : OfEachTable WordsAreExact → OfEachTable FormsHaveWords → Stand pace table (IsReached table)
+  stand : OfEachTable WordsAreExact → OfEachTable FormsHaveWords → Stand pace table (IsReached table)
   stand exact words = record {
     opens = bounds.opens;
     later = shift;

@@ -1,6 +1,13 @@
 -- A form that stands for a situation steps as the situation does.
-use Rattle.std.proofs.Common.{◌≡◌, ℕ, ◌+◌, ◌-◌, Bool, true, false, Option, None, Some, refl, sym, ◌∙◌, ap, arith, min, ◌==◌, ◌&&◌, not, option_map, if◌then◌else◌}
+use Rattle.std.proofs.Common.{◌≡◌, ℕ, ◌+◌, ◌-◌, Bool, true, false, Option, None, Some, refl, sym, ◌∙◌, ap, arith, min, ◌==◌, ◌&&◌, ◌||◌, not, option_map, if◌then◌else◌}
+use Rattle.std.specs.Prelude.{List}
+use Rattle.std.specs.List.{list_any}
+use Rattle.apex_types.specs.declared.calls.Call.{Call}
+use Rattle.apex_types.specs.declared.calls.Call.TheVariants.{Time}
+use Rattle.apex_types.specs.declared.calls.TimeCall.TheVariants.{GetTime}
 use Rattle.apex_types.specs.declared.entries.Event.TheVariants.{Turn, Tick}
+use Rattle.apex_types.specs.declared.entries.Reply.TheVariants.{Value}
+use Rattle.apex_machine.specs.Deeds.{Deed}
 use Rattle.apex_machine.specs.Situations.{step}
 use Rattle.apex_machine.specs.Works.{watched}
 use Rattle.apex_machine.specs.processes.Roster.{Roster}
@@ -9,19 +16,41 @@ use Rattle.apex_machine.specs.table.Table.{IsLawful, Table}
 use Rattle.apex_pace.specs.Laws.{IsPace}
 use Rattle.apex_pace.specs.Pace.{Paced, is_starting, paced_step, turns_after, worked_after}
 use Rattle.apex_laws.proofs.GoesOn.{IsShort}
-use Rattle.apex_alike.specs.AlikeSteps.{AreAlikeSteps}
+use Rattle.apex_alike.specs.AlikeSteps.{AreAlikeDeeds, AreAlikeSteps, later_reply}
 use Rattle.apex_alike.specs.Canonical.{oldest_age}
 use Rattle.apex_alike.proofs.Canonical.{canonical_situation}
 use Rattle.apex_alike.proofs.Chains.{situations_then}
 use Rattle.apex_alike.proofs.Turns.{alike_steps}
+use Rattle.apex_search.specs.Facts.{has_fact, has_replied, is_asked, is_asked_notice, is_asked_reply}
+use Rattle.apex_search.specs.declared.facts.Fact.TheVariants.{Missed, HardMissed, TimedOut, Lost, Refused}
 use Rattle.apex_search.specs.Forms.{canonical_paced, kept_turns, kept_worked}
 use Rattle.apex_search.specs.Laws.{FormsStandFor, StandsFor, StepsFor}
 use Rattle.apex_search.specs.Reached.{IsReached}
-use Rattle.apex_search.specs.Terms.{Event, OpenWork, Pace}
+use Rattle.apex_search.specs.Terms.{Caller, Event, Fact, Notice, OpenWork, Pace, Question, Reply}
 use Rattle.apex_search.proofs.GoOn.{fit_next, form_situated}
-use Rattle.apex_search.proofs.SameFacts.{same_fact}
 use Rattle.apex_search.proofs.Shifted.{same_allowed, same_starting}
 use Rattle.apex_search.proofs.Short.{allowed_short}
+
+-- the value that GET_TIME answers is no fact
+no_fact : (fact : Fact) (question : Question) (caller : Caller) (t u : ℕ) → has_replied fact question caller (Value t) ≡ has_replied fact question caller (Value u)
+no_fact Missed question caller t u = refl
+no_fact HardMissed question caller t u = refl
+no_fact TimedOut question caller t u = refl
+no_fact Lost question caller t u = refl
+no_fact (Refused code) question caller t u = refl
+
+same_reply : (d : ℕ) (question : Question) (caller : Caller) (call : Option Call) (reply : Reply)
+    → is_asked_reply question caller (later_reply d call reply) ≡ is_asked_reply question caller reply
+same_reply d question caller (Some (Time GetTime)) (Value t) = no_fact question.fact question caller (t + d) t
+same_reply d question caller call reply = refl
+
+-- deeds that are alike have the same facts
+pub same_fact : {d : ℕ} {one other : Deed} → AreAlikeDeeds d one other → (question : Question) → has_fact question one ≡ has_fact question other
+same_fact {d} {one} {other} alike question =
+    sym (ap (λ (c : Caller). is_asked question c other.outcome.reply other.outcome.notices) alike.caller
+    ∙ ap (λ (r : Reply). is_asked question one.caller r other.outcome.notices) alike.reply
+    ∙ ap (λ (ns : List Notice). is_asked question one.caller (later_reply d one.call one.outcome.reply) ns) alike.notices
+    ∙ ap (λ (b : Bool). b || list_any (is_asked_notice question) one.outcome.notices) (same_reply d question one.caller one.call one.outcome.reply))
 
 -- the counts of a pace after an event are kept as far as before
 turns_kept : (most turns : ℕ) (started own : Bool)

@@ -21,7 +21,6 @@ pub mod RecordsBack
 pub mod RecordsFit
 pub mod RecordsOf
 pub mod Restoring
-pub mod SameFacts
 pub mod SamePaced
 pub mod Says
 pub mod Schedules
@@ -34,5 +33,3 @@ pub mod Stepping
 pub mod Storable
 pub mod Within
 pub mod WordsBack
-pub mod Censuses
-pub mod Striking

@@ -257,11 +257,11 @@ module _ (system : Searched) (Here : Paced → Type 0) (stand : Stand system.pac
             rw found (ap (λ events. e ∷ events) (again e (omega (arith, more)) here))
 
   -- a path that hits is a schedule that leads to the fact
-  pub record HitIs (path : List ℕ) : Type 0 where
-    pub leads : LeadsToFact system (schedule_of system path)
-    pub many : length (schedule_of system path) ≡ length path
+  record HitIs (path : List ℕ) : Type 0 where
+    leads : LeadsToFact system (schedule_of system path)
+    many : length (schedule_of system path) ≡ length path
 
-  pub hit_is : (path : List ℕ) → IsHit makes (search_start system) path → HitIs path
+  hit_is : (path : List ℕ) → IsHit makes (search_start system) path → HitIs path
   hit_is path (front, last, n, split, leads, hit) =
       let opening = paced_opening table in
       let way = arrives front start n leads in

@@ -30,12 +30,12 @@ use Rattle.apex_explore.specs.declared.systems.Taken.TheVariants.{Refused, Next,
 use Rattle.apex_pace.specs.Laws.{IsPace}
 use Rattle.apex_pace.specs.Pace.{Paced, is_allowed, paced_step}
 use Rattle.apex_search.specs.Counts.{IsSameOnCores, IsSamePaced}
-use Rattle.apex_search.specs.Facts.{has_fact, shown, shown_of}
+use Rattle.apex_search.specs.Facts.{has_fact, is_asked}
 use Rattle.apex_search.specs.Forms.{canonical_paced, kept_turns, kept_worked}
 use Rattle.apex_search.specs.Laws.{FormsReach}
 use Rattle.apex_search.specs.Reached.{IsReached}
 use Rattle.apex_search.specs.Restored.{IsOfTable}
-use Rattle.apex_search.specs.Steps.{AreWordsAfter, FormIsReady, FormsAreReady, IsForm, IsFormed, PartsAreKept, event_of, form_words, searched, step_by}
+use Rattle.apex_search.specs.Steps.{AreWordsAfter, FormIsReady, FormsAreReady, IsEntryOf, IsForm, IsFormed, PartsAreKept, event_of, form_words, searched, step_by}
 use Rattle.apex_search.specs.Stored.{FitsWords, words_of}
 use Rattle.apex_search.specs.Terms.{Caller, Event, Notice, OpenWork, Pace, Question, Reply}
 use Rattle.apex_search.proofs.Schedules.{event_allowed}
@@ -71,15 +71,22 @@ tick_near table lawful s can n =
     arrives_of (reach_serve_instant (advance_to roster goal) servable few) in
     omega (arith, arrives.moves.time, goal_near roster n)
 
--- what the entry of a deed that was done shows
-pub shown_is : (d : Deed) (who : Caller) (asked : Option Call) (answer : Reply) (left : Roster) (objects : Objects) (after : List Notice)
-    → Does d who asked answer left objects [] after → shown who asked answer after left ≡ shown_of d
-shown_is d who asked answer left objects after does =
-    ap (λ (c : Caller). shown c asked answer after left) does.caller
-    ∙ ap (λ (c : Option Call). shown d.caller c answer after left) does.call
-    ∙ ap (λ (r : Reply). shown d.caller d.call r after left) does.outcome.reply
-    ∙ ap (λ (ns : List Notice). shown d.caller d.call d.outcome.reply ns left) does.outcome.notices
-    ∙ ap (shown d.caller d.call d.outcome.reply d.outcome.notices) does.outcome.roster
+-- the entry of a deed that was done
+pub entry_of : (d : Deed) (who : Caller) (asked : Option Call) (answer : Reply) (left : Roster) (objects : Objects) (after : List Notice)
+    → Does d who asked answer left objects [] after → IsEntryOf d who answer after
+entry_of d who asked answer left objects after does = record {
+  caller = does.caller;
+  reply = does.outcome.reply;
+  notices = does.outcome.notices;
+}
+
+-- has the fact if the deed has it
+pub entry_has : (question : Question) (d : Deed) (who : Caller) (answer : Reply) (told : List Notice) → IsEntryOf d who answer told
+    → is_asked question who answer told ≡ has_fact question d
+entry_has question d who answer told entry =
+    ap (λ (c : Caller). is_asked question c answer told) entry.caller
+    ∙ ap (λ (r : Reply). is_asked question d.caller r told) entry.reply
+    ∙ ap (is_asked question d.caller d.outcome.reply) entry.notices
 
 -- the forms of situations that are the same on the cores
 same_forms : (pace : Pace) (one other : Paced) → IsSameOnCores one other

@@ -13,4 +13,3 @@ pub mod Reached
 pub mod Steps
 pub mod Answers
 pub mod Laws
-pub mod Census

@@ -3,6 +3,7 @@
 use Rattle.std.specs.Prelude.{◌≡◌, ℕ, ◌+◌, ◌^◌, ◌<◌, false, List, nat_lt, Option, None, Some, option_map, if◌then◌else◌}
 use Rattle.apex_explore.specs.Systems.{Step, refuses, goes, hits}
 use Rattle.apex_laws.specs.GoesOn.{CanGoOn}
+use Rattle.apex_machine.specs.Deeds.{Deed}
 use Rattle.apex_machine.specs.Events.{IsWithin}
 use Rattle.apex_machine.specs.Situations.{deed}
 use Rattle.apex_machine.specs.table.Table.{Table}
@@ -14,7 +15,7 @@ use Rattle.apex_search.specs.Forms.{canonical_paced}
 use Rattle.apex_search.specs.Reached.{IsReached}
 use Rattle.apex_search.specs.Restored.{IsOfTable, IsStored, paced_from}
 use Rattle.apex_search.specs.Stored.{FitsWords, words_of}
-use Rattle.apex_search.specs.Terms.{Event, Pace, Question}
+use Rattle.apex_search.specs.Terms.{Caller, Event, Notice, Pace, Question, Reply}
 use Rattle.apex_search.specs.declared.systems.Workplace.{Workplace}
 use Rattle.apex_types.specs.declared.entries.Event.TheVariants.{Turn, Tick}
 
@@ -44,7 +45,7 @@ choices_of system = system.table.cores + 1
 abbrev pub form_words : Pace → Table → Paced → List ℕ
 form_words pace table s = words_of table (canonical_paced pace s)
 
--- an event goes on to a form, or hits: its entry has one of the facts
+-- an event goes on to a form, or hits: its entry has the fact
 abbrev pub step_by : Searched → Paced → Option Event → Step (List ℕ)
 step_by system s None = refuses
 step_by system s (Some event) =
@@ -84,6 +85,12 @@ pub record IsWorkplace (table : Table) (workplace : Workplace) : Type 0 where
 abbrev pub AreWordsAfter : Event → Paced → Type 0
 AreWordsAfter (Turn core) s = s.turns core + 1 < 2 ^ 64
 AreWordsAfter (Tick n) s = (core : ℕ) → s.worked core + n < 2 ^ 64
+
+-- the entry of the deed has this caller, this reply and these notices
+pub record IsEntryOf (deed : Deed) (who : Caller) (answer : Reply) (told : List Notice) : Type 0 where
+  pub caller : who ≡ deed.caller
+  pub reply : answer ≡ deed.outcome.reply
+  pub notices : told ≡ deed.outcome.notices
 
 -- the canonical form of such a situation fits in its words, which are those of a situation of the
 -- table; it has time and stamps for an event, and counts that still fit in words after it

@@ -1,15 +1,10 @@
-//! The facts of an entry, and sets of them.
-ghost use Rattle.std.specs.Prelude.{◌≡◌, ◌≤◌, [], ◌∷◌, length, not};
-ghost use Rattle.std.specs.List.{filter, list_any};
-ghost use Rattle.apex_search.specs.Facts.{all_facts, has_none, is_fact};
-ghost use Rattle.apex_search.specs.declared.facts.TheConstants.{MOST_FACTS};
+//! What a search looks for in an entry.
+ghost use Rattle.std.specs.Prelude.{◌≡◌};
+ghost use Rattle.std.specs.List.{list_any};
+ghost use Rattle.apex_search.specs.Facts.{is_about, is_about_caller, is_asked, is_asked_notice, is_asked_reply};
 
-use apex_types::ReturnCode;
-use arrayvec::ArrayVec;
-use std::marker::Model;
-
-/// The most facts of a set.
-pub const MOST_FACTS: usize = 16;
+use apex_dispatch::Deed;
+use apex_types::{Caller, DeadlineType, Notice, Notices, ProcessId, Reply, ReturnCode};
 
 /// A fact of an entry.
 #[derive(Clone, Copy, Debug, PartialEq, Eq)]
@@ -22,124 +17,78 @@ pub enum Fact {
     TimedOut,
     /// Work was lost.
     Lost,
-    /// A call was answered with GONE: its caller came to the end of its script, stopped itself, or
-    /// set the mode to IDLE.
-    Ended,
     /// A call was answered with this code.
     Refused(ReturnCode),
-    /// A job ended with PERIODIC_WAIT this many ticks after the process's last release or later, or
-    /// more than a period after it.
-    Response(u32),
-    /// The entry leaves a standstill: in NORMAL a process is started, but no core has a process to
-    /// run, and no wait ends by itself and no deadline passes ever more.
-    Standstill,
 }
 
-impl Default for Fact {
-    fn default() -> Fact {
-        Fact::Missed
-    }
+/// A fact, of this process or of any.
+#[derive(Clone, Copy, Debug, PartialEq, Eq)]
+pub struct Question {
+    pub fact: Fact,
+    pub process: Option<ProcessId>,
 }
 
-/// Each fact that takes no number, and each code with which services refuse a call.
-const ALL: [Fact; 11] = [
-    Fact::Missed,
-    Fact::HardMissed,
-    Fact::TimedOut,
-    Fact::Lost,
-    Fact::Ended,
-    Fact::Standstill,
-    Fact::Refused(ReturnCode::NoAction),
-    Fact::Refused(ReturnCode::NotAvailable),
-    Fact::Refused(ReturnCode::InvalidParam),
-    Fact::Refused(ReturnCode::InvalidConfig),
-    Fact::Refused(ReturnCode::InvalidMode),
-];
-
-/// A set of facts: [`MOST_FACTS`] at the most, kept inline.
-#[derive(Drop)]
-pub struct Facts {
-    facts: ArrayVec<Fact, MOST_FACTS>,
-}
-
-impl Model for Facts {
-    ghost use Rattle.std.specs.Prelude.{List};
-    ghost use Rattle.apex_search.specs.declared.facts.Fact.{Fact};
-
-    ghost Value = { List Fact };
-
-    ghost view = { λ a. a.facts.items };
-}
-
-impl Fact {
-    /// The two facts are the same.
-    fn is(self, other: Fact) -> bool
-        ensures { result ≡ is_fact self other }
+impl Question {
+    /// The question is about this process.
+    fn is_about(&self, process: ProcessId) -> bool
+        ensures { result ≡ is_about self.now process }
     {
-        self == other
-    }
-}
-
-impl Facts {
-    /// The facts of this slice.
-    pub fn of(facts: &[Fact]) -> Facts
-        requires { length facts.now ≤ MOST_FACTS }
-        ensures { result ≡ facts.now }
-    {
-        let mut taken = ArrayVec::new();
-        let done = taken.try_extend_from_slice(facts);
-        let fits = done.is_ok();
-        prove!(fits);
-        Facts { facts: taken }
-    }
-
-    /// This fact alone.
-    pub fn one(fact: Fact) -> Facts
-        ensures { result ≡ fact ∷ [] }
-    {
-        Facts::of(&[fact])
-    }
-
-    /// All facts but responses, of which there is one for each number of ticks, and codes with which
-    /// no service refuses a call.
-    pub fn all() -> Facts
-        ensures { result ≡ all_facts }
-    {
-        Facts::of(&ALL)
-    }
-
-    /// The set has this fact.
-    pub fn contains(&self, fact: Fact) -> bool
-        ensures { result ≡ list_any (is_fact fact) self.now }
-    {
-        self.as_slice().iter().any(|other| fact.is(*other))
-    }
-
-    /// The set, but for this fact.
-    pub fn without(&self, fact: Fact) -> Facts
-        ensures { result ≡ filter (λ other. not (is_fact fact other)) self.now }
-    {
-        let mut others = ArrayVec::new();
-        for other in self.as_slice() {
-            if !fact.is(*other) {
-                others.push(*other);
-            }
+        match self.process {
+            Some(asked) => asked == process,
+            None => true,
         }
-        Facts { facts: others }
     }
 
-    /// The set has no fact.
-    pub fn is_empty(&self) -> bool
-        ensures { result ≡ has_none self.now }
+    /// The question is about this caller: any, if it names no process.
+    fn is_about_caller(&self, caller: &Caller) -> bool
+        ensures { result ≡ is_about_caller self.now caller.now }
     {
-        self.as_slice().is_empty()
+        match caller {
+            Caller::Process(process) => self.is_about(*process),
+            Caller::Init | Caller::Nobody => self.process.is_none(),
+        }
     }
 
-    /// The facts, in the order in which the set was made of them.
-    pub fn as_slice(&self) -> &[Fact]
-        ensures value { result.now ≡ self.now }
-        ensures few { length result.now ≤ MOST_FACTS }
+    /// The notice has the fact.
+    fn is_in_notice(&self, notice: &Notice) -> bool
+        ensures { result ≡ is_asked_notice self.now notice.now }
     {
-        self.facts.as_slice()
+        match (self.fact, *notice) {
+            (Fact::Missed, Notice::Missed(process, _)) => self.is_about(process),
+            (Fact::HardMissed, Notice::Missed(process, kind)) => {
+                kind == DeadlineType::Hard && self.is_about(process)
+            }
+            (Fact::TimedOut, Notice::Woken(process, code)) => {
+                code == ReturnCode::TimedOut && self.is_about(process)
+            }
+            _ => false,
+        }
+    }
+
+    /// The reply to this caller has the fact.
+    fn is_in_reply(&self, caller: &Caller, reply: Reply) -> bool
+        ensures { result ≡ is_asked_reply self.now caller.now reply }
+    {
+        match (self.fact, reply) {
+            (Fact::Lost, Reply::Lost) => self.is_about_caller(caller),
+            (Fact::Refused(asked), Reply::Code(code)) => {
+                asked == code && self.is_about_caller(caller)
+            }
+            _ => false,
+        }
+    }
+
+    /// One of the notices has the fact.
+    fn is_in_notices(&self, notices: &[Notice]) -> bool
+        ensures { result ≡ list_any (is_asked_notice self.now) notices.now }
+    {
+        notices.iter().any(|notice| self.is_in_notice(notice))
+    }
+
+    /// The deed, with its notices, has the fact.
+    pub(crate) fn is_in(&self, deed: &Deed, notices: &Notices) -> bool
+        ensures { result ≡ is_asked self.now deed.now.caller deed.now.reply notices.now }
+    {
+        self.is_in_reply(&deed.caller, deed.reply) || self.is_in_notices(notices.as_slice())
     }
 }

@@ -3,7 +3,6 @@
 #![tactic(auto)]
 
 mod canonical;
-mod census;
 mod codes;
 mod counts;
 mod facts;
@@ -13,7 +12,6 @@ mod objects;
 mod paced;
 mod parts;
 mod premises;
-mod questions;
 mod records;
 mod restored;
 mod steps;
@@ -22,11 +20,9 @@ mod systems;
 mod ticks;
 mod usual;
 
-pub use census::{Census, End, Finding};
-pub use facts::{Fact, Facts, MOST_FACTS};
+pub use facts::{Fact, Question};
 pub use laws::{
     answers_say_of_schedules, forms_stand_for_situations, forms_stay_in_bounds,
     same_forms_have_the_same_words, words_are_exact,
 };
-pub use questions::Question;
 pub use systems::{TableSystem, Workplace};

@@ -10,16 +10,16 @@ ghost use Rattle.apex_machine.specs.Situations.{deed};
 ghost use Rattle.apex_pace.specs.Laws.{IsPace};
 ghost use Rattle.apex_pace.specs.Pace.{paced_opening, paced_step};
 ghost use Rattle.apex_search.specs.Counts.{IsSameOnCores, IsSamePaced, count_at, paced_in};
-ghost use Rattle.apex_search.specs.Facts.{has_fact, has_some, shown, shown_of};
+ghost use Rattle.apex_search.specs.Facts.{has_fact};
 ghost use Rattle.apex_search.specs.Laws.{FormsReach};
 ghost use Rattle.apex_search.specs.Restored.{IsOfTable};
-ghost use Rattle.apex_search.specs.Steps.{AreWordsAfter, IsForm, IsFormed, event_of, searched, step_by};
+ghost use Rattle.apex_search.specs.Steps.{AreWordsAfter, IsEntryOf, IsForm, IsFormed, event_of, searched, step_by};
 ghost use Rattle.apex_search.specs.Stored.{word_count};
 
 use crate::counts::Counts;
+use crate::facts::Question;
 use crate::paced::PacedSituation;
 use crate::premises::{forms_are_ready, parts_are_kept, turns_are_few};
-use crate::questions::Question;
 use apex_dispatch::{Deed, Situation};
 use apex_explore::Taken;
 use apex_pace::Pace;
@@ -67,9 +67,8 @@ impl PacedSituation {
         requires counts { count_at self.old.counts.turns core + 1 < 2 ^ 64 }
         ensures step { IsSameOnCores (paced_in self.new)
             (paced_step table.now (paced_in self.old) (Turn core)) }
-        ensures entry { shown result.caller result.call result.reply notices.new
-            (paced_in self.new).situation.roster
-            ≡ shown_of (deed table.now (paced_in self.old).situation (Turn core)) }
+        ensures entry { IsEntryOf (deed table.now (paced_in self.old).situation (Turn core))
+            result.caller result.reply notices.new }
     {
         let counts = !self.is_starting();
         self.counts.turn(core, counts);
@@ -83,9 +82,8 @@ impl PacedSituation {
         requires counts { AreWordsAfter (Tick n) (paced_in self.old) }
         ensures step { IsSameOnCores (paced_in self.new)
             (paced_step table.now (paced_in self.old) (Tick n)) }
-        ensures entry { shown result.caller result.call result.reply notices.new
-            (paced_in self.new).situation.roster
-            ≡ shown_of (deed table.now (paced_in self.old).situation (Tick n)) }
+        ensures entry { IsEntryOf (deed table.now (paced_in self.old).situation (Tick n))
+            result.caller result.reply notices.new }
     {
         table.lawful();
         let before = self.situation.now();
@@ -95,19 +93,11 @@ impl PacedSituation {
         deed
     }
 
-    /// The entry of a deed that was done last shows one of the facts that are asked for.
-    fn shows(&self, question: &Question, deed: &Deed, notices: &Notices) -> bool
-        ensures { result ≡ has_some question.now (shown deed.now.caller deed.now.call
-            deed.now.reply notices.now (paced_in self.now).situation.roster) }
-    {
-        question.is_in(deed, notices, self.situation.store())
-    }
-
-    /// Makes the event, and answers whether its entry has one of the facts that are asked for.
+    /// Makes the event, and answers whether its entry has the fact that is asked for.
     pub(crate) fn make(
         &mut self,
         table: &Table,
-        question: &Question,
+        question: Question,
         event: Event,
         notices: &mut Notices,
     ) -> bool
@@ -117,16 +107,16 @@ impl PacedSituation {
         ensures step { IsSameOnCores (paced_in self.new)
             (paced_step table.now (paced_in self.old) event) }
         ensures asked { result
-            ≡ has_fact question.now (deed table.now (paced_in self.old).situation event) }
+            ≡ has_fact question (deed table.now (paced_in self.old).situation event) }
     {
         match event {
             Event::Turn(core) => {
                 let deed = self.turn(table, core, notices);
-                self.shows(question, &deed, notices)
+                question.is_in(&deed, notices)
             }
             Event::Tick(n) => {
                 let deed = self.tick(table, n, notices);
-                self.shows(question, &deed, notices)
+                question.is_in(&deed, notices)
             }
         }
     }
@@ -137,7 +127,7 @@ impl PacedSituation {
         mut self,
         pace: Pace,
         table: &Table,
-        question: &Question,
+        question: Question,
         choice: u32,
         notices: &mut Notices,
         next: &mut [u64],
@@ -146,7 +136,7 @@ impl PacedSituation {
         requires reach { FormsReach table.now }
         requires form { IsFormed pace table.now (paced_in self) }
         requires room { length next.old ≡ word_count table.now }
-        ensures step { step_of result.0 next.new ≡ step_by (searched table.now pace question.now)
+        ensures step { step_of result.0 next.new ≡ step_by (searched table.now pace question)
             (paced_in self) (event_of pace table.now (paced_in self) choice) }
         ensures state { GoesTo (IsForm pace table.now) (step_of result.0 next.new) }
         ensures parts { IsOfTable table.now (paced_in result.1).situation }

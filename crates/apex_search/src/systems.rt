@@ -1,11 +1,9 @@
 //! A table under a pace, and a question, as a system to search.
 ghost use Rattle.std.specs.Prelude.{◌≡◌, All, IfOk, length};
 ghost use Rattle.apex_machine.specs.Events.{IsWithin};
-ghost use Rattle.apex_machine.specs.table.Table.{IsLawful};
 ghost use Rattle.apex_pace.specs.Laws.{IsPace};
 ghost use Rattle.apex_pace.specs.Pace.{paced_opening};
 ghost use Rattle.apex_search.specs.Answers.{SaysOfSchedules, schedule_of};
-ghost use Rattle.apex_search.specs.Census.{asking};
 ghost use Rattle.apex_search.specs.Counts.{IsSamePaced, paced_in};
 ghost use Rattle.apex_search.specs.Forms.{canonical_paced};
 ghost use Rattle.apex_search.specs.Laws.{FormsReach};
@@ -13,11 +11,10 @@ ghost use Rattle.apex_search.specs.Restored.{IsStored, paced_from};
 ghost use Rattle.apex_search.specs.Steps.{IsWorkplace, form_words};
 ghost use Rattle.apex_search.specs.Stored.{word_count};
 
-use crate::facts::Facts;
+use crate::facts::Question;
 use crate::laws::{forms_stand_for_situations, same_forms_have_the_same_words, words_are_exact};
 use crate::paced::PacedSituation;
 use crate::premises::{forms_are_ready, forms_reach, parts_are_kept, turns_are_few};
-use crate::questions::Question;
 use crate::stored::word_count;
 use crate::usual::calls_are_usual;
 use apex_dispatch::{Objects, ProcessObject};
@@ -28,7 +25,7 @@ use apex_types::{Event, Notices};
 use std::alloc::{AllocError, Global};
 use std::marker::Model;
 
-/// A table under a pace, and the facts that are looked for in the entries of its runs.
+/// A table under a pace, and the fact that is looked for in the entries of its runs.
 ///
 /// A choice below the number of cores is a turn of that core, and the last choice is the tick that
 /// may come. A state is a situation in canonical form with what the pace counts, as words.
@@ -148,8 +145,7 @@ impl TableSystem {
         })
     }
 
-    /// Searches the schedules of the pace, the shortest first, for one that leads to one
-    /// of the facts. The
+    /// Searches the schedules of the pace, the shortest first, for one that leads to the fact. The
     /// room for `room` states is taken before the first event. Fails only for want of memory.
     ///
     /// [`TableSystem::schedule`] gives the events of a path that is found.
@@ -181,33 +177,10 @@ impl TableSystem {
                 return Ok(events);
             };
             events.push(event)?;
-            let _ = paced.make(&self.table, &self.question, event, &mut notices);
+            let _ = paced.make(&self.table, self.question, event, &mut notices);
             paced = paced.canonical(self.pace);
         }
         Ok(events)
-    }
-
-    /// What the answers of a search rest on.
-    pub(crate) fn lawful(&self)
-        ensures pace { IsPace self.now.pace }
-        ensures reach { FormsReach self.now.table }
-        ensures table { IsLawful self.now.table }
-    {
-        self.table.lawful();
-    }
-
-    /// The facts of the question.
-    pub(crate) fn facts(&self) -> Facts
-        ensures { result ≡ self.now.question.facts }
-    {
-        Facts::of(self.question.facts.as_slice())
-    }
-
-    /// From now on the question is for these facts.
-    pub(crate) fn ask(&mut self, facts: Facts)
-        ensures { self.new ≡ asking self.old facts }
-    {
-        self.question.facts = facts;
     }
 
     /// The table.
@@ -271,7 +244,7 @@ impl System for TableSystem {
         let (taken, paced) = paced.step(
             self.pace,
             &self.table,
-            &self.question,
+            self.question,
             choice,
             notices,
             next,

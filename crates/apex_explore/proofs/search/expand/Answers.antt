@@ -1,30 +1,26 @@
 -- Each choice keeps the state that it goes on to.
-use Rattle.std.proofs.Common.{◌≡◌, ◌<◌, ◌≤◌, Some, length, ap, ◌∙◌, arith}
-use Rattle.std.specs.List.{slice_get}
+use Rattle.std.proofs.Common.{◌≤◌, ap, ◌∙◌, arith}
 use Rattle.apex_explore.specs.Systems.{refuses, goes, step_within}
 use Rattle.apex_explore.specs.States.{Reached}
 use Rattle.apex_explore.specs.declared.states.Origin.{Origin}
 use Rattle.apex_explore.proofs.Growth.{taken_step, IsExpanding-refused, IsExpanding-laid, all_made, AllAre-laid}
+use Rattle.apex_explore.proofs.Levels.{at_old_place}
 use Rattle.apex_explore.proofs.Storing.{laid_from_kept, kept_width}
 use Rattle.apex_explore.proofs.search.expand.Goals as goal
-use Rattle.apex_explore.proofs.search.expand.Goals.{in-Refused, in-Next+in_ok-kept-in-Next+else-not-kept}
+use Rattle.apex_explore.proofs.search.expand.Goals.{in-Refused, in-Next+else-not-keep}
 
-pub returns-then-not-kept-clause-outcome : goal.returns-then-not-kept-clause-outcome
-returns-then-not-kept-clause-outcome g c =
-    let k = c.restore.new.state in
-    let here : slice_get c.restore.new.self.states c.args.place ≡ Some k = rw c.restore.ensures.same c.restore.ensures.state in
-    let there = c.loop-choice.invariant.expanding.grows.states_front.same c.args.place k here in
-    let leads = taken_step (g.S.System.choice_count c.args.system.now) (g.S.System.step c.args.system.now) k c.loop-choice.choice c.choices-choice-end.result (goes c.next.new.next) c.loop-choice-test.true c.choices-choice-end.ensures c.in-Next.ensures.step in
-    let kept = rw c.if-not-kept.true at c.in_ok-kept-in-Next.ensures in
+pub returns-then-not-keep-clause-outcome : goal.returns-then-not-keep-clause-outcome
+returns-then-not-keep-clause-outcome g c =
+    let leads = taken_step (g.S.System.choice_count c.args.system.now) (g.S.System.step c.args.system.now) c.state.result.now c.loop-choice.choice c.choices-choice-end.result (goes c.next.new.next) c.loop-choice-test.true c.choices-choice-end.ensures c.in-Next.ensures.step in
+    let kept = c.if-not-keep.ensures in
     let same = ap (λ (s : Reached). s.states) kept.2 in
-    let room = ap (λ (s : Reached). s.room) c.restore.ensures.same in
-    rw same (k, c.next.new.next, c.loop-choice.choice, there, leads, kept.0, kept.1 ∙ (c.loop-choice.invariant.room ∙ room))
+    rw same (c.state.result.now, c.next.new.next, c.loop-choice.choice, c.state.ensures.state, leads, kept.0, kept.1 ∙ c.loop-choice.invariant.room)
 
 pub loop-choice-preserved : goal.loop-choice-preserved
 loop-choice-preserved g c =
     let so_far = c.loop-choice.invariant.expanding in
-    let k = c.restore.new.state in
-    let is : slice_get c.restore.new.self.states c.args.place ≡ Some k = rw c.restore.ensures.same c.restore.ensures.state in
+    let k = c.state.result.now in
+    let is = at_old_place c.args.states.now.states c.loop-choice.states.states c.args.place k so_far.grows.states_front c.requires.place c.state.ensures.state in
     let choices = g.S.System.choice_count c.args.system.now in
     let own = g.S.System.step c.args.system.now in
     let step = step_within choices own in
@@ -32,21 +28,21 @@ loop-choice-preserved g c =
       | in-Refused w ↦
           let refused = taken_step choices own k c.loop-choice.choice c.choices-choice-end.result refuses c.loop-choice-test.true c.choices-choice-end.ensures w.in-Refused.ensures.step in
           rw w.states-is record {
-            expanding = IsExpanding-refused step c.args.place c.restore.new.self.states c.restore.new.self.origins c.loop-choice.states.states c.loop-choice.states.origins c.loop-choice.choice k is refused so_far;
+            expanding = IsExpanding-refused step c.args.place c.args.states.now.states c.args.states.now.origins c.loop-choice.states.states c.loop-choice.states.origins c.loop-choice.choice k is refused so_far;
             width = c.loop-choice.invariant.width;
             room = c.loop-choice.invariant.room;
             workspace = c.next.ensures.workspace;
             all = c.loop-choice.invariant.all;
           }
-      | in-Next+in_ok-kept-in-Next+else-not-kept w ↦
+      | in-Next+else-not-keep w ↦
           let next = c.next.new.next in
           let leads = taken_step choices own k c.loop-choice.choice c.choices-choice-end.result (goes next) c.loop-choice-test.true c.choices-choice-end.ensures w.in-Next.ensures.step in
           let origin : Origin = record { parent = c.args.place; choice = c.loop-choice.choice } in
-          let kept = rw w.if-not-kept.false at w.in_ok-kept-in-Next.ensures in
+          let kept = w.if-not-keep.ensures in
           let laid = laid_from_kept c.loop-choice.states next origin w.keep.new.self kept in
           let same = kept_width c.loop-choice.states next origin w.keep.new.self kept in
           rw w.states-is record {
-            expanding = IsExpanding-laid step c.args.place c.restore.new.self.states c.restore.new.self.origins c.loop-choice.states.states c.loop-choice.states.origins w.keep.new.self.states w.keep.new.self.origins c.loop-choice.choice k next is leads laid so_far;
+            expanding = IsExpanding-laid step c.args.place c.args.states.now.states c.args.states.now.origins c.loop-choice.states.states c.loop-choice.states.origins w.keep.new.self.states w.keep.new.self.origins c.loop-choice.choice k next is leads laid so_far;
             width = same.0 ∙ c.loop-choice.invariant.width;
             room = same.1 ∙ c.loop-choice.invariant.room;
             workspace = c.next.ensures.workspace;
@@ -57,5 +53,4 @@ loop-choice-preserved g c =
 pub returns-clause-outcome : goal.returns-clause-outcome
 returns-clause-outcome g c =
     let past : g.S.System.choice_count c.args.system.now ≤ c.loop-choice.choice = omega (arith, c.choices-choice-end.ensures) in
-    let place : c.args.place < length c.restore.new.self.states = rw c.restore.ensures.same c.requires.place in
-    all_made (g.S.System.choice_count c.args.system.now) (g.S.System.step c.args.system.now) c.args.place c.restore.new.self.states c.restore.new.self.origins c.loop-choice.states.states c.loop-choice.states.origins c.loop-choice.choice past place c.loop-choice.invariant.expanding
+    all_made (g.S.System.choice_count c.args.system.now) (g.S.System.step c.args.system.now) c.args.place c.args.states.now.states c.args.states.now.origins c.loop-choice.states.states c.loop-choice.states.origins c.loop-choice.choice past c.requires.place c.loop-choice.invariant.expanding

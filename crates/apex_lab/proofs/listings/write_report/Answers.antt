@@ -2,8 +2,8 @@
 use Rattle.std.proofs.Common.{ap, arith}
 use Rattle.std.proofs.KnownBytes.{Keeps-refl}
 use Rattle.std.proofs.lemmas.Result.{err_from_is_err_and}
+use Rattle.apex_report.specs.Texts.{report_text}
 use Rattle.apex_lab.specs.Exits.{unbegun}
-use Rattle.apex_lab.specs.Plans.{report_in}
 use Rattle.apex_lab.proofs.Endings.{shows_prefix, shows_whole}
 use Rattle.apex_lab.proofs.Reporting.{is_report}
 use Rattle.apex_lab.proofs.listings.write_report.Goals as goal
@@ -16,8 +16,8 @@ returns-in_err-report g c =
     let p = err_from_is_err_and c.from_residual.result c.from_residual.ensures.1 in
     rw (p.1, p.2) (unbegun (Keeps-refl _))
 
-pub print_in-requires : goal.print_in-requires
-print_in-requires g c = (
+pub print_report-requires : goal.print_report-requires
+print_report-requires g c = (
   c.args.kernel.now.machine.history,
   is_report c.table.ensures c.table-2.ensures c.entries.ensures c.in_ok-report.ensures,
 )
@@ -26,12 +26,12 @@ pub returns-in-Ok : goal.returns-in-Ok
 returns-in-Ok g c =
     let history = c.args.kernel.now.machine.history in
     let is = is_report c.table.ensures c.table-2.ensures c.entries.ensures c.in_ok-report.ensures in
-    shows_whole (_, ap (λ t. report_in c.args.form t history) c.table-2.ensures, c.in-Ok.ensures.ok history is)
+    shows_whole (_, ap (λ t. report_text t history) c.table-2.ensures, c.in-Ok.ensures.ok history is)
     c.in-Ok.ensures.counted
 
 pub returns : goal.returns
 returns g c =
     let history = c.args.kernel.now.machine.history in
     let is = is_report c.table.ensures c.table-2.ensures c.entries.ensures c.in_ok-report.ensures in
-    shows_prefix (_, ap (λ t. report_in c.args.form t history) c.table-2.ensures, c.in-Err.ensures.err history is)
+    shows_prefix (_, ap (λ t. report_text t history) c.table-2.ensures, c.in-Err.ensures.err history is)
     c.in-Err.ensures.counted

@@ -1,21 +1,9 @@
-use Rattle.std.proofs.Common.{rules, ◌≡◌, ℕ, ◌+◌, ◌*◌, ◌/◌, ◌≤◌, List, [], ◌∷◌, length, refl, sym, ◌∙◌, subst, arith, vec_capacity}
-use Rattle.apex_explore.specs.Nodes.{IsTree, Joins}
-use Rattle.apex_explore.specs.declared.states.TheConstants.{DEPTH}
-use Rattle.apex_explore.proofs.Storing.{IsStored-held, IsStored-start}
+use Rattle.std.proofs.Common.{map}
+use Rattle.apex_explore.specs.Index.{place_in}
+use Rattle.apex_explore.proofs.Storing.{IsStored-start}
 use Rattle.apex_explore.proofs.states.States.new.Goals as goal
 
 pub invariant_of-result : goal.invariant_of-result
 invariant_of-result c =
-    let part = c.args.width / 32 + 1 in
-    let words = c.in_ok-words.words.items in
-    let here = c.in_ok-here.here.items in
-    let size : c.in-Some.size ≡ part * 32 = search rules in
-    let long : length words ≡ c.in-Some.size = search rules in
-    let here_long : length here ≡ c.in-Some.size = search rules in
-    let words_long : length words ≡ 32 * part = omega (arith, long, size) in
-    let wide : c.args.width ≤ 32 * part = omega arith in
-    let start = IsStored-start c.args.width part c.args.room c.in-Some.size c.in_ok-roots.roots c.in_ok-nodes.nodes c.in_ok-origins.origins.items (vec_capacity c.in_ok-origins.origins) words
-    c.in_ok-roots.ensures c.in_ok-nodes.ensures c.in_ok-origins.ensures.items c.in_ok-origins.ensures.capacity words_long wide in
-    let stored = IsStored-held c.args.width c.in_ok-roots.roots c.in_ok-nodes.nodes c.number_halves.new.self c.in_ok-origins.origins.items (vec_capacity c.in_ok-origins.origins) words words start c.number_halves.ensures.held c.number_halves.ensures.exact refl refl in
-    let Is : List ℕ → Type 0 = λ ws. Joins (IsTree c.number_halves.new.self DEPTH) (c.in_ok-pair.pair ∷ []) ws in
-    (stored, record { long = here_long ∙ sym long; joins = subst Is c.as_slice.ensures.value c.in_ok-pair.ensures.halves })
+    IsStored-start c.args.width c.args.room c.in_ok-new.field-0 (map place_in c.in_ok-new-2.field-0.slots.items) c.in_ok-with_capacity.field-0.items c.in_ok-with_capacity.field-0.cap
+    c.in_ok-new.ensures c.in_ok-new-2.ensures c.in_ok-with_capacity.ensures.items c.in_ok-with_capacity.ensures.capacity c.ranges.room.fits

@@ -7,7 +7,6 @@ use Rattle.apex_report.specs.Steps.{process_after}
 use Rattle.apex_report.specs.Waits.{wakings}
 use Rattle.apex_report.proofs.ObjectBounds.{counted_more}
 use Rattle.apex_report.proofs.ReportGrowth.{report_grows}
-use Rattle.apex_report.proofs.Settled.{levels_of}
 use Rattle.apex_report.proofs.reports.Report.note.Goals as goal
 
 pub invariant_of-self : goal.invariant_of-self
@@ -17,10 +16,9 @@ invariant_of-self c =
     rw (← c.entry.view_is, ← c.units-amount.ensures.value) c.units-amount.ensures.range in
     let few_ticks : ticks_in c.args.entry.now.reply ≤ MOST_SPAN =
     rw (← c.entry.view_is, ← c.ticks_in-ticks.ensures.value) c.ticks_in-ticks.ensures.range in
-    let processes = c.as_slice-processes.ensures.value ∙ c.note_processes.ensures in
-    rw (c.note_processes.ensures, c.note_cores.ensures, c.note_objects.ensures, processes, c.note_services.ensures)
+    rw (c.note_processes.ensures, c.note_cores.ensures, c.note_objects.ensures)
     (counted_more c.self.inside.entries c.self.inside.processes.items c.self.inside.cores.items c.self.inside.objects.items
-    c.self.inside.services.items c.args.entry.now c.as_slice.result.now c.self.invariant room few few_ticks c.as_slice.ensures.few)
+    c.args.entry.now c.as_slice.result.now c.as_slice-processes.result.now c.self.invariant room few few_ticks c.as_slice.ensures.few)
 
 pub returns-clause-report : goal.returns-clause-report
 returns-clause-report c = λ table history is.
@@ -30,11 +28,5 @@ returns-clause-report c = λ table history is.
     c.as_slice.ensures.value ∙ c.find.ensures history (ap (λ (r : Report). r.latest) inside_is) in
     let processes : c.as_slice-processes.result.now ≡ map (process_after e) c.self.inside.processes.items =
     c.as_slice-processes.ensures.value ∙ c.note_processes.ensures in
-    rw (c.note_objects.ensures, slice, processes, c.note_processes.ensures, c.note_cores.ensures, c.note_services.ensures, c.note.ensures)
+    rw (c.note_objects.ensures, slice, processes, c.note_processes.ensures, c.note_cores.ensures, c.note.ensures)
     (ap (λ (r : Report). report_after r e (wakings history e)) inside_is ∙ sym (report_grows table history e))
-
-pub note_objects-requires-clause-level : goal.note_objects-requires-clause-level
-note_objects-requires-clause-level c =
-    let processes : c.as_slice-processes.result.now ≡ map (process_after c.args.entry.now) c.self.inside.processes.items =
-    c.as_slice-processes.ensures.value ∙ c.note_processes.ensures in
-    rw processes (levels_of c.args.entry.now c.self.inside.processes.items c.self.inside.objects.items c.self.invariant.each_settled)

@@ -43,7 +43,7 @@ pub returns-clause-step : goal.returns-clause-step
 returns-clause-step c =
     step_next c.args.pace c.requires.pace c.turns_are_few.ensures c.args.table.now c.lawful.ensures c.requires.reach c.forms_are_ready.ensures
     (paced_in c.args.self) c.requires.form
-    c.args.question.now c.args.choice c.put_words.new.words c.in-Some.event c.in-Some.ensures.value
+    c.args.question c.args.choice c.put_words.new.words c.in-Some.event c.in-Some.ensures.value
     (sym c.if-make.false ∙ c.make.ensures.asked)
     (form_words_are c.args.pace c.requires.pace c.turns_are_few.ensures c.args.table.now c.lawful.ensures c.requires.reach c.forms_are_ready.ensures
     (paced_in c.args.self) c.requires.form c.args.choice c.in-Some.event (sym c.in-Some.ensures.value) (paced_in c.make.new.self) c.make.ensures.step
