@@ -1,10 +1,14 @@
 //! One search of a table for all facts.
 
+use crate::papers::paper;
 use crate::searches::{MUTEX, SEMAPHORE};
+use apex_answers::print_census;
+use apex_history::{Counted, FailAt};
 use apex_pace::{Pace, USUAL_TURNS};
 use apex_search::{Census, End, Fact, Facts, Question, TableSystem};
 use apex_table::read_table;
 use std::alloc::Global;
+use std::mem::drop;
 use std::process::Abort;
 
 /// What one search says of all facts of the table at the usual pace.
@@ -62,4 +66,26 @@ fn a_small_room_ends_a_census(rt: HostRuntime) {
     assert!(&rt; is_found(&census, Fact::Lost, 20));
     assert!(&rt; census.others.as_slice().len() == 10);
     assert!(&rt; census.end == End::Full { depth: 29 });
+}
+
+/// The text of what it says.
+fn printed<R: Abort>(rt: &R, alloc: Global, text: &str, room: u32) -> FailAt {
+    let census = census_of(rt, alloc, text, room);
+    let mut paper = paper(rt, alloc, 128, 0);
+    print_census(&census, room, &mut Counted::new(&mut paper)).expect(rt, "room for it");
+    drop(census);
+    paper
+}
+
+#[test]
+fn each_fact_has_a_line(rt: HostRuntime) {
+    let paper = printed(&rt, rt.alloc(), SEMAPHORE, 1000);
+    let text = "20 LOST\n40 missed\n40 hard\nstates: 58\n";
+    assert!(rt; paper.held() == text.as_bytes());
+}
+
+#[test]
+fn the_facts_of_a_small_room_have_lines(rt: HostRuntime) {
+    let paper = printed(&rt, rt.alloc(), SEMAPHORE, 31);
+    assert!(rt; paper.held() == b"20 LOST\nnone within 30\nstates: 31\n".as_slice());
 }

@@ -1,9 +1,12 @@
 //! The tests of the kernel and of the printing of lines that no stored case can show: how many
 //! records a turn looks at, lines that no run prints, a writer that fails, and the counters of a
-//! trace; the faults and the warnings of a table; the report of a history; and searches of a small
-//! system and of two tables. It has no code of its own.
+//! trace; the faults and the warnings of a table, and the lines that report them; the report of a
+//! history; searches of a small system and of two tables; and the words and texts of answers. It has
+//! no code of its own.
 #![tactic(auto)]
 
+#[cfg(test)]
+mod answers;
 #[cfg(test)]
 mod censuses;
 #[cfg(test)]
@@ -18,6 +21,8 @@ mod json_reports;
 mod jugs;
 #[cfg(test)]
 mod lines;
+#[cfg(test)]
+mod lints;
 #[cfg(test)]
 mod object_reports;
 #[cfg(test)]

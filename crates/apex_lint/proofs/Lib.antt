@@ -1,2 +1,4 @@
+pub mod Further
+pub mod Lines
 pub mod Lists
 pub mod Refusals

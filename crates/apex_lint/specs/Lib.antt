@@ -11,3 +11,6 @@ pub mod Cores
 pub mod Warnings
 pub mod Texts
 pub mod Reasons
+pub mod WarningWords
+pub mod Remarks
+pub mod Reports

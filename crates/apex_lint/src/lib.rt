@@ -8,9 +8,12 @@ mod objects;
 mod owning;
 mod process_warnings;
 mod reasons;
+mod remarks;
+mod reports;
 mod step_warnings;
 mod steps;
 mod texts;
+mod warning_words;
 mod warnings;
 
 pub use objects::Group;
@@ -18,5 +21,8 @@ pub use process_warnings::ProcessWarning;
 pub use reasons::{
     aperiodic_waits_are_refused, periodic_processes_are_not_suspended, unfit_messages_are_refused,
 };
+pub use remarks::{Remark, Severity};
+pub use reports::{Form, Report, Verdict, report_on, reports_have_a_line_for_each_remark};
 pub use step_warnings::StepWarning;
+pub use warning_words::allowed_in;
 pub use warnings::{Warning, lint};

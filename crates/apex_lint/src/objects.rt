@@ -2,9 +2,10 @@
 ghost use Rattle.std.specs.Prelude.{◌≡◌, ◌≤◌};
 ghost use Rattle.apex_types.specs.declared.limits.TheConstants.{MOST_OBJECTS};
 ghost use Rattle.apex_lint.specs.Objects.{group_count, group_queue};
+ghost use Rattle.apex_lint.specs.Remarks.{group_section};
 
 use apex_machine::Queue;
-use apex_table::Table;
+use apex_table::{Section, Table};
 use apex_types::{BlackboardId, BufferId, EventId, MutexId, SemaphoreId};
 
 /// The objects of one kind.
@@ -42,6 +43,19 @@ impl Group {
             Group::Blackboards => Queue::Blackboard(BlackboardId::at(place)),
             Group::EventFlags => Queue::EventFlag(EventId::at(place)),
             Group::Mutexes => Queue::Mutex(MutexId::at(place)),
+        }
+    }
+
+    /// The section of these objects.
+    pub fn section(self) -> Section
+        ensures { result ≡ group_section self }
+    {
+        match self {
+            Group::Semaphores => Section::Semaphore,
+            Group::Buffers => Section::Buffer,
+            Group::Blackboards => Section::Blackboard,
+            Group::EventFlags => Section::EventFlag,
+            Group::Mutexes => Section::Mutex,
         }
     }
 }

@@ -95,12 +95,12 @@ changes_same table time now before after =
     (length table.processes) (process_same time now before after))
 
 -- the text of a column
-pub column_same : (table : Table) (before : Shown) (entry : Entry) (after : Shown)
-    → trace.column_text table (bare before) entry (bare after) ≡ trace.column_text table before entry after
-column_same table before entry after =
-    ap (λ l. l ++ counters_text table entry.number before.counts after.counts
-    ++ flat_map (trace.missed_text entry.number entry.now) entry.notices)
-    (changes_same table entry.number entry.now before after)
+pub column_same : (table : Table) (time : ℕ) (before : Shown) (entry : Entry) (after : Shown)
+    → trace.column_text table time (bare before) entry (bare after) ≡ trace.column_text table time before entry after
+column_same table time before entry after =
+    ap (λ l. l ++ counters_text table time before.counts after.counts
+    ++ flat_map (trace.missed_text time entry.now) entry.notices)
+    (changes_same table time entry.now before after)
 
 -- what comes after the columns
 pub foot_same : (table : Table) (time now : ℕ) (last : Shown)
@@ -127,14 +127,14 @@ follow_fits Trace tracks shown table follows counts cores =
     (subst (λ (s : Shown). HasCounts s.counts table) (sym follows) counts, ap (λ (s : Shown). length s.running) follows ∙ cores)
 
 -- the changes, the counters and the marks of a column, one behind the other
-pub column_whole : (table : Table) (before : Shown) (entry : Entry) (after : Shown) (text one two whole : List ℕ)
-    → one ≡ text ++ trace.changes_text table entry.number entry.now before after
-    → two ≡ one ++ counters_text table entry.number before.counts after.counts
-    → whole ≡ two ++ flat_map (trace.missed_text entry.number entry.now) entry.notices
-    → whole ≡ text ++ trace.column_text table before entry after
-column_whole table before entry after text one two whole changes counters marks =
-    let changed = trace.changes_text table entry.number entry.now before after in
-    let counted = counters_text table entry.number before.counts after.counts in
-    let missed = flat_map (trace.missed_text entry.number entry.now) entry.notices in
+pub column_whole : (table : Table) (time : ℕ) (before : Shown) (entry : Entry) (after : Shown) (text one two whole : List ℕ)
+    → one ≡ text ++ trace.changes_text table time entry.now before after
+    → two ≡ one ++ counters_text table time before.counts after.counts
+    → whole ≡ two ++ flat_map (trace.missed_text time entry.now) entry.notices
+    → whole ≡ text ++ trace.column_text table time before entry after
+column_whole table time before entry after text one two whole changes counters marks =
+    let changed = trace.changes_text table time entry.now before after in
+    let counted = counters_text table time before.counts after.counts in
+    let missed = flat_map (trace.missed_text time entry.now) entry.notices in
     marks ∙ ap (λ l. l ++ missed) (counters ∙ ap (λ l. l ++ counted) changes)
     ∙ ap (λ l. l ++ missed) (append_assoc text changed counted) ∙ append_assoc text (changed ++ counted) missed

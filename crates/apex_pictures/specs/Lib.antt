@@ -2,6 +2,7 @@ pub mod Terms
 pub mod Texts
 pub mod Places
 pub mod Counts
+pub mod Instants
 pub mod Moments
 pub mod Svg
 pub mod Counters

@@ -8,6 +8,7 @@ ghost use Rattle.apex_pictures.specs.Counts.{content_of, no_counts, value_of, wi
 ghost use Rattle.apex_pictures.specs.Places.{of_places};
 
 use crate::counts::{Counts, content_of, count_at, value_of};
+use crate::instants::time_text;
 use crate::texts::{put, put_number};
 use apex_dispatch::Kernel;
 use apex_json::put_json;
@@ -37,7 +38,7 @@ fn put_count(
         count) }
 {
     put(text, ",\n{\"ph\":\"C\",\"pid\":3,\"ts\":")?;
-    put_number(text, time)?;
+    put(text, time_text(time).as_str())?;
     put(text, counter.front)?;
     put_json(text, counter.name)?;
     put(text, counter.back)?;

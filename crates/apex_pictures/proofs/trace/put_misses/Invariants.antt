@@ -1,10 +1,12 @@
 -- The marks so far follow the text.
 use Rattle.std.proofs.Common.{◌≡◌, ◌++◌, take}
 use Rattle.std.specs.Prelude.{flat_map}
+use Rattle.apex_pictures.specs.Stamps.{IsStamp}
 use Rattle.apex_pictures.specs.Trace.{missed_text}
 use Rattle.apex_pictures.proofs.trace.put_misses.Given as goal
 
 abbrev pub invariant-loop-notice : goal.invariant-loop-notice
 invariant-loop-notice l = record {
-  text : l.text.items ≡ l.fn.text.items ++ flat_map (missed_text l.time l.now) (take l.notice-index l.notices);
+  stamp : IsStamp l.stamp l.time;
+  text : l.text.items ≡ l.fn.text.items ++ flat_map (missed_text l.time l.stamp.ticks) (take l.notice-index l.notices);
 }

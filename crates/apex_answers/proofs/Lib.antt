@@ -1,0 +1,5 @@
+pub mod Written
+pub mod Places
+pub mod Lasts
+pub mod LastEntries
+pub mod Shortest

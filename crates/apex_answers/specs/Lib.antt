@@ -1,0 +1,5 @@
+pub mod Processes
+pub mod Words
+pub mod Texts
+pub mod Answers
+pub mod Censuses

@@ -1,0 +1,15 @@
+//! What a search of the schedules of a pace says, as a value and as a text, and the text of a
+//! census.
+#![tactic(auto)]
+
+mod answers;
+mod census;
+mod printing;
+mod processes;
+mod texts;
+mod words;
+
+pub use answers::{SearchAnswer, answer_of};
+pub use census::print_census;
+pub use processes::process_of;
+pub use words::{fact_of, word_of};

@@ -1,0 +1,108 @@
+//! The text of an answer.
+ghost use Rattle.std.specs.Prelude.{◌++◌, None, codes, OnErr, OnOk};
+ghost use Rattle.std.specs.Io.KnownBytes.{Appends};
+ghost use Rattle.std.specs.List.{last_or};
+ghost use Rattle.apex_history.specs.Counted.{inner_of, failures_of, CountsFailure, AppendsBeginning};
+ghost use Rattle.apex_schedules.specs.Printing.{schedule_text};
+ghost use Rattle.apex_answers.specs.Answers.{answer_text};
+ghost use Rattle.apex_answers.specs.Texts.{found_head, found_text, line_in};
+
+use crate::answers::SearchAnswer;
+use crate::texts::{found_head, never, none_within, none_within_states};
+use apex_dispatch::Kernel;
+use apex_history::{Counted, Sink, print_entry};
+use apex_process::QueueStore;
+use apex_schedules::print_schedule;
+use apex_types::Event;
+use std::io::{Result, Write};
+
+/// Writes how many events a schedule has, and the schedule, without a line feed.
+fn write_events<W: Sink>(events: &[Event], writer: &mut Counted<W>) -> Result<()>
+    ensures ok { OnOk result
+        (Appends (W.contents (inner_of writer.old)) (W.contents (inner_of writer.new))
+        (found_head events.now ++ schedule_text events.now)) }
+    ensures err { OnErr result
+        (AppendsBeginning (W.contents (inner_of writer.old)) (W.contents (inner_of writer.new))
+        (found_head events.now ++ schedule_text events.now)) }
+    ensures counted { CountsFailure result (failures_of writer.old) (failures_of writer.new) }
+{
+    writer.write_all(found_head(events).as_str().as_bytes())?;
+    print_schedule(events, writer)
+}
+
+/// Writes the line of a kernel's last entry, if it has one.
+fn write_last<W: Sink>(kernel: &Kernel<QueueStore>, writer: &mut Counted<W>) -> Result<()>
+    ensures ok { OnOk result
+        (Appends (W.contents (inner_of writer.old)) (W.contents (inner_of writer.new))
+        (line_in kernel.now.table (last_or None kernel.now.machine.history))) }
+    ensures err { OnErr result
+        (AppendsBeginning (W.contents (inner_of writer.old)) (W.contents (inner_of writer.new))
+        (line_in kernel.now.table (last_or None kernel.now.machine.history))) }
+    ensures counted { CountsFailure result (failures_of writer.old) (failures_of writer.new) }
+{
+    kernel.holds();
+    match kernel.entries().latest() {
+        Some(entry) => print_entry(kernel.table(), &entry, writer),
+        None => Ok(()),
+    }
+}
+
+/// Writes a line feed, and the line of a kernel's last entry.
+fn write_entry<W: Sink>(kernel: &Kernel<QueueStore>, writer: &mut Counted<W>) -> Result<()>
+    ensures ok { OnOk result
+        (Appends (W.contents (inner_of writer.old)) (W.contents (inner_of writer.new))
+        (codes "\nentry: " ++ line_in kernel.now.table (last_or None kernel.now.machine.history))) }
+    ensures err { OnErr result
+        (AppendsBeginning (W.contents (inner_of writer.old)) (W.contents (inner_of writer.new))
+        (codes "\nentry: " ++ line_in kernel.now.table (last_or None kernel.now.machine.history))) }
+    ensures counted { CountsFailure result (failures_of writer.old) (failures_of writer.new) }
+{
+    writer.write_all(b"\nentry: ")?;
+    write_last(kernel, writer)
+}
+
+/// Writes a schedule that was found, and the line of the last entry of its kernel.
+fn write_found<W: Sink>(
+    events: &[Event],
+    kernel: &Kernel<QueueStore>,
+    writer: &mut Counted<W>,
+) -> Result<()>
+    ensures ok { OnOk result
+        (Appends (W.contents (inner_of writer.old)) (W.contents (inner_of writer.new))
+        (found_text events.now
+        (line_in kernel.now.table (last_or None kernel.now.machine.history)))) }
+    ensures err { OnErr result
+        (AppendsBeginning (W.contents (inner_of writer.old)) (W.contents (inner_of writer.new))
+        (found_text events.now
+        (line_in kernel.now.table (last_or None kernel.now.machine.history)))) }
+    ensures counted { CountsFailure result (failures_of writer.old) (failures_of writer.new) }
+{
+    write_events(events, writer)?;
+    write_entry(kernel, writer)
+}
+
+impl SearchAnswer {
+    /// Writes the text of the answer of a search with room for this many states. Takes no memory.
+    ///
+    /// If a write failed, a prefix of the text was written.
+    pub fn print<W: Sink>(&self, room: u32, writer: &mut Counted<W>) -> Result<()>
+        ensures ok { OnOk result
+            (Appends (W.contents (inner_of writer.old)) (W.contents (inner_of writer.new))
+            (answer_text room self.now)) }
+        ensures err { OnErr result
+            (AppendsBeginning (W.contents (inner_of writer.old)) (W.contents (inner_of writer.new))
+            (answer_text room self.now)) }
+        ensures counted { CountsFailure result (failures_of writer.old) (failures_of writer.new) }
+    {
+        match self {
+            SearchAnswer::Found(events, kernel) => write_found(events.as_slice(), kernel, writer),
+            SearchAnswer::Never(states) => writer.write_all(never(*states).as_str().as_bytes()),
+            SearchAnswer::NoneWithin(depth) => {
+                writer.write_all(none_within_states(*depth, room).as_str().as_bytes())
+            }
+            SearchAnswer::Beyond(limit) => {
+                writer.write_all(none_within(*limit as usize).as_str().as_bytes())
+            }
+        }
+    }
+}
