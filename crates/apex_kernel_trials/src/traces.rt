@@ -36,7 +36,8 @@ discipline = "FIFO"
 const COUNTER: &str = "\"ph\":\"C\"";
 
 /// What follows that in each of these lines. Before the first entry the semaphore has its initial
-/// value, and the buffer is empty. The signal is entry 7, and the send entry 8.
+/// value, and the buffer is empty. The signal is entry 7, and the send entry 8; seven and eight
+/// moments of time 0 come before the moments after them.
 const COUNTERS: [&str; 4] = [
     r#","pid":3,"ts":0,"name":"semaphore S","args":{"value":1}},"#,
     r#","pid":3,"ts":0,"name":"buffer B","args":{"messages":0}},"#,

@@ -6,6 +6,7 @@ use Rattle.apex_machine.specs.processes.Roster.{Roster, opening_roster}
 use Rattle.apex_machine.specs.processes.Running.{chosen}
 use Rattle.apex_machine.specs.table.Table.{Table}
 use Rattle.apex_pictures.specs.Counts.{Counts, content_of, counts_after, counts_of, value_of}
+use Rattle.apex_pictures.specs.Instants.{instant_after}
 use Rattle.apex_pictures.specs.Laws.{ArePictures, CountsAll, Says}
 use Rattle.apex_pictures.specs.Moments.{Column, Shown, cell_of, column_of, columns_from, moment_of, no_cell, picture}
 use Rattle.apex_pictures.specs.Terms.{Cell, Entry}
@@ -15,6 +16,8 @@ use Rattle.apex_pictures.proofs.Places.{found_at, place_of}
 -- the entry, the roster and the counts of column k, by the entries before the first
 record IsColumn (table : Table) (done entries : List Entry) (rosters : List Roster) (k : ℕ) (column : Column) : Type 0 where
   entry : slice_get entries k ≡ Some column.entry
+  begun : column.begun ≡ instant_after (done ++ take k entries)
+  ended : column.ended ≡ instant_after (done ++ take (suc k) entries)
   roster : Roster
   after : slice_get rosters k ≡ Some roster
   shown : column.after ≡ moment_of roster (counts_after table (done ++ take (suc k) entries))
@@ -29,6 +32,8 @@ column_at table done before (entry ∷ entries) (roster ∷ rosters) zero column
     let same : column_of table done before entry roster ≡ column = cc in
     record {
       entry = ap (λ (c : Column). Some c.entry) same;
+      begun = ap (λ (c : Column). c.begun) (sym same) ∙ ap instant_after (sym (append-nil done));
+      ended = ap (λ (c : Column). c.ended) (sym same);
       roster = roster;
       after = refl;
       shown = ap (λ (c : Column). c.after) (sym same);
@@ -39,6 +44,8 @@ column_at table done before (entry ∷ entries) (roster ∷ rosters) (suc k) col
     let rest = column_at table (done ++ entry ∷ []) roster entries rosters k column is in
     record {
       entry = rest.entry;
+      begun = rest.begun ∙ ap instant_after (append_assoc done (entry ∷ []) (take k entries));
+      ended = rest.ended ∙ ap instant_after (append_assoc done (entry ∷ []) (take (suc k) entries));
       roster = rest.roster;
       after = rest.after;
       shown = rest.shown ∙ ap (λ (l : List Entry). moment_of rest.roster (counts_after table l))
@@ -66,6 +73,8 @@ column_says table machine k column is =
     let roster = found.roster in
     record {
       entry = found.entry;
+      begun = found.begun;
+      ended = rw (add-one k) found.ended;
       roster = roster;
       after = found.after;
       state = λ p within. ap (λ (s : Shown). (slice_index_or s.cells p no_cell).state) found.shown

@@ -6,6 +6,7 @@ use Rattle.apex_machine.specs.table.Table.{Table}
 use Rattle.apex_machine.specs.text.Listing.{texts_of}
 use Rattle.apex_pictures.specs.Counters.{change_text, changed_text, content_at, count_text, counter_text, counters_text, same_count, value_at}
 use Rattle.apex_pictures.specs.Counts.{Counts, HasCounts, content_of, counts_of, value_of, with_contents, with_values}
+use Rattle.apex_pictures.specs.Instants.{time_text}
 use Rattle.apex_pictures.specs.Places.{of_places}
 use Rattle.apex_json.specs.Strings.{json_text}
 use Rattle.apex_pictures.proofs.Places.{found_at, length_of}
@@ -23,7 +24,7 @@ value_counted : (name : List ℕ) (time count : ℕ)
     ≡ count_text (codes "semaphore") name (codes "value") time count
 unfolding count_text
 value_counted name time count =
-    seven (codes ",\n{\"ph\":\"C\",\"pid\":3,\"ts\":") (decimal time) (codes ",\"name\":\"semaphore ") (json_text name)
+    seven (codes ",\n{\"ph\":\"C\",\"pid\":3,\"ts\":") (time_text time) (codes ",\"name\":\"semaphore ") (json_text name)
     (codes "\",\"args\":{\"value\":") (decimal count) (codes "}}")
 
 -- the count of a buffer
@@ -32,7 +33,7 @@ content_counted : (name : List ℕ) (time count : ℕ)
     ≡ count_text (codes "buffer") name (codes "messages") time count
 unfolding count_text
 content_counted name time count =
-    seven (codes ",\n{\"ph\":\"C\",\"pid\":3,\"ts\":") (decimal time) (codes ",\"name\":\"buffer ") (json_text name)
+    seven (codes ",\n{\"ph\":\"C\",\"pid\":3,\"ts\":") (time_text time) (codes ",\"name\":\"buffer ") (json_text name)
     (codes "\",\"args\":{\"messages\":") (decimal count) (codes "}}")
 
 -- a value that is not the one before

@@ -1,8 +1,11 @@
 pub mod Places
 pub mod ReadBack
 pub mod Said
+pub mod Called
+pub mod NextInstants
 pub mod Pictured
 pub mod Drawn
+pub mod Order
 pub mod Columns
 pub mod Counted
 pub mod SlicesWhole

@@ -8,9 +8,12 @@ use Rattle.apex_machine.specs.Machine.{Machine, accept, events_of, happen, openi
 use Rattle.apex_machine.specs.processes.Roster.{Roster, opening_roster}
 use Rattle.apex_machine.specs.table.Table.{Table}
 use Rattle.apex_laws.proofs.Runs.{accept-full, accept-room}
-use Rattle.apex_pictures.specs.Moments.{Column, Shown, column_of, columns_from, moment_in, picture}
+use Rattle.apex_pictures.specs.Instants.{instant_after, next_instant}
+use Rattle.apex_pictures.specs.Moments.{Column, column_of, columns_from, moment_in, picture}
 use Rattle.apex_pictures.specs.Drawing.{IsPictured, last_roster}
 use Rattle.apex_pictures.specs.Terms.{Entry, Event}
+use Rattle.apex_pictures.specs.declared.instants.Instant.{Instant}
+use Rattle.apex_pictures.proofs.NextInstants.{instant_next, next_now}
 
 last_push : (before : Roster) (rosters : List Roster) (roster : Roster)
     → last_roster before (rosters ++ roster ∷ []) ≡ roster
@@ -50,6 +53,47 @@ unfolding turn tick
 event_adds table machine (Turn core) = (_, _, refl)
 event_adds table machine (Tick n) = (_, _, refl)
 
+-- the time of the entry is that of the roster after it
+event_timed : (table : Table) (machine : Machine) (event : Event)
+    → (entry : Entry) × (happen table machine event).history ≡ machine.history ++ entry ∷ []
+    × (happen table machine event).roster.now ≡ entry.now
+unfolding turn tick
+event_timed table machine (Turn core) = (_, refl, refl)
+event_timed table machine (Tick n) = (_, refl, refl)
+
+-- the instant after an event for which there was room
+pub instant_more : (table : Table) (machine new : Machine) (event : Event) → length machine.history < table.limit
+    → new ≡ accept table machine event
+    → instant_after new.history ≡ next_instant (instant_after machine.history) new.roster.now
+instant_more table machine new event room is =
+    let (entry, history, now) = event_timed table machine event in
+    let whole : new ≡ happen table machine event = is ∙ accept-room table machine event room in
+    ap (λ (m : Machine). instant_after m.history) whole ∙ ap instant_after history
+    ∙ instant_next machine.history entry
+    ∙ ap (next_instant (instant_after machine.history)) (sym (ap (λ (m : Machine). m.roster.now) whole ∙ now))
+
+-- the time of the instant after a history is that of the roster
+abbrev IsTimed : Machine → Type 0
+IsTimed machine = (instant_after machine.history).now ≡ machine.roster.now
+
+timed_accept : (table : Table) (machine : Machine) (event : Event) → IsTimed machine → IsTimed (accept table machine event)
+timed_accept table machine event timed = elim (cases_lt (length machine.history) table.limit) [
+  | inl room ↦
+      ap (λ (i : Instant). i.now) (instant_more table machine (accept table machine event) event room refl)
+      ∙ next_now (instant_after machine.history) (accept table machine event).roster.now
+  | inr full ↦ subst IsTimed (sym (accept-full table machine event full)) timed
+]
+
+timed_run : (table : Table) (events : List Event) (machine : Machine) → IsTimed machine → IsTimed (run table machine events)
+timed_run table [] machine timed = timed
+timed_run table (event ∷ events) machine timed =
+    timed_run table events (accept table machine event) (timed_accept table machine event timed)
+
+pub timed_machine : (table : Table) (machine : Machine) → replay table machine.history ≡ machine
+    → (instant_after machine.history).now ≡ machine.roster.now
+timed_machine table machine again =
+    subst IsTimed again (timed_run table (events_of machine.history) (opening table) refl)
+
 -- the columns of a machine with one entry more
 module _ (table : Table) (machine : Machine) (pictured : IsPictured table machine) where
   pictured_longer : (entry : Entry) (roster : Roster) → IsPictured table (longer machine entry roster)
@@ -76,19 +120,36 @@ module _ (table : Table) (machine : Machine) (pictured : IsPictured table machin
   pub column_more : (event : Event) (new : Machine) (found : Entry) → length machine.history < table.limit
       → new ≡ accept table machine event → last_or None new.history ≡ Some found
       → picture table new ≡ picture table machine
-      ++ record { before = moment_in table machine; entry = found; after = moment_in table new } ∷ []
+      ++ record {
+        begun = instant_after machine.history;
+        ended = instant_after new.history;
+        before = moment_in table machine;
+        entry = found;
+        after = moment_in table new;
+      } ∷ []
   column_more event new found room is latest =
       let (entry, roster, adds) = event_adds table machine event in
       let whole : new ≡ longer machine entry roster = is ∙ accept-room table machine event room ∙ adds in
       let some : Some entry ≡ Some found =
       sym (last_put None machine.history entry) ∙ ap (λ (m : Machine). last_or None m.history) (sym whole) ∙ latest in
       let same : entry ≡ found = cc in
-      let after : moment_in table (longer machine entry roster) ≡ moment_in table new = ap (moment_in table) (sym whole) in
       ap (picture table) whole ∙ column_longer entry roster
-      ∙ ap (λ (shown : Shown). picture table machine
-      ++ record { before = moment_in table machine; entry = entry; after = shown } ∷ []) after
+      ∙ ap (λ (m : Machine). picture table machine
+      ++ record {
+        begun = instant_after machine.history;
+        ended = instant_after m.history;
+        before = moment_in table machine;
+        entry = entry;
+        after = moment_in table m;
+      } ∷ []) (sym whole)
       ∙ ap (λ (e : Entry). picture table machine
-      ++ record { before = moment_in table machine; entry = e; after = moment_in table new } ∷ []) same
+      ++ record {
+        begun = instant_after machine.history;
+        ended = instant_after new.history;
+        before = moment_in table machine;
+        entry = e;
+        after = moment_in table new;
+      } ∷ []) same
 
   -- an event for which there was room has a latest entry
   pub latest_some : (event : Event) (new : Machine) → length machine.history < table.limit

@@ -6,7 +6,7 @@ use Rattle.apex_machine.specs.table.Table.{Table}
 use Rattle.apex_pictures.specs.Svg.{bare, said_line}
 use Rattle.apex_pictures.specs.Terms.{Entry}
 
-zero_text : decimal 0 ≡ codes "0"
+pub zero_text : decimal 0 ≡ codes "0"
 zero_text = decimal_digit 0 (omega arith)
 
 pub bare_line : (table : Table) (e : Entry) → line_of table (bare e) ≡ codes "0 0 ticker - " ++ said_line table e

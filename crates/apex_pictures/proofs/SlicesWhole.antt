@@ -1,6 +1,7 @@
 -- The texts of a slice's end and of its beginning, put together.
 use Rattle.std.proofs.Common.{◌≡◌, ◌∙◌, ℕ, List, ◌++◌, ap, sym, append_assoc, inl, inr, codes, decimal, arith}
 use Rattle.std.proofs.lemmas.Fmt.{decimal_digit}
+use Rattle.apex_pictures.specs.Instants.{time_text}
 use Rattle.apex_pictures.specs.Stamps.{IsGroup, begin_back, begin_front, end_back, end_front}
 use Rattle.apex_pictures.specs.Trace.{begin_text, end_text}
 use Rattle.apex_pictures.specs.declared.trace.Spot.{Spot}
@@ -42,6 +43,18 @@ behind : (text a b c after first second : List ℕ) → first ≡ text ++ a → 
 behind text a b c after first second x y z =
     z ∙ ap (λ l. l ++ c) (y ∙ ap (λ l. l ++ b) x) ∙ append_assoc (text ++ a) b c ∙ append_assoc text a (b ++ c)
 
+-- six texts behind another one
+pub six_behind : (text a b c d e f one two three four five whole : List ℕ)
+    → one ≡ text ++ a → two ≡ one ++ b → three ≡ two ++ c → four ≡ three ++ d → five ≡ four ++ e → whole ≡ five ++ f
+    → whole ≡ text ++ (a ++ b ++ c ++ d ++ e ++ f)
+six_behind text a b c d e f one two three four five whole u v w x y z =
+    z ∙ ap (λ l. l ++ f) (y ∙ ap (λ l. l ++ e) (x ∙ ap (λ l. l ++ d) (w ∙ ap (λ l. l ++ c) (v ∙ ap (λ l. l ++ b) u))))
+    ∙ ap (λ l. (((l ++ c) ++ d) ++ e) ++ f) (append_assoc text a b)
+    ∙ ap (λ l. ((l ++ d) ++ e) ++ f) (append_assoc text (a ++ b) c)
+    ∙ ap (λ l. (l ++ e) ++ f) (append_assoc text (a ++ b ++ c) d)
+    ∙ ap (λ l. l ++ f) (append_assoc text (a ++ b ++ c ++ d) e)
+    ∙ append_assoc text (a ++ b ++ c ++ d ++ e) f
+
 -- the end of a slice
 pub end_whole : (spot : Spot) (text first second after : List ℕ) → first ≡ text ++ end_front spot.group
     → second ≡ first ++ decimal spot.track → after ≡ second ++ end_back spot.time → after ≡ text ++ end_text spot
@@ -52,7 +65,7 @@ end_whole spot text first second after x y z =
     let ts = codes ",\"ts\":" in
     let group = decimal spot.group in
     let track = decimal spot.track in
-    let time = decimal spot.time in
+    let time = time_text spot.time in
     let rest : end_back spot.time ≡ ts ++ (time ++ codes "}") = append_assoc ts time (codes "}") in
     behind text (end_front spot.group) track (end_back spot.time) after first second x y z
     ∙ ap (λ l. text ++ (end_front spot.group ++ (track ++ l))) rest
@@ -72,7 +85,7 @@ begin_whole spot now text first second after x y z =
     let name = codes "},\"name\":\"" in
     let group = decimal spot.group in
     let track = decimal spot.track in
-    let time = decimal spot.time in
+    let time = time_text spot.time in
     let ticks = decimal now in
     let whole = ts ++ (time ++ (args ++ (ticks ++ name))) in
     let rest : begin_back spot.time now ≡ whole =

@@ -7,6 +7,7 @@ use Rattle.apex_machine.specs.processes.Roster.{Roster}
 use Rattle.apex_machine.specs.processes.Running.{process_state}
 use Rattle.apex_machine.specs.table.Table.{Table}
 use Rattle.apex_types.specs.declared.limits.TheConstants.{MOST_CORES}
+use Rattle.apex_pictures.specs.Calls.{called_text}
 use Rattle.apex_pictures.specs.Counters.{counters_text}
 use Rattle.apex_pictures.specs.Counts.{Counts, HasCounts}
 use Rattle.apex_pictures.specs.Moments.{Shown, cell_of, moment_of, no_cell, none_shown, running_in}
@@ -14,6 +15,7 @@ use Rattle.apex_pictures.specs.Places.{of_places}
 use Rattle.apex_pictures.specs.Terms.{Cell, Entry, State}
 use Rattle.apex_pictures.specs.Trace as trace
 use Rattle.apex_pictures.specs.Tracks.{Fits, Follows, HasTracks, bare, bare_cell, bare_cells, cell_on, no_track, track_of}
+use Rattle.apex_pictures.specs.declared.calls.Span.{Span}
 use Rattle.apex_pictures.specs.declared.styles.Style.{Style}
 use Rattle.apex_pictures.specs.declared.styles.Style.TheVariants.{Svg, Trace}
 use Rattle.apex_pictures.specs.declared.tracks.Track.{Track}
@@ -95,12 +97,12 @@ changes_same table time now before after =
     (length table.processes) (process_same time now before after))
 
 -- the text of a column
-pub column_same : (table : Table) (before : Shown) (entry : Entry) (after : Shown)
-    → trace.column_text table (bare before) entry (bare after) ≡ trace.column_text table before entry after
-column_same table before entry after =
-    ap (λ l. l ++ counters_text table entry.number before.counts after.counts
-    ++ flat_map (trace.missed_text entry.number entry.now) entry.notices)
-    (changes_same table entry.number entry.now before after)
+pub column_same : (table : Table) (span : Span) (before : Shown) (entry : Entry) (after : Shown)
+    → trace.column_text table span (bare before) entry (bare after) ≡ trace.column_text table span before entry after
+column_same table span before entry after =
+    ap (λ l. called_text table span entry ++ l ++ counters_text table span.end before.counts after.counts
+    ++ flat_map (trace.marked_text span.end entry.now) entry.notices)
+    (changes_same table span.end entry.now before after)
 
 -- what comes after the columns
 pub foot_same : (table : Table) (time now : ℕ) (last : Shown)
@@ -126,15 +128,19 @@ follow_fits (Svg frame) tracks shown table follows counts cores = tt
 follow_fits Trace tracks shown table follows counts cores =
     (subst (λ (s : Shown). HasCounts s.counts table) (sym follows) counts, ap (λ (s : Shown). length s.running) follows ∙ cores)
 
--- the changes, the counters and the marks of a column, one behind the other
-pub column_whole : (table : Table) (before : Shown) (entry : Entry) (after : Shown) (text one two whole : List ℕ)
-    → one ≡ text ++ trace.changes_text table entry.number entry.now before after
-    → two ≡ one ++ counters_text table entry.number before.counts after.counts
-    → whole ≡ two ++ flat_map (trace.missed_text entry.number entry.now) entry.notices
-    → whole ≡ text ++ trace.column_text table before entry after
-column_whole table before entry after text one two whole changes counters marks =
-    let changed = trace.changes_text table entry.number entry.now before after in
-    let counted = counters_text table entry.number before.counts after.counts in
-    let missed = flat_map (trace.missed_text entry.number entry.now) entry.notices in
-    marks ∙ ap (λ l. l ++ missed) (counters ∙ ap (λ l. l ++ counted) changes)
-    ∙ ap (λ l. l ++ missed) (append_assoc text changed counted) ∙ append_assoc text (changed ++ counted) missed
+-- the call, the changes, the counters and the marks of a column, one behind the other
+pub column_whole : (table : Table) (span : Span) (before : Shown) (entry : Entry) (after : Shown) (text zero one two whole : List ℕ)
+    → zero ≡ text ++ called_text table span entry
+    → one ≡ zero ++ trace.changes_text table span.end entry.now before after
+    → two ≡ one ++ counters_text table span.end before.counts after.counts
+    → whole ≡ two ++ flat_map (trace.marked_text span.end entry.now) entry.notices
+    → whole ≡ text ++ trace.column_text table span before entry after
+column_whole table span before entry after text zero one two whole call changes counters marks =
+    let called = called_text table span entry in
+    let changed = trace.changes_text table span.end entry.now before after in
+    let counted = counters_text table span.end before.counts after.counts in
+    let marked = flat_map (trace.marked_text span.end entry.now) entry.notices in
+    marks ∙ ap (λ l. l ++ marked) (counters ∙ ap (λ l. l ++ counted) (changes ∙ ap (λ l. l ++ changed) call))
+    ∙ ap (λ l. (l ++ counted) ++ marked) (append_assoc text called changed)
+    ∙ ap (λ l. l ++ marked) (append_assoc text (called ++ changed) counted)
+    ∙ append_assoc text (called ++ changed ++ counted) marked

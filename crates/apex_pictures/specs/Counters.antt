@@ -6,13 +6,14 @@ use Rattle.apex_machine.specs.text.Listing.{texts_of}
 use Rattle.apex_machine.specs.table.Table.{Table}
 use Rattle.apex_machine.specs.text.Texts.{buffer_name, semaphore_name}
 use Rattle.apex_pictures.specs.Counts.{Counts}
+use Rattle.apex_pictures.specs.Instants.{time_text}
 use Rattle.apex_pictures.specs.Svg.{texts}
 use Rattle.apex_json.specs.Strings.{json_text}
 
 -- the count of the object of this kind and name, in this unit
 unfoldable pub count_text : List ℕ → List ℕ → List ℕ → ℕ → ℕ → List ℕ
 count_text kind name unit time count = texts (
-    codes ",\n{\"ph\":\"C\",\"pid\":3,\"ts\":" ∷ decimal time ∷ codes ",\"name\":\"" ∷ kind
+    codes ",\n{\"ph\":\"C\",\"pid\":3,\"ts\":" ∷ time_text time ∷ codes ",\"name\":\"" ∷ kind
     ∷ codes " "
     ∷ json_text name ∷ codes "\",\"args\":{\"" ∷ unit ∷ codes "\":" ∷ decimal count ∷ codes "}}"
     ∷ [])
@@ -20,7 +21,7 @@ count_text kind name unit time count = texts (
 -- the same, by the texts before the name and behind it
 abbrev pub counter_text : List ℕ → List ℕ → List ℕ → ℕ → ℕ → List ℕ
 counter_text front name back time count =
-    codes ",\n{\"ph\":\"C\",\"pid\":3,\"ts\":" ++ decimal time ++ front ++ json_text name ++ back
+    codes ",\n{\"ph\":\"C\",\"pid\":3,\"ts\":" ++ time_text time ++ front ++ json_text name ++ back
     ++ decimal count ++ codes "}}"
 
 -- a count is the one before, if there was one

@@ -1,11 +1,12 @@
 -- What the columns of a picture say.
-use Rattle.std.specs.Prelude.{◌≡◌, ◌+◌, ◌<◌, ℕ, List, Some, None, length, slice_get, slice_index_or, take}
+use Rattle.std.specs.Prelude.{◌≡◌, ◌+◌, ◌*◌, ◌<◌, ℕ, List, Some, None, length, slice_get, slice_index_or, take}
 use Rattle.apex_types.specs.declared.limits.TheConstants.{MOST_CORES}
-use Rattle.apex_machine.specs.Machine.{Machine, objects_after, opening, run}
+use Rattle.apex_machine.specs.Machine.{Machine, accept, objects_after, opening, run}
 use Rattle.apex_machine.specs.processes.Roster.{Roster, record_at}
 use Rattle.apex_machine.specs.processes.Running.{chosen, process_state}
-use Rattle.apex_machine.specs.table.Table.{Table}
+use Rattle.apex_machine.specs.table.Table.{IsLawful, Table}
 use Rattle.apex_pictures.specs.Counts.{Counts, content_of, value_of}
+use Rattle.apex_pictures.specs.Instants.{hundredths, instant_after}
 use Rattle.apex_pictures.specs.Moments.{Column, no_cell, picture}
 use Rattle.apex_pictures.specs.Terms.{Cell, Entry, Event}
 
@@ -23,9 +24,11 @@ pub record CountsAll (table : Table) (done : List Entry) (counts : Counts) : Typ
 
 -- Column k has entry k of the machine's history, and what holds in the roster after that entry: the state of
 -- each process, what it waits for and owns, and the process that each core runs. It has the counts of the
--- objects before the entry and after it.
+-- objects before the entry and after it, and the instants.
 pub record Says (table : Table) (machine : Machine) (k : ℕ) (column : Column) : Type 0 where
   pub entry : slice_get machine.history k ≡ Some column.entry
+  pub begun : column.begun ≡ instant_after (take k machine.history)
+  pub ended : column.ended ≡ instant_after (take (k + 1) machine.history)
   pub roster : Roster
   pub after : slice_get machine.past k ≡ Some roster
   pub state : (p : ℕ) → p < length roster.records
@@ -46,3 +49,18 @@ pub record ArePictures : Type 0 where
       ≡ length (run table (opening table) events).history
   pub says : (table : Table) (machine : Machine) (k : ℕ) (column : Column)
       → slice_get (picture table machine) k ≡ Some column → Says table machine k column
+
+-- On the axis of a trace the moment after an event comes after the one before it. Each moment has the time of
+-- its roster, and is in that tick, which begins at 1,000 units a tick.
+pub record AreInOrder : Type 0 where
+  pub rises : (table : Table) → IsLawful table → (events : List Event) (event : Event)
+      → length (run table (opening table) events).history < table.limit
+      → hundredths (instant_after (run table (opening table) events).history)
+      < hundredths (instant_after
+      (accept table (run table (opening table) events) event).history)
+  pub time : (table : Table) → IsLawful table → (events : List Event)
+      → (instant_after (run table (opening table) events).history).now
+      ≡ (run table (opening table) events).roster.now
+  pub ticks : (table : Table) → IsLawful table → (events : List Event)
+      → hundredths (instant_after (run table (opening table) events).history)
+      < 100000 * ((instant_after (run table (opening table) events).history).now + 1)

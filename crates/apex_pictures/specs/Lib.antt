@@ -2,9 +2,11 @@ pub mod Terms
 pub mod Texts
 pub mod Places
 pub mod Counts
+pub mod Instants
 pub mod Moments
 pub mod Svg
 pub mod Counters
+pub mod Calls
 pub mod Trace
 pub mod Stamps
 pub mod Tracks

@@ -1,6 +1,8 @@
 -- The processes and the counts after an entry, as a picture shows them, and the columns of a picture.
 use Rattle.std.specs.Prelude.{ℕ, List, [], ◌∷◌, ◌++◌, length, Option, None}
 use Rattle.apex_pictures.specs.Counts.{Counts, counts_after, no_counts}
+use Rattle.apex_pictures.specs.Instants.{instant_after}
+use Rattle.apex_pictures.specs.declared.instants.Instant.{Instant}
 use Rattle.apex_pictures.specs.Places.{of_places}
 use Rattle.apex_pictures.specs.Terms.{Cell, Entry}
 use Rattle.apex_types.specs.declared.modes.State.TheVariants.{Dormant}
@@ -56,8 +58,10 @@ moment_of roster counts = record {
 abbrev pub moment_in : Table → Machine → Shown
 moment_in table machine = moment_of machine.roster (counts_after table machine.history)
 
--- a column of a picture: an entry, and the moments before and after it
+-- a column of a picture: an entry, the moments before and after it, and their instants
 pub record Column : Type 0 where
+  pub begun : Instant
+  pub ended : Instant
   pub before : Shown
   pub entry : Entry
   pub after : Shown
@@ -65,6 +69,8 @@ pub record Column : Type 0 where
 -- the column of an entry, by the entries and the roster before it, and the roster after it
 abbrev pub column_of : Table → List Entry → Roster → Entry → Roster → Column
 column_of table done before entry after = record {
+  begun = instant_after done;
+  ended = instant_after (done ++ entry ∷ []);
   before = moment_of before (counts_after table done);
   entry = entry;
   after = moment_of after (counts_after table (done ++ entry ∷ []));

@@ -1,10 +1,13 @@
 -- The text of a picture of a machine.
-use Rattle.std.specs.Prelude.{ℕ, ◌+◌, List, ◌++◌, flat_map, length}
+use Rattle.std.specs.Prelude.{ℕ, List, ◌++◌, flat_map}
 use Rattle.apex_machine.specs.Machine.{Machine, opening}
 use Rattle.apex_machine.specs.table.Table.{Table}
+use Rattle.apex_pictures.specs.Instants.{hundredths, instant_after, next_instant}
 use Rattle.apex_pictures.specs.Moments.{Column, moment_in, picture}
 use Rattle.apex_pictures.specs.Svg as svg
 use Rattle.apex_pictures.specs.Trace as trace
+use Rattle.apex_pictures.specs.declared.calls.Span.{Span}
+use Rattle.apex_pictures.specs.declared.instants.Instant.{Instant}
 use Rattle.apex_pictures.specs.declared.styles.Style.{Style}
 use Rattle.apex_pictures.specs.declared.styles.Style.TheVariants.{Svg, Trace}
 
@@ -13,16 +16,26 @@ abbrev pub head_text : Style → Table → List ℕ
 head_text (Svg frame) table = svg.head_text table frame
 head_text Trace table = trace.head_text table (moment_in table (opening table))
 
+-- the time between two instants
+abbrev pub span_of : Instant → Instant → Span
+span_of begun ended = record { begin = hundredths begun; end = hundredths ended }
+
 -- a column
 abbrev pub column_text : Style → Table → Column → List ℕ
 column_text (Svg frame) table column = svg.column_text table frame column.entry column.after
-column_text Trace table column = trace.column_text table column.before column.entry column.after
+column_text Trace table column =
+    trace.column_text table (span_of column.begun column.ended) column.before column.entry column.after
+
+-- where a picture ends: at the instant that the next moment would have now
+abbrev pub end_time : Machine → ℕ
+end_time machine =
+    hundredths (next_instant (instant_after machine.history) machine.roster.now)
 
 -- what comes after the columns
 abbrev pub foot_text : Style → Table → Machine → List ℕ
 foot_text (Svg frame) table machine = svg.key_text frame
 foot_text Trace table machine =
-    trace.foot_text table (length machine.history + 1) machine.roster.now (moment_in table machine)
+    trace.foot_text table (end_time machine) machine.roster.now (moment_in table machine)
 
 -- the columns of a machine's picture
 abbrev pub columns_text : Style → Table → Machine → List ℕ

@@ -1,5 +1,6 @@
 -- The texts of a slice's end and of its beginning, before the number of its track and behind it.
 use Rattle.std.specs.Prelude.{◌≡◌, ◌⊎◌, ℕ, List, ◌++◌, codes, decimal}
+use Rattle.apex_pictures.specs.Instants.{time_text}
 use Rattle.apex_pictures.specs.declared.stamps.Stamp.{Stamp}
 use Rattle.apex_pictures.specs.declared.trace.Spot.{Spot}
 
@@ -9,7 +10,7 @@ end_front group = codes ",\n{\"ph\":\"E\",\"pid\":" ++ decimal group ++ codes ",
 
 -- the rest of it
 abbrev pub end_back : ℕ → List ℕ
-end_back time = codes ",\"ts\":" ++ decimal time ++ codes "}"
+end_back time = codes ",\"ts\":" ++ time_text time ++ codes "}"
 
 -- the beginning of a slice, up to the number of its track
 abbrev pub begin_front : ℕ → List ℕ
@@ -18,7 +19,7 @@ begin_front group = codes ",\n{\"ph\":\"B\",\"pid\":" ++ decimal group ++ codes 
 -- the rest of it, up to the slice's name
 abbrev pub begin_back : ℕ → ℕ → List ℕ
 begin_back time now =
-    codes ",\"ts\":" ++ decimal time ++ codes ",\"args\":{\"now\":" ++ decimal now
+    codes ",\"ts\":" ++ time_text time ++ codes ",\"args\":{\"now\":" ++ decimal now
     ++ codes "},\"name\":\""
 
 -- the texts of a stamp are those of this time

@@ -1,40 +1,47 @@
 -- A picture as a trace in the Trace Event Format, which is JSON. The groups of tracks are the cores (1), the
--- processes (2) and the objects (3); an entry's number is its time, and the partition's time is an argument.
+-- processes (2) and the objects (3). A tick is 1,000 units of the axis; times are hundredths of a unit, and the
+-- partition's time is an argument too.
 use Rattle.std.specs.Prelude.{ℕ, ◌+◌, Bool, true, false, List, [], ◌∷◌, ◌++◌, Option, None, Some, is_some, codes, decimal, flat_map, length, slice_index_or, if◌then◌else◌, ◌==◌}
 use Rattle.apex_machine.specs.text.Texts.{id_text, process_name}
-use Rattle.apex_calls.specs.Lines.{deadline_text}
+use Rattle.apex_calls.specs.Lines.{code_text, deadline_text}
 use Rattle.apex_machine.specs.text.Listing.{texts_of}
 use Rattle.apex_machine.specs.text.Status.{state_text}
 use Rattle.apex_machine.specs.table.Table.{Table}
 use Rattle.apex_types.specs.declared.entries.Notice.TheVariants.{Woken, Released, Missed}
 use Rattle.apex_types.specs.declared.modes.State.TheVariants.{Dormant, Ready, Running, Waiting}
+use Rattle.apex_pictures.specs.Calls.{called_text}
 use Rattle.apex_pictures.specs.Counters.{counters_text}
 use Rattle.apex_pictures.specs.Counts.{no_counts}
+use Rattle.apex_pictures.specs.Instants.{time_text}
 use Rattle.apex_pictures.specs.Moments.{Shown, no_cell, none_shown}
+use Rattle.apex_pictures.specs.Stamps.{begin_back}
 use Rattle.apex_pictures.specs.Svg.{texts}
 use Rattle.apex_types.specs.declared.modes.DeadlineType.{DeadlineType}
 use Rattle.apex_pictures.specs.Terms.{Entry, Notice, State}
 use Rattle.apex_json.specs.Strings.{json_text}
+use Rattle.apex_pictures.specs.declared.calls.Span.{Span}
 use Rattle.apex_pictures.specs.declared.trace.Spot.{Spot}
 
--- the name of a core's track
+-- the name of a core's track, and its place among those of the cores
 unfoldable pub core_name_text : ℕ → List ℕ
 core_name_text core = texts (
     codes ",\n{\"ph\":\"M\",\"pid\":1,\"tid\":" ∷ decimal core
-    ∷ codes ",\"name\":\"thread_name\",\"args\":{\"name\":\"core " ∷ decimal core ∷ codes "\"}}"
-    ∷ [])
+    ∷ codes ",\"name\":\"thread_name\",\"args\":{\"name\":\"core " ∷ decimal core
+    ∷ codes "\"}},\n{\"ph\":\"M\",\"pid\":1,\"tid\":" ∷ decimal core
+    ∷ codes ",\"name\":\"thread_sort_index\",\"args\":{\"sort_index\":" ∷ decimal core ∷ codes "}}" ∷ [])
 
--- the name of a process's track
+-- the name of a process's track, and its place among those of the processes
 unfoldable pub process_name_text : Table → ℕ → List ℕ
 process_name_text table p = texts (
     codes ",\n{\"ph\":\"M\",\"pid\":2,\"tid\":" ∷ id_text p
     ∷ codes ",\"name\":\"thread_name\",\"args\":{\"name\":\"" ∷ json_text (process_name table p)
-    ∷ codes "\"}}" ∷ [])
+    ∷ codes "\"}},\n{\"ph\":\"M\",\"pid\":2,\"tid\":" ∷ id_text p
+    ∷ codes ",\"name\":\"thread_sort_index\",\"args\":{\"sort_index\":" ∷ id_text p ∷ codes "}}" ∷ [])
 
--- the beginning of the file: the names of the groups
+-- the beginning of the file: the unit of the ruler, the program and the names of the groups
 unfoldable pub opening_text : List ℕ
 opening_text =
-    codes "{\"traceEvents\":[\n{\"ph\":\"M\",\"pid\":1,\"name\":\"process_name\",\"args\":{\"name\":\"cores\"}},\n{\"ph\":\"M\",\"pid\":2,\"name\":\"process_name\",\"args\":{\"name\":\"processes\"}},\n{\"ph\":\"M\",\"pid\":3,\"name\":\"process_name\",\"args\":{\"name\":\"objects\"}}"
+    codes "{\"displayTimeUnit\":\"ms\",\"otherData\":{\"program\":\"apex\"},\"traceEvents\":[\n{\"ph\":\"M\",\"pid\":1,\"name\":\"process_name\",\"args\":{\"name\":\"cores\"}},\n{\"ph\":\"M\",\"pid\":2,\"name\":\"process_name\",\"args\":{\"name\":\"processes\"}},\n{\"ph\":\"M\",\"pid\":3,\"name\":\"process_name\",\"args\":{\"name\":\"objects\"}}"
 
 -- what comes before the columns: the names of the tracks, and all counts of the moment before the first entry
 abbrev pub head_text : Table → Shown → List ℕ
@@ -47,13 +54,13 @@ head_text table first =
 unfoldable pub end_text : Spot → List ℕ
 end_text spot = texts (
     codes ",\n{\"ph\":\"E\",\"pid\":" ∷ decimal spot.group ∷ codes ",\"tid\":" ∷ decimal spot.track
-    ∷ codes ",\"ts\":" ∷ decimal spot.time ∷ codes "}" ∷ [])
+    ∷ codes ",\"ts\":" ∷ time_text spot.time ∷ codes "}" ∷ [])
 
 -- the beginning of a slice, up to its name
 unfoldable pub begin_text : Spot → ℕ → List ℕ
 begin_text spot now = texts (
     codes ",\n{\"ph\":\"B\",\"pid\":" ∷ decimal spot.group ∷ codes ",\"tid\":" ∷ decimal spot.track
-    ∷ codes ",\"ts\":" ∷ decimal spot.time ∷ codes ",\"args\":{\"now\":" ∷ decimal now
+    ∷ codes ",\"ts\":" ∷ time_text spot.time ∷ codes ",\"args\":{\"now\":" ∷ decimal now
     ∷ codes "},\"name\":\"" ∷ [])
 
 -- the name of the slice of a process that a core runs
@@ -140,19 +147,18 @@ abbrev pub process_at : ℕ → ℕ → Shown → Shown → ℕ → List ℕ
 process_at time now before after p =
     process_text (process_spot p time) now (state_at before p) (state_at after p)
 
--- the mark of a missed deadline
-unfoldable pub miss_text : ℕ → ℕ → ℕ → DeadlineType → List ℕ
-miss_text time now p kind = texts (
-    codes ",\n{\"ph\":\"i\",\"s\":\"t\",\"pid\":2,\"tid\":" ∷ id_text p ∷ codes ",\"ts\":"
-    ∷ decimal time
-    ∷ codes ",\"args\":{\"now\":" ∷ decimal now ∷ codes "},\"name\":\"missed " ∷ deadline_text kind
-    ∷ codes "\"}" ∷ [])
+-- the mark of a notice on the track of process p, by the two words of its name
+abbrev pub mark_text : ℕ → ℕ → ℕ → List ℕ → List ℕ → List ℕ
+mark_text time now p word detail =
+    codes ",\n{\"ph\":\"i\",\"s\":\"t\",\"pid\":2,\"tid\":" ++ id_text p ++ begin_back time now ++ word
+    ++ detail ++ codes "\"}"
 
--- the mark of a notice of a missed deadline; other notices have none
-abbrev pub missed_text : ℕ → ℕ → Notice → List ℕ
-missed_text time now (Missed p kind) = miss_text time now p kind
-missed_text time now (Woken p code) = []
-missed_text time now (Released p) = []
+-- the mark of a notice: what it says of the process
+abbrev pub marked_text : ℕ → ℕ → Notice → List ℕ
+marked_text time now (Missed p kind) =
+    mark_text time now p (codes "missed ") (deadline_text kind)
+marked_text time now (Woken p code) = mark_text time now p (codes "woken ") (code_text code)
+marked_text time now (Released p) = mark_text time now p (codes "released") []
 
 -- the changes on all tracks
 abbrev pub changes_text : Table → ℕ → ℕ → Shown → Shown → List ℕ
@@ -160,12 +166,14 @@ changes_text table time now before after =
     texts_of (core_at table time now before after) table.cores
     ++ texts_of (process_at time now before after) (length table.processes)
 
--- the changes by an entry on the tracks and of the counters, and the marks of the deadlines that were missed
-abbrev pub column_text : Table → Shown → Entry → Shown → List ℕ
-column_text table before entry after =
-    changes_text table entry.number entry.now before after
-    ++ counters_text table entry.number before.counts after.counts
-    ++ flat_map (missed_text entry.number entry.now) entry.notices
+-- the call of an entry, and at its end the changes on the tracks and of the counters, and the marks of its
+-- notices
+abbrev pub column_text : Table → Span → Shown → Entry → Shown → List ℕ
+column_text table span before entry after =
+    called_text table span entry
+    ++ changes_text table span.end entry.now before after
+    ++ counters_text table span.end before.counts after.counts
+    ++ flat_map (marked_text span.end entry.now) entry.notices
 
 -- what comes after the columns: the ends of all slices
 abbrev pub foot_text : Table → ℕ → ℕ → Shown → List ℕ

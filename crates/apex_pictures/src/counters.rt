@@ -8,6 +8,7 @@ ghost use Rattle.apex_pictures.specs.Counts.{content_of, no_counts, value_of, wi
 ghost use Rattle.apex_pictures.specs.Places.{of_places};
 
 use crate::counts::{Counts, content_of, count_at, value_of};
+use crate::instants::time_text;
 use crate::texts::{put, put_number};
 use apex_dispatch::Kernel;
 use apex_json::put_json;
@@ -25,6 +26,8 @@ struct Counter<'a> {
 }
 
 /// Puts the count of an object.
+// Not inlined, as an entry changes few counts.
+#[inline(never)]
 #[tactic(auto, using(std::proofs::Common::append_assoc))]
 fn put_count(
     text: &mut Vec<u8>,
@@ -37,7 +40,7 @@ fn put_count(
         count) }
 {
     put(text, ",\n{\"ph\":\"C\",\"pid\":3,\"ts\":")?;
-    put_number(text, time)?;
+    put(text, time_text(time).as_str())?;
     put(text, counter.front)?;
     put_json(text, counter.name)?;
     put(text, counter.back)?;
@@ -45,6 +48,7 @@ fn put_count(
     put(text, "}}")
 }
 
+#[inline(always)]
 fn is_same_count(before: &Option<u64>, count: u64) -> bool
     ensures { result ≡ same_count before.now count }
 {
@@ -55,6 +59,7 @@ fn is_same_count(before: &Option<u64>, count: u64) -> bool
 }
 
 /// Puts the value of a semaphore, if it is not the one before.
+#[inline(always)]
 fn put_value(
     text: &mut Vec<u8>,
     table: &Table,
@@ -80,6 +85,7 @@ fn put_value(
 }
 
 /// Puts the content of a buffer, if it is not the one before.
+#[inline(always)]
 fn put_content(
     text: &mut Vec<u8>,
     table: &Table,

@@ -30,6 +30,7 @@ impl Model for Counts {
 }
 
 /// The value of a semaphore; 0 if there is no such semaphore.
+#[inline(always)]
 pub(crate) fn value_of<S: Store>(kernel: &Kernel<S>, semaphore: SemaphoreId) -> u64
     ensures { result ≡ value_of kernel.now.objects semaphore }
 {
@@ -37,6 +38,7 @@ pub(crate) fn value_of<S: Store>(kernel: &Kernel<S>, semaphore: SemaphoreId) -> 
 }
 
 /// The number of messages in a buffer; 0 if there is no such buffer.
+#[inline(always)]
 pub(crate) fn content_of<S: Store>(kernel: &Kernel<S>, buffer: BufferId) -> u64
     ensures { result ≡ content_of kernel.now.objects buffer }
 {
@@ -79,6 +81,7 @@ pub(crate) fn counts_of<S: Store>(kernel: &Kernel<S>) -> Counts
 }
 
 /// The count at a place.
+#[inline(always)]
 pub(crate) fn count_at(counts: &[u64], place: usize) -> Option<u64>
     ensures { result ≡ slice_get counts.now place }
 {

@@ -1,21 +1,26 @@
 //! The drawing of a picture, column by column, while the partition runs.
-ghost use Rattle.std.specs.Prelude.{◌≡◌, ◌++◌, ◌↔◌, ◌+◌, ◌<◌, [], All, IsOk, length, OnErr, OnOk};
+ghost use Rattle.std.specs.Prelude.{◌≡◌, ◌++◌, ◌↔◌, ◌+◌, ◌<◌, ◌≤◌, [], All, IsOk, length, OnErr, OnOk};
 ghost use Rattle.std.specs.Io.KnownBytes.{Appends};
 ghost use Rattle.apex_calls.specs.Lines.{IsPrintable};
 ghost use Rattle.apex_machine.specs.Machine.{accept, opening, run};
 ghost use Rattle.apex_machine.specs.Events.{IsWithin};
+ghost use Rattle.apex_types.specs.Limits.{latest};
 ghost use Rattle.apex_dispatch.specs.Kernel.{kernel_in};
 ghost use Rattle.apex_history.specs.Counted.{inner_of, failures_of, AppendsBeginning};
 ghost use Rattle.apex_history.specs.Page.{Passes};
+ghost use Rattle.apex_pictures.specs.Instants.{instant_after};
 ghost use Rattle.apex_pictures.specs.Moments.{Shown, moment_in};
 ghost use Rattle.apex_pictures.specs.declared.drawing.DrawFault.TheVariants.{Memory};
 ghost use Rattle.apex_pictures.specs.Drawing.{CountsDrawing, Grows};
-ghost use Rattle.apex_pictures.specs.Pictures.{column_text, foot_text, head_text, picture_text};
+ghost use Rattle.apex_pictures.specs.Pictures.{column_text, foot_text, head_text, picture_text, span_of};
+ghost use Rattle.apex_pictures.specs.declared.instants.Instant.{Instant as InstantOf};
 ghost use Rattle.apex_pictures.specs.Svg as svg_text;
 ghost use Rattle.apex_pictures.specs.Tracks.{Fits, Follows, HasTracks, bare};
 
+use crate::calls::{Calls, Span};
 use crate::counts::counts_of;
 use crate::frames::Frame;
+use crate::instants::Instant;
 use crate::moments::{Moment, moment_of};
 use crate::styles::Style;
 use crate::tracks::{Tracks, tracks_of};
@@ -65,14 +70,17 @@ fn put_head(
     }
 }
 
-/// Puts what comes after the columns of the history so far, of which these are the last tracks.
+/// Puts what comes after the columns of the history so far, of which these are the last instant and
+/// the last tracks.
 fn put_foot<S: Store>(
     text: &mut Vec<u8>,
     style: &Style,
     kernel: &Kernel<S>,
+    instant: Instant,
     last: &Tracks,
 ) -> Result<(), AllocError>
-    requires { Follows style.now last.now (moment_in kernel.now.table kernel.now.machine) }
+    requires shown { Follows style.now last.now (moment_in kernel.now.table kernel.now.machine) }
+    requires instant { instant ≡ instant_after kernel.now.machine.history }
     ensures { OnOk result (text.new.items ≡ text.old.items
         ++ foot_text style.now kernel.now.table kernel.now.machine) }
 {
@@ -80,8 +88,8 @@ fn put_foot<S: Store>(
         Style::Svg(frame) => svg::put_key(text, frame),
         Style::Trace => {
             kernel.holds();
-            let time = kernel.entries().len() as u64 + 1;
-            trace::put_foot(text, kernel.table(), time, kernel.now(), last)
+            let end = instant.next(kernel.now());
+            trace::put_foot(text, kernel.table(), end.hundredths(), kernel.now(), last)
         }
     }
 }
@@ -119,21 +127,26 @@ fn put_svg_column<S: Store>(
     svg::put_column(text, kernel.table(), frame, entry, &moment)
 }
 
-/// Puts the column of the latest entry; if a trace is drawn, `shown` are the tracks before it, and
-/// then those after it.
+/// Puts the column of the latest entry, between these instants; if a trace is drawn, `shown` are the
+/// tracks before it, and then those after it.
 fn put_column<S: Store>(
     text: &mut Vec<u8>,
     style: &Style,
     kernel: &Kernel<S>,
+    span: Span,
     entry: &LentEntry<'_>,
+    calls: &mut Calls,
     shown: &mut Tracks,
 ) -> Result<(), AllocError>
     requires printable { IsPrintable kernel.now.table entry.now }
     requires many { HasTracks style.now shown.old (length kernel.now.machine.roster.records) }
     requires fits { Fits style.now shown.old kernel.now.table }
-    ensures drawn { (before : Shown) → Follows style.now shown.old before
+    ensures drawn { (begun ended : InstantOf) (before : Shown) → span ≡ span_of begun ended
+        → Follows style.now shown.old before
         → OnOk result (text.new.items ≡ text.old.items ++ column_text style.now kernel.now.table
         (record {
+          begun = begun;
+          ended = ended;
           before = before;
           entry = entry.entry.now;
           after = moment_in kernel.now.table kernel.now.machine;
@@ -143,23 +156,38 @@ fn put_column<S: Store>(
 {
     match style {
         Style::Svg(frame) => put_svg_column(text, frame, kernel, entry),
-        Style::Trace => trace::put_column(text, kernel, entry, shown),
+        Style::Trace => trace::put_column(text, kernel, span, entry, calls, shown),
     }
 }
 
-/// Makes the event, and puts its column; if a trace is drawn, `shown` are the tracks before it, and
-/// then those after it.
+/// The time between two instants.
+fn span_of(begun: Instant, ended: Instant) -> Span
+    requires times { (begun.now ≤ latest) × (ended.now ≤ latest) }
+    ensures { result ≡ span_of begun ended }
+{
+    Span {
+        begin: begun.hundredths(),
+        end: ended.hundredths(),
+    }
+}
+
+/// Makes the event, and puts its column. `instant` is that before it, and then that after it; if a
+/// trace is drawn, `shown` are the tracks before it, and then those after it.
 fn draw_event<S: Store>(
     text: &mut Vec<u8>,
     style: &Style,
     kernel: &mut Kernel<S>,
     event: Event,
+    instant: &mut Instant,
+    calls: &mut Calls,
     shown: &mut Tracks,
 ) -> Result<(), AllocError>
     requires within { IsWithin kernel.old.table.cores event }
+    requires instant { instant.old ≡ instant_after kernel.old.machine.history }
     requires shown { Follows style.now shown.old (moment_in kernel.old.table kernel.old.machine) }
     ensures done { kernel.new ≡ kernel_in kernel.old.table
         (accept kernel.old.table kernel.old.machine event) kernel.new.store }
+    ensures instant { OnOk result (instant.new ≡ instant_after kernel.new.machine.history) }
     ensures shown { OnOk result (Follows style.now shown.new
         (moment_in kernel.old.table kernel.new.machine)) }
     ensures drawn { OnOk result (Grows style.now kernel.old.table kernel.old.machine
@@ -173,7 +201,10 @@ fn draw_event<S: Store>(
     let Some(entry) = kernel.entries().latest() else {
         return Ok(());
     };
-    put_column(text, style, kernel, &entry, shown)
+    let begun = *instant;
+    *instant = begun.next(kernel.now());
+    let span = span_of(begun, *instant);
+    put_column(text, style, kernel, span, &entry, calls, shown)
 }
 
 /// Writes the text out, and forgets it.
@@ -233,17 +264,18 @@ pub fn draw<S: Store, W: Sink>(
 {
     kernel.holds();
     let mut text = Vec::new(alloc);
-    let mut shown = tracks_in(kernel);
+    let (mut instant, mut shown) = (Instant::opening(), tracks_in(kernel));
+    let mut calls = Calls::new();
     let Ok(()) = put_head(&mut text, style, kernel.table(), &shown) else {
         return Err(DrawFault::Memory);
     };
     for event in events {
-        let Ok(()) = draw_event(&mut text, style, kernel, *event, &mut shown) else {
+        let Ok(()) = draw_event(&mut text, style, kernel, *event, &mut instant, &mut calls, &mut shown) else {
             return Err(DrawFault::Memory);
         };
         make_room(&mut text, writer)?;
     }
-    let Ok(()) = put_foot(&mut text, style, kernel, &shown) else {
+    let Ok(()) = put_foot(&mut text, style, kernel, instant, &shown) else {
         return Err(DrawFault::Memory);
     };
     hand_on(&mut text, writer)

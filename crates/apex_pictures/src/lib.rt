@@ -3,10 +3,12 @@
 //! of each buffer.
 #![tactic(auto)]
 
+mod calls;
 mod counters;
 mod counts;
 mod drawing;
 mod frames;
+mod instants;
 mod laws;
 mod moments;
 mod pieces;
@@ -21,6 +23,6 @@ mod words;
 pub use counts::Counts;
 pub use drawing::{DrawFault, draw};
 pub use frames::Frame;
-pub use laws::{columns_say_entries, texts_are_read_back};
+pub use laws::{columns_say_entries, moments_are_in_order, texts_are_read_back};
 pub use moments::{Cell, Moment};
 pub use styles::Style;

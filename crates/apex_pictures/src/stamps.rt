@@ -3,20 +3,18 @@ ghost use Rattle.std.specs.Prelude.{◌≡◌, ◌≤◌, length};
 ghost use Rattle.apex_pictures.specs.Stamps.{IsGroup, IsStamp, begin_front, end_front};
 ghost use Rattle.apex_pictures.specs.declared.stamps.TheConstants.{BEGIN_ROOM, END_ROOM, FRONT};
 
+use crate::instants::{DIGITS, TIME_ROOM, time_text};
 use arrayvec::ArrayString;
 use itoa::Buffer;
-
-/// The most digits of a time.
-const DIGITS: usize = 20;
 
 /// The bytes before the number of a track.
 pub(crate) const FRONT: usize = 26;
 
 /// The most bytes behind the number of a track at the end of a slice.
-pub(crate) const END_ROOM: usize = DIGITS + 7;
+pub(crate) const END_ROOM: usize = TIME_ROOM + 7;
 
 /// The same at the beginning of a slice.
-pub(crate) const BEGIN_ROOM: usize = 2 * DIGITS + 31;
+pub(crate) const BEGIN_ROOM: usize = TIME_ROOM + DIGITS + 31;
 
 /// The time of an entry, and its texts, which are the same in all slices.
 #[derive(Drop)]
@@ -30,20 +28,20 @@ pub(crate) struct Stamp {
 }
 
 impl Stamp {
-    /// The stamp of an entry of this number, and of this time in ticks.
+    /// The stamp of this time on the trace's axis, and of this time in ticks.
     pub(crate) fn new(time: u64, ticks: u64) -> Stamp
         ensures stamp { IsStamp result time }
         ensures ticks { result.ticks ≡ ticks }
     {
-        let (mut time_digits, mut tick_digits) = (Buffer::new(), Buffer::new());
-        let time = time_digits.format(time);
+        let mut tick_digits = Buffer::new();
+        let time = time_text(time);
         let mut end = ArrayString::new();
         end.push_str(",\"ts\":");
-        end.push_str(time);
+        end.push_str(time.as_str());
         end.push_str("}");
         let mut begin = ArrayString::new();
         begin.push_str(",\"ts\":");
-        begin.push_str(time);
+        begin.push_str(time.as_str());
         begin.push_str(",\"args\":{\"now\":");
         begin.push_str(tick_digits.format(ticks));
         begin.push_str("},\"name\":\"");

@@ -1,8 +1,9 @@
 //! A picture as a trace in the Trace Event Format, which is JSON: tracks of the cores and of the
-//! processes, and counters of the objects. An entry's number is its time in microseconds; the
-//! partition's time is an argument.
+//! processes, and counters of the objects. A tick is 1,000 units of the axis; times are hundredths
+//! of a unit, and the partition's time is an argument too.
 ghost use Rattle.std.specs.Prelude.{◌≡◌, ◌+◌, ◌≤◌, ◌++◌, flat_map, is_some, length, map, OnOk};
 ghost use Rattle.arrayvec.specs.ArrayVec.{array_vec_len};
+ghost use Rattle.apex_calls.specs.Lines.{IsPrintable};
 ghost use Rattle.apex_machine.specs.text.Listing.{texts_of};
 ghost use Rattle.apex_types.specs.declared.limits.TheConstants.{MOST_CORES};
 ghost use Rattle.apex_pictures.specs.Counts.{HasCounts};
@@ -14,18 +15,19 @@ ghost use Rattle.apex_pictures.specs.declared.pieces.TheConstants.{PIECE_ROOM};
 ghost use Rattle.apex_pictures.specs.declared.trace.TheConstants.{BEGIN, END, NAME};
 ghost use Rattle.apex_pictures.specs.Tracks.{bare, bare_cells, cell_on, track_of};
 
+use crate::calls::{Calls, Span, put_called};
 use crate::counters::put_first_counts;
 use crate::moments::{CORES, running_at};
 use crate::pieces::{Piece, add, add_number, add_text};
 use crate::stamps::{BEGIN_ROOM, END_ROOM, FRONT, Stamp, begin_front, end_front};
 use crate::texts::{Part, put, put_all};
 use crate::tracks::{Track, Tracks, state_on, track_of};
-use crate::words::{deadline_word, id_part, name_of};
+use crate::words::{code_word, deadline_word, id_part, name_of, put_id};
 use apex_dispatch::Kernel;
 use apex_json::{MOST_ESCAPE, add_json};
 use apex_store::Store;
 use apex_table::Table;
-use apex_types::{CoreId, DeadlineType, LentEntry, MOST_NAME, Notice, ProcessId, State};
+use apex_types::{CoreId, LentEntry, MOST_NAME, Notice, ProcessId, State};
 use std::alloc::AllocError;
 
 /// The place of a slice or a mark in a trace: its group, its track and its time.
@@ -34,10 +36,11 @@ pub(crate) struct Spot {
     /// 1 of the cores, 2 of the processes.
     group: u8,
     track: u32,
+    /// In hundredths of a unit.
     time: u64,
 }
 
-/// Puts the name of a core's track.
+/// Puts the name of a core's track, and its place among those of the cores.
 fn put_core_name(text: &mut Vec<u8>, core: CoreId) -> Result<(), AllocError>
     ensures { OnOk result (text.new.items ≡ text.old.items ++ trace.core_name_text core) }
 {
@@ -48,12 +51,16 @@ fn put_core_name(text: &mut Vec<u8>, core: CoreId) -> Result<(), AllocError>
             Part::Number(u64::from(core.number())),
             Part::Plain(",\"name\":\"thread_name\",\"args\":{\"name\":\"core "),
             Part::Number(u64::from(core.number())),
-            Part::Plain("\"}}"),
+            Part::Plain("\"}},\n{\"ph\":\"M\",\"pid\":1,\"tid\":"),
+            Part::Number(u64::from(core.number())),
+            Part::Plain(",\"name\":\"thread_sort_index\",\"args\":{\"sort_index\":"),
+            Part::Number(u64::from(core.number())),
+            Part::Plain("}}"),
         ],
     )
 }
 
-/// Puts the name of a process's track.
+/// Puts the name of a process's track, and its place among those of the processes.
 fn put_process_name(text: &mut Vec<u8>, table: &Table, process: ProcessId) -> Result<(), AllocError>
     ensures { OnOk result (text.new.items ≡ text.old.items
         ++ trace.process_name_text table.now process) }
@@ -65,7 +72,11 @@ fn put_process_name(text: &mut Vec<u8>, table: &Table, process: ProcessId) -> Re
             id_part(process),
             Part::Plain(",\"name\":\"thread_name\",\"args\":{\"name\":\""),
             Part::Json(name_of(table, process)),
-            Part::Plain("\"}}"),
+            Part::Plain("\"}},\n{\"ph\":\"M\",\"pid\":2,\"tid\":"),
+            id_part(process),
+            Part::Plain(",\"name\":\"thread_sort_index\",\"args\":{\"sort_index\":"),
+            id_part(process),
+            Part::Plain("}}"),
         ],
     )
 }
@@ -97,7 +108,7 @@ fn put_opening(text: &mut Vec<u8>) -> Result<(), AllocError>
 {
     put(
         text,
-        "{\"traceEvents\":[\n{\"ph\":\"M\",\"pid\":1,\"name\":\"process_name\",\"args\":{\"name\":\"cores\"}},\n{\"ph\":\"M\",\"pid\":2,\"name\":\"process_name\",\"args\":{\"name\":\"processes\"}},\n{\"ph\":\"M\",\"pid\":3,\"name\":\"process_name\",\"args\":{\"name\":\"objects\"}}",
+        "{\"displayTimeUnit\":\"ms\",\"otherData\":{\"program\":\"apex\"},\"traceEvents\":[\n{\"ph\":\"M\",\"pid\":1,\"name\":\"process_name\",\"args\":{\"name\":\"cores\"}},\n{\"ph\":\"M\",\"pid\":2,\"name\":\"process_name\",\"args\":{\"name\":\"processes\"}},\n{\"ph\":\"M\",\"pid\":3,\"name\":\"process_name\",\"args\":{\"name\":\"objects\"}}",
     )
 }
 
@@ -454,78 +465,93 @@ fn put_ends(
     Ok(())
 }
 
-/// Puts the mark of a missed deadline.
-fn put_miss(
+/// Puts the mark of a notice on the track of a process, by the two words of its name.
+fn put_mark(
     text: &mut Vec<u8>,
     time: u64,
-    now: u64,
+    stamp: &Stamp,
     process: ProcessId,
-    deadline: DeadlineType,
+    word: &str,
+    detail: &str,
 ) -> Result<(), AllocError>
+    requires { IsStamp stamp.now time }
     ensures { OnOk result (text.new.items ≡ text.old.items
-        ++ trace.miss_text time now process deadline) }
+        ++ trace.mark_text time stamp.now.ticks process word.now detail.now) }
 {
-    put_all(
-        text,
-        &[
-            Part::Plain(",\n{\"ph\":\"i\",\"s\":\"t\",\"pid\":2,\"tid\":"),
-            id_part(process),
-            Part::Plain(",\"ts\":"),
-            Part::Number(time),
-            Part::Plain(",\"args\":{\"now\":"),
-            Part::Number(now),
-            Part::Plain("},\"name\":\"missed "),
-            Part::Plain(deadline_word(deadline)),
-            Part::Plain("\"}"),
-        ],
-    )
+    put(text, ",\n{\"ph\":\"i\",\"s\":\"t\",\"pid\":2,\"tid\":")?;
+    put_id(text, process)?;
+    put(text, stamp.begin())?;
+    put(text, word)?;
+    put(text, detail)?;
+    put(text, "\"}")
 }
 
-/// Puts the mark of a notice of a missed deadline; other notices have none.
-fn put_missed(text: &mut Vec<u8>, time: u64, now: u64, notice: &Notice) -> Result<(), AllocError>
+/// Puts the mark of a notice.
+fn put_marked(
+    text: &mut Vec<u8>,
+    time: u64,
+    stamp: &Stamp,
+    notice: &Notice,
+) -> Result<(), AllocError>
+    requires { IsStamp stamp.now time }
     ensures { OnOk result (text.new.items ≡ text.old.items
-        ++ trace.missed_text time now notice.now) }
+        ++ trace.marked_text time stamp.now.ticks notice.now) }
 {
     match notice {
-        Notice::Missed(process, deadline) => put_miss(text, time, now, *process, *deadline),
-        Notice::Woken(_, _) | Notice::Released(_) => Ok(()),
+        Notice::Woken(process, code) => {
+            put_mark(text, time, stamp, *process, "woken ", code_word(code))
+        }
+        Notice::Released(process) => put_mark(text, time, stamp, *process, "released", ""),
+        Notice::Missed(process, deadline) => {
+            put_mark(text, time, stamp, *process, "missed ", deadline_word(*deadline))
+        }
     }
 }
 
-fn put_misses(text: &mut Vec<u8>, time: u64, now: u64, notices: &[Notice]) -> Result<(), AllocError>
+fn put_marks(
+    text: &mut Vec<u8>,
+    time: u64,
+    stamp: &Stamp,
+    notices: &[Notice],
+) -> Result<(), AllocError>
+    requires { IsStamp stamp.now time }
     ensures { OnOk result (text.new.items ≡ text.old.items
-        ++ flat_map (trace.missed_text time now) notices.now) }
+        ++ flat_map (trace.marked_text time stamp.now.ticks) notices.now) }
 {
     for notice in notices {
-        put_missed(text, time, now, notice)?;
+        put_marked(text, time, stamp, notice)?;
     }
     Ok(())
 }
 
-/// Puts the changes by the latest entry on the tracks and of the counters, and the marks of the
-/// deadlines that were missed. `shown` are the tracks before it, and then those after it.
+/// Puts the call of the latest entry, and at its end the changes on the tracks and of the counters,
+/// and the marks of its notices. `shown` are the tracks before it, and then those after it.
 #[tactic(auto, using(std::proofs::Common::append_assoc))]
 pub(crate) fn put_column<S: Store>(
     text: &mut Vec<u8>,
     kernel: &Kernel<S>,
+    span: Span,
     entry: &LentEntry<'_>,
+    calls: &mut Calls,
     shown: &mut Tracks,
 ) -> Result<(), AllocError>
+    requires printable { IsPrintable kernel.now.table entry.now }
     requires many { length shown.old.cells ≡ length kernel.now.machine.roster.records }
     requires counts { HasCounts shown.old.counts kernel.now.table }
     requires cores { length shown.old.running ≡ MOST_CORES }
     ensures text { OnOk result (text.new.items ≡ text.old.items
-        ++ trace.column_text kernel.now.table shown.old entry.entry.now
+        ++ trace.column_text kernel.now.table span shown.old entry.entry.now
         (bare (moment_in kernel.now.table kernel.now.machine))) }
     ensures shown { OnOk result (shown.new
         ≡ bare (moment_in kernel.now.table kernel.now.machine)) }
 {
     kernel.holds();
-    let (table, time) = (kernel.table(), u64::from(entry.number));
+    let (table, time) = (kernel.table(), span.end);
     let stamp = Stamp::new(time, entry.now);
+    put_called(text, table, calls, span, entry)?;
     shown.put_changes(text, table, kernel.store(), time, &stamp)?;
     shown.put_counts(text, kernel, time)?;
-    put_misses(text, time, entry.now, entry.notices)
+    put_marks(text, time, &stamp, entry.notices)
 }
 
 /// Puts what comes after the columns: the ends of all slices.

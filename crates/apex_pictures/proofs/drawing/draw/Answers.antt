@@ -6,6 +6,7 @@ use Rattle.apex_dispatch.specs.Kernel.{KernelState, kernel_in}
 use Rattle.apex_history.proofs.Outcomes.{OnErr-always}
 use Rattle.apex_history.proofs.Passing.{beginning_after, passes_all}
 use Rattle.apex_pictures.specs.Drawing.{Grows, IsPictured}
+use Rattle.apex_pictures.specs.Instants.{instant_after}
 use Rattle.apex_pictures.specs.Moments.{moment_in}
 use Rattle.apex_pictures.specs.Pictures.{foot_text, picture_text}
 use Rattle.apex_pictures.specs.Tracks.{bare}
@@ -26,6 +27,7 @@ loop-event-init g c =
       values = c.holds.ensures.values;
       rest = ap (λ (m : Machine). run table m c.args.events.now) c.requires.opened;
       pictured = rw c.requires.opened (pictured_opening table);
+      instant = c.opening-instant.ensures ∙ ap (λ (m : Machine). instant_after m.history) (sym c.requires.opened);
       shown = follows c.args.style.now _ _ c.tracks_in-shown.ensures;
       text = begun _ c.args.style.now table c.args.kernel.now.machine _ c.requires.opened
           (rw (c.table.ensures, c.new-text.ensures.items) at c.in-Ok.ensures);
@@ -35,8 +37,8 @@ loop-event-init g c =
 pub draw_event-requires-clause-shown : goal.draw_event-requires-clause-shown
 draw_event-requires-clause-shown g c = rw c.loop-event.invariant.table c.loop-event.invariant.shown
 
-pub put_foot-requires : goal.put_foot-requires
-put_foot-requires g c = rw c.loop-event.invariant.table c.loop-event.invariant.shown
+pub put_foot-requires-clause-shown : goal.put_foot-requires-clause-shown
+put_foot-requires-clause-shown g c = rw c.loop-event.invariant.table c.loop-event.invariant.shown
 
 pub returns-in_default-draw_event-clause-err : goal.returns-in_default-draw_event-clause-err
 returns-in_default-draw_event-clause-err g c =
@@ -85,6 +87,7 @@ loop-event-preserved g c =
       rest = run_next table machine next c.args.events.now c.loop-event.event-index c.event-item.result _
           (omega arith) c.event-item.is new at.rest;
       pictured = subst (IsPictured table) (sym new) (pictured_accept table machine at.pictured c.event-item.result);
+      instant = c.in-Ok-draw_event.ensures.instant;
       shown = rw at.table at c.in-Ok-draw_event.ensures.shown;
       text = passes_on _ _ _ _ _ _ passes c.in_ok-make_room.ensures.ok;
       failures = c.in_ok-make_room.ensures.counted ∙ at.failures;

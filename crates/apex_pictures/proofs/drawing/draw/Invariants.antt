@@ -5,6 +5,7 @@ use Rattle.apex_dispatch.specs.Kernel.{kernel_in}
 use Rattle.apex_history.specs.Counted.{inner_of, failures_of}
 use Rattle.apex_history.specs.Page.{Passes}
 use Rattle.apex_pictures.specs.Drawing.{IsPictured}
+use Rattle.apex_pictures.specs.Instants.{instant_after}
 use Rattle.apex_pictures.specs.Moments.{moment_in}
 use Rattle.apex_pictures.specs.Tracks.{Follows}
 use Rattle.apex_pictures.proofs.Drawn.{so_far}
@@ -17,6 +18,7 @@ invariant-loop-event g l = record {
   rest : run l.fn.kernel.table l.kernel.machine (drop l.event-index l.events)
       ≡ run l.fn.kernel.table (opening l.fn.kernel.table) l.events;
   pictured : IsPictured l.fn.kernel.table l.kernel.machine;
+  instant : l.instant ≡ instant_after l.kernel.machine.history;
   shown : Follows l.style l.shown (moment_in l.fn.kernel.table l.kernel.machine);
   text : Passes (g.W.Sink.contents (inner_of l.fn.writer)) (g.W.Sink.contents (inner_of l.writer))
       (so_far l.style l.fn.kernel.table l.kernel.machine) l.text.items;

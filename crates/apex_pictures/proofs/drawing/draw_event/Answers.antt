@@ -1,5 +1,5 @@
 -- The event adds the column of its entry.
-use Rattle.std.proofs.Common.{◌≡◌, ◌∙◌, ap, length, refl, sym, None, Some}
+use Rattle.std.proofs.Common.{◌≡◌, ◌∙◌, ap, arith, length, refl, sym, None, Some}
 use Rattle.std.proofs.lemmas.Result.{on_ok_weaker}
 use Rattle.std.specs.List.{last_or}
 use Rattle.apex_calls.specs.Lines.{IsPrintable}
@@ -8,10 +8,14 @@ use Rattle.apex_machine.specs.processes.Running.{chosen}
 use Rattle.apex_machine.specs.table.Table.{Table}
 use Rattle.apex_types.specs.declared.limits.TheConstants.{MOST_CORES}
 use Rattle.apex_dispatch.specs.Kernel.{KernelState}
+use Rattle.apex_pictures.specs.declared.instants.Instant.{Instant}
+use Rattle.apex_pictures.specs.Instants.{instant_after}
+use Rattle.apex_pictures.specs.Pictures.{span_of}
 use Rattle.apex_pictures.specs.Moments.{cell_of, moment_in}
 use Rattle.apex_pictures.proofs.Counted.{counted_all}
 use Rattle.apex_pictures.proofs.Drawn.{one_column}
-use Rattle.apex_pictures.proofs.Pictured.{column_more, latest_holds, latest_some, pictured_machine}
+use Rattle.apex_pictures.proofs.NextInstants.{next_now, place_within}
+use Rattle.apex_pictures.proofs.Pictured.{column_more, instant_more, latest_holds, latest_some, pictured_machine, timed_machine}
 use Rattle.apex_pictures.proofs.Places.{length_of}
 use Rattle.apex_pictures.proofs.TracksShown.{follow_fits, follow_many}
 use Rattle.apex_pictures.proofs.drawing.draw_event.Goals as goal
@@ -35,6 +39,37 @@ returns-in_default-latest-clause-drawn g c =
     ap (last_or None) (sym c.entries.ensures) ∙ sym c.latest.ensures ∙ c.in_default-latest.is in
     absurd (latest_some table machine (pictured_machine table machine c.holds.ensures.replays) c.args.event _
     (c.in-Ok.ensures.accepted.0 refl) new none)
+
+pub next-requires : goal.next-requires
+next-requires g c =
+    let few = place_within c.args.kernel.now.machine.history in
+    omega (arith, rw (← c.requires.instant) at few, c.holds.ensures.within, c.holds.ensures.lawful.limit.1)
+
+pub span_of-requires : goal.span_of-requires
+span_of-requires g c =
+    let timed = timed_machine c.args.kernel.now.table c.args.kernel.now.machine c.holds.ensures.replays in
+    (omega (arith, ap (λ (i : Instant). i.now) c.requires.instant ∙ timed, c.holds.ensures.time),
+    omega (arith, ap (λ (i : Instant). i.now) c.next.ensures ∙ next_now c.args.instant.now c.now.result, c.now.ensures, c.holds-2.ensures.time))
+
+pub returns-in_default-latest-clause-instant : goal.returns-in_default-latest-clause-instant
+returns-in_default-latest-clause-instant g c =
+    let table = c.args.kernel.now.table in
+    let machine = c.args.kernel.now.machine in
+    let new : c.accept.new.self.machine ≡ accept table machine c.args.event = ap (λ (k : KernelState _). k.machine) c.in-Ok.ensures.done in
+    let none : last_or None c.accept.new.self.machine.history ≡ None =
+    ap (last_or None) (sym c.entries.ensures) ∙ sym c.latest.ensures ∙ c.in_default-latest.is in
+    absurd (latest_some table machine (pictured_machine table machine c.holds.ensures.replays) c.args.event _
+    (c.in-Ok.ensures.accepted.0 refl) new none)
+
+pub returns-clause-instant : goal.returns-clause-instant
+returns-clause-instant g c =
+    let table = c.args.kernel.now.table in
+    let machine = c.args.kernel.now.machine in
+    let new : c.accept.new.self.machine ≡ accept table machine c.args.event = ap (λ (k : KernelState _). k.machine) c.in-Ok.ensures.done in
+    on_ok_weaker c.put_column.result
+    (λ put. (rw (c.now.ensures, c.requires.instant) at c.next.ensures)
+    ∙ sym (instant_more table machine _ c.args.event (c.in-Ok.ensures.accepted.0 refl) new))
+    c.put_column.ensures.shown
 
 pub put_column-requires-clause-many : goal.put_column-requires-clause-many
 put_column-requires-clause-many g c =
@@ -74,9 +109,13 @@ returns-clause-drawn g c =
     let kept : c.accept.new.self.table ≡ table = ap (λ (k : KernelState _). k.table) c.in-Ok.ensures.done in
     let more = column_more table machine (pictured_machine table machine c.holds.ensures.replays) c.args.event _ c.in-Some.entry
     (c.in-Ok.ensures.accepted.0 refl) new latest in
+    let instant = (rw (c.now.ensures, c.requires.instant) at c.next.ensures)
+    ∙ sym (instant_more table machine _ c.args.event (c.in-Ok.ensures.accepted.0 refl) new) in
     on_ok_weaker c.put_column.result
     (λ put. one_column c.args.style.now table machine c.accept.new.self.machine _ _ _ more (rw kept at put))
-    (c.put_column.ensures.drawn _ c.requires.shown)
+    (c.put_column.ensures.drawn (instant_after machine.history) (instant_after c.accept.new.self.machine.history) _
+    (c.span_of-span.ensures ∙ ap (λ (i : Instant). span_of i c.next.result) c.requires.instant
+    ∙ ap (span_of (instant_after machine.history)) instant) c.requires.shown)
 
 pub returns-clause-shown : goal.returns-clause-shown
 returns-clause-shown g c =

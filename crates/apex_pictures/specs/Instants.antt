@@ -1,0 +1,42 @@
+-- The instants of a trace. A tick is 1,000 units of the trace's axis. The moments of one time follow one another
+-- from there: the first hundred a unit apart, the others a hundredth of a unit, so that all moments of a history
+-- have room in the tick.
+use Rattle.std.specs.Prelude.{ℕ, ◌+◌, ◌*◌, ◌/◌, ◌%◌, List, [], ◌∷◌, ◌++◌, ◌==◌, if◌then◌else◌, codes, decimal, nat_lt}
+use Rattle.apex_pictures.specs.Terms.{Entry}
+use Rattle.apex_pictures.specs.declared.instants.Instant.{Instant}
+
+-- the instant of the moment before any entry
+abbrev pub opening_instant : Instant
+opening_instant = record { now = 0; place = 0 }
+
+-- the instant after this one, at which the time is now
+abbrev pub next_instant : Instant → ℕ → Instant
+next_instant instant now =
+    if now == instant.now then record { now = now; place = instant.place + 1 }
+    else record { now = now; place = 0 }
+
+-- the instant after these entries, by that before them
+abbrev pub instant_from : Instant → List Entry → Instant
+instant_from instant [] = instant
+instant_from instant (entry ∷ entries) = instant_from (next_instant instant entry.now) entries
+
+-- the instant after these entries: the time, and how many moments of that time come before
+abbrev pub instant_after : List Entry → Instant
+instant_after done = instant_from opening_instant done
+
+-- where a place is in its tick, in hundredths of a unit
+abbrev pub within_tick : ℕ → ℕ
+within_tick place = if nat_lt place 100 then 100 * place else place + 9900
+
+-- an instant in hundredths of a unit
+abbrev pub hundredths : Instant → ℕ
+hundredths instant = 100000 * instant.now + within_tick instant.place
+
+-- the hundredths beyond the units, if there are any
+abbrev pub fraction_text : ℕ → List ℕ
+fraction_text rest =
+    if rest == 0 then [] else codes "." ++ decimal (rest / 10) ++ decimal (rest % 10)
+
+-- hundredths of a unit, in units
+unfoldable pub time_text : ℕ → List ℕ
+time_text time = decimal (time / 100) ++ fraction_text (time % 100)
