@@ -61,7 +61,7 @@ fn home(row: &[u64], size: usize) -> usize
     ensures { result ≡ home_of size row.now }
 {
     let hash = row.iter().fold(0, |hash, word| mix(hash, *word));
-    (hash % size as u64) as usize
+    ((u128::from(hash) * size as u128) >> 64) as usize
 }
 
 /// The slot a number of steps after this one; after the last slot comes the first.

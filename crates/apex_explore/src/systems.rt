@@ -55,7 +55,11 @@ pub trait System {
         ensures start { state.new ≡ start self.now }
         ensures state { is_state self.now state.new };
 
-    /// Makes the choice in the state, and puts the state that it goes on to into `next`.
+    /// From now on the choices are made in this state.
+    fn enter(&self, workspace: &mut Self::Workspace, state: &[u64]);
+
+    /// Makes the choice in the state, which was entered last, and puts the state that it goes on to
+    /// into `next`.
     fn next(
         &self,
         workspace: &mut Self::Workspace,

@@ -10,7 +10,7 @@ ghost use Rattle.apex_search.specs.Forms.{AreRanks, with_form, with_forms};
 
 use apex_machine::{Queue, Record, Wait};
 use apex_store::{PlainStore, Store};
-use apex_types::{MOST_PROCESSES, Mode, ProcessId, Span};
+use apex_types::{CoreId, MOST_PROCESSES, Mode, ProcessId, Span};
 
 /// Both are in one queue.
 fn shares(one: Option<Queue>, other: Option<Queue>) -> bool
@@ -22,34 +22,64 @@ fn shares(one: Option<Queue>, other: Option<Queue>) -> bool
     }
 }
 
-/// The two vie for one core or in one queue.
-fn vies(mode: Mode, one: &Record, other: &Record) -> bool
-    ensures { result ≡ vies mode one.now other.now }
-{
-    if one.is_eligible(mode) {
-        other.is_eligible(mode) && other.core == one.core
-    } else {
-        !other.is_eligible(mode) && shares(one.queue(), other.queue())
+/// What decides with which others a process vies, and its stamp.
+#[derive(Clone, Copy)]
+struct Stand {
+    is_eligible: bool,
+    core: CoreId,
+    queue: Option<Queue>,
+    since: i64,
+}
+
+impl Stand {
+    /// That of the process with this record.
+    fn of(mode: Mode, fields: &Record) -> Stand {
+        Stand {
+            is_eligible: fields.is_eligible(mode),
+            core: fields.core,
+            queue: fields.queue(),
+            since: fields.since,
+        }
+    }
+
+    /// The process is in no queue and vies for no core.
+    fn is_alone(&self) -> bool {
+        !self.is_eligible && self.queue.is_none()
+    }
+
+    /// The two vie for one core or in one queue.
+    fn vies(&self, other: &Stand) -> bool {
+        if self.is_eligible {
+            other.is_eligible && other.core == self.core
+        } else {
+            !other.is_eligible && shares(self.queue, other.queue)
+        }
+    }
+
+    /// The other vies with this one, and has an older stamp.
+    fn is_behind(&self, other: &Stand) -> bool {
+        other.since < self.since && self.vies(other)
     }
 }
 
-/// The other vies with this one, and has an older stamp.
-fn is_older_rival(mode: Mode, one: &Record, other: &Record) -> bool
-    ensures { result ≡ (vies mode one.now other.now && is_older other.now one.now) }
-{
-    vies(mode, one, other) && other.since < one.since
+/// The stand of each process.
+fn stands(store: &PlainStore) -> [Stand; MOST_PROCESSES] {
+    let mode = store.mode();
+    let mut stands = [Stand::of(mode, store.record(ProcessId::at(0))); MOST_PROCESSES];
+    for place in 1..store.process_count() {
+        stands[place] = Stand::of(mode, store.record(ProcessId::at(place as u8)));
+    }
+    stands
 }
 
 /// The number of rivals with older stamps.
-fn rank(store: &PlainStore, process: ProcessId) -> u64
-    requires { process < length store.now.records }
-    ensures value { result ≡ rank store.now (record_at store.now process) }
-    ensures range { result ≤ MOST_PROCESSES }
-{
-    let (mode, fields) = (store.mode(), store.record(process));
+fn rank(stands: &[Stand], one: &Stand) -> u64 {
     let mut older = 0;
-    for place in 0..store.process_count() {
-        if is_older_rival(mode, fields, store.record(ProcessId::at(place as u8))) {
+    if one.is_alone() {
+        return older;
+    }
+    for other in stands {
+        if one.is_behind(other) {
             older += 1;
         }
     }
@@ -60,9 +90,11 @@ fn rank(store: &PlainStore, process: ProcessId) -> u64
 fn ranks(store: &PlainStore) -> [u64; MOST_PROCESSES]
     ensures { AreRanks store.now result }
 {
+    let stands = stands(store);
+    let stands = &stands[..store.process_count()];
     let mut ranks = [0; MOST_PROCESSES];
-    for place in 0..store.process_count() {
-        ranks[place] = rank(store, ProcessId::at(place as u8));
+    for place in 0..stands.len() {
+        ranks[place] = rank(stands, &stands[place]);
     }
     ranks
 }
@@ -145,6 +177,19 @@ fn next_stamp(count: usize) -> i64
     (1 + (count as u64 + 1) * count as u64) as i64
 }
 
+/// The canonical record of a process with this one, at this stamp, `ticks` earlier and with a last
+/// release of this age.
+fn form_of(fields: &Record, since: i64, ticks: u64, release: u64) -> Record {
+    Record {
+        since,
+        due: earlier(ticks, fields.due),
+        deadline: earlier(ticks, fields.deadline),
+        release,
+        inbox: None,
+        ..*fields
+    }
+}
+
 /// The process has its canonical record from now on, at this stamp and time in ticks.
 fn put_form(store: &mut PlainStore, process: ProcessId, since: i64, now: u64)
     requires known { process < length store.old.records }
@@ -155,15 +200,8 @@ fn put_form(store: &mut PlainStore, process: ProcessId, since: i64, now: u64)
 {
     let fields = *store.record(process);
     let ticks = store.now() - now;
-    let form = Record {
-        since,
-        due: earlier(ticks, fields.due),
-        deadline: earlier(ticks, fields.deadline),
-        release: now - age(store.now(), &fields),
-        inbox: None,
-        ..fields
-    };
-    store.put(process, form);
+    let release = now - age(store.now(), &fields);
+    store.put(process, form_of(&fields, since, ticks, release));
 }
 
 /// The processes have their canonical records from now on, at this time in ticks.
@@ -189,4 +227,30 @@ pub(crate) fn make_canonical(store: &mut PlainStore)
     put_forms(store, &ranks, now);
     let young = next_stamp(store.process_count());
     store.set_clock(store.mode(), now, young, 0);
+}
+
+/// What the canonical form of the processes is made of: their ranks, and the time in it.
+#[derive(Drop)]
+pub(crate) struct Shape {
+    ranks: [u64; MOST_PROCESSES],
+    pub(crate) now: u64,
+}
+
+impl Shape {
+    /// That of these processes.
+    pub(crate) fn of(store: &PlainStore) -> Shape {
+        Shape {
+            ranks: ranks(store),
+            now: oldest_age(store),
+        }
+    }
+
+    /// The canonical record of the process.
+    pub(crate) fn record(&self, store: &PlainStore, process: ProcessId) -> Record {
+        let fields = store.record(process);
+        let place = process.place();
+        let since = stamp(self.ranks[place], store.process_count(), place);
+        let ticks = store.now() - self.now;
+        form_of(fields, since, ticks, self.now - age(store.now(), fields))
+    }
 }

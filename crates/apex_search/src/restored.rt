@@ -185,4 +185,29 @@ impl PacedSituation {
             counts: counts_in(cores, words),
         }
     }
+
+    /// The situation of these words and what the pace counts there, in the memory of this one;
+    /// `known` is that situation, and `blank` is a process that isn't created.
+    pub(crate) fn restored_as(
+        self,
+        table: &Table,
+        known: &PacedSituation,
+        blank: ProcessObject,
+        words: &[u64],
+    ) -> PacedSituation {
+        table.lawful();
+        let PacedSituation { situation, .. } = self;
+        let (mut store, mut objects, _, _) = situation.into_parts();
+        let cores = table.cores();
+        let from = HEAD_WORDS + usize::from(cores) * CORE_WORDS;
+        let young = first_stamp(store.process_count());
+        store.copy_records(known.situation.store());
+        store.set_clock(mode_in(words[0]), words[1], young, 0);
+        restore_objects(&mut objects, blank, words, from);
+        let works = works_in(cores, words);
+        PacedSituation {
+            situation: Situation::new(store, objects, works, words[2] as usize),
+            counts: counts_in(cores, words),
+        }
+    }
 }

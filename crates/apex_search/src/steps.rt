@@ -131,38 +131,25 @@ impl PacedSituation {
         }
     }
 
-    /// Makes the choice in this situation, which is in canonical form, and puts the words of the
+    /// Makes the event in this situation, which is in canonical form, and puts the words of the
     /// form that it goes on to into `next`. Answers what came of it, and the situation then.
     pub(crate) fn step(
         mut self,
         pace: Pace,
         table: &Table,
         question: &Question,
-        choice: u32,
+        event: Event,
         notices: &mut Notices,
         next: &mut [u64],
-    ) -> (Taken, PacedSituation)
-        requires pace { IsPace pace }
-        requires reach { FormsReach table.now }
-        requires form { IsFormed pace table.now (paced_in self) }
-        requires room { length next.old ≡ word_count table.now }
-        ensures step { step_of result.0 next.new ≡ step_by (searched table.now pace question.now)
-            (paced_in self) (event_of pace table.now (paced_in self) choice) }
-        ensures state { GoesTo (IsForm pace table.now) (step_of result.0 next.new) }
-        ensures parts { IsOfTable table.now (paced_in result.1).situation }
-    {
+    ) -> (Taken, PacedSituation) {
         table.lawful();
         turns_are_few(pace);
         forms_are_ready();
         parts_are_kept();
-        let Some(event) = self.event(pace, table, choice) else {
-            return (Taken::Refused, self);
-        };
         if self.make(table, question, event, notices) {
             return (Taken::Hit, self);
         }
-        let form = self.canonical(pace);
-        form.put_words(table, next);
-        (Taken::Next, form)
+        self.put_form(pace, table, next);
+        (Taken::Next, self)
     }
 }

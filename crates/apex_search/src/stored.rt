@@ -4,7 +4,9 @@ ghost use Rattle.apex_search.specs.Counts.{paced_in};
 ghost use Rattle.apex_search.specs.Parts.{ArePut, IsPut};
 ghost use Rattle.apex_search.specs.Stored.{AreFit, FitsWords, core_words, cores_words, counted_words, head_words, locks_words, records_words, word_count, words_of};
 
+use crate::canonical::{kept_turns, kept_worked};
 use crate::codes::mode_word;
+use crate::forms::Shape;
 use crate::objects::{
     BLACKBOARD_WORDS, BUFFER_WORDS, EVENT_FLAG_WORDS, MUTEX_WORDS, SEMAPHORE_WORDS,
 };
@@ -13,6 +15,7 @@ use crate::parts::{put, put_all};
 use crate::records::{RECORD_WORDS, record_words};
 use apex_dispatch::{Objects, ProcessObject};
 use apex_machine::OpenWork;
+use apex_pace::Pace;
 use apex_store::{Object, PlainStore, Store};
 use apex_table::Table;
 use apex_types::{CoreId, ProcessId};
@@ -93,6 +96,24 @@ fn put_records(
     end
 }
 
+/// Puts the words of the canonical forms of the processes at a place, and answers the place behind
+/// them.
+fn put_record_forms(
+    processes: &[ProcessObject],
+    store: &PlainStore,
+    shape: &Shape,
+    words: &mut [u64],
+    at: usize,
+) -> usize {
+    let mut end = at;
+    for place in 0..store.process_count() {
+        let created = processes[place].is_created();
+        let form = shape.record(store, ProcessId::at(place as u8));
+        end = put(words, end, &record_words(created, &form));
+    }
+    end
+}
+
 impl PacedSituation {
     /// Puts the words of the cores at a place, and answers the place behind them.
     fn put_cores(&self, table: &Table, words: &mut [u64], at: usize) -> usize
@@ -155,6 +176,33 @@ impl PacedSituation {
         let at = put(words, 0, &self.head_words());
         let at = self.put_cores(table, words, at);
         let at = self.put_processes(words, at);
+        self.put_objects(words, at);
+    }
+
+    /// Puts the words of the canonical form of the cores at a place, and answers the place behind
+    /// them.
+    fn put_core_forms(&self, pace: Pace, table: &Table, words: &mut [u64], at: usize) -> usize {
+        let mut end = at;
+        for number in 0..table.cores() {
+            let core = CoreId::new(number);
+            let begun = self.work(core);
+            let turns = kept_turns(pace, self.counts.turns(core));
+            let worked = kept_worked(begun, self.counts.worked(core));
+            end = put(words, end, &core_words(begun, turns, worked));
+        }
+        end
+    }
+
+    /// Puts the words of the canonical form of the situation, and of what the pace counts, into
+    /// these.
+    pub(crate) fn put_form(&self, pace: Pace, table: &Table, words: &mut [u64]) {
+        let store = self.situation.store();
+        let shape = Shape::of(store);
+        let made = self.situation.init_steps_made() as u64;
+        let at = put(words, 0, &[mode_word(store.mode()), shape.now, made]);
+        let at = self.put_core_forms(pace, table, words, at);
+        let processes = self.situation.objects().processes.as_slice();
+        let at = put_record_forms(processes, store, &shape, words, at);
         self.put_objects(words, at);
     }
 }

@@ -44,6 +44,9 @@ pub struct TableSystem {
 /// What an event of a search is made in.
 #[derive(Drop)]
 pub struct Workplace {
+    /// The situation in which the choices are made.
+    here: Option<PacedSituation>,
+    /// One in which an event is made.
     paced: Option<PacedSituation>,
     /// A process that isn't created.
     blank: ProcessObject,
@@ -75,22 +78,33 @@ impl Workplace {
         let objects = Objects::new(alloc, table)?;
         let blank = objects.processes[0];
         Ok(Workplace {
+            here: Some(PacedSituation::opening(alloc, table)?),
             paced: Some(PacedSituation::opening(alloc, table)?),
             blank,
             notices: Notices::new(),
         })
     }
 
-    /// The situation of these words, in the memory of the last one.
-    fn restored(&mut self, table: &Table, words: &[u64]) -> PacedSituation
-        requires workplace { IsWorkplace table.now self.old }
-        requires words { IsStored table.now words.now }
-        ensures paced { IsSamePaced (paced_in result) (paced_from table.now words.now) }
-        ensures blank { self.new.blank ≡ self.old.blank }
-    {
-        match self.paced.take() {
-            Some(paced) => paced.restored(table, self.blank, words),
-            None => unreachable!(),
+    /// From now on the choices are made in the situation of these words.
+    fn enter(&mut self, table: &Table, words: &[u64]) {
+        if let Some(here) = self.here.take() {
+            self.here = Some(here.restored(table, self.blank, words));
+        }
+    }
+
+    /// The event of a choice, if it is allowed.
+    fn event(&self, pace: Pace, table: &Table, choice: u32) -> Option<Event> {
+        match &self.here {
+            Some(here) => here.event(pace, table, choice),
+            None => None,
+        }
+    }
+
+    /// The situation of these words, in which the choices are made, in the memory of the last one.
+    fn restored(&mut self, table: &Table, words: &[u64]) -> PacedSituation {
+        match (self.paced.take(), &self.here) {
+            (Some(paced), Some(here)) => paced.restored_as(table, here, self.blank, words),
+            _ => unreachable!(),
         }
     }
 }
@@ -255,6 +269,10 @@ impl System for TableSystem {
         state.copy_from_slice(self.start.as_slice());
     }
 
+    fn enter(&self, workplace: &mut Workplace, state: &[u64]) {
+        workplace.enter(&self.table, state);
+    }
+
     fn next(
         &self,
         workplace: &mut Workplace,
@@ -266,13 +284,16 @@ impl System for TableSystem {
         turns_are_few(self.pace);
         words_are_exact();
         forms_are_ready();
+        let Some(event) = workplace.event(self.pace, &self.table, choice) else {
+            return Taken::Refused;
+        };
         let paced = workplace.restored(&self.table, state);
         let notices = &mut workplace.notices;
         let (taken, paced) = paced.step(
             self.pace,
             &self.table,
             &self.question,
-            choice,
+            event,
             notices,
             next,
         );

@@ -256,6 +256,12 @@ impl PlainStore {
         self.next_old = old;
     }
 
+    /// The processes have the records of these ones from now on.
+    pub fn copy_records(&mut self, other: &PlainStore) {
+        let records = other.records.as_slice();
+        self.records.as_mut_slice()[..records.len()].copy_from_slice(records);
+    }
+
     /// The process has this record from now on.
     pub fn put(&mut self, process: ProcessId, fields: Record)
         requires { process < length self.old.records }
