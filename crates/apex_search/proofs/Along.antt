@@ -25,7 +25,7 @@ use Rattle.apex_search.proofs.Schedules.{Stand, event_allowed, says_of_schedules
 use Rattle.apex_search.proofs.Shifted.{form_event}
 use Rattle.apex_search.proofs.Stepping.{form_is, paced_is}
 
--- some choices of the path were made: the situation is in a canonical form that stands for the one to
+-- some choices of the path were made: the situation is in a canonical form that represents the one to
 -- which their events lead, and the other choices give the events that are left
 pub record IsAlong (system : Searched) (path : List ℕ) (here : Paced) (events : List Event) (taken : ℕ) : Type 0 where
   pub formed : IsFormed system.pace system.table here

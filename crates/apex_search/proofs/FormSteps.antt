@@ -1,4 +1,4 @@
--- A form that stands for a situation steps as the situation does.
+-- A form that represents a situation steps as the situation does.
 use Rattle.std.proofs.Common.{◌≡◌, ℕ, ◌+◌, ◌-◌, Bool, true, false, Option, None, Some, refl, sym, ◌∙◌, ap, arith, min, ◌==◌, ◌&&◌, not, option_map, if◌then◌else◌}
 use Rattle.apex_types.specs.declared.entries.Event.TheVariants.{Turn, Tick}
 use Rattle.apex_machine.specs.Situations.{step}

@@ -111,7 +111,7 @@ module _ (system : Searched) (Here : Paced → Type 0) (stand : Stand system.pac
   abbrev makes : List ℕ → ℕ → Step (List ℕ)
   makes = step_within (choices_of system) (search_step system)
 
-  -- a form that stands for the situation
+  -- a form that represents the situation
   record At (s : Paced) : Type 0 where
     t : Paced
     here : Here t
@@ -133,7 +133,7 @@ module _ (system : Searched) (Here : Paced → Type 0) (stand : Stand system.pac
   made at None = refuses
   made {s} at (Some event) = if has_fact system.question (deed table s.situation event) then hits else goes (then_words at event)
 
-  -- an event that is allowed goes on to a form that stands for what comes of it
+  -- an event that is allowed goes on to a form that represents what comes of it
   abbrev on : {s : Paced} (at : At s) (event : Event) → is_allowed pace table s event ≡ true → At (paced_step table s event)
   on {s} at event allowed =
       let steps = stand.steps at.t at.here at.later s at.stands event in

@@ -41,7 +41,7 @@ FormsHaveWords table = (pace : Pace) (one other : Paced)
     → IsSamePaced (canonical_paced pace one) (canonical_paced pace other)
     → form_words pace table one ≡ form_words pace table other
 
--- the form stands for the situation, which is alike to it and d later: the form counts turns and the
+-- the form represents the situation, which is alike to it and d later: the form counts turns and the
 -- ticks of work as the situation does, as far as they matter at the pace
 pub record StandsFor (pace : Pace) (d : ℕ) (form s : Paced) : Type 0 where
   pub alike : AreAlikeSituations d form.situation s.situation
@@ -50,7 +50,7 @@ pub record StandsFor (pace : Pace) (d : ℕ) (form s : Paced) : Type 0 where
       → form.worked core ≡ kept_worked (s.situation.works core) (s.worked core)
 
 -- an event is allowed in the form exactly if it is allowed in the situation, and its entry has the
--- same facts; and what comes of it in the form stands, in canonical form, for what comes of it in
+-- same facts; and the canonical form of what comes of it in the form represents what comes of it in
 -- the situation
 pub record StepsFor (pace : Pace) (table : Table) (form s : Paced) (event : Event) : Type 0 where
   pub allowed : is_allowed pace table form event ≡ is_allowed pace table s event

@@ -18,8 +18,8 @@ pub fn same_forms_have_the_same_words()
     ensures { OfEachTable FormsHaveWords }
 {}
 
-/// A canonical form stands for every situation that is alike to it: it allows the same events, they
-/// have the same facts, and what comes of them stands for what comes of them there.
+/// A canonical form represents every situation that is alike to it: it allows the same events, they
+/// have the same facts, and what comes of them represents what comes of them there.
 pub fn forms_stand_for_situations()
     ensures { OfEachTable FormsStandFor }
 {}

@@ -1,0 +1,10 @@
+-- Proofs about sessions.
+pub mod Runs
+pub mod Marks
+pub mod Parts
+pub mod Said
+pub mod Talks
+pub mod Skipping
+pub mod Served
+pub mod NewEntries
+pub mod Written
