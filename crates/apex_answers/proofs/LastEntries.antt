@@ -31,7 +31,7 @@ module _ (table : Table) (lawful : IsLawful table) where
       (sound_happen table lawful machine sound event room) stepped
       (omega (arith, fits, length-happen table machine event)))
 
-  -- so many entries has the run of events for which there is room
+  -- the run of events for which there is room has an entry for each of them
   run_length : (events : List Event) (machine : Machine) → length machine.history + length events ≤ table.limit
       → length (run table machine events).history ≡ length machine.history + length events
   run_length [] machine fits = omega arith
