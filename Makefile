@@ -36,14 +36,13 @@ bench: ## measure the built program
 	bench/growth "$$(tools/program apex)"
 
 install: man ## install the program below PREFIX (/usr/local): the proved one if there is one
-	install -d $(ROOT)/bin $(ROOT)/libexec/apex $(ROOT)/share/apex/man $(ROOT)/share/apex/tools
+	install -d $(ROOT)/bin $(ROOT)/libexec/apex $(ROOT)/share/apex/man
 	install -d $(ROOT)/share/man/man1 $(ROOT)/share/bash-completion/completions
 	install "$$(tools/program apex)" $(ROOT)/libexec/apex/apex
 	install "$$(tools/program apex_lab)" $(ROOT)/libexec/apex/apex_lab
 	install apex $(ROOT)/bin/apex
 	install -m 644 VERSION $(ROOT)/share/apex
 	install -m 644 man/*.txt $(ROOT)/share/apex/man
-	install -m 644 tools/lint tools/apex_table.py $(ROOT)/share/apex/tools
 	install -m 644 out/man/*.1 $(ROOT)/share/man/man1
 	install -m 644 tools/completion.bash $(ROOT)/share/bash-completion/completions/apex
 

@@ -15,7 +15,7 @@ from dataclasses import dataclass, field
 
 from common import HOME
 
-PAGES = ["README.md", "docs/TOUR.md"]
+PAGES = ["README.md", "docs/TOUR.md", "docs/SEARCH.md"]
 # What takes too long, or needs what a machine may lack: a command that begins so is not run.
 NOT_RUN = ["rt ci", "./apex prove"]
 BUILTINS = {"for", "while", "if", "export", "cd", "test", "time"}

@@ -1,10 +1,40 @@
--- How a run is shown, by its parts.
-use Rattle.std.proofs.Common.{◌≡◌, refl, Option}
-use Rattle.clap.specs.Walk.{Text}
-use Rattle.apex_lab.specs.Words.{as_svg, given_by}
+-- What options ask for, by their texts.
+use Rattle.std.proofs.Common.{◌≡◌, Bool, codes, refl, sym, List, Option, Some}
+use Rattle.clap.specs.Words.{Row, Text, first_of}
+use Rattle.apex_cli.specs.Words.{says_given}
+use Rattle.apex_lab.specs.Words.{LintSaid, SearchSaid, as_svg, given_by, lint_in, search_in}
 
 pub same_svg : {f k l m : Option Text} → f ≡ k → l ≡ m → as_svg f l ≡ as_svg k m
 same_svg a b = rw (a, b) refl
 
 pub same_given : {s t u v k l e f : Option Text} → s ≡ t → u ≡ v → k ≡ l → e ≡ f → given_by s u k e ≡ given_by t v l f
 same_given a b c d = rw (a, b, c, d) refl
+
+-- a search, by the texts of its options
+abbrev search_for_texts : Text → Option Text → Option Text → Option Text → Option Text → Option Text → SearchSaid
+search_for_texts fact process service turns early states = record {
+  fact = fact;
+  process = process;
+  service = service;
+  turns = turns;
+  early = early;
+  states = states;
+}
+
+-- it is the one that the options ask for
+pub same_search : {fact : Text} {process service turns early states : Option Text} (rows : List Row)
+    → Some fact ≡ first_of (codes "for") rows → process ≡ first_of (codes "process") rows
+    → service ≡ first_of (codes "service") rows → turns ≡ first_of (codes "turns") rows
+    → early ≡ first_of (codes "early") rows → states ≡ first_of (codes "states") rows
+    → Some (search_for_texts fact process service turns early states) ≡ search_in rows
+same_search rows is a b c d e = rw (sym is, a, b, c, d, e) refl
+
+-- a lint, by its options
+abbrev lint_for : Bool → Option Text → Option Text → LintSaid
+lint_for json name allow = record { json = json; name = name; allow = allow }
+
+-- it is the one that the options ask for
+pub same_lint : {json : Bool} {name allow : Option Text} (rows : List Row)
+    → json ≡ says_given (first_of (codes "json") rows) → name ≡ first_of (codes "name") rows
+    → allow ≡ first_of (codes "allow") rows → lint_for json name allow ≡ lint_in rows
+same_lint rows a b c = rw (a, b, c) refl

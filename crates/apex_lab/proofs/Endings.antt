@@ -24,14 +24,15 @@ use Rattle.apex_cli.specs.declared.CliFault.TheVariants.{Usage, Table, NoSeparat
 use Rattle.apex_pictures.specs.Drawing.{CountsDrawFault}
 use Rattle.apex_pictures.specs.declared.DrawFault.{DrawFault}
 use Rattle.apex_pictures.specs.declared.DrawFault.TheVariants as draw
-use Rattle.apex_lab.specs.Exits.{Answers, Ends, Gives, Outcome, Shows, at_fault, cut_off, departed, departs, end_of, fails, first_fault, IsRunTo, legal, no_memory, outcome_in, ran, refused, shown, shows, stops, unasked, unread, unscheduled, unwritten, usage, whole}
+use Rattle.apex_lab.specs.Ends.{departs, end_of, fails}
+use Rattle.apex_lab.specs.Exits.{Answers, Ends, Gives, Outcome, ShowEnds, Shows, at_fault, cut_off, departed, first_fault, IsRunTo, legal, no_memory, outcome_in, ran, refused, shown, shows, stops, unasked, unread, unscheduled, unwritten, usage, whole}
 use Rattle.apex_lab.specs.Faults.{common_line}
 use Rattle.apex_lab.specs.Plans.{AppendsPrefixOfView, AppendsView, fault_of_drawing}
-use Rattle.apex_lab.specs.Tasks.{Asked, IsUnasked, Picture, Source, Unasked, View, drawn, history}
+use Rattle.apex_lab.specs.Tasks.{Asked, IsUnasked, Picture, Showing, Source, Unasked, View, drawn, history}
 use Rattle.apex_lab.specs.declared.faults.LabFault.{LabFault}
 use Rattle.apex_lab.specs.declared.sources.Given.{Given}
 use Rattle.apex_lab.specs.declared.sources.Given.TheVariants as given
-use Rattle.apex_lab.specs.declared.faults.LabFault.TheVariants.{Common, Schedule}
+use Rattle.apex_lab.specs.declared.faults.LabFault.TheVariants.{Common, NoProcess, Schedule, StatesFull}
 
 -- ---- what a source gives
 
@@ -133,16 +134,18 @@ module _ {asked : Result Asked Unasked} {before after : Ports} where
   ends_unasked (Common fault) (inl e) left held none_fails = rw e (unasked left held none_fails)
   ends_unasked (Common fault) (inr (e, none)) left held none_fails = rw e (usage none left held none_fails)
   ends_unasked (Schedule bad) (text, none, has) left held none_fails = unscheduled text none has left held none_fails
+  ends_unasked (NoProcess name) other left held none_fails = absurd other
+  ends_unasked (StatesFull room) other left held none_fails = absurd other
 
-  -- a run that is shown in the view that is asked for
-  pub ends_shown : (task : Asked) (view : View) (table : tables.Table) (machine : Machine) (fault reported ended : Option CliFault)
-      → asked ≡ Ok task → task.view ≡ view
-      → Gives before.left before.failed_reads task.source (shows table machine reported) after.failed_reads
-      → Shows view table machine before.held before.failed_writes fault after.held after.failed_writes
-      → ended ≡ first_fault fault reported → Ends asked before (end_of ended) after
-  ends_shown task view table machine fault reported ended is seen gives showing same =
-      rw same (shown table machine fault reported is gives
-      (subst (λ (v : View). Shows v table machine before.held before.failed_writes fault after.held after.failed_writes) (sym seen) showing))
+-- a run that is shown in the view that is asked for
+pub ends_shown : {before after : Ports} (showing : Showing) (view : View) (table : tables.Table) (machine : Machine)
+    (fault reported ended : Option CliFault) → showing.view ≡ view
+    → Gives before.left before.failed_reads showing.source (shows table machine reported) after.failed_reads
+    → Shows view table machine before.held before.failed_writes fault after.held after.failed_writes
+    → ended ≡ first_fault fault reported → ShowEnds showing before (end_of ended) after
+ends_shown {before} {after} showing view table machine fault reported ended seen gives shows_view same =
+    rw same (shown table machine fault reported gives
+    (subst (λ (v : View). Shows v table machine before.held before.failed_writes fault after.held after.failed_writes) (sym seen) shows_view))
 
 -- the line that was told, by its other form
 pub told_line : {line other : List ℕ} (old new : Option (List ℕ)) (failed failures : ℕ) → other ≡ line → Told other old new failed failures

@@ -6,11 +6,12 @@ use Rattle.apex_cli.specs.Reports.{answer_of}
 use Rattle.apex_cli.specs.declared.CliFault.TheVariants.{NoSeparator}
 use Rattle.apex_schedules.specs.Readings.{AreItemsOf}
 use Rattle.apex_schedules.specs.declared.Item.{Item}
-use Rattle.apex_lab.specs.Exits.{Gives, IsBehind, fails, ill_scheduled, no_memory, stops, unparted}
+use Rattle.apex_lab.specs.Ends.{fails}
+use Rattle.apex_lab.specs.Exits.{Gives, IsBehind, ill_scheduled, no_memory, stops, unparted}
 use Rattle.apex_lab.specs.Faults.{IsFaultIn}
 use Rattle.apex_lab.specs.Tasks.{schedule_read}
 use Rattle.apex_lab.specs.declared.faults.LabFault.{LabFault}
-use Rattle.apex_lab.specs.declared.faults.LabFault.TheVariants.{Common, Schedule}
+use Rattle.apex_lab.specs.declared.faults.LabFault.TheVariants.{Common, NoProcess, Schedule, StatesFull}
 
 -- the answer to the items behind a table
 pub behind : (bytes table rest : List ℕ) (items : List Item) → IsParted bytes table rest → AreItemsOf rest items
@@ -32,3 +33,5 @@ module _ {left : Option (List ℕ)} {failed : ℕ} (after : ℕ) (bytes : List �
       → Gives left failed schedule_read (stops (fails fault)) after
   gives_bad_schedule table rest (Common fault) parted is = rw (is, counts) no_memory
   gives_bad_schedule table rest (Schedule bad) parted is = rw counts (ill_scheduled bytes table rest ahead parted is)
+  gives_bad_schedule table rest (NoProcess name) parted is = absurd is
+  gives_bad_schedule table rest (StatesFull room) parted is = absurd is

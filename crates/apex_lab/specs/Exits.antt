@@ -1,4 +1,4 @@
--- How the program ends.
+-- What a source gives, how a run is shown, and how the program ends.
 use Rattle.std.specs.Prelude.{◌≡◌, ℕ, List, [], Option, None, Some, Result, Ok, Err}
 use Rattle.std.specs.Io.KnownBytes.{Keeps}
 use Rattle.apex_history.specs.Counted.{one_more}
@@ -18,27 +18,20 @@ use Rattle.apex_cli.specs.declared.CliFault.{CliFault}
 use Rattle.apex_cli.specs.declared.CliFault.TheVariants.{Memory, NoSeparator, Read, Usage, Write}
 use Rattle.apex_schedules.specs.Readings.{AreItemsOf}
 use Rattle.apex_schedules.specs.declared.Item.{Item}
-use Rattle.apex_lab.specs.Faults.{IsBadIn, line_of_fault, status_of_fault}
+use Rattle.apex_lab.specs.Ends.{End, departs, end_of, fails}
+use Rattle.apex_lab.specs.Faults.{IsBadIn}
+use Rattle.apex_lab.specs.Lints.{Lint, LintEnds}
 use Rattle.apex_lab.specs.Paced.{paced_answer}
 use Rattle.apex_lab.specs.Plans.{AppendsPrefixOfView, AppendsView, IsPlanFor, machine_of}
-use Rattle.apex_lab.specs.Tasks.{Asked, Picture, Source, Unasked, View, drawn, history, ill_formed, listed, no_schedule, paced, schedule, schedule_read}
+use Rattle.apex_lab.specs.Searches.{SearchEnds}
+use Rattle.apex_lab.specs.Tasks.{Asked, Picture, Showing, Source, Unasked, View, drawn, history, ill_formed, listed, no_schedule, paced, schedule, schedule_read, to_lint, to_search, to_show}
 use Rattle.apex_lab.specs.declared.faults.BadSchedule.{BadSchedule}
 use Rattle.apex_lab.specs.declared.faults.LabFault.{LabFault}
 use Rattle.apex_lab.specs.declared.faults.LabFault.TheVariants.{Common, Schedule as BadText}
 use Rattle.apex_lab.specs.declared.plans.Plan.{Plan}
-use Rattle.apex_lab.specs.declared.program.Ending.{Ending}
-use Rattle.apex_lab.specs.declared.program.Ending.TheVariants.{Shown, Departed}
+use Rattle.apex_lab.specs.declared.questions.Search.{Search}
 use Rattle.apex_lab.specs.declared.sources.Given.{Given}
 use Rattle.apex_lab.specs.declared.sources.Given.TheVariants as given
-
--- the end of the program
-pub data End : Type 0 where
-  -- the run was shown
-  complete : End
-  -- the history departs from what the partition does: the verdict's text is reported
-  departs : List ℕ → End
-  -- this fault is reported
-  fails : LabFault → End
 
 -- what a source gives: an end, or a machine to show, with the fault that is reported besides
 pub data Outcome : Type 0 where
@@ -123,17 +116,6 @@ abbrev pub first_fault : Option CliFault → Option CliFault → Option CliFault
 first_fault None reported = reported
 first_fault (Some fault) reported = Some fault
 
--- the end with the fault, if there is one
-abbrev pub end_of : Option CliFault → End
-end_of None = complete
-end_of (Some fault) = fails (Common fault)
-
--- the end of an outcome
-abbrev pub end_in : Result Ending LabFault → End
-end_in (Ok Shown) = complete
-end_in (Ok (Departed verdict)) = departs verdict.items
-end_in (Err fault) = fails fault
-
 -- what a source gave
 abbrev pub outcome_in : Result Given LabFault → Outcome
 outcome_in (Ok (given.Picture plan)) = shows plan.table (machine_of plan) plan.fault
@@ -161,20 +143,25 @@ IsRunTo answer (given.Listing listing run) =
     answer ≡ runs_to run.kernel.table run.kernel.machine run.fault
 IsRunTo answer (given.Departed verdict) = ⊥
 
--- the exit status: 0 if the run was shown, 1 if the history departs, else the status of the fault
-abbrev pub status_of : End → ℕ
-status_of complete = 0
-status_of (departs report) = 1
-status_of (fails fault) = status_of_fault fault
+-- The ways in which the showing of a run ends: by the run, the reader and the writer before, the end,
+-- and the reader and the writer afterwards.
+pub data ShowEnds (showing : Showing) (before : Ports) : End → Ports → Type 0 where
+  -- the source gives nothing to show: nothing was written
+  stopped : {ends : End} {after : Ports}
+      → Gives before.left before.failed_reads showing.source (stops ends) after.failed_reads
+      → Keeps before.held after.held → after.failed_writes ≡ before.failed_writes
+      → ShowEnds showing before ends after
+  -- the machine that the source gives is shown
+  shown : (table : tables.Table) (machine : Machine) (fault reported : Option CliFault)
+      → {after : Ports}
+      → Gives before.left before.failed_reads showing.source (shows table machine reported)
+      after.failed_reads
+      → Shows showing.view table machine before.held before.failed_writes fault
+      after.held after.failed_writes
+      → ShowEnds showing before (end_of (first_fault fault reported)) after
 
--- what is reported at the end
-abbrev pub report_of : End → List ℕ
-report_of complete = []
-report_of (departs report) = report
-report_of (fails fault) = line_of_fault fault
-
--- The ways in which the program ends: by what it is asked to show, the reader and the writer
--- before, the end, and the reader and the writer afterwards.
+-- The ways in which the program ends: by what it is asked to do, the reader and the writer before,
+-- the end, and the reader and the writer afterwards.
 pub data Ends (asked : Result Asked Unasked) (before : Ports) : End → Ports → Type 0 where
   -- memory was refused: nothing was read and nothing written
   unasked : {after : Ports} → Keeps before.left after.left → Keeps before.held after.held
@@ -188,16 +175,12 @@ pub data Ends (asked : Result Asked Unasked) (before : Ports) : End → Ports �
       → asked ≡ Err (no_schedule text) → IsBadIn text bad → Keeps before.left after.left
       → Keeps before.held after.held
       → NoneFails before after → Ends asked before (fails (BadText bad)) after
-  -- the source gives nothing to show: nothing was written
-  stopped : {task : Asked} {ends : End} {after : Ports} → asked ≡ Ok task
-      → Gives before.left before.failed_reads task.source (stops ends) after.failed_reads
-      → Keeps before.held after.held → after.failed_writes ≡ before.failed_writes
-      → Ends asked before ends after
-  -- the machine that the source gives is shown
-  shown : {task : Asked} (table : tables.Table) (machine : Machine)
-      (fault reported : Option CliFault) → {after : Ports} → asked ≡ Ok task
-      → Gives before.left before.failed_reads task.source (shows table machine reported)
-      after.failed_reads
-      → Shows task.view table machine before.held before.failed_writes fault
-      after.held after.failed_writes
-      → Ends asked before (end_of (first_fault fault reported)) after
+  -- a run is shown
+  of_showing : {showing : Showing} {ends : End} {after : Ports} → asked ≡ Ok (to_show showing)
+      → ShowEnds showing before ends after → Ends asked before ends after
+  -- the schedules of a pace are searched
+  of_search : {search : Search} {ends : End} {after : Ports} → asked ≡ Ok (to_search search)
+      → SearchEnds search before ends after → Ends asked before ends after
+  -- a table is linted
+  of_lint : {lint : Lint} {ends : End} {after : Ports} → asked ≡ Ok (to_lint lint)
+      → LintEnds lint before ends after → Ends asked before ends after

@@ -1,24 +1,27 @@
--- What the program is asked to show.
+-- What the program is asked to do.
 use Rattle.std.specs.Prelude.{◌≡◌, ◌⊎◌, ℕ, ◌≤◌, List, Option, Some, None, Result, Ok, Err, length, nat_le, if◌then◌else◌, option_and_then, option_map}
 use Rattle.clap.specs.Words.{Text}
-use Rattle.apex_types.specs.Limits.{latest}
-use Rattle.apex_types.specs.Numbers.{at_least, at_most, number_of}
 use Rattle.apex_types.specs.declared.limits.TheConstants.{MOST_ENTRIES}
 use Rattle.apex_cli.specs.declared.CliFault.TheVariants.{Memory, Usage}
+use Rattle.apex_pace.specs.Laws.{IsPace}
 use Rattle.apex_pace.specs.declared.paces.Pace.{Pace}
-use Rattle.apex_pace.specs.declared.paces.TheConstants.{USUAL_TURNS}
 use Rattle.apex_schedules.specs.declared.Item.{Item}
 use Rattle.apex_schedules.specs.Groups.{grouped_items_of}
-use Rattle.apex_schedules.specs.Schedule.{positive_of}
 use Rattle.apex_lab.specs.Faults.{IsBadIn}
-use Rattle.apex_lab.specs.Words.{Given, Request, Shown, as_listing, as_svg, as_trace, by_history, by_pace, by_schedule, by_schedule_read, request_of}
+use Rattle.apex_lab.specs.Lints.{Lint, lint_asked, lint_said}
+use Rattle.apex_lab.specs.Numbers.{number_in, pace_in, time_of}
+use Rattle.apex_lab.specs.Questions.{search_asked}
+use Rattle.apex_lab.specs.Words.{Given, Request, Shown, as_listing, as_svg, as_trace, by_history, by_pace, by_schedule, by_schedule_read, lint_of, request_of, search_of, show_of}
 use Rattle.apex_lab.specs.declared.faults.LabFault.{LabFault}
-use Rattle.apex_lab.specs.declared.faults.LabFault.TheVariants.{Common, Schedule as BadText}
+use Rattle.apex_lab.specs.declared.faults.LabFault.TheVariants.{Common, NoProcess, Schedule as BadText, StatesFull}
+use Rattle.apex_lab.specs.declared.questions.Search.{Search}
 use Rattle.apex_lab.specs.declared.tasks.Picture.{Picture as PictureIn}
 use Rattle.apex_lab.specs.declared.tasks.Picture.TheVariants as pictures
 use Rattle.apex_lab.specs.declared.tasks.RunSource.{RunSource}
 use Rattle.apex_lab.specs.declared.tasks.RunSource.TheVariants as run
+use Rattle.apex_lab.specs.declared.tasks.Showing.{Showing as ShowingIn}
 use Rattle.apex_lab.specs.declared.tasks.Task.{Task}
+use Rattle.apex_lab.specs.declared.tasks.Task.TheVariants as task
 use Rattle.apex_lab.specs.declared.tasks.View.{View as ViewIn}
 use Rattle.apex_lab.specs.declared.tasks.View.TheVariants as shown
 use Rattle.apex_lab.specs.declared.words.Listing.{Listing}
@@ -48,10 +51,19 @@ pub data View : Type 0 where
   -- as a listing
   listed : Listing → View
 
--- what the program is asked to show
-pub record Asked : Type 0 where
+-- a run that is to be shown
+pub record Showing : Type 0 where
   pub source : Source
   pub view : View
+
+-- what the program is asked to do
+pub data Asked : Type 0 where
+  -- to show a run
+  to_show : Showing → Asked
+  -- to search the schedules of a pace
+  to_search : Search → Asked
+  -- to lint a table
+  to_lint : Lint → Asked
 
 -- why words ask for nothing
 pub data Unasked : Type 0 where
@@ -59,29 +71,6 @@ pub data Unasked : Type 0 where
   ill_formed : Unasked
   -- this text is no schedule
   no_schedule : Text → Unasked
-
--- the number of an entry, or of turns, that a text says, and this one if there is no text
-abbrev pub number_in : ℕ → Option Text → Option ℕ
-number_in otherwise None = Some otherwise
-number_in otherwise (Some text) = positive_of text
-
--- the percentage that a text says, 1 to 100, and 100 if there is no text
-abbrev pub percent_in : Option Text → Option ℕ
-percent_in None = Some 100
-percent_in (Some text) = at_least 1 (at_most 100 (number_of text))
-
--- the time that a text says, in ticks, 0 to 2^36
-abbrev pub time_of : Text → Option ℕ
-time_of text = at_most latest (number_of text)
-
--- the pace of these turns a tick and this percentage
-abbrev pub pace_of : ℕ → ℕ → Pace
-pace_of turns percent = record { turns = turns; percent = percent }
-
--- the pace of the texts of the turns a tick and of the percentage; none if one is ill-formed
-abbrev pub pace_in : Option Text → Option Text → Option Pace
-pace_in turns early =
-    option_and_then (λ k. option_map (pace_of k) (percent_in early)) (number_in USUAL_TURNS turns)
 
 -- the run of a pace, by the texts of its time, its turns and its percentage; none if one is
 -- ill-formed
@@ -121,20 +110,33 @@ view_in (as_svg first last) = option_map drawn (svg_between first last)
 view_in as_trace = Some (drawn trace)
 view_in (as_listing listing) = Some (listed listing)
 
--- what is asked for by these
-abbrev pub asked_with : Source → View → Asked
-asked_with source view = record { source = source; view = view }
+-- a run that is given and shown in these ways
+abbrev pub showing_with : Source → View → Showing
+showing_with source view = record { source = source; view = view }
 
--- what is asked for by a source and a view, if both are there
-abbrev pub asked_of : Result Source Unasked → Option View → Result Asked Unasked
-asked_of source None = Err ill_formed
-asked_of (Err unasked) (Some view) = Err unasked
-asked_of (Ok source) (Some view) = Ok (asked_with source view)
+-- the run of a source and a view, if both are there
+abbrev pub showing_of : Result Source Unasked → Option View → Result Showing Unasked
+showing_of source None = Err ill_formed
+showing_of (Err unasked) (Some view) = Err unasked
+showing_of (Ok source) (Some view) = Ok (showing_with source view)
+
+-- the same as what is asked for
+abbrev pub showing_asked : Result Showing Unasked → Result Asked Unasked
+showing_asked (Err unasked) = Err unasked
+showing_asked (Ok showing) = Ok (to_show showing)
 
 -- what a request asks for
+abbrev pub asked_in_request : Request → Result Asked Unasked
+asked_in_request (show_of given shown) =
+    showing_asked (showing_of (source_in given) (view_in shown))
+asked_in_request (search_of said) =
+    or_unasked ill_formed (option_map to_search (search_asked said))
+asked_in_request (lint_of said) = or_unasked ill_formed (option_map to_lint (lint_asked said))
+
+-- the same, if there is a request
 abbrev pub asked_in : Option Request → Result Asked Unasked
 asked_in None = Err ill_formed
-asked_in (Some request) = asked_of (source_in request.given) (view_in request.shown)
+asked_in (Some request) = asked_in_request request
 
 -- what the words ask for
 abbrev pub asked_by : List Text → Result Asked Unasked
@@ -157,9 +159,15 @@ abbrev pub view_said : ViewIn → View
 view_said (shown.Picture picture) = drawn (picture_said picture)
 view_said (shown.Listing listing) = listed listing
 
+-- a run that is to be shown, of a value of the program
+abbrev pub showing_said : ShowingIn → Showing
+showing_said showing = showing_with (source_said showing.source) (view_said showing.view)
+
 -- the task of a value of the program
 abbrev pub task_said : Task → Asked
-task_said task = asked_with (source_said task.source) (view_said task.view)
+task_said (task.Show showing) = to_show (showing_said showing)
+task_said (task.Search search) = to_search search
+task_said (task.Lint lint) = to_lint (lint_said lint)
 
 -- the first number of an SVG is one that an entry may have
 abbrev pub IsPictureOfEntries : PictureIn → Type 0
@@ -171,9 +179,17 @@ abbrev pub IsOfEntries : ViewIn → Type 0
 IsOfEntries (shown.Picture picture) = IsPictureOfEntries picture
 IsOfEntries (shown.Listing listing) = Unit {0}
 
+-- the same of a view that is asked for, and the pace of a search is one
+abbrev pub IsInRange : Task → Type 0
+IsInRange (task.Show showing) = IsOfEntries showing.view
+IsInRange (task.Search search) = IsPace search.pace
+IsInRange (task.Lint lint) = Unit {0}
+
 -- the fault, memory aside, with which the program ends if words ask for nothing
 abbrev pub IsUnasked : {X : Type 0} → Result X Unasked → LabFault → Type 0
 IsUnasked asked (Common fault) =
     (fault ≡ Memory) ⊎ ((fault ≡ Usage) × (asked ≡ Err ill_formed))
+IsUnasked asked (StatesFull states) = ⊥
+IsUnasked asked (NoProcess name) = ⊥
 IsUnasked asked (BadText bad) =
     (text : Text) × (asked ≡ Err (no_schedule text)) × IsBadIn text bad

@@ -1,13 +1,16 @@
 -- What the words of the command line ask for; the first word is the program's name.
-use Rattle.std.specs.Prelude.{List, Option, Some, None, codes, if◌then◌else◌, option_and_then, option_map}
+use Rattle.std.specs.Prelude.{Bool, List, Option, Some, None, codes, if◌then◌else◌, option_and_then, option_map}
 use Rattle.std.specs.Str.{bytes_eq}
 use Rattle.clap.specs.Words.{App, Row, Text, first_of, new_app, with_rule, with_subcommand}
 use Rattle.apex_cli.specs.Words.{flag_rule, option_rule, program_alone, request_by, says_given}
 use Rattle.apex_lab.specs.declared.words.Form.{Form}
 use Rattle.apex_lab.specs.declared.words.Form.TheVariants as forms
+use Rattle.apex_lab.specs.declared.words.LintWords.{LintWords}
 use Rattle.apex_lab.specs.declared.words.Listing.{Listing}
 use Rattle.apex_lab.specs.declared.words.Listing.TheVariants.{Lines, Status, Report, Schedule}
 use Rattle.apex_lab.specs.declared.words.Request.{Request as RequestIn}
+use Rattle.apex_lab.specs.declared.words.Request.TheVariants as request
+use Rattle.apex_lab.specs.declared.words.SearchWords.{SearchWords}
 use Rattle.apex_lab.specs.declared.words.SourceWords.{SourceWords}
 use Rattle.apex_lab.specs.declared.words.SourceWords.TheVariants as source
 use Rattle.apex_lab.specs.declared.words.ViewWords.{ViewWords}
@@ -40,8 +43,8 @@ lab_of_pictures =
     (view_command (codes "trace")).top
 
 -- with those for listings too
-abbrev pub lab : App
-lab =
+abbrev pub lab_of_views : App
+lab_of_views =
     with_subcommand
     (with_subcommand
     (with_subcommand
@@ -49,6 +52,34 @@ lab =
     (view_command (codes "status")).top)
     report.top)
     (view_command (codes "schedule")).top
+
+-- `search [--for WORD] [--process P] [--service WORD]`
+abbrev pub question_command : App
+question_command =
+    with_rule
+    (with_rule (with_rule (new_app (codes "search")) (option_rule (codes "for")))
+    (option_rule (codes "process")))
+    (option_rule (codes "service"))
+
+-- with `[--turns K] [--early E] [--states N]` too
+abbrev pub search_command : App
+search_command =
+    with_rule
+    (with_rule (with_rule question_command (option_rule (codes "turns")))
+    (option_rule (codes "early")))
+    (option_rule (codes "states"))
+
+-- `lint [--json] [--name FILE] [--allow WORD,WORD]`
+abbrev pub lint_command : App
+lint_command =
+    with_rule
+    (with_rule (with_rule (new_app (codes "lint")) (flag_rule (codes "json")))
+    (option_rule (codes "name")))
+    (option_rule (codes "allow"))
+
+-- the program's command line, with all its commands
+abbrev pub lab : App
+lab = with_subcommand (with_subcommand lab_of_views search_command.top) lint_command.top
 
 -- how a run is given
 pub data Given : Type 0 where
@@ -71,10 +102,31 @@ pub data Shown : Type 0 where
   -- as this listing
   as_listing : Listing → Shown
 
+-- what a search is for: the word of the fact, and the texts of a process, of a service, of the turns a
+-- tick, of the percentage and of the number of states, if they are given
+pub record SearchSaid : Type 0 where
+  pub fact : Text
+  pub process : Option Text
+  pub service : Option Text
+  pub turns : Option Text
+  pub early : Option Text
+  pub states : Option Text
+
+-- how a table is linted: whether the report is in JSON, and the texts of the table's name and of the
+-- warnings that are left out, if they are given
+pub record LintSaid : Type 0 where
+  pub json : Bool
+  pub name : Option Text
+  pub allow : Option Text
+
 -- what the words ask for
-pub record Request : Type 0 where
-  pub given : Given
-  pub shown : Shown
+pub data Request : Type 0 where
+  -- to show a run that is given in this way
+  show_of : Given → Shown → Request
+  -- to search the schedules of a pace
+  search_of : SearchSaid → Request
+  -- to lint a table
+  lint_of : LintSaid → Request
 
 -- how a run is given, of a value of the program
 abbrev pub given_said : SourceWords → Given
@@ -91,10 +143,30 @@ shown_said (view.Svg first last) =
 shown_said view.Trace = as_trace
 shown_said (view.Listing listing) = as_listing listing
 
+-- what a search is for, of a value of the program
+abbrev pub search_said : SearchWords → SearchSaid
+search_said words = record {
+  fact = words.fact.now;
+  process = option_map (λ text. text.now) words.process;
+  service = option_map (λ text. text.now) words.service;
+  turns = option_map (λ text. text.now) words.turns;
+  early = option_map (λ text. text.now) words.early;
+  states = option_map (λ text. text.now) words.states;
+}
+
+-- how a table is linted, of a value of the program
+abbrev pub lint_words_said : LintWords → LintSaid
+lint_words_said words = record {
+  json = words.json;
+  name = option_map (λ text. text.now) words.name;
+  allow = option_map (λ text. text.now) words.allow;
+}
+
 -- the request of a value of the program
 abbrev pub request_said : RequestIn → Request
-request_said request =
-    record { given = given_said request.source; shown = shown_said request.view }
+request_said (request.Show source view) = show_of (given_said source) (shown_said view)
+request_said (request.Search words) = search_of (search_said words)
+request_said (request.Lint words) = lint_of (lint_words_said words)
 
 -- how a run is given, by the text of a schedule: `-` stands for one that is read
 abbrev pub given_by_schedule : Text → Given
@@ -115,13 +187,9 @@ given_in rows =
     given_by (first_of (codes "schedule") rows) (first_of (codes "until") rows)
     (first_of (codes "turns") rows) (first_of (codes "early") rows)
 
--- a run that is given and shown in these ways
-abbrev pub request_with : Shown → Given → Request
-request_with shown given = record { given = given; shown = shown }
-
 -- the request of a command that shows a run in this way, for its rows
 abbrev pub shown_in : Shown → List Row → Option Request
-shown_in shown rows = option_map (request_with shown) (given_in rows)
+shown_in shown rows = option_map (λ given. show_of given shown) (given_in rows)
 
 -- how the SVG for the rows of a command is shown
 abbrev pub svg_in : List Row → Shown
@@ -145,9 +213,39 @@ view_of name rows =
     else if bytes_eq name (codes "report") then Some (as_listing (Report (form_in rows)))
     else if bytes_eq name (codes "schedule") then Some (as_listing Schedule) else None
 
+-- the run that the command of this name shows, by its rows
+abbrev pub showing_in : Text → List Row → Option Request
+showing_in name rows = option_and_then (λ shown. shown_in shown rows) (view_of name rows)
+
+-- the search for this fact, with the other options of a command's rows
+abbrev pub search_with : List Row → Text → SearchSaid
+search_with rows fact = record {
+  fact = fact;
+  process = first_of (codes "process") rows;
+  service = first_of (codes "service") rows;
+  turns = first_of (codes "turns") rows;
+  early = first_of (codes "early") rows;
+  states = first_of (codes "states") rows;
+}
+
+-- the search for the rows of a command; none if it is for no fact
+abbrev pub search_in : List Row → Option SearchSaid
+search_in rows = option_map (search_with rows) (first_of (codes "for") rows)
+
+-- how a table is linted, for the rows of a command
+abbrev pub lint_in : List Row → LintSaid
+lint_in rows = record {
+  json = says_given (first_of (codes "json") rows);
+  name = first_of (codes "name") rows;
+  allow = first_of (codes "allow") rows;
+}
+
 -- what the command of this name asks for, with its rows
 abbrev pub request_in : Text × List Row → Option Request
-request_in found = option_and_then (λ shown. shown_in shown found.1) (view_of found.0 found.1)
+request_in found =
+    if bytes_eq found.0 (codes "search") then option_map search_of (search_in found.1)
+    else if bytes_eq found.0 (codes "lint") then Some (lint_of (lint_in found.1))
+    else showing_in found.0 found.1
 
 -- what the words ask for; none if they ask for nothing that the program does
 abbrev pub request_of : List Text → Option Request

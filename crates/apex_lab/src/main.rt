@@ -1,14 +1,18 @@
 //! The program `apex_lab`: shows the run of a schedule or of a pace, or a history that is legal, as
-//! a picture or as a listing.
+//! a picture or as a listing, searches the schedules of a pace, and lints a table.
 #![tactic(auto)]
 
+mod ends;
 mod faults;
+mod linting;
 mod listings;
 mod numbers;
 mod parts;
 mod plans;
 mod program;
+mod questions;
 mod runs;
+mod searching;
 mod sources;
 mod tasks;
 mod words;

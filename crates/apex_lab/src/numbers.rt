@@ -1,13 +1,23 @@
-//! The numbers that words say.
+//! The numbers and the pace that words say.
 ghost use Rattle.std.specs.Prelude.{◌≡◌, ◌^◌, ◌≤◌, IfSome, min, option_map};
+ghost use Rattle.apex_pace.specs.Laws.{IsPace};
 ghost use Rattle.apex_types.specs.Limits.{latest};
 ghost use Rattle.apex_types.specs.Numbers.{at_least, at_most, has_leading_zero, number_of};
-ghost use Rattle.apex_lab.specs.Tasks.{time_of};
+ghost use Rattle.apex_types.specs.declared.limits.TheConstants.{MOST_ENTRIES};
+ghost use Rattle.apex_lab.specs.Numbers.{number_in, pace_in, percent_in, room_in, time_of};
 
+use apex_pace::{Pace, USUAL_TURNS};
+use apex_schedules::read_positive;
 use apex_types::{MOST_ENTRIES, MOST_TICKS, number_at_most};
 
 /// The latest instant, in ticks.
 const LATEST: u64 = MOST_ENTRIES as u64 * MOST_TICKS as u64;
+
+/// The number of states for which a search has room, if no other is given.
+const USUAL_STATES: u32 = 1_000_000;
+
+/// The greatest number of states for which a search may have room.
+const MOST_STATES: u32 = 4_294_967_295;
 
 fn has_leading_zero(word: &[u8]) -> bool
     ensures { result ≡ has_leading_zero word.now }
@@ -43,7 +53,7 @@ pub fn read_time(word: &[u8]) -> Option<u64>
 }
 
 /// The percentage that a word says, 1 to 100.
-pub fn read_percent(word: &[u8]) -> Option<u8>
+fn read_percent(word: &[u8]) -> Option<u8>
     ensures value { result ≡ at_least 1 (at_most 100 (number_of word.now)) }
     ensures range { IfSome result (λ percent. (1 ≤ percent) × (percent ≤ 100)) }
 {
@@ -51,4 +61,54 @@ pub fn read_percent(word: &[u8]) -> Option<u8>
         Some(percent) if 1 <= percent => Some(percent as u8),
         _ => None,
     }
+}
+
+/// The number of an entry, or of turns, 1 to [`MOST_ENTRIES`], that a text says, and `otherwise` if
+/// there is no text. None if the text is ill-formed.
+pub fn number_given(text: Option<&str>, otherwise: u32) -> Option<u32>
+    requires { (1 ≤ otherwise) × (otherwise ≤ MOST_ENTRIES) }
+    ensures value { result ≡ number_in otherwise (option_map (λ given. given.now) text.entry) }
+    ensures range { IfSome result (λ number. (1 ≤ number) × (number ≤ MOST_ENTRIES)) }
+{
+    match text {
+        Some(text) => read_positive(text.as_bytes()),
+        None => Some(otherwise),
+    }
+}
+
+/// The percentage, 1 to 100, that a text says, and 100 if there is no text. None if the text is
+/// ill-formed.
+fn percent_given(text: Option<&str>) -> Option<u8>
+    ensures value { result ≡ percent_in (option_map (λ given. given.now) text.entry) }
+    ensures range { IfSome result (λ percent. percent ≤ 100) }
+{
+    match text {
+        Some(text) => read_percent(text.as_bytes()),
+        None => Some(100),
+    }
+}
+
+/// The number of states that a text says, and the usual one if there is no text. None if the text is
+/// ill-formed.
+pub fn room_given(text: Option<&str>) -> Option<u32>
+    ensures { result ≡ room_in (option_map (λ given. given.now) text.entry) }
+{
+    let Some(text) = text else {
+        return Some(USUAL_STATES);
+    };
+    match number_at_most(text.as_bytes(), MOST_STATES) {
+        Some(room) if 1 <= room => Some(room),
+        _ => None,
+    }
+}
+
+/// The pace of the texts of its turns and its percentage. None if one is ill-formed.
+pub fn pace_given(turns: Option<&str>, early: Option<&str>) -> Option<Pace>
+    ensures value { result ≡ pace_in (option_map (λ given. given.now) turns.entry)
+        (option_map (λ given. given.now) early.entry) }
+    ensures range { IfSome result IsPace }
+{
+    let turns = number_given(turns, USUAL_TURNS)?;
+    let percent = percent_given(early)?;
+    Some(Pace { turns, percent })
 }

@@ -3,26 +3,46 @@ ghost use Rattle.std.specs.Prelude.{◌≡◌, MatchResult, map, string_bytes};
 ghost use Rattle.apex_history.specs.Counted.{inner_of, failures_of};
 ghost use Rattle.apex_cli.specs.Exits.{Told};
 ghost use Rattle.apex_cli.specs.Streams.{ports_of};
-ghost use Rattle.apex_lab.specs.Exits.{End, Ends, end_in, fails, report_of, status_of};
-ghost use Rattle.apex_lab.specs.Tasks.{asked_by};
+ghost use Rattle.apex_lab.specs.Ends.{End, end_in, fails, report_of, status_of};
+ghost use Rattle.apex_lab.specs.Exits.{Ends, ShowEnds};
+ghost use Rattle.apex_lab.specs.Tasks.{IsOfEntries, asked_by, showing_said};
 ghost use Rattle.apex_lab.specs.declared.faults.LabFault.TheVariants.{Common};
 
-use crate::faults::{LabFault, USAGE, schedule_line};
+use crate::ends::{Ending, status_of, tell};
+use crate::faults::LabFault;
+use crate::linting::run_lint;
 use crate::listings::list;
 use crate::plans::show;
+use crate::searching::run_search;
 use crate::sources::{Given, given_by};
-use crate::tasks::task_asked;
-use apex_cli::{CliFault, fault_line, write_error};
-use apex_history::{Counted, Lines, Sink, Source};
+use crate::tasks::{Showing, Task, task_asked};
+use apex_cli::CliFault;
+use apex_history::{Counted, Sink, Source};
 use std::alloc::Global;
 
-/// The end of the program if it meets no fault.
-#[derive(Drop)]
-pub enum Ending {
-    /// The run was shown.
-    Shown,
-    /// The history departs from what the partition does: the text of the verdict.
-    Departed(Lines),
+/// Shows a run.
+fn show_run<R: Source, W: Sink>(
+    alloc: Global,
+    showing: &Showing,
+    reader: &mut Counted<R>,
+    writer: &mut Counted<W>,
+) -> Result<Ending, LabFault>
+    requires { IsOfEntries showing.now.view }
+    ensures { ShowEnds (showing_said showing.now)
+        (ports_of R.remaining W.contents reader.old writer.old) (end_in result)
+        (ports_of R.remaining W.contents reader.new writer.new) }
+{
+    match given_by(alloc, showing, reader)? {
+        Given::Picture(plan) => {
+            show(alloc, plan, writer)?;
+            Ok(Ending::Complete)
+        }
+        Given::Listing(listing, run) => {
+            list(alloc, listing, run, writer)?;
+            Ok(Ending::Complete)
+        }
+        Given::Departed(verdict) => Ok(Ending::Departed(verdict)),
+    }
 }
 
 /// Does what the words ask for.
@@ -37,51 +57,14 @@ fn carry_out<R: Source, W: Sink>(
         (ports_of R.remaining W.contents reader.new writer.new) }
 {
     let task = task_asked(alloc, words)?;
-    match given_by(alloc, &task, reader)? {
-        Given::Picture(plan) => {
-            show(alloc, plan, writer)?;
-            Ok(Ending::Shown)
-        }
-        Given::Listing(listing, run) => {
-            list(alloc, listing, run, writer)?;
-            Ok(Ending::Shown)
-        }
-        Given::Departed(verdict) => Ok(Ending::Departed(verdict)),
+    match task {
+        Task::Show(showing) => show_run(alloc, &showing, reader, writer),
+        Task::Search(search) => run_search(alloc, &search, reader, writer),
+        Task::Lint(lint) => run_lint(alloc, &lint, reader, writer),
     }
 }
 
-/// The program's exit status.
-fn status_of(outcome: &Result<Ending, LabFault>) -> u8
-    ensures { result ≡ status_of (end_in outcome.now) }
-{
-    match outcome {
-        Ok(Ending::Shown) => 0,
-        Ok(Ending::Departed(_)) => 1,
-        Err(fault) => fault.status(),
-    }
-}
-
-/// Reports the departure or the fault, if there is one, on the error writer.
-#[tactic(auto, using(crate::proofs::Endings::other_line))]
-fn tell<E: Sink>(outcome: &Result<Ending, LabFault>, error_writer: &mut Counted<E>)
-    ensures { Told (report_of (end_in outcome.now))
-        (E.contents (inner_of error_writer.old)) (E.contents (inner_of error_writer.new))
-        (failures_of error_writer.old) (failures_of error_writer.new) }
-{
-    match outcome {
-        Ok(Ending::Shown) => {}
-        Ok(Ending::Departed(verdict)) => write_error(verdict.as_slice(), error_writer),
-        Err(LabFault::Schedule(bad)) => {
-            write_error(schedule_line(*bad).as_str().as_bytes(), error_writer);
-        }
-        Err(LabFault::Common(CliFault::Usage)) => write_error(USAGE.as_bytes(), error_writer),
-        Err(LabFault::Common(fault)) => {
-            write_error(fault_line(Some(*fault)).as_str().as_bytes(), error_writer);
-        }
-    }
-}
-
-/// The whole program: shows what the words ask for, reports a fault or a departure on the error
+/// The whole program: does what the words ask for, reports a fault or a departure on the error
 /// writer, and gives the exit status.
 pub fn serve<R: Source, W: Sink, E: Sink>(
     alloc: Global,

@@ -9,7 +9,7 @@ use crate::faults::{LabFault, read_items};
 use crate::parts::parted;
 use crate::plans::{Plan, plan_in, trace_plan};
 use crate::runs::{Run, run_at_pace, run_of_items};
-use crate::tasks::{Picture, RunSource, Task, View};
+use crate::tasks::{Picture, RunSource, Showing, View};
 use crate::words::Listing;
 use apex_check::{Followed, Verdict, follow, verdict_text};
 use apex_cli::{CliFault, table_for};
@@ -151,23 +151,28 @@ fn given_by_history<R: Source>(
     }
 }
 
-/// What the source of a task gives.
+/// What the source of a run that is to be shown gives.
 pub fn given_by<R: Source>(
     alloc: Global,
-    task: &Task,
+    showing: &Showing,
     reader: &mut Counted<R>,
 ) -> Result<Given, LabFault>
-    requires { IsOfEntries task.now.view }
+    requires { IsOfEntries showing.now.view }
     ensures gives { Gives (R.remaining (inner_of reader.old)) (failures_of reader.old)
-        (source_said task.now.source) (outcome_in result) (failures_of reader.new) }
-    ensures view { IfOk result (IsGivenFor (view_said task.now.view)) }
+        (source_said showing.now.source) (outcome_in result) (failures_of reader.new) }
+    ensures view { IfOk result (IsGivenFor (view_said showing.now.view)) }
 {
-    match &task.source {
-        RunSource::Schedule(items) => given_by_schedule(alloc, task.view, items.as_slice(), reader),
-        RunSource::ReadSchedule => given_by_read_schedule(alloc, task.view, reader),
+    match &showing.source {
+        RunSource::Schedule(items) => given_by_schedule(
+            alloc,
+            showing.view,
+            items.as_slice(),
+            reader,
+        ),
+        RunSource::ReadSchedule => given_by_read_schedule(alloc, showing.view, reader),
         RunSource::Pace { pace, until } => {
-            given_by_pace(alloc, task.view, *pace, *until, reader)
+            given_by_pace(alloc, showing.view, *pace, *until, reader)
         }
-        RunSource::History => given_by_history(alloc, task.view, reader),
+        RunSource::History => given_by_history(alloc, showing.view, reader),
     }
 }

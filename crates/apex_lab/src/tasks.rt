@@ -1,16 +1,16 @@
-//! What the program is asked to show.
-ghost use Rattle.std.specs.Prelude.{◌≡◌, ◌≤◌, IfOk, IfErr, IsErrOf, Ok, Some, None, map, string_bytes, option_map};
-ghost use Rattle.apex_types.specs.declared.limits.TheConstants.{MOST_ENTRIES};
-ghost use Rattle.apex_cli.specs.Faults.{IsUsageOrMemory};
-ghost use Rattle.apex_lab.specs.Tasks.{IsOfEntries, IsUnasked, asked_by, number_in, pace_in, paced_source, percent_in, source_in, source_said, task_said, view_in, view_said};
-ghost use Rattle.apex_lab.specs.Words.{given_said, shown_said};
+//! What the program is asked to do.
+ghost use Rattle.std.specs.Prelude.{◌≡◌, IfOk, IfErr, IfSome, Ok, Some, option_map, map, string_bytes};
+ghost use Rattle.apex_lab.specs.Tasks.{IsInRange, IsOfEntries, IsUnasked, asked_by, asked_in_request, paced_source, showing_said, showing_of, source_in, source_said, task_said, view_in, view_said};
+ghost use Rattle.apex_lab.specs.Words.{given_said, request_said, shown_said};
 
 use crate::faults::{LabFault, read_items};
-use crate::numbers::{read_percent, read_time};
-use crate::words::{Listing, SourceWords, ViewWords, request_in};
+use crate::linting::{Lint, lint_asked};
+use crate::numbers::{number_given, pace_given, read_time};
+use crate::questions::{Search, search_asked};
+use crate::words::{Listing, Request, SourceWords, ViewWords, request_in};
 use apex_cli::CliFault;
-use apex_pace::{Pace, USUAL_TURNS};
-use apex_schedules::{Item, read_positive};
+use apex_pace::Pace;
+use apex_schedules::Item;
 use apex_types::MOST_ENTRIES;
 use std::alloc::Global;
 
@@ -45,80 +45,34 @@ pub enum View {
     Listing(Listing),
 }
 
-/// What the program is asked to show.
+/// A run that is to be shown.
 #[derive(Drop)]
-pub struct Task {
+pub struct Showing {
     pub source: RunSource,
     pub view: View,
 }
 
-/// The number of an entry, or of turns, 1 to [`MOST_ENTRIES`], that a text says. Any other text is
-/// `Usage`.
-fn read_number(text: Option<&str>, otherwise: u32) -> Result<u32, CliFault>
-    requires { (1 ≤ otherwise) × (otherwise ≤ MOST_ENTRIES) }
-    ensures ok { IfOk result (λ number. number_in otherwise (option_map
-        (λ given. given.now) text.entry) ≡ Some number) }
-    ensures range { IfOk result (λ number. (1 ≤ number) × (number ≤ MOST_ENTRIES)) }
-    ensures usage { IsErrOf result CliFault.Usage → number_in otherwise (option_map
-        (λ given. given.now) text.entry) ≡ None }
-    ensures faults { IfErr result IsUsageOrMemory }
-{
-    let Some(text) = text else {
-        return Ok(otherwise);
-    };
-    match read_positive(text.as_bytes()) {
-        Some(number) => Ok(number),
-        None => Err(CliFault::Usage),
-    }
+/// What the program is asked to do.
+#[derive(Drop)]
+pub enum Task<'a> {
+    /// To show a run.
+    Show(Showing),
+    /// To search the schedules of a pace.
+    Search(Search),
+    /// To lint a table.
+    Lint(Lint<'a>),
 }
 
-/// The percentage, 1 to 100, that a text says. Any other text is `Usage`.
-fn read_early(text: Option<&str>) -> Result<u8, CliFault>
-    ensures ok { IfOk result (λ percent. percent_in (option_map (λ given. given.now) text.entry)
-        ≡ Some percent) }
-    ensures usage { IsErrOf result CliFault.Usage
-        → percent_in (option_map (λ given. given.now) text.entry) ≡ None }
-    ensures faults { IfErr result IsUsageOrMemory }
-{
-    let Some(text) = text else {
-        return Ok(100);
-    };
-    match read_percent(text.as_bytes()) {
-        Some(percent) => Ok(percent),
-        None => Err(CliFault::Usage),
-    }
-}
-
-/// The pace of these texts. `Usage` if one is ill-formed.
-fn read_pace(turns: Option<&str>, early: Option<&str>) -> Result<Pace, CliFault>
-    ensures ok { IfOk result (λ pace. pace_in (option_map (λ given. given.now) turns.entry)
-        (option_map (λ given. given.now) early.entry) ≡ Some pace) }
-    ensures usage { IsErrOf result CliFault.Usage
-        → pace_in (option_map (λ given. given.now) turns.entry)
-        (option_map (λ given. given.now) early.entry) ≡ None }
-    ensures faults { IfErr result IsUsageOrMemory }
-{
-    let turns = read_number(turns, USUAL_TURNS)?;
-    let percent = read_early(early)?;
-    Ok(Pace { turns, percent })
-}
-
-/// The run of a pace, by the texts of its time, its turns and its percentage. `Usage` if one is
+/// The run of a pace, by the texts of its time, its turns and its percentage. None if one is
 /// ill-formed.
-fn read_paced(until: &str, turns: Option<&str>, early: Option<&str>) -> Result<RunSource, CliFault>
-    ensures ok { IfOk result (λ read. paced_source until.entry.now
-        (option_map (λ given. given.now) turns.entry) (option_map (λ given. given.now) early.entry)
-        ≡ Some (source_said read)) }
-    ensures usage { IsErrOf result CliFault.Usage → paced_source until.entry.now
-        (option_map (λ given. given.now) turns.entry) (option_map (λ given. given.now) early.entry)
-        ≡ None }
-    ensures faults { IfErr result IsUsageOrMemory }
+fn read_paced(until: &str, turns: Option<&str>, early: Option<&str>) -> Option<RunSource>
+    ensures { option_map source_said result ≡ paced_source until.entry.now
+        (option_map (λ given. given.now) turns.entry)
+        (option_map (λ given. given.now) early.entry) }
 {
-    let Some(until) = read_time(until.as_bytes()) else {
-        return Err(CliFault::Usage);
-    };
-    let pace = read_pace(turns, early)?;
-    Ok(RunSource::Pace { pace, until })
+    let until = read_time(until.as_bytes())?;
+    let pace = pace_given(turns, early)?;
+    Some(RunSource::Pace { pace, until })
 }
 
 /// How a run is given. `Usage` if a number is ill-formed; a text that is no schedule has a fault of
@@ -138,42 +92,81 @@ fn read_source(alloc: Global, source: SourceWords<'_>) -> Result<RunSource, LabF
             until,
             turns,
             early,
-        } => {
-            let paced = read_paced(until, turns, early)?;
-            Ok(paced)
-        }
+        } => match read_paced(until, turns, early) {
+            Some(paced) => Ok(paced),
+            None => Err(LabFault::Common(CliFault::Usage)),
+        },
         SourceWords::History => Ok(RunSource::History),
     }
 }
 
-/// How a run is shown. `Usage` if a number is ill-formed.
-fn read_view(view: ViewWords<'_>) -> Result<View, CliFault>
-    ensures ok { IfOk result (λ read. view_in (shown_said view.entry) ≡ Some (view_said read)) }
-    ensures range { IfOk result IsOfEntries }
-    ensures usage { IsErrOf result CliFault.Usage → view_in (shown_said view.entry) ≡ None }
-    ensures faults { IfErr result IsUsageOrMemory }
+/// How a run is shown. None if a number is ill-formed.
+fn read_view(view: ViewWords<'_>) -> Option<View>
+    ensures value { option_map view_said result ≡ view_in (shown_said view.entry) }
+    ensures range { IfSome result IsOfEntries }
 {
     match view {
         ViewWords::Svg { first, last } => {
-            let first = read_number(first, 1)?;
-            let last = read_number(last, MOST_ENTRIES)?;
-            Ok(View::Picture(Picture::Svg { first, last }))
+            let first = number_given(first, 1)?;
+            let last = number_given(last, MOST_ENTRIES)?;
+            Some(View::Picture(Picture::Svg { first, last }))
         }
-        ViewWords::Trace => Ok(View::Picture(Picture::Trace)),
-        ViewWords::Listing(listing) => Ok(View::Listing(listing)),
+        ViewWords::Trace => Some(View::Picture(Picture::Trace)),
+        ViewWords::Listing(listing) => Some(View::Listing(listing)),
+    }
+}
+
+/// The run that is to be shown. `Usage` if a number is ill-formed, which comes before a fault of a
+/// schedule's text.
+fn read_showing(
+    alloc: Global,
+    source: SourceWords<'_>,
+    view: ViewWords<'_>,
+) -> Result<Showing, LabFault>
+    ensures ok { IfOk result (λ showing. showing_of (source_in (given_said source.entry))
+        (view_in (shown_said view.entry)) ≡ Ok (showing_said showing)) }
+    ensures range { IfOk result (λ showing. IsOfEntries showing.view) }
+    ensures err { IfErr result (IsUnasked (showing_of (source_in (given_said source.entry))
+        (view_in (shown_said view.entry)))) }
+{
+    let Some(view) = read_view(view) else {
+        return Err(LabFault::Common(CliFault::Usage));
+    };
+    let source = read_source(alloc, source)?;
+    Ok(Showing { source, view })
+}
+
+/// What a request asks for. `Usage` if a number or a word is ill-formed.
+fn task_of<'a>(alloc: Global, request: Request<'a>) -> Result<Task<'a>, LabFault>
+    ensures ok { IfOk result (λ task. asked_in_request (request_said request.entry)
+        ≡ Ok (task_said task)) }
+    ensures range { IfOk result IsInRange }
+    ensures err { IfErr result (IsUnasked (asked_in_request (request_said request.entry))) }
+{
+    match request {
+        Request::Show(source, view) => {
+            let showing = read_showing(alloc, source, view)?;
+            Ok(Task::Show(showing))
+        }
+        Request::Search(words) => match search_asked(words) {
+            Some(search) => Ok(Task::Search(search)),
+            None => Err(LabFault::Common(CliFault::Usage)),
+        },
+        Request::Lint(words) => match lint_asked(alloc, words)? {
+            Some(lint) => Ok(Task::Lint(lint)),
+            None => Err(LabFault::Common(CliFault::Usage)),
+        },
     }
 }
 
 /// What the words ask for. `Usage` if the words or a number are ill-formed, which comes before a
 /// fault of a schedule's text.
-pub fn task_asked(alloc: Global, words: &[String]) -> Result<Task, LabFault>
+pub fn task_asked<'a>(alloc: Global, words: &'a [String]) -> Result<Task<'a>, LabFault>
     ensures ok { IfOk result (λ task. asked_by (map string_bytes words.now)
         ≡ Ok (task_said task)) }
-    ensures range { IfOk result (λ task. IsOfEntries task.view) }
+    ensures range { IfOk result IsInRange }
     ensures err { IfErr result (IsUnasked (asked_by (map string_bytes words.now))) }
 {
     let request = request_in(alloc, words)?;
-    let view = read_view(request.view)?;
-    let source = read_source(alloc, request.source)?;
-    Ok(Task { source, view })
+    task_of(alloc, request)
 }

@@ -1,0 +1,16 @@
+-- What is reported is the line of the fault.
+use Rattle.std.proofs.Common.{◌≡◌, ◌∙◌}
+use Rattle.apex_lab.proofs.Endings.{told_line}
+use Rattle.apex_lab.proofs.ends.tell_fault.Goals as goal
+
+pub returns-in-Schedule : goal.returns-in-Schedule
+returns-in-Schedule g c =
+    rw c.in-Schedule.is (told_line _ _ _ _ (c.as_bytes.ensures.value ∙ c.as_str.ensures.value ∙ c.schedule_line.ensures) c.write_error.ensures)
+
+pub returns-in-NoProcess : goal.returns-in-NoProcess
+returns-in-NoProcess g c =
+    rw c.in-NoProcess.is (told_line _ _ _ _ (c.as_slice.ensures.value ∙ c.process_line.ensures) c.write_error-in-NoProcess.ensures)
+
+pub returns-in-StatesFull : goal.returns-in-StatesFull
+returns-in-StatesFull g c =
+    rw c.in-StatesFull.is (told_line _ _ _ _ (c.as_bytes-in-StatesFull.ensures.value ∙ c.as_str-in-StatesFull.ensures.value ∙ c.states_line.ensures) c.write_error-in-StatesFull.ensures)

@@ -1,0 +1,58 @@
+-- The ends of the program.
+use Rattle.std.specs.Prelude.{ℕ, List, [], Option, None, Some, Result, Ok, Err}
+use Rattle.apex_cli.specs.declared.CliFault.{CliFault}
+use Rattle.apex_lab.specs.Faults.{line_of_fault, status_of_fault}
+use Rattle.apex_lab.specs.declared.faults.LabFault.{LabFault}
+use Rattle.apex_lab.specs.declared.faults.LabFault.TheVariants.{Common}
+use Rattle.apex_lab.specs.declared.ends.Ending.{Ending}
+use Rattle.apex_lab.specs.declared.ends.Ending.TheVariants.{Complete, Departed, Found, Refused, Warned}
+
+-- the end of the program
+pub data End : Type 0 where
+  -- the run was shown, no schedule leads to what a search looks for, or there is no warning about a
+  -- table
+  complete : End
+  -- the history departs from what the partition does: the verdict's text is reported
+  departs : List ℕ → End
+  -- a search found a schedule
+  finds : End
+  -- there is a warning about a table
+  warns : End
+  -- a text is no table
+  refuses : End
+  -- this fault is reported
+  fails : LabFault → End
+
+-- the end with the fault, if there is one
+abbrev pub end_of : Option CliFault → End
+end_of None = complete
+end_of (Some fault) = fails (Common fault)
+
+-- the end of an outcome
+abbrev pub end_in : Result Ending LabFault → End
+end_in (Ok Complete) = complete
+end_in (Ok (Departed verdict)) = departs verdict.items
+end_in (Ok Found) = finds
+end_in (Ok Warned) = warns
+end_in (Ok Refused) = refuses
+end_in (Err fault) = fails fault
+
+-- the exit status: 0 if the run was shown, no schedule leads to what a search looks for, or there is no
+-- warning about a table; 1 if the history departs, a search found a schedule, or there is a warning; 3 if
+-- a text that is linted is no table; else the status of the fault
+abbrev pub status_of : End → ℕ
+status_of complete = 0
+status_of (departs report) = 1
+status_of finds = 1
+status_of warns = 1
+status_of refuses = 3
+status_of (fails fault) = status_of_fault fault
+
+-- what is reported at the end
+abbrev pub report_of : End → List ℕ
+report_of complete = []
+report_of (departs report) = report
+report_of finds = []
+report_of warns = []
+report_of refuses = []
+report_of (fails fault) = line_of_fault fault

@@ -1,0 +1,75 @@
+//! The ends of the program, their statuses, and what is reported.
+ghost use Rattle.std.specs.Prelude.{◌≡◌};
+ghost use Rattle.apex_history.specs.Counted.{inner_of, failures_of};
+ghost use Rattle.apex_cli.specs.Exits.{Told};
+ghost use Rattle.apex_lab.specs.Ends.{end_in, report_of, status_of};
+ghost use Rattle.apex_lab.specs.Faults.{line_of_fault};
+
+use crate::faults::{LabFault, USAGE, process_line, schedule_line, states_line};
+use apex_cli::{CliFault, fault_line, write_error};
+use apex_history::{Counted, Lines, Sink};
+
+/// The end of the program if it meets no fault.
+#[derive(Drop)]
+pub enum Ending {
+    /// The run was shown, no schedule leads to what a search looks for, or there is no warning about
+    /// a table.
+    Complete,
+    /// The history departs from what the partition does: the text of the verdict.
+    Departed(Lines),
+    /// A search found a schedule.
+    Found,
+    /// There is a warning about a table.
+    Warned,
+    /// A text is no table: its faults were written.
+    Refused,
+}
+
+/// The program's exit status.
+pub fn status_of(outcome: &Result<Ending, LabFault>) -> u8
+    ensures { result ≡ status_of (end_in outcome.now) }
+{
+    match outcome {
+        Ok(Ending::Complete) => 0,
+        Ok(Ending::Departed(_) | Ending::Found | Ending::Warned) => 1,
+        Ok(Ending::Refused) => 3,
+        Err(fault) => fault.status(),
+    }
+}
+
+/// Reports the fault on the error writer.
+#[tactic(auto, using(crate::proofs::Endings::other_line))]
+fn tell_fault<E: Sink>(fault: &LabFault, error_writer: &mut Counted<E>)
+    ensures { Told (line_of_fault fault.now)
+        (E.contents (inner_of error_writer.old)) (E.contents (inner_of error_writer.new))
+        (failures_of error_writer.old) (failures_of error_writer.new) }
+{
+    match fault {
+        LabFault::Schedule(bad) => {
+            write_error(schedule_line(*bad).as_str().as_bytes(), error_writer);
+        }
+        LabFault::NoProcess(name) => {
+            write_error(process_line(name).as_slice(), error_writer);
+        }
+        LabFault::StatesFull(room) => {
+            write_error(states_line(*room).as_str().as_bytes(), error_writer);
+        }
+        LabFault::Common(CliFault::Usage) => write_error(USAGE.as_bytes(), error_writer),
+        LabFault::Common(fault) => {
+            write_error(fault_line(Some(*fault)).as_str().as_bytes(), error_writer);
+        }
+    }
+}
+
+/// Reports the departure or the fault, if there is one, on the error writer.
+pub fn tell<E: Sink>(outcome: &Result<Ending, LabFault>, error_writer: &mut Counted<E>)
+    ensures { Told (report_of (end_in outcome.now))
+        (E.contents (inner_of error_writer.old)) (E.contents (inner_of error_writer.new))
+        (failures_of error_writer.old) (failures_of error_writer.new) }
+{
+    match outcome {
+        Ok(Ending::Complete | Ending::Found | Ending::Warned | Ending::Refused) => {}
+        Ok(Ending::Departed(verdict)) => write_error(verdict.as_slice(), error_writer),
+        Err(fault) => tell_fault(fault, error_writer),
+    }
+}

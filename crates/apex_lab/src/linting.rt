@@ -1,0 +1,96 @@
+//! A table that is linted.
+ghost use Rattle.std.specs.Prelude.{◌≡◌, map, option_map, IfOk};
+ghost use Rattle.apex_cli.specs.Streams.{ports_of};
+ghost use Rattle.apex_lab.specs.Ends.{end_in};
+ghost use Rattle.apex_lab.specs.Lints.{LintEnds, allowed_of, end_with, file_of, form_of, lint_asked, lint_said};
+ghost use Rattle.apex_lab.specs.Words.{lint_words_said};
+
+use crate::ends::Ending;
+use crate::faults::LabFault;
+use crate::words::LintWords;
+use apex_cli::CliFault;
+use apex_history::{Counted, Sink, Source, read_all};
+use apex_lint::{Form, Verdict, allowed_in, report_on};
+use std::alloc::{AllocError, Global};
+use std::io::Write;
+
+/// How a table is linted.
+#[derive(Drop)]
+pub struct Lint<'a> {
+    pub form: Form,
+    /// The name under which the table is reported.
+    pub file: &'a str,
+    /// The words of the warnings that are left out.
+    pub allowed: Vec<&'a str>,
+}
+
+fn form_of(json: bool) -> Form
+    ensures { result ≡ form_of json }
+{
+    if json { Form::Json } else { Form::Lines }
+}
+
+/// The name under which the table is reported: `-` if none is given.
+fn file_of<'a>(name: Option<&'a str>) -> &'a str
+    ensures { result.now ≡ file_of (option_map (λ text. text.now) name.entry) }
+{
+    match name {
+        Some(name) => name,
+        None => "-",
+    }
+}
+
+/// The words of the warnings that are left out. None if one of them is no warning's word.
+fn allowed_of<'a>(alloc: Global, allow: Option<&'a str>) -> Result<Option<Vec<&'a str>>, AllocError>
+    ensures { IfOk result (λ o. option_map (λ v. map (λ w. w.now) v.items) o
+        ≡ allowed_of (option_map (λ text. text.now) allow.entry)) }
+{
+    match allow {
+        Some(text) => allowed_in(alloc, text),
+        None => Ok(Some(Vec::new(alloc))),
+    }
+}
+
+/// How a table is linted, by the options. None if a word is no warning's.
+pub fn lint_asked<'a>(alloc: Global, words: LintWords<'a>) -> Result<Option<Lint<'a>>, AllocError>
+    ensures { IfOk result (λ o. option_map lint_said o
+        ≡ lint_asked (lint_words_said words.entry)) }
+{
+    match allowed_of(alloc, words.allow)? {
+        Some(allowed) => Ok(Some(Lint {
+            form: form_of(words.json),
+            file: file_of(words.name),
+            allowed,
+        })),
+        None => Ok(None),
+    }
+}
+
+fn ending_with(verdict: Verdict) -> Result<Ending, LabFault>
+    ensures { end_in result ≡ end_with verdict }
+{
+    match verdict {
+        Verdict::Accepted => Ok(Ending::Complete),
+        Verdict::Warned => Ok(Ending::Warned),
+        Verdict::Refused => Ok(Ending::Refused),
+    }
+}
+
+/// Writes the report on the table that the reader has. It takes all its memory before it writes.
+pub fn run_lint<R: Source, W: Sink>(
+    alloc: Global,
+    lint: &Lint<'_>,
+    reader: &mut Counted<R>,
+    writer: &mut Counted<W>,
+) -> Result<Ending, LabFault>
+    ensures { LintEnds (lint_said lint.now)
+        (ports_of R.remaining W.contents reader.old writer.old)
+        (end_in result) (ports_of R.remaining W.contents reader.new writer.new) }
+{
+    let text = read_all(alloc, reader)?;
+    let report = report_on(alloc, lint.form, lint.file, &lint.allowed, text.as_slice())?;
+    match writer.write_all(report.text.as_slice()) {
+        Ok(()) => ending_with(report.verdict),
+        Err(_) => Err(LabFault::Common(CliFault::Write)),
+    }
+}

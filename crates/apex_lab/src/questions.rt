@@ -1,0 +1,82 @@
+//! What a search is asked for.
+ghost use Rattle.std.specs.Prelude.{◌≡◌, IfSome, option_map};
+ghost use Rattle.apex_pace.specs.Laws.{IsPace};
+ghost use Rattle.apex_lab.specs.Questions.{name_of, process_said, search_asked, service_of, service_said};
+ghost use Rattle.apex_lab.specs.Words.{search_said};
+
+use crate::numbers::{pace_given, room_given};
+use crate::words::SearchWords;
+use apex_answers::fact_of;
+use apex_calls::{Service, row_of_word};
+use apex_pace::Pace;
+use apex_search::Fact;
+use apex_types::Name;
+
+/// What a search is asked for.
+#[derive(Clone, Copy)]
+pub struct Search {
+    pub fact: Fact,
+    /// The name or the number of the process that the fact is about; without one it may be any.
+    pub process: Option<Name>,
+    /// The service whose replies the fact is about; without one it may be any.
+    pub service: Option<Service>,
+    pub pace: Pace,
+    /// The number of states for which there is room.
+    pub room: u32,
+}
+
+/// The name that a text is.
+fn name_of(text: &str) -> Option<Name>
+    ensures { result ≡ name_of text.now }
+{
+    Name::from_bytes(text.as_bytes())
+}
+
+/// The process that is asked for, if one is. None if its text is no name.
+fn process_said(text: Option<&str>) -> Option<Option<Name>>
+    ensures { result ≡ process_said (option_map (λ given. given.now) text.entry) }
+{
+    match text {
+        Some(text) => Some(Some(name_of(text)?)),
+        None => Some(None),
+    }
+}
+
+/// The service that a word asks for, in a step of a script.
+fn service_of(word: &str) -> Option<Service>
+    ensures { result ≡ service_of word.now }
+{
+    match row_of_word(word) {
+        Some(row) => Some(row.service),
+        None => None,
+    }
+}
+
+/// The service that is asked for, if one is. None if its text is no service's word.
+fn service_said(text: Option<&str>) -> Option<Option<Service>>
+    ensures { result ≡ service_said (option_map (λ given. given.now) text.entry) }
+{
+    match text {
+        Some(text) => Some(Some(service_of(text)?)),
+        None => Some(None),
+    }
+}
+
+/// The search that words ask for. None if one of them is ill-formed.
+pub fn search_asked(words: SearchWords<'_>) -> Option<Search>
+    ensures value { result ≡ search_asked (search_said words.entry) }
+    ensures range { IfSome result (λ search. IsPace search.pace) }
+{
+    let fact = fact_of(words.fact)?;
+    let process = process_said(words.process)?;
+    let service = service_said(words.service)?;
+    let pace = pace_given(words.turns, words.early)?;
+    let room = room_given(words.states)?;
+    Some(Search {
+        fact,
+        process,
+        service,
+        pace,
+        room,
+    })
+}
