@@ -1,8 +1,8 @@
 //! The tests of the kernel and of the printing of lines that no stored case can show: how many
 //! records a turn looks at, lines that no run prints, a writer that fails, and the counters of a
 //! trace; the faults and the warnings of a table, and the lines that report them; the report of a
-//! history; searches of a small system and of two tables; and the words and texts of answers. It has
-//! no code of its own.
+//! history; searches of a small system and of two tables; the words and texts of answers; and
+//! sessions that answer commands. It has no code of its own.
 #![tactic(auto)]
 
 #[cfg(test)]
@@ -39,6 +39,8 @@ mod scans;
 mod searches;
 #[cfg(test)]
 mod service_reports;
+#[cfg(test)]
+mod steps;
 #[cfg(test)]
 mod traces;
 #[cfg(test)]

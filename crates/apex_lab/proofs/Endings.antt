@@ -1,130 +1,17 @@
--- What a source gives, and the ways in which the program ends, by what was at fault.
-use Rattle.std.proofs.Common.{◌≡◌, inl, inr, List, ℕ, Option, None, Some, Result, Ok, ap, refl, subst, sym}
+-- The ways in which the program ends, and the lines that are reported, by what was at fault.
+use Rattle.std.proofs.Common.{◌≡◌, inl, inr, List, ℕ, Option, Some, Result, refl, subst}
 use Rattle.std.specs.Io.KnownBytes.{Keeps}
-use Rattle.apex_machine.specs.Machine.{Machine}
-use Rattle.apex_machine.specs.table.Table as tables
-use Rattle.apex_types.specs.declared.entries.Entry.{Entry}
-use Rattle.apex_history.specs.Counted.{CountsFault, one_more}
 use Rattle.apex_history.specs.Ports.{NoneFails, Ports}
-use Rattle.apex_history.specs.declared.ReadFault.{ReadFault}
-use Rattle.apex_history.specs.declared.ReadFault.TheVariants as read
-use Rattle.apex_check.proofs.Told.{legal_machine}
-use Rattle.apex_check.specs.Ahead.{IsAhead}
-use Rattle.apex_check.specs.Faults.{CountsRead, IsFaultOf}
-use Rattle.apex_check.specs.Verdicts.{HasFollowed, Judges, verdict_text}
-use Rattle.apex_check.specs.declared.CheckFault.{CheckFault}
-use Rattle.apex_check.specs.declared.CheckFault.TheVariants as checking
-use Rattle.apex_check.specs.declared.Verdict.{Verdict}
-use Rattle.apex_check.specs.declared.Verdict.TheVariants.{Legal, DepartsAt}
-use Rattle.apex_cli.specs.Exits.{Told}
-use Rattle.apex_cli.specs.Faults.{fault_of_checking, fault_of_read, fault_line}
-use Rattle.apex_cli.specs.Reports.{Answer, Refuses, refuses, runs_to}
-use Rattle.apex_cli.specs.declared.CliFault.{CliFault}
-use Rattle.apex_cli.specs.declared.CliFault.TheVariants.{Usage, Table, NoSeparator, BadLine, TooLong, HistoryFull, Memory, NoThread, Read, Write}
-use Rattle.apex_pictures.specs.Drawing.{CountsDrawFault}
-use Rattle.apex_pictures.specs.declared.DrawFault.{DrawFault}
-use Rattle.apex_pictures.specs.declared.DrawFault.TheVariants as draw
-use Rattle.apex_lab.specs.Ends.{departs, end_of, fails}
-use Rattle.apex_lab.specs.Exits.{Answers, Ends, Gives, Outcome, ShowEnds, Shows, at_fault, cut_off, departed, first_fault, IsRunTo, legal, no_memory, outcome_in, ran, refused, shown, shows, stops, unasked, unread, unscheduled, unwritten, usage, whole}
+use Rattle.apex_console.specs.Faults.{fault_line}
+use Rattle.apex_console.specs.Streams.{Told}
+use Rattle.apex_console.specs.declared.CliFault.{CliFault}
+use Rattle.apex_console.specs.declared.CliFault.TheVariants.{Usage, Table, NoSeparator, BadLine, TooLong, HistoryFull, Memory, NoThread, Read, Write}
+use Rattle.apex_lab.specs.Ends.{fails}
+use Rattle.apex_lab.specs.Exits.{Ends, unasked, unscheduled, usage}
 use Rattle.apex_lab.specs.Faults.{common_line}
-use Rattle.apex_lab.specs.Plans.{AppendsPrefixOfView, AppendsView, fault_of_drawing}
-use Rattle.apex_lab.specs.Tasks.{Asked, IsUnasked, Picture, Showing, Source, Unasked, View, drawn, history}
+use Rattle.apex_lab.specs.Tasks.{Asked, IsUnasked, Unasked}
 use Rattle.apex_lab.specs.declared.faults.LabFault.{LabFault}
-use Rattle.apex_lab.specs.declared.sources.Given.{Given}
-use Rattle.apex_lab.specs.declared.sources.Given.TheVariants as given
 use Rattle.apex_lab.specs.declared.faults.LabFault.TheVariants.{Common, NoProcess, Schedule, StatesFull}
-
--- ---- what a source gives
-
--- the outcome of an answer
-abbrev pub outcome_of : Answer → Outcome
-outcome_of (refuses fault) = stops (fails (Common fault))
-outcome_of (runs_to table machine fault) = shows table machine fault
-
--- the outcome of a run that is to be shown
-pub outcome_is : (answer : Answer) (run : Given) → IsRunTo answer run → outcome_in (Ok run) ≡ outcome_of answer
-outcome_is answer (given.Picture plan) is = sym (ap outcome_of is)
-outcome_is answer (given.Listing listing run) is = sym (ap outcome_of is)
-outcome_is answer (given.Departed verdict) is = absurd is
-
-module _ {left : Option (List ℕ)} {failed : ℕ} where
-  -- memory was refused
-  pub gives_no_memory : {source : Source} (after : ℕ) → after ≡ failed → Gives left failed source (stops (fails (Common Memory))) after
-  gives_no_memory after same = rw same no_memory
-
-  -- bytes that were not read
-  pub gives_unread : {source : Source} (after : ℕ) (fault : ReadFault) → CountsFault fault failed after
-      → Gives left failed source (stops (fails (Common (fault_of_read fault)))) after
-  gives_unread after read.Memory counts = rw counts no_memory
-  gives_unread after read.Read counts = rw counts unread
-
-  -- what a source gives over the bytes that were read, by its answer to them
-  module _ {source : Source} (after : ℕ) (bytes : List ℕ) (answer : Answer) (ahead : IsAhead bytes left) (counts : after ≡ failed)
-      (answers : Answers source bytes answer) where
-    -- bytes that are refused
-    pub gives_refused : (fault : CliFault) → Refuses fault answer → Gives left failed source (stops (fails (Common fault))) after
-    gives_refused fault (inl memory) = rw (memory, counts) no_memory
-    gives_refused fault (inr is) = rw counts (refused bytes ahead (subst (λ (a : Answer). Answers source bytes a) is answers))
-
-    -- events that are made
-    pub gives_run : (table : tables.Table) (machine : Machine) (fault : Option CliFault) → answer ≡ runs_to table machine fault
-        → Gives left failed source (shows table machine fault) after
-    gives_run table machine fault is = rw counts (ran bytes ahead (subst (λ (a : Answer). Answers source bytes a) is answers))
-
-    -- the same of a run that is to be shown
-    pub gives_given : (run : Given) → IsRunTo answer run → Gives left failed source (outcome_in (Ok run)) after
-    gives_given (given.Picture plan) is = gives_run _ _ _ is
-    gives_given (given.Listing listing run) is = gives_run _ _ _ is
-    gives_given (given.Departed verdict) is = absurd is
-
-  -- a text with a fault
-  pub gives_fault : (after : ℕ) (fault : CheckFault) → IsFaultOf left fault → CountsRead fault failed after
-      → Gives left failed history (stops (fails (Common (fault_of_checking fault)))) after
-  gives_fault after checking.Memory found counts = rw counts no_memory
-  gives_fault after checking.Read found counts = rw counts unread
-  gives_fault after fault (text, ahead, at) counts = rw counts (at_fault text ahead at)
-
-  -- a legal history
-  pub gives_legal : (after : ℕ) (table made : tables.Table) (verdict : Verdict) (n : ℕ) (machine seen : Machine) (fault : Option CliFault)
-      → ((text : List ℕ) × IsAhead text left × HasFollowed text table verdict machine) → verdict ≡ Legal n
-      → made ≡ table → seen ≡ machine → fault ≡ None → after ≡ failed
-      → Gives left failed history (shows made seen fault) after
-  gives_legal after table made verdict n machine seen fault (text, ahead, found) is of same none counts =
-      let (lawful, table_is, ran_is) = legal_machine text table n machine (subst (λ (v : Verdict). HasFollowed text table v machine) is found) in
-      rw (of, same, none, counts) (subst (λ (t : tables.Table). Gives left failed history (shows t machine None) failed) table_is
-      (subst (λ (m : Machine). Gives left failed history (shows lawful.table m None) failed) ran_is (legal text ahead lawful)))
-
-  -- a history that departs
-  pub gives_departure : (after : ℕ) (table : tables.Table) (verdict : Verdict) (n : ℕ) (expected : Option Entry) (machine : Machine) (report : List ℕ)
-      → ((text : List ℕ) × IsAhead text left × HasFollowed text table verdict machine) → verdict ≡ DepartsAt n expected
-      → report ≡ verdict_text table verdict → after ≡ failed
-      → Gives left failed history (stops (departs report)) after
-  gives_departure after table verdict n expected machine report (text, ahead, found) is told counts =
-      let judges : Judges text table verdict = (found.events, found.judges) in
-      let told_is : report ≡ verdict_text table (DepartsAt n expected) = rw is at told in
-      rw (told_is, counts) (departed text table ahead (subst (λ (v : Verdict). Judges text table v) is judges))
-
--- ---- a run that is shown
-
--- a text that was written whole, or not to its end
-pub shows_whole : {view : View} {table : tables.Table} {machine : Machine} {held after : Option (List ℕ)} {failed failures : ℕ}
-    → AppendsView held after view table machine → failures ≡ failed
-    → Shows view table machine held failed None after failures
-shows_whole appends same = rw same (whole appends)
-
-pub shows_prefix : {view : View} {table : tables.Table} {machine : Machine} {held after : Option (List ℕ)} {failed failures : ℕ}
-    → AppendsPrefixOfView held after view table machine → failures ≡ one_more failed
-    → Shows view table machine held failed (Some Write) after failures
-shows_prefix begun same = rw same (unwritten begun)
-
--- a picture that was not drawn to its end
-pub pictures_failed : {picture : Picture} {table : tables.Table} {machine : Machine} {held after : Option (List ℕ)} {failed failures : ℕ}
-    → (fault : DrawFault) → AppendsPrefixOfView held after (drawn picture) table machine → CountsDrawFault fault failed failures
-    → Shows (drawn picture) table machine held failed (Some (fault_of_drawing fault)) after failures
-pictures_failed draw.Memory begun counts = rw counts (cut_off refl begun)
-pictures_failed draw.Write begun counts = rw counts (unwritten begun)
-
--- ---- the ends of the program
 
 module _ {asked : Result Asked Unasked} {before after : Ports} where
   -- words or a schedule that ask for nothing, or no memory
@@ -136,16 +23,6 @@ module _ {asked : Result Asked Unasked} {before after : Ports} where
   ends_unasked (Schedule bad) (text, none, has) left held none_fails = unscheduled text none has left held none_fails
   ends_unasked (NoProcess name) other left held none_fails = absurd other
   ends_unasked (StatesFull room) other left held none_fails = absurd other
-
--- a run that is shown in the view that is asked for
-pub ends_shown : {before after : Ports} (showing : Showing) (view : View) (table : tables.Table) (machine : Machine)
-    (fault reported ended : Option CliFault) → showing.view ≡ view
-    → Gives before.left before.failed_reads showing.source (shows table machine reported) after.failed_reads
-    → Shows view table machine before.held before.failed_writes fault after.held after.failed_writes
-    → ended ≡ first_fault fault reported → ShowEnds showing before (end_of ended) after
-ends_shown {before} {after} showing view table machine fault reported ended seen gives shows_view same =
-    rw same (shown table machine fault reported gives
-    (subst (λ (v : View). Shows v table machine before.held before.failed_writes fault after.held after.failed_writes) (sym seen) shows_view))
 
 -- the line that was told, by its other form
 pub told_line : {line other : List ℕ} (old new : Option (List ℕ)) (failed failures : ℕ) → other ≡ line → Told other old new failed failures

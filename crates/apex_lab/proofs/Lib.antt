@@ -1,11 +1,5 @@
 pub mod CommandLemmas
 pub mod Endings
-pub mod FaultPlaces
-pub mod Gives
 pub mod LintEndings
-pub mod Listed
-pub mod ListingEndings
-pub mod Parting
-pub mod Reporting
 pub mod SearchEndings
 pub mod SearchLemmas

@@ -1,16 +1,15 @@
 -- The ways in which a search ends, by what was at fault.
-use Rattle.std.proofs.Common.{◌≡◌, inl, inr, List, ℕ, Ok, Some, refl, subst, sym}
+use Rattle.std.proofs.Common.{◌≡◌, inl, inr, List, ℕ, subst}
 use Rattle.std.specs.Io.KnownBytes.{Appends, Keeps}
 use Rattle.apex_check.specs.Ahead.{IsAhead}
-use Rattle.apex_cli.specs.Faults.{fault_of_read}
-use Rattle.apex_cli.specs.declared.CliFault.{CliFault}
-use Rattle.apex_cli.specs.declared.CliFault.TheVariants.{Write}
+use Rattle.apex_console.specs.Faults.{fault_of_read}
+use Rattle.apex_console.specs.declared.CliFault.TheVariants.{Write}
 use Rattle.apex_history.specs.Counted.{AppendsBeginning, CountsFault}
 use Rattle.apex_history.specs.Ports.{AWriteFails, NoneFails, Ports}
 use Rattle.apex_history.specs.declared.ReadFault.{ReadFault}
 use Rattle.apex_history.specs.declared.ReadFault.TheVariants as read
 use Rattle.apex_pace.specs.declared.paces.Pace.{Pace}
-use Rattle.apex_search.specs.Steps.{Searched, searched}
+use Rattle.apex_search.specs.Steps.{searched}
 use Rattle.apex_lab.specs.Ends.{fails}
 use Rattle.apex_answers.specs.Answers.{Says, answer_end, answer_text}
 use Rattle.apex_answers.specs.declared.SearchAnswer.{SearchAnswer}

@@ -1,9 +1,9 @@
 -- The ends of the program.
-use Rattle.std.specs.Prelude.{ℕ, List, [], Option, None, Some, Result, Ok, Err}
-use Rattle.apex_cli.specs.declared.CliFault.{CliFault}
-use Rattle.apex_lab.specs.Faults.{line_of_fault, status_of_fault}
+use Rattle.std.specs.Prelude.{ℕ, List, [], Result, Ok, Err}
+use Rattle.apex_views.specs.Shows.{ShowEnd}
+use Rattle.apex_views.specs.Shows as showing
+use Rattle.apex_lab.specs.Faults.{fault_of_showing, line_of_fault, status_of_fault}
 use Rattle.apex_lab.specs.declared.faults.LabFault.{LabFault}
-use Rattle.apex_lab.specs.declared.faults.LabFault.TheVariants.{Common}
 use Rattle.apex_lab.specs.declared.ends.Ending.{Ending}
 use Rattle.apex_lab.specs.declared.ends.Ending.TheVariants.{Complete, Departed, Found, Refused, Warned}
 
@@ -23,10 +23,11 @@ pub data End : Type 0 where
   -- this fault is reported
   fails : LabFault → End
 
--- the end with the fault, if there is one
-abbrev pub end_of : Option CliFault → End
-end_of None = complete
-end_of (Some fault) = fails (Common fault)
+-- the end with that of a showing
+abbrev pub end_of_showing : ShowEnd → End
+end_of_showing showing.complete = complete
+end_of_showing (showing.departs report) = departs report
+end_of_showing (showing.fails fault) = fails (fault_of_showing fault)
 
 -- the end of an outcome
 abbrev pub end_in : Result Ending LabFault → End

@@ -3,8 +3,6 @@ pub mod Faults
 pub mod Numbers
 pub mod Questions
 pub mod Tasks
-pub mod Plans
-pub mod Paced
 pub mod Ends
 pub mod Lints
 pub mod Searches

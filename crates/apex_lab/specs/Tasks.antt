@@ -1,13 +1,13 @@
 -- What the program is asked to do.
-use Rattle.std.specs.Prelude.{◌≡◌, ◌⊎◌, ℕ, ◌≤◌, List, Option, Some, None, Result, Ok, Err, length, nat_le, if◌then◌else◌, option_and_then, option_map}
+use Rattle.std.specs.Prelude.{◌≡◌, ◌⊎◌, List, Option, Some, None, Result, Ok, Err, length, nat_le, if◌then◌else◌, option_and_then, option_map}
 use Rattle.clap.specs.Words.{Text}
 use Rattle.apex_types.specs.declared.limits.TheConstants.{MOST_ENTRIES}
-use Rattle.apex_cli.specs.declared.CliFault.TheVariants.{Memory, Usage}
+use Rattle.apex_console.specs.declared.CliFault.TheVariants.{Memory, Usage}
 use Rattle.apex_pace.specs.Laws.{IsPace}
-use Rattle.apex_pace.specs.declared.paces.Pace.{Pace}
 use Rattle.apex_schedules.specs.declared.Item.{Item}
 use Rattle.apex_schedules.specs.Groups.{grouped_items_of}
-use Rattle.apex_lab.specs.Faults.{IsBadIn}
+use Rattle.apex_views.specs.Faults.{IsBadIn}
+use Rattle.apex_views.specs.Showings.{IsOfEntries, Picture, Showing, Source, View, drawn, history, listed, paced, schedule, schedule_read, showing_said, showing_with, svg, trace}
 use Rattle.apex_lab.specs.Lints.{Lint, lint_asked, lint_said}
 use Rattle.apex_lab.specs.Numbers.{number_in, pace_in, time_of}
 use Rattle.apex_lab.specs.Questions.{search_asked}
@@ -15,46 +15,8 @@ use Rattle.apex_lab.specs.Words.{Given, Request, Shown, as_listing, as_svg, as_t
 use Rattle.apex_lab.specs.declared.faults.LabFault.{LabFault}
 use Rattle.apex_lab.specs.declared.faults.LabFault.TheVariants.{Common, NoProcess, Schedule as BadText, StatesFull}
 use Rattle.apex_lab.specs.declared.questions.Search.{Search}
-use Rattle.apex_lab.specs.declared.tasks.Picture.{Picture as PictureIn}
-use Rattle.apex_lab.specs.declared.tasks.Picture.TheVariants as pictures
-use Rattle.apex_lab.specs.declared.tasks.RunSource.{RunSource}
-use Rattle.apex_lab.specs.declared.tasks.RunSource.TheVariants as run
-use Rattle.apex_lab.specs.declared.tasks.Showing.{Showing as ShowingIn}
 use Rattle.apex_lab.specs.declared.tasks.Task.{Task}
 use Rattle.apex_lab.specs.declared.tasks.Task.TheVariants as task
-use Rattle.apex_lab.specs.declared.tasks.View.{View as ViewIn}
-use Rattle.apex_lab.specs.declared.tasks.View.TheVariants as shown
-use Rattle.apex_lab.specs.declared.words.Listing.{Listing}
-
--- how a run is given
-pub data Source : Type 0 where
-  -- by the items of a schedule, for the table that is read
-  schedule : List Item → Source
-  -- by the schedule that is read, behind its table
-  schedule_read : Source
-  -- by the first schedule of a pace up to a time, for the table that is read
-  paced : Pace → ℕ → Source
-  -- by the history that is read, behind its table
-  history : Source
-
--- how a picture shows a run
-pub data Picture : Type 0 where
-  -- as SVG, the entries from the first number to the last
-  svg : ℕ → ℕ → Picture
-  -- as a trace
-  trace : Picture
-
--- how a run is shown
-pub data View : Type 0 where
-  -- as a picture
-  drawn : Picture → View
-  -- as a listing
-  listed : Listing → View
-
--- a run that is to be shown
-pub record Showing : Type 0 where
-  pub source : Source
-  pub view : View
 
 -- what the program is asked to do
 pub data Asked : Type 0 where
@@ -110,10 +72,6 @@ view_in (as_svg first last) = option_map drawn (svg_between first last)
 view_in as_trace = Some (drawn trace)
 view_in (as_listing listing) = Some (listed listing)
 
--- a run that is given and shown in these ways
-abbrev pub showing_with : Source → View → Showing
-showing_with source view = record { source = source; view = view }
-
 -- the run of a source and a view, if both are there
 abbrev pub showing_of : Result Source Unasked → Option View → Result Showing Unasked
 showing_of source None = Err ill_formed
@@ -142,42 +100,11 @@ asked_in (Some request) = asked_in_request request
 abbrev pub asked_by : List Text → Result Asked Unasked
 asked_by words = asked_in (request_of words)
 
--- how a run is given, of a value of the program
-abbrev pub source_said : RunSource → Source
-source_said (run.Schedule items) = schedule items.items
-source_said run.ReadSchedule = schedule_read
-source_said (run.Pace pace until) = paced pace until
-source_said run.History = history
-
--- how a picture shows a run, of a value of the program
-abbrev pub picture_said : PictureIn → Picture
-picture_said (pictures.Svg first last) = svg first last
-picture_said pictures.Trace = trace
-
--- how a run is shown, of a value of the program
-abbrev pub view_said : ViewIn → View
-view_said (shown.Picture picture) = drawn (picture_said picture)
-view_said (shown.Listing listing) = listed listing
-
--- a run that is to be shown, of a value of the program
-abbrev pub showing_said : ShowingIn → Showing
-showing_said showing = showing_with (source_said showing.source) (view_said showing.view)
-
 -- the task of a value of the program
 abbrev pub task_said : Task → Asked
 task_said (task.Show showing) = to_show (showing_said showing)
 task_said (task.Search search) = to_search search
 task_said (task.Lint lint) = to_lint (lint_said lint)
-
--- the first number of an SVG is one that an entry may have
-abbrev pub IsPictureOfEntries : PictureIn → Type 0
-IsPictureOfEntries (pictures.Svg first last) = (1 ≤ first) × (first ≤ MOST_ENTRIES)
-IsPictureOfEntries pictures.Trace = Unit {0}
-
--- the same of any view
-abbrev pub IsOfEntries : ViewIn → Type 0
-IsOfEntries (shown.Picture picture) = IsPictureOfEntries picture
-IsOfEntries (shown.Listing listing) = Unit {0}
 
 -- the same of a view that is asked for, and the pace of a search is one
 abbrev pub IsInRange : Task → Type 0

@@ -5,20 +5,15 @@
 mod ends;
 mod faults;
 mod linting;
-mod listings;
 mod numbers;
-mod parts;
-mod plans;
 mod program;
 mod questions;
-mod runs;
 mod searching;
-mod sources;
 mod tasks;
 mod words;
 
 use crate::program::serve;
-use apex_cli::given_words;
+use apex_console::given_words;
 use apex_history::Counted;
 use std::io;
 use std::process::ExitCode;

@@ -1,47 +1,31 @@
 //! What the words ask for, done over a reader and two writers.
 ghost use Rattle.std.specs.Prelude.{◌≡◌, MatchResult, map, string_bytes};
 ghost use Rattle.apex_history.specs.Counted.{inner_of, failures_of};
-ghost use Rattle.apex_cli.specs.Exits.{Told};
-ghost use Rattle.apex_cli.specs.Streams.{ports_of};
-ghost use Rattle.apex_lab.specs.Ends.{End, end_in, fails, report_of, status_of};
-ghost use Rattle.apex_lab.specs.Exits.{Ends, ShowEnds};
-ghost use Rattle.apex_lab.specs.Tasks.{IsOfEntries, asked_by, showing_said};
+ghost use Rattle.apex_console.specs.Streams.{Told, ports_of};
+ghost use Rattle.apex_views.specs.Shows.{end_in as shown_end};
+ghost use Rattle.apex_lab.specs.Ends.{End, end_in, end_of_showing, fails, report_of, status_of};
+ghost use Rattle.apex_lab.specs.Exits.{Ends};
+ghost use Rattle.apex_lab.specs.Tasks.{asked_by};
 ghost use Rattle.apex_lab.specs.declared.faults.LabFault.TheVariants.{Common};
 
 use crate::ends::{Ending, status_of, tell};
 use crate::faults::LabFault;
 use crate::linting::run_lint;
-use crate::listings::list;
-use crate::plans::show;
 use crate::searching::run_search;
-use crate::sources::{Given, given_by};
-use crate::tasks::{Showing, Task, task_asked};
-use apex_cli::CliFault;
+use crate::tasks::{Task, task_asked};
+use apex_console::CliFault;
 use apex_history::{Counted, Sink, Source};
+use apex_views::{ShowFault, Shown, show_run};
 use std::alloc::Global;
 
-/// Shows a run.
-fn show_run<R: Source, W: Sink>(
-    alloc: Global,
-    showing: &Showing,
-    reader: &mut Counted<R>,
-    writer: &mut Counted<W>,
-) -> Result<Ending, LabFault>
-    requires { IsOfEntries showing.now.view }
-    ensures { ShowEnds (showing_said showing.now)
-        (ports_of R.remaining W.contents reader.old writer.old) (end_in result)
-        (ports_of R.remaining W.contents reader.new writer.new) }
+/// The end of the program with this outcome of a showing.
+fn ending_of(outcome: Result<Shown, ShowFault>) -> Result<Ending, LabFault>
+    ensures { end_in result ≡ end_of_showing (shown_end outcome) }
 {
-    match given_by(alloc, showing, reader)? {
-        Given::Picture(plan) => {
-            show(alloc, plan, writer)?;
-            Ok(Ending::Complete)
-        }
-        Given::Listing(listing, run) => {
-            list(alloc, listing, run, writer)?;
-            Ok(Ending::Complete)
-        }
-        Given::Departed(verdict) => Ok(Ending::Departed(verdict)),
+    match outcome {
+        Ok(Shown::Complete) => Ok(Ending::Complete),
+        Ok(Shown::Departed(verdict)) => Ok(Ending::Departed(verdict)),
+        Err(fault) => Err(LabFault::from(fault)),
     }
 }
 
@@ -58,7 +42,7 @@ fn carry_out<R: Source, W: Sink>(
 {
     let task = task_asked(alloc, words)?;
     match task {
-        Task::Show(showing) => show_run(alloc, &showing, reader, writer),
+        Task::Show(showing) => ending_of(show_run(alloc, &showing, reader, writer)),
         Task::Search(search) => run_search(alloc, &search, reader, writer),
         Task::Lint(lint) => run_lint(alloc, &lint, reader, writer),
     }

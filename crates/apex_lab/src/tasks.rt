@@ -1,56 +1,18 @@
 //! What the program is asked to do.
 ghost use Rattle.std.specs.Prelude.{◌≡◌, IfOk, IfErr, IfSome, Ok, Some, option_map, map, string_bytes};
-ghost use Rattle.apex_lab.specs.Tasks.{IsInRange, IsOfEntries, IsUnasked, asked_by, asked_in_request, paced_source, showing_said, showing_of, source_in, source_said, task_said, view_in, view_said};
+ghost use Rattle.apex_views.specs.Showings.{IsOfEntries, showing_said, source_said, view_said};
+ghost use Rattle.apex_lab.specs.Tasks.{IsInRange, IsUnasked, asked_by, asked_in_request, paced_source, showing_of, source_in, task_said, view_in};
 ghost use Rattle.apex_lab.specs.Words.{given_said, request_said, shown_said};
 
-use crate::faults::{LabFault, read_items};
+use crate::faults::LabFault;
 use crate::linting::{Lint, lint_asked};
 use crate::numbers::{number_given, pace_given, read_time};
 use crate::questions::{Search, search_asked};
-use crate::words::{Listing, Request, SourceWords, ViewWords, request_in};
-use apex_cli::CliFault;
-use apex_pace::Pace;
-use apex_schedules::Item;
+use crate::words::{Request, SourceWords, ViewWords, request_in};
+use apex_console::CliFault;
 use apex_types::MOST_ENTRIES;
+use apex_views::{Picture, RunSource, Showing, View, read_items};
 use std::alloc::Global;
-
-/// How a run is given.
-#[derive(Drop)]
-pub enum RunSource {
-    /// By the items of a schedule, for the table that is read.
-    Schedule(Vec<Item>),
-    /// By the schedule that is read, behind its table.
-    ReadSchedule,
-    /// By the first schedule of a pace up to a time in ticks, for the table that is read.
-    Pace { pace: Pace, until: u64 },
-    /// By the history that is read, behind its table.
-    History,
-}
-
-/// How a picture shows a run.
-#[derive(Clone, Copy)]
-pub enum Picture {
-    /// As SVG, the entries from the first number to the last.
-    Svg { first: u32, last: u32 },
-    /// As a trace.
-    Trace,
-}
-
-/// How a run is shown.
-#[derive(Clone, Copy)]
-pub enum View {
-    /// By a picture, which a second run draws.
-    Picture(Picture),
-    /// By a listing, which is written from the kernel that made the run.
-    Listing(Listing),
-}
-
-/// A run that is to be shown.
-#[derive(Drop)]
-pub struct Showing {
-    pub source: RunSource,
-    pub view: View,
-}
 
 /// What the program is asked to do.
 #[derive(Drop)]

@@ -2,7 +2,8 @@ use Rattle.std.proofs.Common.{rules, ◌∙◌, ap, ap₂, codes, Option, Bool}
 use Rattle.clap.proofs.WalkLemmas.{first_value-rows}
 use Rattle.clap.specs.Words.{Text, first_of, found_of, rows_of}
 use Rattle.std.specs.Prelude.{option_map, option_and_then}
-use Rattle.apex_cli.specs.Words.{runs, says_given}
+use Rattle.apex_console.specs.Words.{says_given}
+use Rattle.apex_cli.specs.Words.{runs}
 use Rattle.apex_cli.proofs.words.run_given.Goals as goal
 
 pub returns-in_err-turns : goal.returns-in_err-turns

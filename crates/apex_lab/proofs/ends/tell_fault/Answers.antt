@@ -1,5 +1,5 @@
 -- What is reported is the line of the fault.
-use Rattle.std.proofs.Common.{◌≡◌, ◌∙◌}
+use Rattle.std.proofs.Common.{◌∙◌}
 use Rattle.apex_lab.proofs.Endings.{told_line}
 use Rattle.apex_lab.proofs.ends.tell_fault.Goals as goal
 

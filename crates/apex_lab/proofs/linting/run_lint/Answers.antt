@@ -2,6 +2,7 @@
 use Rattle.std.proofs.Common.{refl}
 use Rattle.std.proofs.KnownBytes.{Keeps-refl}
 use Rattle.std.proofs.lemmas.Result.{err_from_is_err_and}
+use Rattle.apex_console.specs.Streams.{ports_of}
 use Rattle.apex_lab.specs.Lints.{no_memory, reported, unwritten}
 use Rattle.apex_lab.proofs.LintEndings.{lint_unread}
 use Rattle.apex_lab.proofs.linting.run_lint.Goals as goal
@@ -9,7 +10,8 @@ use Rattle.apex_lab.proofs.linting.run_lint.Goals as goal
 pub returns-in_err-text : goal.returns-in_err-text
 returns-in_err-text g c =
     let p = err_from_is_err_and c.from_residual.result c.from_residual.ensures.1 in
-    rw (p.1, p.2) (lint_unread c.in_err-text.field-0.0 c.in_err-text.ensures.counted (Keeps-refl _) refl)
+    let after = ports_of g.R.Source.remaining g.W.Sink.contents c.read_all.new.reader c.args.writer.now in
+    rw (p.1, p.2) (lint_unread {after = after} c.in_err-text.field-0.0 c.in_err-text.ensures.counted (Keeps-refl _) refl)
 
 pub returns-in_err-report : goal.returns-in_err-report
 returns-in_err-report g c =

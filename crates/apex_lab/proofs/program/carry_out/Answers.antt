@@ -12,7 +12,7 @@ returns-in_err-task g c =
     rw (p.1, p.2) (ends_unasked c.in_err-task.field-0.0 c.in_err-task.ensures.err (Keeps-refl _) (Keeps-refl _) (refl, refl))
 
 pub returns-in-Show : goal.returns-in-Show
-returns-in-Show g c = of_showing (rw c.in-Show.is at c.in_ok-task.ensures.ok) c.show_run.ensures
+returns-in-Show g c = rw c.ending_of.ensures (of_showing (rw c.in-Show.is at c.in_ok-task.ensures.ok) c.show_run.ensures)
 
 pub returns-in-Search : goal.returns-in-Search
 returns-in-Search g c = of_search (rw c.in-Search.is at c.in_ok-task.ensures.ok) c.run_search.ensures

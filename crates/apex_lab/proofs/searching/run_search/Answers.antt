@@ -2,13 +2,15 @@
 use Rattle.std.proofs.Common.{refl}
 use Rattle.std.proofs.KnownBytes.{Keeps-refl}
 use Rattle.std.proofs.lemmas.Result.{err_from_is_err_and}
+use Rattle.apex_console.specs.Streams.{ports_of}
 use Rattle.apex_lab.proofs.SearchEndings.{search_answered, search_refused, search_unread, search_unwritten}
 use Rattle.apex_lab.proofs.searching.run_search.Goals as goal
 
 pub returns-in_err-text : goal.returns-in_err-text
 returns-in_err-text g c =
     let p = err_from_is_err_and c.from_residual.result c.from_residual.ensures.1 in
-    rw (p.1, p.2) (search_unread c.in_err-text.field-0.0 c.in_err-text.ensures.counted (Keeps-refl _) refl)
+    let after = ports_of g.R.Source.remaining g.W.Sink.contents c.read_all.new.reader c.args.writer.now in
+    rw (p.1, p.2) (search_unread {after = after} c.in_err-text.field-0.0 c.in_err-text.ensures.counted (Keeps-refl _) refl)
 
 pub returns-in_err-answer : goal.returns-in_err-answer
 returns-in_err-answer g c =

@@ -1,0 +1,45 @@
+-- The ends of a whole session.
+use Rattle.std.specs.Prelude.{◌≡◌, ℕ, List, Result, Ok, Err}
+use Rattle.std.specs.Io.KnownBytes.{Appends, Keeps}
+use Rattle.apex_machine.specs.table.Table.{Table}
+use Rattle.apex_history.specs.Counted.{AppendsBeginning}
+use Rattle.apex_history.specs.Ports.{Ports, NoneFails, AReadFails, AWriteFails, IsLeft}
+use Rattle.apex_check.specs.Texts.{BeginsWithTable}
+use Rattle.apex_check.specs.Verdicts.{IsAtFault}
+use Rattle.apex_check.specs.declared.CheckFault.{CheckFault}
+use Rattle.apex_steps.specs.Conversations.{said}
+use Rattle.apex_steps.specs.Faults.{fault_of_leading}
+use Rattle.apex_steps.specs.Sessions.{opening_session}
+use Rattle.apex_steps.specs.declared.faults.StepFault.{StepFault}
+use Rattle.apex_steps.specs.declared.faults.StepFault.TheVariants.{Memory, Read, Write}
+
+-- memory was refused, or a read or a write failed, as the fault says
+abbrev pub IsCutOff : StepFault → Ports → Ports → Type 0
+IsCutOff Memory before after = NoneFails before after
+IsCutOff Read before after = AReadFails before after
+IsCutOff Write before after = AWriteFails before after
+IsCutOff fault before after = ⊥
+
+-- The ways in which a whole session ends: by the reader and the writer before, the end, and the
+-- reader and the writer afterwards.
+pub data Serves (before : Ports) : Result (Unit {0}) StepFault → Ports → Type 0 where
+  -- memory was refused before the first command: nothing was written
+  no_memory : {after : Ports} → Keeps before.held after.held → NoneFails before after
+      → Serves before (Err Memory) after
+  -- a read failed before the first command: nothing was written
+  unread : {after : Ports} → Keeps before.held after.held → AReadFails before after
+      → Serves before (Err Read) after
+  -- the text has no table or no separator: nothing was written
+  refused : (text : List ℕ) → {fault : CheckFault} {after : Ports} → IsLeft text before
+      → IsAtFault text fault → Keeps before.held after.held → NoneFails before after
+      → Serves before (Err (fault_of_leading fault)) after
+  -- all lines up to the end were answered
+  answered : (text behind : List ℕ) (table : Table) → {after : Ports} → IsLeft text before
+      → BeginsWithTable text table behind
+      → Appends before.held after.held (said behind (opening_session table))
+      → NoneFails before after → Serves before (Ok tt) after
+  -- a read or a write failed, or memory was refused: a prefix of the answers was written
+  cut_off : (text behind : List ℕ) (table : Table) → {fault : StepFault} {after : Ports}
+      → IsLeft text before → BeginsWithTable text table behind
+      → AppendsBeginning before.held after.held (said behind (opening_session table))
+      → IsCutOff fault before after → Serves before (Err fault) after

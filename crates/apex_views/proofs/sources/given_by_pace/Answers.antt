@@ -1,0 +1,26 @@
+-- What a pace gives.
+use Rattle.std.proofs.Common.{refl}
+use Rattle.std.proofs.lemmas.Result.{err_from_is_err_and}
+use Rattle.apex_views.proofs.Endings.{gives_given, gives_no_memory, gives_refused, gives_unread}
+use Rattle.apex_views.proofs.sources.given_by_pace.Goals as goal
+
+pub returns-in_err-text-clause-gives : goal.returns-in_err-text-clause-gives
+returns-in_err-text-clause-gives g c =
+    let p = err_from_is_err_and c.from_residual.result c.from_residual.ensures.1 in
+    rw (p.1, p.2) (gives_unread _ c.in_err-text.field-0.0 c.in_err-text.ensures.counted)
+
+pub returns-in_err-run-clause-gives : goal.returns-in_err-run-clause-gives
+returns-in_err-run-clause-gives g c =
+    let p = err_from_is_err_and c.from_residual-in_err-run.result c.from_residual-in_err-run.ensures.1 in
+    rw (p.1, p.2) (gives_refused _ c.in_ok-text.text.items _ c.in_ok-text.ensures.bytes c.in_ok-text.ensures.counted
+    (rw c.as_slice.ensures.value refl) c.in_err-run.field-0.0 c.in_err-run.ensures.err)
+
+pub returns-in_err-given-clause-gives : goal.returns-in_err-given-clause-gives
+returns-in_err-given-clause-gives g c =
+    let p = err_from_is_err_and c.from_residual-in_err-given.result c.from_residual-in_err-given.ensures.1 in
+    rw (p.1, p.2) (gives_no_memory _ c.in_ok-text.ensures.counted)
+
+pub returns-clause-gives : goal.returns-clause-gives
+returns-clause-gives g c =
+    gives_given _ c.in_ok-text.text.items _ c.in_ok-text.ensures.bytes c.in_ok-text.ensures.counted
+    (rw c.as_slice.ensures.value at c.in_ok-run.ensures.ok) c.in_ok-given.given c.in_ok-given.ensures.run

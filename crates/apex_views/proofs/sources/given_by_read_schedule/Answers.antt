@@ -1,0 +1,37 @@
+-- What a schedule gives that is read behind its table.
+use Rattle.std.proofs.lemmas.Result.{err_from_is_err_and}
+use Rattle.apex_views.proofs.Endings.{gives_given, gives_refused, gives_unread}
+use Rattle.apex_views.proofs.Gives.{behind, gives_bad_schedule, gives_unparted}
+use Rattle.apex_views.proofs.sources.given_by_read_schedule.Goals as goal
+
+pub returns-in_err-text-clause-gives : goal.returns-in_err-text-clause-gives
+returns-in_err-text-clause-gives g c =
+    let p = err_from_is_err_and c.from_residual.result c.from_residual.ensures.1 in
+    rw (p.1, p.2) (gives_unread _ c.in_err-text.field-0.0 c.in_err-text.ensures.counted)
+
+pub returns-in_default-clause-gives : goal.returns-in_default-clause-gives
+returns-in_default-clause-gives g c =
+    gives_unparted _ c.in_ok-text.text.items c.in_ok-text.ensures.bytes c.in_ok-text.ensures.counted
+    (rw c.as_slice.ensures.value at (c.parted.ensures.none c.in_default.is))
+
+pub returns-in_err-items-clause-gives : goal.returns-in_err-items-clause-gives
+returns-in_err-items-clause-gives g c =
+    let p = err_from_is_err_and c.from_residual-in_err-items.result c.from_residual-in_err-items.ensures.1 in
+    rw (p.1, p.2) (gives_bad_schedule _ c.in_ok-text.text.items c.in_ok-text.ensures.bytes c.in_ok-text.ensures.counted
+    c.in-Some.table.now c.in-Some.behind.now c.in_err-items.field-0.0
+    (rw c.as_slice.ensures.value at c.in-Some.ensures.parts) c.in_err-items.ensures.err)
+
+pub returns-in_err-given-clause-gives : goal.returns-in_err-given-clause-gives
+returns-in_err-given-clause-gives g c =
+    let p = err_from_is_err_and c.from_residual-in_err-given.result c.from_residual-in_err-given.ensures.1 in
+    rw (p.1, p.2) (gives_refused _ c.in_ok-text.text.items _ c.in_ok-text.ensures.bytes c.in_ok-text.ensures.counted
+    (behind c.in_ok-text.text.items c.in-Some.table.now c.in-Some.behind.now c.in_ok-items.items.items
+    (rw c.as_slice.ensures.value at c.in-Some.ensures.parts) c.in_ok-items.ensures.ok)
+    c.in_err-given.field-0.0 (rw c.as_slice-2.ensures.value at c.in_err-given.ensures.err))
+
+pub returns-clause-gives : goal.returns-clause-gives
+returns-clause-gives g c =
+    gives_given _ c.in_ok-text.text.items _ c.in_ok-text.ensures.bytes c.in_ok-text.ensures.counted
+    (behind c.in_ok-text.text.items c.in-Some.table.now c.in-Some.behind.now c.in_ok-items.items.items
+    (rw c.as_slice.ensures.value at c.in-Some.ensures.parts) c.in_ok-items.ensures.ok)
+    c.in_ok-given.given (rw c.as_slice-2.ensures.value at c.in_ok-given.ensures.ok)

@@ -1,0 +1,5 @@
+pub mod Faults
+pub mod Showings
+pub mod Plans
+pub mod Paced
+pub mod Shows

@@ -1,0 +1,98 @@
+-- The text that shows a run.
+use Rattle.std.specs.Prelude.{◌≡◌, ℕ, ◌+◌, ◌<◌, ◌≤◌, ◌++◌, [], Bool, true, false, codes, length, min, List, Option, All}
+use Rattle.std.specs.Io.KnownBytes.{Appends}
+use Rattle.apex_machine.specs.Machine.{Machine, events_of, opening, run}
+use Rattle.apex_machine.specs.Events.{IsWithin}
+use Rattle.apex_machine.specs.table.Table as tables
+use Rattle.apex_machine.specs.text.Listing.{listing}
+use Rattle.apex_types.specs.declared.entries.Entry.{Entry}
+use Rattle.apex_types.specs.declared.entries.Event.{Event}
+use Rattle.apex_calls.specs.Lines.{lines_of}
+use Rattle.apex_history.specs.Counted.{AppendsBeginning}
+use Rattle.apex_console.specs.Reports.{fault_of_events}
+use Rattle.apex_report.specs.Json.{report_json}
+use Rattle.apex_report.specs.Texts.{report_text}
+use Rattle.apex_schedules.specs.Printing.{schedule_text}
+use Rattle.apex_schedules.specs.Schedule.{events_of_items}
+use Rattle.apex_console.specs.declared.CliFault.{CliFault}
+use Rattle.apex_console.specs.declared.CliFault.TheVariants.{Memory, Write}
+use Rattle.apex_schedules.specs.declared.Item.{Item}
+use Rattle.apex_pictures.specs.declared.DrawFault.{DrawFault}
+use Rattle.apex_pictures.specs.declared.DrawFault.TheVariants as draw
+use Rattle.apex_pictures.specs.Pictures.{picture_text}
+use Rattle.apex_pictures.specs.declared.Style.{Style}
+use Rattle.apex_pictures.specs.declared.Style.TheVariants as style
+use Rattle.apex_views.specs.Showings.{Picture, View, drawn, listed, svg, trace}
+use Rattle.apex_views.specs.declared.plans.Plan.{Plan}
+use Rattle.apex_views.specs.declared.showings.Form.{Form}
+use Rattle.apex_views.specs.declared.showings.Form.TheVariants as forms
+use Rattle.apex_views.specs.declared.showings.Listing.{Listing}
+use Rattle.apex_views.specs.declared.showings.Listing.TheVariants as lists
+
+-- the events run like those of the items, and this fault is reported with the picture
+pub record IsRunOf (items : List Item) (table : tables.Table) (events : List Event)
+    (fault : Option CliFault) : Type 0 where
+  pub same : run table (opening table) (events_of_items items) ≡ run table (opening table) events
+  pub told : fault ≡ fault_of_events table (events_of_items items)
+  pub within : All (IsWithin table.cores) events
+
+-- the events are the first ones of these, as many as the limit allows, and all of them unless they
+-- are cut
+pub record IsListOf (limit : ℕ) (all events : List Event) (is_cut : Bool) : Type 0 where
+  pub rest : List Event
+  pub split : all ≡ events ++ rest
+  pub whole : is_cut ≡ false → (rest ≡ []) × (length events ≤ limit)
+  pub cut : is_cut ≡ true → (length events ≡ limit) × (0 < length rest)
+
+-- a style is that of a picture; an SVG has 2,000 entries at the most
+abbrev pub IsStyleOf : Picture → Style → Type 0
+IsStyleOf (svg first last) (style.Svg frame) =
+    (frame.first ≡ first) × (frame.last ≡ min last (first + 1999))
+IsStyleOf (svg first last) style.Trace = ⊥
+IsStyleOf trace (style.Svg frame) = ⊥
+IsStyleOf trace style.Trace = Unit {0}
+
+-- the machine of which a plan's picture is
+abbrev pub machine_of : Plan → Machine
+machine_of plan = run plan.table (opening plan.table) plan.events.items
+
+-- the plan is for this picture, and its events are of the table's cores
+pub record IsPlanFor (picture : Picture) (plan : Plan) : Type 0 where
+  pub within : All (IsWithin plan.table.cores) plan.events.items
+  pub style : IsStyleOf picture plan.style
+
+-- the report of a history, in this form
+abbrev pub report_in : Form → tables.Table → List Entry → List ℕ
+report_in forms.Text table history = report_text table history
+report_in forms.Json table history = report_json table history
+
+-- the text of a listing of a machine: the lines of its history, its last state, the report of its
+-- history, or the schedule of its events with a line feed
+abbrev pub listing_text : Listing → tables.Table → Machine → List ℕ
+listing_text lists.Lines table machine = lines_of table machine.history
+listing_text lists.Status table machine = listing table machine
+listing_text (lists.Report form) table machine = report_in form table machine.history
+listing_text lists.Schedule table machine =
+    schedule_text (events_of machine.history) ++ codes "\n"
+
+-- the text shows a machine in this view
+abbrev pub IsTextOf : View → tables.Table → Machine → List ℕ → Type 0
+IsTextOf (drawn picture) table machine text =
+    (style : Style) × IsStyleOf picture style × (text ≡ picture_text style table machine)
+IsTextOf (listed asked) table machine text = text ≡ listing_text asked table machine
+
+-- known bytes grow by a text that shows a machine
+abbrev pub AppendsView : Option (List ℕ) → Option (List ℕ) → View → tables.Table → Machine → Type 0
+AppendsView old new view table machine =
+    (text : List ℕ) × IsTextOf view table machine text × Appends old new text
+
+-- known bytes grow by a prefix of such a text
+abbrev pub AppendsPrefixOfView : Option (List ℕ) → Option (List ℕ) → View → tables.Table → Machine
+    → Type 0
+AppendsPrefixOfView old new view table machine =
+    (text : List ℕ) × IsTextOf view table machine text × AppendsBeginning old new text
+
+-- the fault of a drawing
+abbrev pub fault_of_drawing : DrawFault → CliFault
+fault_of_drawing draw.Memory = Memory
+fault_of_drawing draw.Write = Write

@@ -1,0 +1,78 @@
+-- How a run is given, and how it is shown.
+use Rattle.std.specs.Prelude.{ℕ, ◌≤◌, List}
+use Rattle.apex_types.specs.declared.limits.TheConstants.{MOST_ENTRIES}
+use Rattle.apex_pace.specs.declared.paces.Pace.{Pace}
+use Rattle.apex_schedules.specs.declared.Item.{Item}
+use Rattle.apex_views.specs.declared.showings.Listing.{Listing}
+use Rattle.apex_views.specs.declared.showings.Picture.{Picture as PictureIn}
+use Rattle.apex_views.specs.declared.showings.Picture.TheVariants as pictures
+use Rattle.apex_views.specs.declared.showings.RunSource.{RunSource}
+use Rattle.apex_views.specs.declared.showings.RunSource.TheVariants as run
+use Rattle.apex_views.specs.declared.showings.Showing.{Showing as ShowingIn}
+use Rattle.apex_views.specs.declared.showings.View.{View as ViewIn}
+use Rattle.apex_views.specs.declared.showings.View.TheVariants as shown
+
+-- how a run is given
+pub data Source : Type 0 where
+  -- by the items of a schedule, for the table that is read
+  schedule : List Item → Source
+  -- by the schedule that is read, behind its table
+  schedule_read : Source
+  -- by the first schedule of a pace up to a time, for the table that is read
+  paced : Pace → ℕ → Source
+  -- by the history that is read, behind its table
+  history : Source
+
+-- how a picture shows a run
+pub data Picture : Type 0 where
+  -- as SVG, the entries from the first number to the last
+  svg : ℕ → ℕ → Picture
+  -- as a trace
+  trace : Picture
+
+-- how a run is shown
+pub data View : Type 0 where
+  -- as a picture
+  drawn : Picture → View
+  -- as a listing
+  listed : Listing → View
+
+-- a run that is to be shown
+pub record Showing : Type 0 where
+  pub source : Source
+  pub view : View
+
+-- a run that is given and shown in these ways
+abbrev pub showing_with : Source → View → Showing
+showing_with source view = record { source = source; view = view }
+
+-- how a run is given, of a value of the program
+abbrev pub source_said : RunSource → Source
+source_said (run.Schedule items) = schedule items.items
+source_said run.ReadSchedule = schedule_read
+source_said (run.Pace pace until) = paced pace until
+source_said run.History = history
+
+-- how a picture shows a run, of a value of the program
+abbrev pub picture_said : PictureIn → Picture
+picture_said (pictures.Svg first last) = svg first last
+picture_said pictures.Trace = trace
+
+-- how a run is shown, of a value of the program
+abbrev pub view_said : ViewIn → View
+view_said (shown.Picture picture) = drawn (picture_said picture)
+view_said (shown.Listing listing) = listed listing
+
+-- a run that is to be shown, of a value of the program
+abbrev pub showing_said : ShowingIn → Showing
+showing_said showing = showing_with (source_said showing.source) (view_said showing.view)
+
+-- the first number of an SVG is one that an entry may have
+abbrev pub IsPictureOfEntries : PictureIn → Type 0
+IsPictureOfEntries (pictures.Svg first last) = (1 ≤ first) × (first ≤ MOST_ENTRIES)
+IsPictureOfEntries pictures.Trace = Unit {0}
+
+-- the same of any view
+abbrev pub IsOfEntries : ViewIn → Type 0
+IsOfEntries (shown.Picture picture) = IsPictureOfEntries picture
+IsOfEntries (shown.Listing listing) = Unit {0}

@@ -1,0 +1,15 @@
+//! A run that is shown: that of a schedule, of a pace or of a history, as a picture or as a listing.
+#![tactic(auto)]
+
+mod faults;
+mod listings;
+mod parts;
+mod plans;
+mod runs;
+mod showing;
+mod showings;
+mod sources;
+
+pub use faults::{BadSchedule, Reason, ShowFault, read_items, schedule_line};
+pub use showing::{Shown, show_run};
+pub use showings::{Form, Listing, Picture, RunSource, Showing, View};

@@ -1,0 +1,169 @@
+//! The listings of a run, written from the kernel that made it.
+ghost use Rattle.std.specs.Prelude.{◌≡◌, ◌++◌, List, Option, codes, OnErr, OnOk};
+ghost use Rattle.apex_history.specs.Counted.{inner_of, failures_of, CountsFailure};
+ghost use Rattle.apex_console.specs.Faults.{fault_in};
+ghost use Rattle.apex_console.specs.Streams.{HasWritten, HasWrittenSome};
+ghost use Rattle.apex_console.specs.declared.CliFault.{CliFault as CliFaultOf};
+ghost use Rattle.apex_report.specs.Texts.{IsOfTable, IsReportOf};
+ghost use Rattle.apex_schedules.specs.Printing.{schedule_text};
+ghost use Rattle.apex_types.specs.declared.entries.Entry.{Entry};
+ghost use Rattle.apex_views.specs.Shows.{Shows, first_fault};
+ghost use Rattle.apex_views.specs.Plans.{report_in};
+ghost use Rattle.apex_views.specs.Showings.{listed};
+ghost use Rattle.apex_views.specs.declared.showings.Listing.TheVariants.{Lines, Status, Report as ReportIn, Schedule};
+
+use crate::plans::events_in;
+use crate::showings::{Form, Listing};
+use apex_console::{CliFault, Run};
+use apex_dispatch::Kernel;
+use apex_history::{Counted, Page, Sink, print_history};
+use apex_process::QueueStore;
+use apex_report::{Report, print_report, print_report_json, report_of};
+use apex_schedules::print_schedule;
+use apex_table::Table;
+use apex_types::Event;
+use std::alloc::Global;
+use std::io;
+use std::io::Write;
+
+/// Writes the lines of a kernel's history.
+fn write_lines<W: Sink>(
+    alloc: Global,
+    kernel: &Kernel<QueueStore>,
+    writer: &mut Counted<W>,
+) -> Result<(), CliFault>
+    ensures { Shows (listed Lines) kernel.now.table kernel.now.machine
+        (W.contents (inner_of writer.old)) (failures_of writer.old) (fault_in result)
+        (W.contents (inner_of writer.new)) (failures_of writer.new) }
+{
+    let mut page = Page::new(alloc)?;
+    kernel.holds();
+    match print_history(kernel.table(), kernel.entries(), &mut page, writer) {
+        Ok(()) => Ok(()),
+        Err(_) => Err(CliFault::Write),
+    }
+}
+
+/// Writes the last state of a kernel.
+fn write_status<W: Sink>(
+    alloc: Global,
+    kernel: &Kernel<QueueStore>,
+    writer: &mut Counted<W>,
+) -> Result<(), CliFault>
+    ensures { Shows (listed Status) kernel.now.table kernel.now.machine
+        (W.contents (inner_of writer.old)) (failures_of writer.old) (fault_in result)
+        (W.contents (inner_of writer.new)) (failures_of writer.new) }
+{
+    let mut page = Page::new(alloc)?;
+    match kernel.print_status(&mut page, writer) {
+        Ok(()) => Ok(()),
+        Err(_) => Err(CliFault::Write),
+    }
+}
+
+/// Writes a report in this form.
+fn print_in<W: Sink>(
+    form: Form,
+    table: &Table,
+    report: &Report,
+    writer: &mut Counted<W>,
+) -> io::Result<()>
+    requires { IsOfTable table.now report.now }
+    ensures ok { (history : List Entry) → IsReportOf table.now history report.now → OnOk result
+        (HasWritten W.contents writer.old writer.new (report_in form table.now history)) }
+    ensures err { (history : List Entry) → IsReportOf table.now history report.now → OnErr result
+        (HasWrittenSome W.contents writer.old writer.new (report_in form table.now history)) }
+    ensures counted { CountsFailure result (failures_of writer.old) (failures_of writer.new) }
+{
+    match form {
+        Form::Text => print_report(table, report, writer),
+        Form::Json => print_report_json(table, report, writer),
+    }
+}
+
+/// Writes the report of a kernel's history, in this form.
+fn write_report<W: Sink>(
+    alloc: Global,
+    form: Form,
+    kernel: &Kernel<QueueStore>,
+    writer: &mut Counted<W>,
+) -> Result<(), CliFault>
+    ensures { Shows (listed (ReportIn form)) kernel.now.table kernel.now.machine
+        (W.contents (inner_of writer.old)) (failures_of writer.old) (fault_in result)
+        (W.contents (inner_of writer.new)) (failures_of writer.new) }
+{
+    kernel.holds();
+    let report = report_of(alloc, kernel.table(), kernel.entries())?;
+    match print_in(form, kernel.table(), &report, writer) {
+        Ok(()) => Ok(()),
+        Err(_) => Err(CliFault::Write),
+    }
+}
+
+/// Writes the text of the schedule of the events, and a line feed.
+fn print_events<W: Sink>(events: &[Event], writer: &mut Counted<W>) -> io::Result<()>
+    ensures ok { OnOk result (HasWritten W.contents writer.old writer.new
+        (schedule_text events.now ++ codes "\n")) }
+    ensures err { OnErr result (HasWrittenSome W.contents writer.old writer.new
+        (schedule_text events.now ++ codes "\n")) }
+    ensures counted { CountsFailure result (failures_of writer.old) (failures_of writer.new) }
+{
+    print_schedule(events, writer)?;
+    writer.write_all(b"\n")
+}
+
+/// Writes the schedule of a kernel's events.
+fn write_schedule<W: Sink>(
+    alloc: Global,
+    kernel: &Kernel<QueueStore>,
+    writer: &mut Counted<W>,
+) -> Result<(), CliFault>
+    ensures { Shows (listed Schedule) kernel.now.table kernel.now.machine
+        (W.contents (inner_of writer.old)) (failures_of writer.old) (fault_in result)
+        (W.contents (inner_of writer.new)) (failures_of writer.new) }
+{
+    let events = events_in(alloc, kernel)?;
+    match print_events(events.as_slice(), writer) {
+        Ok(()) => Ok(()),
+        Err(_) => Err(CliFault::Write),
+    }
+}
+
+/// Writes the listing of a kernel. It takes all its memory before it writes.
+fn write_listing<W: Sink>(
+    alloc: Global,
+    listing: Listing,
+    kernel: &Kernel<QueueStore>,
+    writer: &mut Counted<W>,
+) -> Result<(), CliFault>
+    ensures { Shows (listed listing) kernel.now.table kernel.now.machine
+        (W.contents (inner_of writer.old)) (failures_of writer.old) (fault_in result)
+        (W.contents (inner_of writer.new)) (failures_of writer.new) }
+{
+    match listing {
+        Listing::Lines => write_lines(alloc, kernel, writer),
+        Listing::Status => write_status(alloc, kernel, writer),
+        Listing::Report(form) => write_report(alloc, form, kernel, writer),
+        Listing::Schedule => write_schedule(alloc, kernel, writer),
+    }
+}
+
+/// Writes the listing of a run, and answers the run's fault once it is written.
+pub fn list<W: Sink>(
+    alloc: Global,
+    listing: Listing,
+    run: Run,
+    writer: &mut Counted<W>,
+) -> Result<(), CliFault>
+    ensures { (fault : Option CliFaultOf)
+        × Shows (listed listing) run.kernel.table run.kernel.machine
+        (W.contents (inner_of writer.old)) (failures_of writer.old)
+        fault (W.contents (inner_of writer.new)) (failures_of writer.new)
+        × (fault_in result ≡ first_fault fault run.fault) }
+{
+    write_listing(alloc, listing, &run.kernel, writer)?;
+    match run.fault {
+        None => Ok(()),
+        Some(fault) => Err(fault),
+    }
+}

@@ -1,0 +1,198 @@
+//! The pictures that are drawn of a run.
+ghost use Rattle.std.specs.Prelude.{◌≡◌, true, All, IfOk, Option};
+ghost use Rattle.apex_machine.specs.Machine.{asked_ticks, event_of, events_of, opening};
+ghost use Rattle.apex_machine.specs.Events.{IsWithin};
+ghost use Rattle.apex_dispatch.specs.Kernel.{kernel_in};
+ghost use Rattle.apex_history.specs.Counted.{inner_of, failures_of};
+ghost use Rattle.apex_console.specs.Faults.{fault_in};
+ghost use Rattle.apex_schedules.specs.Schedule.{are_cores_below, events_of_items};
+ghost use Rattle.apex_console.specs.declared.CliFault.{CliFault as CliFaultOf};
+ghost use Rattle.apex_views.specs.Shows.{Shows, first_fault};
+ghost use Rattle.apex_views.specs.Plans.{IsListOf, IsPlanFor, IsRunOf, IsStyleOf, fault_of_drawing, machine_of};
+ghost use Rattle.apex_views.specs.Showings.{IsPictureOfEntries, Picture as PictureAsked, drawn, picture_said, trace};
+
+use crate::showings::Picture;
+use apex_console::{CliFault, repeated};
+use apex_dispatch::Kernel;
+use apex_history::{Counted, Sink};
+use apex_pictures::{DrawFault, Frame, Style, draw};
+use apex_process::QueueStore;
+use apex_schedules::Item;
+use apex_store::Store;
+use apex_table::Table;
+use apex_types::{Event, LentEntry, Reply, Who};
+use std::alloc::{AllocError, Global};
+
+/// A picture that is to be drawn: its style, and the events of which it is.
+#[derive(Drop)]
+pub struct Plan {
+    pub style: Style,
+    pub table: Table,
+    pub events: Vec<Event>,
+    /// `HistoryFull` if there were more events.
+    pub fault: Option<CliFault>,
+}
+
+/// How many ticks a tick asked for.
+fn asked_ticks(reply: &Reply) -> u32
+    ensures { result ≡ asked_ticks reply.now }
+{
+    match reply {
+        Reply::Advanced(asked, _) => *asked,
+        _ => 0,
+    }
+}
+
+/// The event of an entry.
+fn event_of(entry: &LentEntry<'_>) -> Event
+    ensures { result ≡ event_of entry.entry.now }
+{
+    match entry.who {
+        Who::Core(core) => Event::Turn(core),
+        Who::Ticker => Event::Tick(asked_ticks(&entry.reply)),
+    }
+}
+
+/// The events of a kernel's history.
+pub fn events_in<S: Store>(alloc: Global, kernel: &Kernel<S>) -> Result<Vec<Event>, AllocError>
+    ensures { IfOk result (λ events. events.items ≡ events_of kernel.now.machine.history) }
+{
+    let mut events = Vec::new(alloc);
+    for entry in kernel.entries() {
+        events.push(event_of(&entry))?;
+    }
+    Ok(events)
+}
+
+/// The style in which a picture shows a kernel's history.
+fn style_for<S: Store>(picture: Picture, kernel: &Kernel<S>) -> Style
+    requires { IsPictureOfEntries picture }
+    ensures { IsStyleOf (picture_said picture) result }
+{
+    match picture {
+        Picture::Svg { first, last } => Style::Svg(Frame::new(kernel, first, last)),
+        Picture::Trace => Style::Trace,
+    }
+}
+
+/// The plan of a picture of a kernel's history, with this fault.
+pub fn plan_in<S: Store>(
+    alloc: Global,
+    picture: Picture,
+    kernel: Kernel<S>,
+    fault: Option<CliFault>,
+) -> Result<Plan, AllocError>
+    requires { IsPictureOfEntries picture }
+    ensures table { IfOk result (λ plan. plan.table ≡ kernel.table) }
+    ensures machine { IfOk result (λ plan. machine_of plan ≡ kernel.machine) }
+    ensures fault { IfOk result (λ plan. plan.fault ≡ fault) }
+    ensures plan { IfOk result (IsPlanFor (picture_said picture)) }
+{
+    kernel.holds();
+    let style = style_for(picture, &kernel);
+    let events = events_in(alloc, &kernel)?;
+    Ok(Plan {
+        style,
+        table: kernel.into_table(),
+        events,
+        fault,
+    })
+}
+
+/// The events for which items ask.
+#[derive(Drop)]
+struct EventList {
+    events: Vec<Event>,
+    /// Whether the items ask for more.
+    is_cut: bool,
+}
+
+/// Lists the events for which the items ask, as many as the history of the table takes.
+fn listed(alloc: Global, items: &[Item], table: &Table) -> Result<EventList, AllocError>
+    requires { are_cores_below table.now.cores items.now ≡ true }
+    ensures within { IfOk result (λ found. All (IsWithin table.now.cores) found.events.items) }
+    ensures list { IfOk result (λ found. IsListOf table.now.limit (events_of_items items.now)
+        found.events.items found.is_cut) }
+{
+    let limit = table.limit() as usize;
+    let mut events = Vec::new(alloc);
+    for item in items {
+        let (event, times) = repeated(item);
+        let many = events.len() + times as usize;
+        events.resize(many.min(limit), event)?;
+        if limit < many {
+            return Ok(EventList {
+                events,
+                is_cut: true,
+            });
+        }
+    }
+    Ok(EventList {
+        events,
+        is_cut: false,
+    })
+}
+
+/// The plan of a trace of the run of the items, on this table. Nothing is run: a trace has no
+/// frame.
+pub fn trace_plan(alloc: Global, items: &[Item], table: Table) -> Result<Plan, AllocError>
+    requires { are_cores_below table.cores items.now ≡ true }
+    ensures table { IfOk result (λ plan. plan.table ≡ table) }
+    ensures run { IfOk result (λ plan. IsRunOf items.now table plan.events.items plan.fault) }
+    ensures style { IfOk result (λ plan. IsStyleOf trace plan.style) }
+{
+    let found = listed(alloc, items, &table)?;
+    let fault = if found.is_cut {
+        Some(CliFault::HistoryFull(table.limit()))
+    } else {
+        None
+    };
+    Ok(Plan {
+        style: Style::Trace,
+        table,
+        events: found.events,
+        fault,
+    })
+}
+
+/// The fault of a drawing.
+fn fault_of(fault: DrawFault) -> CliFault
+    ensures { result ≡ fault_of_drawing fault }
+{
+    match fault {
+        DrawFault::Memory => CliFault::Memory,
+        DrawFault::Write => CliFault::Write,
+    }
+}
+
+/// The kernel of a table before any event.
+fn booted(alloc: Global, table: Table) -> Result<Kernel<QueueStore>, AllocError>
+    ensures { IfOk result (λ kernel. kernel ≡ kernel_in table (opening table) kernel.store) }
+{
+    let store = QueueStore::new(alloc, &table)?;
+    Kernel::boot(alloc, table, store)
+}
+
+/// Draws the picture of a plan, and answers its fault once it is drawn.
+pub fn show<W: Sink>(alloc: Global, plan: Plan, writer: &mut Counted<W>) -> Result<(), CliFault>
+    requires { All (IsWithin plan.table.cores) plan.events.items }
+    ensures { (picture : PictureAsked) → IsStyleOf picture plan.style → (fault : Option CliFaultOf)
+        × Shows (drawn picture) plan.table (machine_of plan) (W.contents (inner_of writer.old))
+        (failures_of writer.old) fault (W.contents (inner_of writer.new)) (failures_of writer.new)
+        × (fault_in result ≡ first_fault fault plan.fault) }
+{
+    let Plan {
+        style,
+        table,
+        events,
+        fault,
+    } = plan;
+    let mut kernel = booted(alloc, table)?;
+    match draw(alloc, &style, &mut kernel, events.as_slice(), writer) {
+        Ok(()) => match fault {
+            None => Ok(()),
+            Some(fault) => Err(fault),
+        },
+        Err(fault) => Err(fault_of(fault)),
+    }
+}

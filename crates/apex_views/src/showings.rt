@@ -1,0 +1,63 @@
+//! How a run is given, and how it is shown.
+use apex_pace::Pace;
+use apex_schedules::Item;
+
+/// How a run is given.
+#[derive(Drop)]
+pub enum RunSource {
+    /// By the items of a schedule, for the table that is read.
+    Schedule(Vec<Item>),
+    /// By the schedule that is read, behind its table.
+    ReadSchedule,
+    /// By the first schedule of a pace up to a time in ticks, for the table that is read.
+    Pace { pace: Pace, until: u64 },
+    /// By the history that is read, behind its table.
+    History,
+}
+
+/// How a picture shows a run.
+#[derive(Clone, Copy)]
+pub enum Picture {
+    /// As SVG, the entries from the first number to the last.
+    Svg { first: u32, last: u32 },
+    /// As a trace.
+    Trace,
+}
+
+/// The form of a report.
+#[derive(Clone, Copy, Debug, PartialEq, Eq)]
+pub enum Form {
+    /// As lines.
+    Text,
+    /// As one JSON object.
+    Json,
+}
+
+/// A listing of a run.
+#[derive(Clone, Copy, Debug, PartialEq, Eq)]
+pub enum Listing {
+    /// The lines of its history.
+    Lines,
+    /// Its last state.
+    Status,
+    /// The figures of each core and each process.
+    Report(Form),
+    /// The schedule of its events.
+    Schedule,
+}
+
+/// How a run is shown.
+#[derive(Clone, Copy)]
+pub enum View {
+    /// By a picture, which a second run draws.
+    Picture(Picture),
+    /// By a listing, which is written from the kernel that made the run.
+    Listing(Listing),
+}
+
+/// A run that is to be shown.
+#[derive(Drop)]
+pub struct Showing {
+    pub source: RunSource,
+    pub view: View,
+}
