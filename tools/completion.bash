@@ -3,11 +3,12 @@ _apex() {
     local word=${COMP_WORDS[COMP_CWORD]} before=${COMP_WORDS[COMP_CWORD-1]} words
     case ${COMP_WORDS[1]}:$COMP_CWORD:${COMP_WORDS[2]:-} in
         *:1:*) words='replay status run check lint init-turns lab picture prove --help --version --program --unproved' ;;
-        lab:2:* | picture:2:*) words='svg trace lines status report schedule search lint' ;;
+        lab:2:* | picture:2:*) words='svg trace lines status report schedule search lint step' ;;
         replay:* | status:*) words='--schedule' ;;
         run:*) words='--turns --ticks --front' ;;
         lab:*:search | picture:*:search) words='--for --process --service --turns --early --states' ;;
         lab:*:lint | picture:*:lint) words='--json --name --allow' ;;
+        lab:*:step | picture:*:step) ;;
         lab:* | picture:*) words='--schedule --schedule-file --until --turns --early --from --to --json' ;;
     esac
     case $before in

@@ -278,16 +278,16 @@ fn an_answer_is_flushed_before_the_next_line_is_read(rt: HostRuntime) {
             .expect(&rt, "memory");
     }
     // The table's lines, and the one with the init steps.
-    let mut read: u32 = 1;
+    let mut read = 1;
     for byte in TABLE.as_bytes() {
-        read = read.saturating_add(u32::from(*byte == b'\n'));
+        read += u32::from(*byte == b'\n');
     }
-    let mut want = shown_before(&rt, alloc, text.as_slice(), read.saturating_add(1));
+    let mut want = shown_before(&rt, alloc, text.as_slice(), read + 1);
     assert!(rt; want.as_str().ends_with("| released 2\nok 8\n"));
     for (_, answer) in ANSWERS {
-        read = read.saturating_add(1);
+        read += 1;
         want.push_str(answer).expect(&rt, "memory");
-        let shown = shown_before(&rt, alloc, text.as_slice(), read.saturating_add(1));
+        let shown = shown_before(&rt, alloc, text.as_slice(), read + 1);
         assert_eq!(rt; shown.as_str(), want.as_str(), "read {read}");
     }
 }

@@ -10,7 +10,8 @@ use Rattle.apex_views.specs.declared.BadSchedule.{BadSchedule}
 use Rattle.apex_lab.specs.Ends.{End, end_of_showing, fails}
 use Rattle.apex_lab.specs.Lints.{Lint, LintEnds}
 use Rattle.apex_lab.specs.Searches.{SearchEnds}
-use Rattle.apex_lab.specs.Tasks.{Asked, Unasked, ill_formed, no_schedule, to_lint, to_search, to_show}
+use Rattle.apex_lab.specs.Steps.{StepEnds}
+use Rattle.apex_lab.specs.Tasks.{Asked, Unasked, ill_formed, no_schedule, to_lint, to_search, to_show, to_step}
 use Rattle.apex_lab.specs.declared.faults.LabFault.TheVariants.{Common, Schedule as BadText}
 use Rattle.apex_lab.specs.declared.questions.Search.{Search}
 
@@ -38,3 +39,6 @@ pub data Ends (asked : Result Asked Unasked) (before : Ports) : End → Ports �
   -- a table is linted
   of_lint : {lint : Lint} {ends : End} {after : Ports} → asked ≡ Ok (to_lint lint)
       → LintEnds lint before ends after → Ends asked before ends after
+  -- commands are answered
+  of_steps : {ends : End} {after : Ports} → asked ≡ Ok to_step → StepEnds before ends after
+      → Ends asked before ends after

@@ -6,4 +6,5 @@ pub mod Tasks
 pub mod Ends
 pub mod Lints
 pub mod Searches
+pub mod Steps
 pub mod Exits

@@ -11,7 +11,7 @@ use Rattle.apex_views.specs.Showings.{IsOfEntries, Picture, Showing, Source, Vie
 use Rattle.apex_lab.specs.Lints.{Lint, lint_asked, lint_said}
 use Rattle.apex_lab.specs.Numbers.{number_in, pace_in, time_of}
 use Rattle.apex_lab.specs.Questions.{search_asked}
-use Rattle.apex_lab.specs.Words.{Given, Request, Shown, as_listing, as_svg, as_trace, by_history, by_pace, by_schedule, by_schedule_read, lint_of, request_of, search_of, show_of}
+use Rattle.apex_lab.specs.Words.{Given, Request, Shown, as_listing, as_svg, as_trace, by_history, by_pace, by_schedule, by_schedule_read, lint_of, request_of, search_of, show_of, step_of}
 use Rattle.apex_lab.specs.declared.faults.LabFault.{LabFault}
 use Rattle.apex_lab.specs.declared.faults.LabFault.TheVariants.{Common, NoProcess, Schedule as BadText, StatesFull}
 use Rattle.apex_lab.specs.declared.questions.Search.{Search}
@@ -26,6 +26,8 @@ pub data Asked : Type 0 where
   to_search : Search → Asked
   -- to lint a table
   to_lint : Lint → Asked
+  -- to answer commands
+  to_step : Asked
 
 -- why words ask for nothing
 pub data Unasked : Type 0 where
@@ -90,6 +92,7 @@ asked_in_request (show_of given shown) =
 asked_in_request (search_of said) =
     or_unasked ill_formed (option_map to_search (search_asked said))
 asked_in_request (lint_of said) = or_unasked ill_formed (option_map to_lint (lint_asked said))
+asked_in_request step_of = Ok to_step
 
 -- the same, if there is a request
 abbrev pub asked_in : Option Request → Result Asked Unasked
@@ -105,12 +108,14 @@ abbrev pub task_said : Task → Asked
 task_said (task.Show showing) = to_show (showing_said showing)
 task_said (task.Search search) = to_search search
 task_said (task.Lint lint) = to_lint (lint_said lint)
+task_said task.Step = to_step
 
 -- the same of a view that is asked for, and the pace of a search is one
 abbrev pub IsInRange : Task → Type 0
 IsInRange (task.Show showing) = IsOfEntries showing.view
 IsInRange (task.Search search) = IsPace search.pace
 IsInRange (task.Lint lint) = Unit {0}
+IsInRange task.Step = Unit {0}
 
 -- the fault, memory aside, with which the program ends if words ask for nothing
 abbrev pub IsUnasked : {X : Type 0} → Result X Unasked → LabFault → Type 0

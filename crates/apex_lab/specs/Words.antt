@@ -79,7 +79,10 @@ lint_command =
 
 -- the program's command line, with all its commands
 abbrev pub lab : App
-lab = with_subcommand (with_subcommand lab_of_views search_command.top) lint_command.top
+lab =
+    with_subcommand
+    (with_subcommand (with_subcommand lab_of_views search_command.top) lint_command.top)
+    (new_app (codes "step")).top
 
 -- how a run is given
 pub data Given : Type 0 where
@@ -127,6 +130,8 @@ pub data Request : Type 0 where
   search_of : SearchSaid → Request
   -- to lint a table
   lint_of : LintSaid → Request
+  -- to answer commands
+  step_of : Request
 
 -- how a run is given, of a value of the program
 abbrev pub given_said : SourceWords → Given
@@ -167,6 +172,7 @@ abbrev pub request_said : RequestIn → Request
 request_said (request.Show source view) = show_of (given_said source) (shown_said view)
 request_said (request.Search words) = search_of (search_said words)
 request_said (request.Lint words) = lint_of (lint_words_said words)
+request_said request.Step = step_of
 
 -- how a run is given, by the text of a schedule: `-` stands for one that is read
 abbrev pub given_by_schedule : Text → Given
@@ -245,6 +251,7 @@ abbrev pub request_in : Text × List Row → Option Request
 request_in found =
     if bytes_eq found.0 (codes "search") then option_map search_of (search_in found.1)
     else if bytes_eq found.0 (codes "lint") then Some (lint_of (lint_in found.1))
+    else if bytes_eq found.0 (codes "step") then Some step_of
     else showing_in found.0 found.1
 
 -- what the words ask for; none if they ask for nothing that the program does

@@ -17,7 +17,7 @@ use std::alloc::AllocError;
 
 /// The line that reports ill-formed words.
 pub const USAGE: &str =
-    "apex_lab: usage: apex_lab svg|trace|lines|status|report|schedule [--schedule S|--until T], apex_lab search --for WORD, apex_lab lint\n";
+    "apex_lab: usage: apex_lab svg|trace|lines|status|report|schedule [--schedule S|--until T], apex_lab search --for WORD, apex_lab lint|step\n";
 
 /// Room for the bytes of the line that reports that a search has no room for more states.
 const STATES_ROOM: usize = 64;

@@ -1,5 +1,5 @@
 //! The program `apex_lab`: shows the run of a schedule or of a pace, or a history that is legal, as
-//! a picture or as a listing, searches the schedules of a pace, and lints a table.
+//! a picture or as a listing, searches the schedules of a pace, lints a table, and answers commands.
 #![tactic(auto)]
 
 mod ends;
@@ -9,6 +9,7 @@ mod numbers;
 mod program;
 mod questions;
 mod searching;
+mod stepping;
 mod tasks;
 mod words;
 

@@ -12,6 +12,7 @@ use crate::ends::{Ending, status_of, tell};
 use crate::faults::LabFault;
 use crate::linting::run_lint;
 use crate::searching::run_search;
+use crate::stepping::run_steps;
 use crate::tasks::{Task, task_asked};
 use apex_console::CliFault;
 use apex_history::{Counted, Sink, Source};
@@ -45,6 +46,7 @@ fn carry_out<R: Source, W: Sink>(
         Task::Show(showing) => ending_of(show_run(alloc, &showing, reader, writer)),
         Task::Search(search) => run_search(alloc, &search, reader, writer),
         Task::Lint(lint) => run_lint(alloc, &lint, reader, writer),
+        Task::Step => run_steps(alloc, reader, writer),
     }
 }
 

@@ -23,6 +23,8 @@ pub enum Task<'a> {
     Search(Search),
     /// To lint a table.
     Lint(Lint<'a>),
+    /// To answer commands.
+    Step,
 }
 
 /// The run of a pace, by the texts of its time, its turns and its percentage. None if one is
@@ -118,6 +120,7 @@ fn task_of<'a>(alloc: Global, request: Request<'a>) -> Result<Task<'a>, LabFault
             Some(lint) => Ok(Task::Lint(lint)),
             None => Err(LabFault::Common(CliFault::Usage)),
         },
+        Request::Step => Ok(Task::Step),
     }
 }
 

@@ -79,6 +79,8 @@ pub enum Request<'a> {
     Search(SearchWords<'a>),
     /// To lint a table.
     Lint(LintWords<'a>),
+    /// To answer commands.
+    Step,
 }
 
 /// The command of this name, with the options that say how a run is given.
@@ -163,14 +165,15 @@ fn command<'a>(alloc: Global) -> Result<Command<'a>, AllocError>
 {
     let views = view_commands(alloc)?;
     let with_search = views.subcommand(search_command(alloc)?)?;
-    with_search.subcommand(lint_command(alloc)?)
+    let with_lint = with_search.subcommand(lint_command(alloc)?)?;
+    with_lint.subcommand(Command::new(alloc, "step"))
 }
 
 /// What the words ask for: `svg`, `trace`, `lines`, `status`, `report` or `schedule`, with
 /// `--schedule S`, with `--until T [--turns K] [--early E]`, or with neither; `svg` also with
 /// `[--from N] [--to M]`, and `report` with `[--json]`; or `search` with `--for WORD [--process P]
 /// [--service WORD] [--turns K] [--early E] [--states N]`; or `lint` with `[--json] [--name FILE]
-/// [--allow WORD,WORD]`. Other words are `Usage`.
+/// [--allow WORD,WORD]`; or `step`. Other words are `Usage`.
 pub fn request_in<'a>(alloc: Global, words: &'a [String]) -> Result<Request<'a>, CliFault>
     ensures ok { IfOk result (λ r. request_of (map string_bytes words.entry.now)
         ≡ Some (request_said r)) }
@@ -305,6 +308,7 @@ fn asked_by<'a>(name: &str, matches: &ArgMatches<'a>) -> Option<Request<'a>>
     match name {
         "search" => Some(Request::Search(search_given(matches)?)),
         "lint" => Some(Request::Lint(lint_given(matches))),
+        "step" => Some(Request::Step),
         _ => showing_given(name, matches),
     }
 }

@@ -8,5 +8,7 @@ returns c =
     let top = λ (a : App). a.top in
     let search_is = c.in_ok-with_search.ensures.shape c.in_ok-search_command.ensures.local
     ∙ ap₂ with_subcommand c.in_ok-views.ensures (ap top c.in_ok-search_command.ensures.app) in
-    IfOk-weaker c.subcommand-2.result _ _ (λ r h. h.shape c.in_ok-lint_command.ensures.local
-    ∙ ap₂ with_subcommand search_is (ap top c.in_ok-lint_command.ensures.app)) c.subcommand-2.ensures
+    let lint_is = c.in_ok-with_lint.ensures.shape c.in_ok-lint_command.ensures.local
+    ∙ ap₂ with_subcommand search_is (ap top c.in_ok-lint_command.ensures.app) in
+    IfOk-weaker c.subcommand-3.result _ _ (λ r h. h.shape c.new.ensures.local
+    ∙ ap₂ with_subcommand lint_is (ap top c.new.ensures.app)) c.subcommand-3.ensures
