@@ -1,0 +1,16 @@
+-- The caller of a call, as the guards of a row see it.
+use Rattle.std.specs.Prelude.{◌<◌, Bool, true, false, length}
+use Rattle.apex_types.specs.Terms.{Caller}
+use Rattle.apex_types.specs.declared.entries.Caller.TheVariants.{Process, Init, Nobody}
+use Rattle.apex_machine.specs.processes.Roster.{Roster}
+
+-- no process calls
+abbrev pub is_no_process : Caller → Bool
+is_no_process (Process p) = false
+is_no_process Init = true
+is_no_process Nobody = true
+
+-- a process that calls is one of the roster's
+abbrev pub IsKnownCaller : Roster → Caller → Type 0
+IsKnownCaller roster (Process p) = p < length roster.records
+IsKnownCaller roster _ = Unit {0}

@@ -1,0 +1,14 @@
+//! Why the machine makes the entry that it makes: who acts, by which step, and the guard or the rule
+//! that decides the reply. A reason is read off a situation before the event, and changes nothing.
+#![tactic(auto)]
+
+mod callers;
+mod guards;
+mod object_rows;
+mod reasons;
+mod rows;
+mod texts;
+
+pub use guards::Guard;
+pub use reasons::{Reason, Rule, reason_for, reason_of};
+pub use texts::ReasonText;
