@@ -32,6 +32,8 @@ mod paces;
 #[cfg(test)]
 mod papers;
 #[cfg(test)]
+mod reasons;
+#[cfg(test)]
 mod reports;
 #[cfg(test)]
 mod scans;

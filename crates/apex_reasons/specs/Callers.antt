@@ -1,8 +1,8 @@
 -- The caller of a call, as the guards of a row see it.
 use Rattle.std.specs.Prelude.{◌<◌, Bool, true, false, length}
-use Rattle.apex_types.specs.Terms.{Caller}
 use Rattle.apex_types.specs.declared.entries.Caller.TheVariants.{Process, Init, Nobody}
 use Rattle.apex_machine.specs.processes.Roster.{Roster}
+use Rattle.apex_reasons.specs.Terms.{Caller}
 
 -- no process calls
 abbrev pub is_no_process : Caller → Bool

@@ -1,8 +1,8 @@
 -- The replies that agree with a row: the code of the first guard that holds, or no refusal.
 use Rattle.std.specs.Prelude.{◌≡◌, Bool, true, false, Option, None, Some}
-use Rattle.apex_types.specs.Terms.{Reply, ReturnCode}
 use Rattle.apex_types.specs.declared.entries.Reply.TheVariants.{Code}
 use Rattle.apex_types.specs.declared.entries.ReturnCode.TheVariants.{NoError, NoAction, NotAvailable, InvalidParam, InvalidConfig, InvalidMode, TimedOut}
+use Rattle.apex_reasons.specs.Terms.{Reply, ReturnCode}
 use Rattle.apex_reasons.specs.Guards.{code_of}
 use Rattle.apex_reasons.specs.declared.guards.Guard.{Guard}
 

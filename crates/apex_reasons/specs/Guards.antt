@@ -1,8 +1,8 @@
 -- The guards of the services' rows: the return code and the sentence of each, and the first one that
 -- holds (this profile).
 use Rattle.std.specs.Prelude.{ℕ, Bool, List, [], ◌∷◌, Option, None, Some, codes, if◌then◌else◌}
-use Rattle.apex_types.specs.Terms.{ReturnCode}
 use Rattle.apex_types.specs.declared.entries.ReturnCode.TheVariants.{NoAction, InvalidParam, InvalidConfig, InvalidMode}
+use Rattle.apex_reasons.specs.Terms.{ReturnCode}
 use Rattle.apex_reasons.specs.declared.guards.Guard.{Guard}
 use Rattle.apex_reasons.specs.declared.guards.Guard.TheVariants.{ModeIsNormal, ModeIsNormalAlready, NoSuchEntry, AlreadyCreated, NotCreated, IdNotCreated, NoSuchCore, PriorityOutOfRange, DormantForPriority, AlreadyStarted, UnfitDelay, NamesCaller, AlreadyDormant, DormantOrPeriodic, AlreadySuspended, NotSuspended, OwnsMutex, NoCaller, CallerIsPeriodic, CallerIsAperiodic, CallerOwnsMutex, OwnerWouldWait, InfiniteTimedWait, InfiniteCapacity, DeadlinePastPeriod, SemaphoreIsFull, UnfitMessage, OwnerOfAnotherWouldWait, OwnsMost, BaseAboveCeiling, AtMostDepth, CallerIsNotOwner}
 

@@ -5,7 +5,6 @@ use Rattle.apex_types.specs.declared.limits.TheConstants.{MOST_PRIORITY}
 use Rattle.apex_types.specs.Calls.{object_of}
 use Rattle.apex_types.specs.Messages.{is_unfit}
 use Rattle.apex_types.specs.Modes.{is_normal}
-use Rattle.apex_types.specs.Terms.{BlackboardService, BufferService, Caller, EventFlagService, MutexService, ObjectCall, ProcessService, SemaphoreService, Timeout}
 use Rattle.apex_types.specs.declared.calls.BlackboardService.TheVariants.{Display, Read, Clear}
 use Rattle.apex_types.specs.declared.calls.BufferService.TheVariants.{Send, Receive}
 use Rattle.apex_types.specs.declared.calls.EventFlagService.TheVariants as events
@@ -15,7 +14,6 @@ use Rattle.apex_types.specs.declared.calls.ProcessService.TheVariants.{Initializ
 use Rattle.apex_types.specs.declared.calls.SemaphoreService.TheVariants.{Wait, Signal}
 use Rattle.apex_types.specs.declared.calls.Timeout.TheVariants.{Poll}
 use Rattle.apex_machine.specs.declared.records.Queue.TheVariants as queues
-use Rattle.apex_machine.specs.Terms.{Record}
 use Rattle.apex_machine.specs.processes.Owners.{ceiling_of, is_deepest, is_waiting_owner, may_not_wait, owns, owns_most, owns_some, record_of}
 use Rattle.apex_machine.specs.processes.Roster.{Roster, record_at}
 use Rattle.apex_machine.specs.processes.Waiters.{first_waiter}
@@ -27,6 +25,7 @@ use Rattle.apex_machine.specs.services.EventFlagServices.{EventFlagObject}
 use Rattle.apex_machine.specs.services.MutexServices.{MutexObject}
 use Rattle.apex_machine.specs.services.ProcessServices.{ProcessObject, is_unfit_delay, is_unsuspendable}
 use Rattle.apex_machine.specs.services.SemaphoreServices.{SemaphoreObject}
+use Rattle.apex_reasons.specs.Terms.{BlackboardService, BufferService, Caller, EventFlagService, MutexService, ObjectCall, ProcessService, Record, SemaphoreService, Timeout}
 use Rattle.apex_reasons.specs.Callers.{is_no_process}
 use Rattle.apex_reasons.specs.Guards.{Tested, ◌when◌}
 use Rattle.apex_reasons.specs.declared.guards.Guard.TheVariants.{ModeIsNormal, NoSuchEntry, AlreadyCreated, NotCreated, IdNotCreated, NoSuchCore, PriorityOutOfRange, DormantForPriority, AlreadyStarted, UnfitDelay, NamesCaller, AlreadyDormant, DormantOrPeriodic, AlreadySuspended, NotSuspended, OwnsMutex, NoCaller, OwnerWouldWait, SemaphoreIsFull, UnfitMessage, OwnerOfAnotherWouldWait, OwnsMost, BaseAboveCeiling, AtMostDepth, CallerIsNotOwner}
@@ -52,7 +51,7 @@ object_row kind own roster object place caller (KindService i service) =
 object_row kind own roster object place caller call = common_row kind roster object call
 
 -- the guards of a call of a name that no entry has
-abbrev pub no_entry_row : {W : Type 0} → Roster → ObjectCall ℕ W → List Tested
+abbrev pub no_entry_row : {I W : Type 0} → Roster → ObjectCall I W → List Tested
 no_entry_row roster (Create named) =
     ModeIsNormal when is_normal roster.mode ∷ NoSuchEntry when true ∷ []
 no_entry_row roster _ = NoSuchEntry when true ∷ []
@@ -163,19 +162,21 @@ event_flag_row roster event_flag e caller (events.Wait timeout) =
     NotCreated when not event_flag.created ∷ waiting_row roster caller timeout
 event_flag_row roster event_flag e caller _ = NotCreated when not event_flag.created ∷ []
 
--- the guards of ACQUIRE_MUTEX by a caller with this record
-abbrev pub acquire_row : Roster → MutexObject → ℕ → Caller → Record → Timeout → List Tested
-acquire_row roster mutex m caller r timeout =
-    NotCreated when not mutex.created
-    ∷ OwnerOfAnotherWouldWait when may_not_wait m timeout r
+-- the guards of ACQUIRE_MUTEX of mutex m that are about the mutexes that a caller with this record
+-- owns, and then these
+abbrev pub owner_row : Roster → ℕ → Record → Timeout → List Tested → List Tested
+owner_row roster m r timeout later =
+    OwnerOfAnotherWouldWait when may_not_wait m timeout r
     ∷ OwnsMost when owns_most roster m r
     ∷ BaseAboveCeiling when nat_lt (ceiling_of roster m) r.base
-    ∷ AtMostDepth when is_deepest m r ∷ NoCaller when is_no_process caller ∷ []
+    ∷ AtMostDepth when is_deepest m r ∷ later
 
 -- the guards of the services that mutexes alone have
 abbrev pub mutex_row : OwnRow MutexObject MutexService
 mutex_row roster mutex m caller (Acquire timeout) =
-    acquire_row roster mutex m caller (record_of roster caller) timeout
+    NotCreated when not mutex.created
+    ∷ owner_row roster m (record_of roster caller) timeout
+    (NoCaller when is_no_process caller ∷ [])
 mutex_row roster mutex m caller Release =
     NotCreated when not mutex.created
     ∷ CallerIsNotOwner when not (owns m (record_of roster caller)) ∷ []

@@ -23,7 +23,7 @@ blackboard_in blackboards b = slice_index_or blackboards b blackboard_kind.absen
 -- entry, with the limits that the table gives; and the time is one that a history reaches
 pub record AreOfTable (table : Table) (roster : Roster) (objects : Objects) : Type 0 where
   pub records : length roster.records ≡ length table.processes
-  pub objects : AreOf table objects
+  pub all : AreOf table objects
   pub maxima : (i : ℕ) → i < length table.semaphores
       → (semaphore_in objects.semaphores i).maximum ≡ (semaphore_config table i).maximum
   pub lengths : (i : ℕ) → i < length table.buffers

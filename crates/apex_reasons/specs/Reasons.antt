@@ -1,20 +1,19 @@
 -- Why the machine makes the entry that it makes: the caller, its step, and the guard or the rule that
 -- decides the reply (this profile).
 use Rattle.std.specs.Prelude.{◌≡◌, ℕ, ◌+◌, Bool, true, false, Option, None, Some, ◌==◌, nat_lt, if◌then◌else◌}
-use Rattle.apex_types.specs.Terms.{Call, Caller, Event, Mode, Reply}
 use Rattle.apex_types.specs.declared.calls.Call.TheVariants.{Caller as ToCaller, Work as ToWork}
 use Rattle.apex_types.specs.declared.calls.CallerCall.TheVariants.{StopSelf}
 use Rattle.apex_types.specs.declared.entries.Caller.TheVariants.{Process, Init, Nobody}
 use Rattle.apex_types.specs.declared.entries.Event.TheVariants.{Turn, Tick}
 use Rattle.apex_types.specs.declared.entries.Reply.TheVariants.{Code, Idle as IdleTurn, Done, Lost, Advanced}
 use Rattle.apex_types.specs.declared.modes.Mode.TheVariants as mode
-use Rattle.apex_machine.specs.Terms.{OpenWork}
 use Rattle.apex_machine.specs.Deeds.{Deed, Objects, step_of}
 use Rattle.apex_machine.specs.Situations.{Situation, due_call}
 use Rattle.apex_machine.specs.Ticks.{tick_goal}
 use Rattle.apex_machine.specs.processes.Roster.{Roster, record_at}
 use Rattle.apex_machine.specs.processes.Running.{chosen}
 use Rattle.apex_machine.specs.table.Table.{Table}
+use Rattle.apex_reasons.specs.Terms.{Call, Caller, Event, Mode, OpenWork, Reply}
 use Rattle.apex_reasons.specs.Decisions.{is_refusal}
 use Rattle.apex_reasons.specs.Guards.{code_of, first_holding}
 use Rattle.apex_reasons.specs.Rows.{row_of_call}
@@ -73,10 +72,10 @@ ended_reason o = record {
   rule = if o.unbroken then WorkWasKept else WorkWasBroken;
 }
 
--- the reason of a turn of the core, by the work that it has begun
-abbrev pub turn_reason : Table → Situation → ℕ → Option OpenWork → Reason
-turn_reason table s core (Some o) = ended_reason o
-turn_reason table s core None = step_reason table s core (due_call table s core)
+-- the reason of a turn of the core, by the work that it has begun and the init step that is due
+abbrev pub turn_reason : Table → Situation → ℕ → Option OpenWork → Option Call → Reason
+turn_reason table s core (Some o) due = ended_reason o
+turn_reason table s core None due = step_reason table s core due
 
 -- a tick of n stops early if a wait ends or a deadline passes before it is over
 abbrev pub tick_rule : Roster → ℕ → Rule
@@ -85,7 +84,8 @@ tick_rule roster n =
 
 -- the reason of an event in a situation
 abbrev pub reason_of : Table → Situation → Event → Reason
-reason_of table s (Turn core) = turn_reason table s core (s.works core)
+reason_of table s (Turn core) =
+    turn_reason table s core (s.works core) (due_call table s core)
 reason_of table s (Tick n) = without_caller (tick_rule s.roster n)
 
 -- the tick went as far as it was asked to

@@ -1,7 +1,6 @@
 -- The guards of every service, in the order of the machine's rows (this profile).
 use Rattle.std.specs.Prelude.{ℕ, ◌+◌, List, [], ◌∷◌, is_none, not}
 use Rattle.apex_types.specs.Modes.{is_normal}
-use Rattle.apex_types.specs.Terms.{Call, Caller, CallerCall, PartitionCall, TimeCall}
 use Rattle.apex_types.specs.declared.calls.Call.TheVariants.{Partition, Process, Caller as ToCaller, Time, Semaphore, Buffer, Blackboard, EventFlag, Mutex, Work}
 use Rattle.apex_types.specs.declared.calls.CallerCall.TheVariants.{SuspendSelf}
 use Rattle.apex_types.specs.declared.calls.PartitionCall.TheVariants.{SetPartitionMode}
@@ -17,6 +16,7 @@ use Rattle.apex_machine.specs.services.EventFlagServices.{event_flag_kind}
 use Rattle.apex_machine.specs.services.MutexServices.{mutex_kind}
 use Rattle.apex_machine.specs.services.ProcessServices.{process_kind, is_infinite}
 use Rattle.apex_machine.specs.services.SemaphoreServices.{semaphore_kind}
+use Rattle.apex_reasons.specs.Terms.{Call, Caller, CallerCall, PartitionCall, TimeCall}
 use Rattle.apex_reasons.specs.Callers.{is_no_process}
 use Rattle.apex_reasons.specs.Guards.{Tested, ◌when◌}
 use Rattle.apex_reasons.specs.ObjectRows.{kind_row, process_row, semaphore_row, buffer_row, blackboard_row, event_flag_row, mutex_row}

@@ -1,10 +1,10 @@
 -- The text of a reason: who acts, by which step, and the guard or the rule (this profile).
 use Rattle.std.specs.Prelude.{ℕ, List, [], ◌++◌, Option, None, Some, codes, decimal}
-use Rattle.apex_types.specs.Terms.{Caller}
 use Rattle.apex_types.specs.declared.entries.Caller.TheVariants.{Process, Init, Nobody}
 use Rattle.apex_calls.specs.Lines.{code_text}
 use Rattle.apex_machine.specs.table.Table.{Table}
 use Rattle.apex_machine.specs.text.Texts.{process_name}
+use Rattle.apex_reasons.specs.Terms.{Caller}
 use Rattle.apex_reasons.specs.Guards.{code_of, sentence_of}
 use Rattle.apex_reasons.specs.declared.reasons.Reason.{Reason}
 use Rattle.apex_reasons.specs.declared.reasons.Rule.{Rule}

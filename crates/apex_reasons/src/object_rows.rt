@@ -1,13 +1,11 @@
 //! The first guard that holds of the services of each kind of object.
-ghost use Rattle.std.specs.Prelude.{◌≡◌, ℕ, ◌<◌, true, List, length};
-ghost use Rattle.std.specs.Option.{option_or};
-ghost use Rattle.apex_types.specs.declared.entries.Caller.TheVariants.{Process as ByProcess};
+ghost use Rattle.std.specs.Prelude.{◌≡◌, ℕ, ◌<◌, List, [], length};
+ghost use Rattle.apex_types.specs.declared.calls.MutexService.TheVariants.{Acquire, Release};
 ghost use Rattle.apex_machine.specs.processes.Owners.{is_deepest};
-ghost use Rattle.apex_machine.specs.services.MutexServices.{MutexObject};
 ghost use Rattle.apex_machine.specs.services.ProcessServices.{is_unfit_delay, is_unsuspendable};
 ghost use Rattle.apex_reasons.specs.Callers.{IsKnownCaller};
 ghost use Rattle.apex_reasons.specs.Guards.{Tested, first_holding};
-ghost use Rattle.apex_reasons.specs.ObjectRows.{common_row, no_entry_row, core_row, priority_row, start_row, stop_row, suspend_row, resume_row, of_another, process_row, waiting_row, semaphore_row, buffer_row, blackboard_row, event_flag_row, acquire_row, mutex_row};
+ghost use Rattle.apex_reasons.specs.ObjectRows.{common_row, no_entry_row, core_row, priority_row, start_row, stop_row, suspend_row, resume_row, of_another, process_row, waiting_row, semaphore_row, buffer_row, blackboard_row, event_flag_row, owner_row, mutex_row};
 
 use crate::callers::{is_by_process, is_no_process, is_waiting_owner};
 use crate::guards::Guard;
@@ -157,17 +155,22 @@ fn resume_guard(fields: &Record) -> Option<Guard>
     }
 }
 
-/// The guards of a service for another process that come before its own.
-fn another_guard(process: &ProcessObject, id: ProcessId, caller: &Caller) -> Option<Guard>
-    ensures { (later : List Tested) → first_holding (of_another caller.now process.now id later)
-        ≡ option_or result (first_holding later) }
+/// Of a service for another process: `later` is the first guard of the service itself that holds.
+fn another_guard(
+    process: &ProcessObject,
+    id: ProcessId,
+    caller: &Caller,
+    later: Option<Guard>,
+) -> Option<Guard>
+    ensures { (row : List Tested) → later ≡ first_holding row
+        → result ≡ first_holding (of_another caller.now process.now id row) }
 {
     if is_by_process(id, caller) {
         Some(Guard::NamesCaller)
     } else if !process.is_created() {
         Some(Guard::NotCreated)
     } else {
-        None
+        later
     }
 }
 
@@ -189,9 +192,9 @@ pub(crate) fn process_guard<S: Store>(
         ProcessService::SetPriority(priority) => priority_guard(fields, process, *priority),
         ProcessService::Start => start_guard(fields, process, Timeout::Poll),
         ProcessService::DelayedStart(delay) => start_guard(fields, process, *delay),
-        ProcessService::Stop => another_guard(process, id, caller).or(stop_guard(fields)),
-        ProcessService::Suspend => another_guard(process, id, caller).or(suspend_guard(fields)),
-        ProcessService::Resume => another_guard(process, id, caller).or(resume_guard(fields)),
+        ProcessService::Stop => another_guard(process, id, caller, stop_guard(fields)),
+        ProcessService::Suspend => another_guard(process, id, caller, suspend_guard(fields)),
+        ProcessService::Resume => another_guard(process, id, caller, resume_guard(fields)),
     }
 }
 
@@ -320,14 +323,8 @@ fn is_deepest(fields: &Record, mutex: MutexId) -> bool
 }
 
 /// Of ACQUIRE_MUTEX of a mutex that is created, by a process of this record.
-fn acquire_guard<S: Store>(
-    store: &S,
-    fields: &Record,
-    id: MutexId,
-    timeout: Timeout,
-) -> Option<Guard>
-    ensures { (mutex : MutexObject) → (p : ℕ) → mutex.created ≡ true → result
-        ≡ first_holding (acquire_row (S.roster store.now) mutex id (ByProcess p) fields.now timeout) }
+fn owner_guard<S: Store>(store: &S, fields: &Record, id: MutexId, timeout: Timeout) -> Option<Guard>
+    ensures { result ≡ first_holding (owner_row (S.roster store.now) id fields.now timeout []) }
 {
     let owns = fields.owns(id);
     if !owns && fields.owns_some() && timeout != Timeout::Poll {
@@ -343,6 +340,44 @@ fn acquire_guard<S: Store>(
     }
 }
 
+/// Of ACQUIRE_MUTEX.
+fn acquire_guard<S: Store>(
+    store: &S,
+    mutex: &Mutex,
+    id: MutexId,
+    caller: &Caller,
+    timeout: Timeout,
+) -> Option<Guard>
+    requires caller { IsKnownCaller (S.roster store.now) caller.now }
+    ensures { result ≡ first_holding (mutex_row (S.roster store.now) mutex.now id caller.now
+        (Acquire timeout)) }
+{
+    if !mutex.is_created() {
+        return Some(Guard::NotCreated);
+    }
+    match caller {
+        Caller::Process(process) => owner_guard(store, store.record(*process), id, timeout),
+        // The trait of a store does not say that a process may own a mutex at all.
+        Caller::Init | Caller::Nobody if store.most_owned() == 0 => Some(Guard::OwnsMost),
+        Caller::Init | Caller::Nobody => Some(Guard::NoCaller),
+    }
+}
+
+/// Of RELEASE_MUTEX.
+fn release_guard<S: Store>(store: &S, mutex: &Mutex, id: MutexId, caller: &Caller) -> Option<Guard>
+    requires caller { IsKnownCaller (S.roster store.now) caller.now }
+    ensures { result ≡ first_holding (mutex_row (S.roster store.now) mutex.now id caller.now
+        Release) }
+{
+    if !mutex.is_created() {
+        return Some(Guard::NotCreated);
+    }
+    match caller {
+        Caller::Process(process) if store.record(*process).owns(id) => None,
+        _ => Some(Guard::CallerIsNotOwner),
+    }
+}
+
 /// Of the services that mutexes alone have.
 pub(crate) fn mutex_guard<S: Store>(
     store: &S,
@@ -355,21 +390,8 @@ pub(crate) fn mutex_guard<S: Store>(
     ensures { result ≡ first_holding (mutex_row
         (S.roster store.now) mutex.now id caller.now service.now) }
 {
-    if !mutex.is_created() {
-        return Some(Guard::NotCreated);
-    }
-    let Caller::Process(process) = caller else {
-        return Some(match service {
-            // The trait of a store does not say that a process may own a mutex at all.
-            MutexService::Acquire(_) if store.most_owned() == 0 => Guard::OwnsMost,
-            MutexService::Acquire(_) => Guard::NoCaller,
-            MutexService::Release => Guard::CallerIsNotOwner,
-        });
-    };
-    let fields = store.record(*process);
     match service {
-        MutexService::Acquire(timeout) => acquire_guard(store, fields, id, *timeout),
-        MutexService::Release if fields.owns(id) => None,
-        MutexService::Release => Some(Guard::CallerIsNotOwner),
+        MutexService::Acquire(timeout) => acquire_guard(store, mutex, id, caller, *timeout),
+        MutexService::Release => release_guard(store, mutex, id, caller),
     }
 }

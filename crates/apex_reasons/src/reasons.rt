@@ -151,6 +151,7 @@ fn script_reason<S: Store>(
 }
 
 /// The reason of a turn of the core.
+#[tactic(auto, using(apex_laws::proofs::Known::known_due))]
 fn turn_reason<S: Store>(table: &Table, situation: &Situation<S>, core: CoreId) -> Reason
     requires { AreOfTable table.now situation.now.roster situation.now.objects }
     ensures { result ≡ reasons.reason_of table.now (situation_in situation.now) (Turn core) }
@@ -183,6 +184,7 @@ fn tick_rule<S: Store>(store: &S, n: u32) -> Rule
 }
 
 /// The reason of an event in this situation, which is one of the table.
+#[tactic(auto, using(crate::proofs::Reasoned::reason_is))]
 pub fn reason_for<S: Store>(table: &Table, situation: &Situation<S>, event: Event) -> Reason
     requires all { AreOfTable table.now situation.now.roster situation.now.objects }
     requires event { IsWithin table.now.cores event }
