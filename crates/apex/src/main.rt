@@ -2,7 +2,8 @@
 //! checks histories.
 #![tactic(auto)]
 
-use apex_cli::{given_words, serve};
+use apex_cli::serve;
+use apex_console::given_words;
 use apex_history::Counted;
 use std::io;
 use std::process::ExitCode;

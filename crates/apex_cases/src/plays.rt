@@ -2,7 +2,8 @@
 use apex_case_player::{
     Attempt, Case, CaseFault, Entry, Outcome, Plan, Report, Request, Written, unfolded,
 };
-use apex_cli::{CliFault, serve};
+use apex_cli::serve;
+use apex_console::CliFault;
 use apex_history::{Counted, FailAt, Source};
 use std::alloc::{AllocError, Global};
 use std::io::{self, Read};

@@ -8,13 +8,14 @@ use Rattle.apex_history.specs.Ports.{AWriteFails, IsLeft, NoneFails, Ports}
 use Rattle.apex_history.specs.declared.ReadFault.{ReadFault}
 use Rattle.apex_history.specs.declared.ReadFault.TheVariants as read
 use Rattle.apex_schedules.specs.declared.Item.{Item}
-use Rattle.apex_cli.specs.declared.faults.CliFault.{CliFault}
-use Rattle.apex_cli.specs.declared.faults.CliFault.TheVariants.{Usage, Write}
-use Rattle.apex_cli.specs.declared.words.Report.{Report}
+use Rattle.apex_console.specs.declared.CliFault.{CliFault}
+use Rattle.apex_console.specs.declared.CliFault.TheVariants.{Usage, Write}
+use Rattle.apex_console.specs.declared.Report.{Report}
 use Rattle.apex_cli.specs.Exits.{Ends, Reports, no_memory, no_room, ran, refused, reported, unread, unwritten, usage, written}
 use Rattle.apex_cli.specs.Runs.{Runs}
-use Rattle.apex_cli.specs.Faults.{IsUsageOrMemory, fault_of_read, status_of, status_of_fault}
-use Rattle.apex_cli.specs.Reports.{Refuses, answer_of, report_text, runs_to}
+use Rattle.apex_console.specs.Faults.{IsUsageOrMemory, fault_of_read, status_of_fault}
+use Rattle.apex_cli.specs.Statuses.{status_of}
+use Rattle.apex_console.specs.Reports.{Refuses, answer_of, report_text, runs_to}
 use Rattle.apex_cli.specs.Requests.{Asked, a_report, a_run}
 
 -- words or a schedule that ask for nothing, or no memory

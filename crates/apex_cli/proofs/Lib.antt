@@ -1,4 +1,2 @@
 pub mod Endings
 pub mod RunEndings
-pub mod ItemRuns
-pub mod CommandLemmas

@@ -7,12 +7,12 @@ use Rattle.apex_history.specs.Counted.{AppendsBeginning, CountsFault}
 use Rattle.apex_history.specs.Ports.{IsLeft, NoneFails, Ports}
 use Rattle.apex_history.specs.declared.ReadFault.{ReadFault}
 use Rattle.apex_history.specs.declared.ReadFault.TheVariants as read
-use Rattle.apex_cli.specs.declared.faults.CliFault.{CliFault}
+use Rattle.apex_console.specs.declared.CliFault.{CliFault}
 use Rattle.apex_cores.specs.declared.RunFault.{RunFault}
 use Rattle.apex_cores.specs.declared.RunFault.TheVariants as run
 use Rattle.apex_machine.specs.table.Table.{Table}
-use Rattle.apex_cli.specs.Faults.{fault_of_read, fault_of_run}
-use Rattle.apex_cli.specs.Runs.{RefusesRun, Runs, no_room, no_thread, refused, unread}
+use Rattle.apex_console.specs.Faults.{fault_of_read}
+use Rattle.apex_cli.specs.Runs.{RefusesRun, Runs, fault_of_run, no_room, no_thread, refused, unread}
 
 -- a run over bytes that were not read
 pub runs_unread : {turns ticks : ℕ} {with_front : Bool} {before after : Ports} → (fault : ReadFault)

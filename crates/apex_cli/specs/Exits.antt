@@ -1,5 +1,5 @@
 -- The ends of the program.
-use Rattle.std.specs.Prelude.{◌≡◌, ◌⊎◌, ℕ, Bool, List, Option, None, Some, Result}
+use Rattle.std.specs.Prelude.{◌≡◌, ℕ, Bool, List, Option, None, Some, Result}
 use Rattle.std.specs.Io.KnownBytes.{Appends, Keeps}
 use Rattle.apex_machine.specs.Machine.{Machine}
 use Rattle.apex_machine.specs.table.Table as tables
@@ -7,16 +7,17 @@ use Rattle.apex_check.specs.Checks.{Checks}
 use Rattle.apex_check.specs.Legal.{SaysLegal}
 use Rattle.apex_check.specs.declared.CheckFault.{CheckFault}
 use Rattle.apex_check.specs.declared.Verdict.{Verdict}
-use Rattle.apex_history.specs.Counted.{AppendsBeginning, one_more}
+use Rattle.apex_history.specs.Counted.{AppendsBeginning}
 use Rattle.apex_history.specs.Ports.{Ports, NoneFails, AReadFails, AWriteFails, IsLeft}
 use Rattle.apex_schedules.specs.declared.Item.{Item}
-use Rattle.apex_cli.specs.declared.faults.CliFault.{CliFault}
-use Rattle.apex_cli.specs.declared.faults.CliFault.TheVariants.{Usage, Memory, Read, Write}
-use Rattle.apex_cli.specs.declared.words.Report.{Report}
-use Rattle.apex_cli.specs.Faults.{status_of, status_of_check, status_of_fault, fault_of_check}
-use Rattle.apex_cli.specs.Reports.{answer_of, refuses, report_text, runs_to}
+use Rattle.apex_console.specs.declared.CliFault.{CliFault}
+use Rattle.apex_console.specs.declared.CliFault.TheVariants.{Usage, Memory, Read, Write}
+use Rattle.apex_console.specs.declared.Report.{Report}
+use Rattle.apex_console.specs.Faults.{status_of_fault}
+use Rattle.apex_console.specs.Reports.{answer_of, refuses, report_text, runs_to}
 use Rattle.apex_cli.specs.Requests.{Asked, a_check, a_report, a_run}
 use Rattle.apex_cli.specs.Runs.{Runs}
+use Rattle.apex_cli.specs.Statuses.{fault_of_check, status_of, status_of_check}
 
 -- The ways in which a report of a run ends: by the items, the reader and the writer before, the
 -- fault, and the reader and the writer afterwards.
@@ -67,12 +68,6 @@ pub data Ends (asked : Option Asked) (before : Ports) : ℕ → Option CliFault 
   ran : {turns ticks : ℕ} {with_front : Bool} {fault : Option CliFault} {after : Ports}
       → asked ≡ Some (a_run turns ticks with_front) → Runs turns ticks with_front before fault after
       → Ends asked before (status_of fault) fault after
-
--- a line was written whole, or a prefix of it if a write failed
-abbrev pub Told : List ℕ → Option (List ℕ) → Option (List ℕ) → ℕ → ℕ → Type 0
-Told line old new failures after =
-    (Appends old new line × (after ≡ failures))
-    ⊎ (AppendsBeginning old new line × (after ≡ one_more failures))
 
 -- the words had a fault, which is reported; nothing was read and nothing written
 abbrev pub EndsAtOnce : CliFault → Ports → ℕ → Option CliFault → Ports → Type 0

@@ -1,10 +1,6 @@
-pub mod Terms
 pub mod Exits
-pub mod Faults
 pub mod FrontLines
-pub mod Reports
 pub mod Requests
 pub mod Runs
-pub mod Schedule
+pub mod Statuses
 pub mod Words
-pub mod Streams

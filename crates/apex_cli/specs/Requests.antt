@@ -5,7 +5,7 @@ use Rattle.apex_types.specs.Numbers.{at_most, number_of}
 use Rattle.apex_schedules.specs.declared.Item.{Item}
 use Rattle.apex_cli.specs.declared.tasks.Task.{Task}
 use Rattle.apex_cli.specs.declared.tasks.Task.TheVariants as task
-use Rattle.apex_cli.specs.declared.words.Report.{Report}
+use Rattle.apex_console.specs.declared.Report.{Report}
 use Rattle.apex_cli.specs.declared.words.Request.{Request as RequestIn}
 use Rattle.apex_cli.specs.declared.words.Request.TheVariants as request
 use Rattle.apex_schedules.specs.Schedule.{items_of}

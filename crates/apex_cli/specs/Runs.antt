@@ -1,7 +1,7 @@
 -- The ways in which a run by threads ends.
 use Rattle.std.specs.Prelude.{◌≡◌, ℕ, Bool, true, false, ◌++◌, ◌⊎◌, Result, List, Option, MatchOption, None, Some, Ok, Err, IsOk, nat_le, if◌then◌else◌}
 use Rattle.std.specs.Io.KnownBytes.{Appends, Keeps}
-use Rattle.apex_cli.specs.Terms.{Entry}
+use Rattle.apex_types.specs.declared.entries.Entry.{Entry}
 use Rattle.apex_calls.specs.Lines.{lines_of}
 use Rattle.apex_machine.specs.table.Table as tables
 use Rattle.apex_table.specs.Reading.{table_of}
@@ -9,10 +9,12 @@ use Rattle.apex_table.specs.declared.TableFault.{TableFault}
 use Rattle.apex_history.specs.Counted.{AppendsBeginning}
 use Rattle.apex_history.specs.Ports.{Ports, NoneFails, AReadFails, AWriteFails, IsLeft}
 use Rattle.apex_board.specs.Fronts.{Front, IsFrontAfter}
+use Rattle.apex_cores.specs.declared.RunFault.{RunFault}
+use Rattle.apex_cores.specs.declared.RunFault.TheVariants as run
 use Rattle.apex_cores.specs.Plans.{IsRunByThreads, Plan, planned}
 use Rattle.apex_cli.specs.FrontLines.{front_text}
-use Rattle.apex_cli.specs.declared.faults.CliFault.{CliFault}
-use Rattle.apex_cli.specs.declared.faults.CliFault.TheVariants.{HistoryFull, Memory, NoThread, Read, Table, Write}
+use Rattle.apex_console.specs.declared.CliFault.{CliFault}
+use Rattle.apex_console.specs.declared.CliFault.TheVariants.{HistoryFull, Memory, NoThread, Read, Table, Write}
 
 -- the plan of these turns of each core of the table, and of these ticks
 abbrev pub plan_for : tables.Table → ℕ → ℕ → Plan
@@ -39,6 +41,11 @@ pub record IsRunOf (bytes : List ℕ) (turns ticks : ℕ) (with_front : Bool) (t
 abbrev pub fault_of_plan : tables.Table → Plan → Option CliFault
 fault_of_plan table plan =
     if nat_le (planned plan) table.limit then None else Some (HistoryFull table.limit)
+
+-- a fault of the threads
+abbrev pub fault_of_run : RunFault → CliFault
+fault_of_run run.Memory = Memory
+fault_of_run run.NoThread = NoThread
 
 -- the fault with which the table's text is refused, if it is
 abbrev pub refusal_of : Result tables.Table TableFault → Option CliFault

@@ -1,22 +1,20 @@
 //! The program: it does what the words ask for over a reader and two writers.
 ghost use Rattle.std.specs.Prelude.{◌≡◌, MatchResult, Option, map, string_bytes};
 ghost use Rattle.apex_history.specs.Counted.{inner_of, failures_of};
-ghost use Rattle.apex_cli.specs.declared.faults.CliFault.{CliFault};
-ghost use Rattle.apex_cli.specs.Faults.{fault_in, fault_line, status_in};
+ghost use Rattle.apex_console.specs.declared.CliFault.{CliFault};
+ghost use Rattle.apex_console.specs.Faults.{fault_in, fault_line};
+ghost use Rattle.apex_console.specs.Streams.{Told, ports_of};
 ghost use Rattle.apex_cli.specs.Requests.{asked_by};
-ghost use Rattle.apex_cli.specs.Exits.{Ends, EndsAtOnce, Reports, Told};
-ghost use Rattle.apex_cli.specs.Streams.{ports_of};
+ghost use Rattle.apex_cli.specs.Exits.{Ends, EndsAtOnce, Reports};
+ghost use Rattle.apex_cli.specs.Statuses.{status_in};
 
-use crate::faults::{CliFault, fault_line};
-use crate::reports::{run_of, write_report};
 use crate::runs::run_threads;
 use crate::tasks::{Task, task_asked};
-use crate::words::Report;
 use apex_check::{Verdict, check};
-use apex_history::{Counted, Sink, Source, read_all};
+use apex_console::{CliFault, Report, fault_line, run_of, write_error, write_report};
+use apex_history::{Counted, Page, Sink, Source, read_all};
 use apex_schedules::Item;
 use std::alloc::Global;
-use std::io::Write;
 use std::sync::Wait;
 use std::thread::Threads;
 
@@ -73,8 +71,9 @@ fn report_run<R: Source, W: Sink>(
         (fault_in result) (ports_of R.remaining W.contents reader.new writer.new) }
 {
     let text = read_all(alloc, reader)?;
-    let mut ran = run_of(alloc, items, text.as_slice())?;
-    match write_report(report, &mut ran, writer) {
+    let mut page = Page::new(alloc)?;
+    let ran = run_of(alloc, items, text.as_slice())?;
+    match write_report(report, &ran, &mut page, writer) {
         Ok(()) => match ran.fault {
             None => Ok(()),
             Some(fault) => Err(fault),
@@ -138,16 +137,6 @@ pub fn run_on<T: Threads + Wait + Sync, R: Source, W: Sink>(
         result.status result.fault (ports_of R.remaining W.contents reader.new writer.new) }
 {
     Exit::of(carry_out(rt, alloc, words, reader, writer))
-}
-
-/// Writes the text on the error writer.
-pub fn write_error<E: Sink>(text: &[u8], error_writer: &mut Counted<E>)
-    ensures { Told text.now
-        (E.contents (inner_of error_writer.old)) (E.contents (inner_of error_writer.new))
-        (failures_of error_writer.old) (failures_of error_writer.new) }
-{
-    // The status shows the end even if the text cannot be written.
-    let _ = error_writer.write_all(text);
 }
 
 /// Writes the line of the fault, if there is one, on the error writer.

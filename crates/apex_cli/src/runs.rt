@@ -4,15 +4,15 @@ ghost use Rattle.apex_board.specs.Fronts.{IsFrontAfter};
 ghost use Rattle.apex_calls.specs.Lines.{IsPrintable};
 ghost use Rattle.apex_table.specs.Reading.{table_of};
 ghost use Rattle.apex_history.specs.Counted.{failures_of, CountsFailure};
-ghost use Rattle.apex_cli.specs.Faults.{fault_in};
+ghost use Rattle.apex_console.specs.Faults.{fault_in};
 ghost use Rattle.apex_cli.specs.FrontLines.{front_text};
 ghost use Rattle.apex_receipts.specs.Receipts.{IsNamedAfter};
 ghost use Rattle.apex_cores.specs.Plans.{HasRunByThreads, plan_of};
-ghost use Rattle.apex_cli.specs.Runs.{FrontAsked, IsRunOf, RefusesRun, Runs, fault_of_plan, text_of};
-ghost use Rattle.apex_cli.specs.Streams.{HasWritten, HasWrittenSome, ports_of};
+ghost use Rattle.apex_cli.specs.Runs.{FrontAsked, IsRunOf, RefusesRun, Runs, fault_of_plan, fault_of_run, text_of};
+ghost use Rattle.apex_console.specs.Streams.{HasWritten, HasWrittenSome, ports_of};
 
-use crate::faults::CliFault;
 use crate::fronts::front_text;
+use apex_console::CliFault;
 use apex_cores::{Gate, RunFault, RunPlan, run_partition, run_partition_read};
 use apex_history::{Counted, Page, Sink, Source, print_history, read_all};
 use apex_partition::{Closed, Front, Naming, NewBoard, Opened, Partition, Reader};
@@ -63,6 +63,16 @@ fn fault_of_plan(table: &Table, plan: RunPlan) -> Option<CliFault>
         None
     } else {
         Some(CliFault::HistoryFull(table.limit()))
+    }
+}
+
+/// The fault of the threads.
+fn fault_of_run(fault: RunFault) -> CliFault
+    ensures { result ≡ fault_of_run fault }
+{
+    match fault {
+        RunFault::Memory => CliFault::Memory,
+        RunFault::NoThread => CliFault::NoThread,
     }
 }
 
@@ -154,7 +164,10 @@ fn thread_run_of<T: Threads + Wait + Sync>(
     let table = read_table(alloc, text)?;
     let fault = fault_of_plan(&table, plan);
     let page = Page::new(alloc)?;
-    let (partition, front) = run_plan(rt, alloc, table, plan, with_front)?;
+    let (partition, front) = match run_plan(rt, alloc, table, plan, with_front) {
+        Ok(ran) => ran,
+        Err(fault) => return Err(fault_of_run(fault)),
+    };
     partition.printable();
     Ok(ThreadRun {
         partition,

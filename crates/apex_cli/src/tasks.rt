@@ -1,13 +1,12 @@
 //! The tasks of the program, one for each of its commands.
 ghost use Rattle.std.specs.Prelude.{◌≡◌, IfOk, IfErr, IsErrOf, Some, None, map, string_bytes};
-ghost use Rattle.apex_schedules.specs.Schedule.{items_of};
-ghost use Rattle.apex_cli.specs.Faults.{IsUsageOrMemory};
+ghost use Rattle.apex_console.specs.Faults.{IsUsageOrMemory};
 ghost use Rattle.apex_cli.specs.Requests.{asked_by, asked_in, count_of, request_said, task_said};
 
-use crate::faults::CliFault;
-use crate::words::{Report, Request, request_in};
+use crate::words::{Request, request_in};
+use apex_console::{CliFault, Report, scheduled_items};
 use apex_cores::RunPlan;
-use apex_schedules::{Item, read_schedule};
+use apex_schedules::Item;
 use apex_types::{MOST_ENTRIES, number_at_most};
 use std::alloc::Global;
 
@@ -35,18 +34,6 @@ fn read_count(text: &str) -> Result<u32, CliFault>
 {
     match number_at_most(text.as_bytes(), MOST_ENTRIES) {
         Some(count) => Ok(count),
-        None => Err(CliFault::Usage),
-    }
-}
-
-/// The items of a schedule's text. Any text that is no schedule is `Usage`.
-pub fn scheduled_items(alloc: Global, text: &[u8]) -> Result<Vec<Item>, CliFault>
-    ensures ok { IfOk result (λ items. items_of text.now ≡ Some items.items) }
-    ensures usage { IsErrOf result CliFault.Usage → items_of text.now ≡ None }
-    ensures faults { IfErr result IsUsageOrMemory }
-{
-    match read_schedule(alloc, text)? {
-        Some(items) => Ok(items),
         None => Err(CliFault::Usage),
     }
 }

@@ -1,7 +1,7 @@
 -- What options ask for, by their texts.
 use Rattle.std.proofs.Common.{◌≡◌, Bool, codes, refl, sym, List, Option, Some}
 use Rattle.clap.specs.Words.{Row, Text, first_of}
-use Rattle.apex_cli.specs.Words.{says_given}
+use Rattle.apex_console.specs.Words.{says_given}
 use Rattle.apex_lab.specs.Words.{LintSaid, SearchSaid, as_svg, given_by, lint_in, search_in}
 
 pub same_svg : {f k l m : Option Text} → f ≡ k → l ≡ m → as_svg f l ≡ as_svg k m

@@ -16,11 +16,11 @@ use Rattle.apex_check.specs.declared.CheckFault.{CheckFault}
 use Rattle.apex_check.specs.declared.CheckFault.TheVariants as checking
 use Rattle.apex_check.specs.declared.Verdict.{Verdict}
 use Rattle.apex_check.specs.declared.Verdict.TheVariants.{Legal, DepartsAt}
-use Rattle.apex_cli.specs.Exits.{Told}
-use Rattle.apex_cli.specs.Faults.{fault_of_checking, fault_of_read, fault_line}
-use Rattle.apex_cli.specs.Reports.{Answer, Refuses, refuses, runs_to}
-use Rattle.apex_cli.specs.declared.CliFault.{CliFault}
-use Rattle.apex_cli.specs.declared.CliFault.TheVariants.{Usage, Table, NoSeparator, BadLine, TooLong, HistoryFull, Memory, NoThread, Read, Write}
+use Rattle.apex_console.specs.Streams.{Told}
+use Rattle.apex_console.specs.Faults.{fault_of_checking, fault_of_read, fault_line}
+use Rattle.apex_console.specs.Reports.{Answer, Refuses, refuses, runs_to}
+use Rattle.apex_console.specs.declared.CliFault.{CliFault}
+use Rattle.apex_console.specs.declared.CliFault.TheVariants.{Usage, Table, NoSeparator, BadLine, TooLong, HistoryFull, Memory, NoThread, Read, Write}
 use Rattle.apex_pictures.specs.Drawing.{CountsDrawFault}
 use Rattle.apex_pictures.specs.declared.DrawFault.{DrawFault}
 use Rattle.apex_pictures.specs.declared.DrawFault.TheVariants as draw

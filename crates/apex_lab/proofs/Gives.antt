@@ -2,8 +2,8 @@
 use Rattle.std.proofs.Common.{◌≡◌, refl, List, ℕ, Option}
 use Rattle.apex_check.specs.Ahead.{IsAhead}
 use Rattle.apex_check.specs.Texts.{HasNoSeparator, IsParted}
-use Rattle.apex_cli.specs.Reports.{answer_of}
-use Rattle.apex_cli.specs.declared.CliFault.TheVariants.{NoSeparator}
+use Rattle.apex_console.specs.Reports.{answer_of}
+use Rattle.apex_console.specs.declared.CliFault.TheVariants.{NoSeparator}
 use Rattle.apex_schedules.specs.Readings.{AreItemsOf}
 use Rattle.apex_schedules.specs.declared.Item.{Item}
 use Rattle.apex_lab.specs.Ends.{fails}

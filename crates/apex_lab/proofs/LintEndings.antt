@@ -1,7 +1,7 @@
 -- The ways in which a lint ends, by what was at fault.
 use Rattle.std.proofs.Common.{◌≡◌}
 use Rattle.std.specs.Io.KnownBytes.{Keeps}
-use Rattle.apex_cli.specs.Faults.{fault_of_read}
+use Rattle.apex_console.specs.Faults.{fault_of_read}
 use Rattle.apex_history.specs.Counted.{CountsFault}
 use Rattle.apex_history.specs.Ports.{Ports}
 use Rattle.apex_history.specs.declared.ReadFault.{ReadFault}

@@ -4,7 +4,7 @@ use Rattle.std.specs.Io.KnownBytes.{Appends}
 use Rattle.apex_machine.specs.Machine.{Machine}
 use Rattle.apex_machine.specs.table.Table.{Table}
 use Rattle.apex_history.specs.Counted.{AppendsBeginning, one_more}
-use Rattle.apex_cli.specs.declared.CliFault.TheVariants.{Write}
+use Rattle.apex_console.specs.declared.CliFault.TheVariants.{Write}
 use Rattle.apex_lab.specs.Exits.{Shows}
 use Rattle.apex_lab.specs.Plans.{listing_text}
 use Rattle.apex_lab.specs.Tasks.{listed}

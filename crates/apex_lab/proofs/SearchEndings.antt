@@ -2,9 +2,9 @@
 use Rattle.std.proofs.Common.{◌≡◌, inl, inr, List, ℕ, Ok, Some, refl, subst, sym}
 use Rattle.std.specs.Io.KnownBytes.{Appends, Keeps}
 use Rattle.apex_check.specs.Ahead.{IsAhead}
-use Rattle.apex_cli.specs.Faults.{fault_of_read}
-use Rattle.apex_cli.specs.declared.CliFault.{CliFault}
-use Rattle.apex_cli.specs.declared.CliFault.TheVariants.{Write}
+use Rattle.apex_console.specs.Faults.{fault_of_read}
+use Rattle.apex_console.specs.declared.CliFault.{CliFault}
+use Rattle.apex_console.specs.declared.CliFault.TheVariants.{Write}
 use Rattle.apex_history.specs.Counted.{AppendsBeginning, CountsFault}
 use Rattle.apex_history.specs.Ports.{AWriteFails, NoneFails, Ports}
 use Rattle.apex_history.specs.declared.ReadFault.{ReadFault}

@@ -1,9 +1,9 @@
 -- The system of a search, and the faults of its table's text.
 use Rattle.std.proofs.Common.{◌≡◌, ◌∙◌, ap, inl, inr, ℕ, List, [], ◌∷◌, Option, Some, refl, sym, Ok, Err}
 use Rattle.std.specs.Prelude.{Result, option_map}
-use Rattle.apex_cli.specs.Reports.{Refuses, answer_of, answer_to, refuses}
-use Rattle.apex_cli.specs.declared.CliFault.{CliFault}
-use Rattle.apex_cli.specs.declared.CliFault.TheVariants.{Table as Refused}
+use Rattle.apex_console.specs.Reports.{Refuses, answer_of, answer_to, refuses}
+use Rattle.apex_console.specs.declared.CliFault.{CliFault}
+use Rattle.apex_console.specs.declared.CliFault.TheVariants.{Table as Refused}
 use Rattle.apex_machine.specs.table.Table.{Table}
 use Rattle.apex_search.specs.Steps.{Searched}
 use Rattle.apex_search.specs.declared.Fact.{Fact}

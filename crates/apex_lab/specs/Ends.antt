@@ -1,6 +1,6 @@
 -- The ends of the program.
 use Rattle.std.specs.Prelude.{ℕ, List, [], Option, None, Some, Result, Ok, Err}
-use Rattle.apex_cli.specs.declared.CliFault.{CliFault}
+use Rattle.apex_console.specs.declared.CliFault.{CliFault}
 use Rattle.apex_lab.specs.Faults.{line_of_fault, status_of_fault}
 use Rattle.apex_lab.specs.declared.faults.LabFault.{LabFault}
 use Rattle.apex_lab.specs.declared.faults.LabFault.TheVariants.{Common}

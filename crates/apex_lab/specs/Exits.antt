@@ -12,10 +12,10 @@ use Rattle.apex_check.specs.Texts.{HasNoSeparator, IsParted}
 use Rattle.apex_check.specs.Verdicts.{IsAtFault, Judges, verdict_text}
 use Rattle.apex_check.specs.declared.CheckFault.{CheckFault}
 use Rattle.apex_check.specs.declared.Verdict.TheVariants.{DepartsAt}
-use Rattle.apex_cli.specs.Faults.{fault_of_checking}
-use Rattle.apex_cli.specs.Reports.{Answer, answer_of, refuses, runs_to}
-use Rattle.apex_cli.specs.declared.CliFault.{CliFault}
-use Rattle.apex_cli.specs.declared.CliFault.TheVariants.{Memory, NoSeparator, Read, Usage, Write}
+use Rattle.apex_console.specs.Faults.{fault_of_checking}
+use Rattle.apex_console.specs.Reports.{Answer, answer_of, refuses, runs_to}
+use Rattle.apex_console.specs.declared.CliFault.{CliFault}
+use Rattle.apex_console.specs.declared.CliFault.TheVariants.{Memory, NoSeparator, Read, Usage, Write}
 use Rattle.apex_schedules.specs.Readings.{AreItemsOf}
 use Rattle.apex_schedules.specs.declared.Item.{Item}
 use Rattle.apex_lab.specs.Ends.{End, departs, end_of, fails}

@@ -1,8 +1,8 @@
 -- The faults of the program, and its exit status.
 use Rattle.std.specs.Prelude.{◌≡◌, ◌==◌, codes, decimal, ℕ, List, [], ◌++◌, Some, take, if◌then◌else◌}
-use Rattle.apex_cli.specs.Faults.{fault_line, status_of_fault as common_status}
-use Rattle.apex_cli.specs.declared.CliFault.{CliFault}
-use Rattle.apex_cli.specs.declared.CliFault.TheVariants.{Memory, Usage}
+use Rattle.apex_console.specs.Faults.{fault_line, status_of_fault as common_status}
+use Rattle.apex_console.specs.declared.CliFault.{CliFault}
+use Rattle.apex_console.specs.declared.CliFault.TheVariants.{Memory, Usage}
 use Rattle.apex_schedules.specs.Groups.{column_behind, line_behind}
 use Rattle.apex_schedules.specs.Readings.{IsFaultOf}
 use Rattle.apex_schedules.specs.declared.Place.{Place}

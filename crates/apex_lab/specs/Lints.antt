@@ -5,7 +5,7 @@ use Rattle.clap.specs.Words.{Text}
 use Rattle.apex_history.specs.Counted.{AppendsBeginning}
 use Rattle.apex_history.specs.Ports.{AReadFails, AWriteFails, NoneFails, Ports}
 use Rattle.apex_check.specs.Ahead.{IsAhead}
-use Rattle.apex_cli.specs.declared.CliFault.TheVariants.{Memory, Read, Write}
+use Rattle.apex_console.specs.declared.CliFault.TheVariants.{Memory, Read, Write}
 use Rattle.apex_lint.specs.Reports.{IsReportOn}
 use Rattle.apex_lint.specs.WarningWords.{allowed_in}
 use Rattle.apex_lint.specs.declared.Form.{Form}

@@ -8,8 +8,8 @@ use Rattle.apex_types.specs.declared.entries.Event.{Event}
 use Rattle.apex_pace.specs.First.{first_schedule, rounds}
 use Rattle.apex_pace.specs.Pace.{paced_opening}
 use Rattle.apex_pace.specs.declared.paces.Pace.{Pace}
-use Rattle.apex_cli.specs.Reports.{Answer, fault_of_events, refuses, runs_to}
-use Rattle.apex_cli.specs.declared.CliFault.TheVariants.{Table}
+use Rattle.apex_console.specs.Reports.{Answer, fault_of_events, refuses, runs_to}
+use Rattle.apex_console.specs.declared.CliFault.TheVariants.{Table}
 
 -- the first schedule of a pace up to a time, with one round more than the history has room for
 -- entries if it has not ended before; each round has an event, so the history is full exactly if

@@ -9,13 +9,13 @@ use Rattle.apex_types.specs.declared.entries.Entry.{Entry}
 use Rattle.apex_types.specs.declared.entries.Event.{Event}
 use Rattle.apex_calls.specs.Lines.{lines_of}
 use Rattle.apex_history.specs.Counted.{AppendsBeginning}
-use Rattle.apex_cli.specs.Reports.{fault_of_events}
+use Rattle.apex_console.specs.Reports.{fault_of_events}
 use Rattle.apex_report.specs.Json.{report_json}
 use Rattle.apex_report.specs.Texts.{report_text}
 use Rattle.apex_schedules.specs.Printing.{schedule_text}
 use Rattle.apex_schedules.specs.Schedule.{events_of_items}
-use Rattle.apex_cli.specs.declared.CliFault.{CliFault}
-use Rattle.apex_cli.specs.declared.CliFault.TheVariants.{Memory, Write}
+use Rattle.apex_console.specs.declared.CliFault.{CliFault}
+use Rattle.apex_console.specs.declared.CliFault.TheVariants.{Memory, Write}
 use Rattle.apex_schedules.specs.declared.Item.{Item}
 use Rattle.apex_pictures.specs.declared.DrawFault.{DrawFault}
 use Rattle.apex_pictures.specs.declared.DrawFault.TheVariants as draw

@@ -3,8 +3,8 @@ use Rattle.std.specs.Prelude.{◌≡◌, ◌⊎◌, ℕ, List, [], ◌∷◌, Op
 use Rattle.std.specs.Io.KnownBytes.{Appends, Keeps}
 use Rattle.clap.specs.Words.{Text}
 use Rattle.apex_check.specs.Ahead.{IsAhead}
-use Rattle.apex_cli.specs.declared.CliFault.{CliFault}
-use Rattle.apex_cli.specs.declared.CliFault.TheVariants.{HistoryFull, Memory, Read, Table as Refused, Write}
+use Rattle.apex_console.specs.declared.CliFault.{CliFault}
+use Rattle.apex_console.specs.declared.CliFault.TheVariants.{HistoryFull, Memory, Read, Table as Refused, Write}
 use Rattle.apex_history.specs.Counted.{AppendsBeginning}
 use Rattle.apex_history.specs.Ports.{AReadFails, AWriteFails, NoneFails, Ports}
 use Rattle.apex_machine.specs.table.Table.{Table}

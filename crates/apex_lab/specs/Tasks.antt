@@ -2,7 +2,7 @@
 use Rattle.std.specs.Prelude.{◌≡◌, ◌⊎◌, ℕ, ◌≤◌, List, Option, Some, None, Result, Ok, Err, length, nat_le, if◌then◌else◌, option_and_then, option_map}
 use Rattle.clap.specs.Words.{Text}
 use Rattle.apex_types.specs.declared.limits.TheConstants.{MOST_ENTRIES}
-use Rattle.apex_cli.specs.declared.CliFault.TheVariants.{Memory, Usage}
+use Rattle.apex_console.specs.declared.CliFault.TheVariants.{Memory, Usage}
 use Rattle.apex_pace.specs.Laws.{IsPace}
 use Rattle.apex_pace.specs.declared.paces.Pace.{Pace}
 use Rattle.apex_schedules.specs.declared.Item.{Item}

@@ -2,7 +2,7 @@
 use Rattle.std.specs.Prelude.{Bool, List, Option, Some, None, codes, if◌then◌else◌, option_and_then, option_map}
 use Rattle.std.specs.Str.{bytes_eq}
 use Rattle.clap.specs.Words.{App, Row, Text, first_of, new_app, with_rule, with_subcommand}
-use Rattle.apex_cli.specs.Words.{flag_rule, option_rule, program_alone, request_by, says_given}
+use Rattle.apex_console.specs.Words.{flag_rule, option_rule, program_alone, request_by, says_given}
 use Rattle.apex_lab.specs.declared.words.Form.{Form}
 use Rattle.apex_lab.specs.declared.words.Form.TheVariants as forms
 use Rattle.apex_lab.specs.declared.words.LintWords.{LintWords}

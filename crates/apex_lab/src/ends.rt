@@ -1,12 +1,12 @@
 //! The ends of the program, their statuses, and what is reported.
 ghost use Rattle.std.specs.Prelude.{◌≡◌};
 ghost use Rattle.apex_history.specs.Counted.{inner_of, failures_of};
-ghost use Rattle.apex_cli.specs.Exits.{Told};
+ghost use Rattle.apex_console.specs.Streams.{Told};
 ghost use Rattle.apex_lab.specs.Ends.{end_in, report_of, status_of};
 ghost use Rattle.apex_lab.specs.Faults.{line_of_fault};
 
 use crate::faults::{LabFault, USAGE, process_line, schedule_line, states_line};
-use apex_cli::{CliFault, fault_line, write_error};
+use apex_console::{CliFault, fault_line, write_error};
 use apex_history::{Counted, Lines, Sink};
 
 /// The end of the program if it meets no fault.

@@ -2,14 +2,14 @@
 ghost use Rattle.std.specs.Prelude.{◌≡◌, ◌+◌, ◌≤◌, ◌++◌, IfErr, IfOk, decimal, length};
 ghost use Rattle.arrayvec.specs.ArrayString.{array_string_len};
 ghost use Rattle.arrayvec.specs.ArrayVec.{array_vec_len};
-ghost use Rattle.apex_cli.specs.Faults.{fault_of_read};
-ghost use Rattle.apex_cli.specs.declared.CliFault.TheVariants.{Memory};
+ghost use Rattle.apex_console.specs.Faults.{fault_of_read};
+ghost use Rattle.apex_console.specs.declared.CliFault.TheVariants.{Memory};
 ghost use Rattle.apex_schedules.specs.Readings.{AreItemsOf, IsFaultOf};
 ghost use Rattle.apex_lab.specs.Faults.{IsBadIn, IsFaultIn, fault_at, line_part, process_line, reason_text, schedule_line, states_line, status_of_fault, too_many_text};
 ghost use Rattle.apex_lab.specs.declared.faults.LabFault.TheVariants.{Common};
 ghost use Rattle.apex_lab.specs.declared.faults.TheConstants.{LINE_ROOM, PROCESS_ROOM};
 
-use apex_cli::CliFault;
+use apex_console::CliFault;
 use apex_history::ReadFault;
 use apex_schedules::{Item, Place, ScheduleFault, read_grouped};
 use apex_types::{MOST_ENTRIES, Name};

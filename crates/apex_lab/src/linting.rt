@@ -1,6 +1,6 @@
 //! A table that is linted.
 ghost use Rattle.std.specs.Prelude.{◌≡◌, map, option_map, IfOk};
-ghost use Rattle.apex_cli.specs.Streams.{ports_of};
+ghost use Rattle.apex_console.specs.Streams.{ports_of};
 ghost use Rattle.apex_lab.specs.Ends.{end_in};
 ghost use Rattle.apex_lab.specs.Lints.{LintEnds, allowed_of, end_with, file_of, form_of, lint_asked, lint_said};
 ghost use Rattle.apex_lab.specs.Words.{lint_words_said};
@@ -8,7 +8,7 @@ ghost use Rattle.apex_lab.specs.Words.{lint_words_said};
 use crate::ends::Ending;
 use crate::faults::LabFault;
 use crate::words::LintWords;
-use apex_cli::CliFault;
+use apex_console::CliFault;
 use apex_history::{Counted, Sink, Source, read_all};
 use apex_lint::{Form, Verdict, allowed_in, report_on};
 use std::alloc::{AllocError, Global};

@@ -1,9 +1,9 @@
 //! The listings of a run, written from the kernel that made it.
 ghost use Rattle.std.specs.Prelude.{◌≡◌, ◌++◌, List, Option, codes, OnErr, OnOk};
 ghost use Rattle.apex_history.specs.Counted.{inner_of, failures_of, CountsFailure};
-ghost use Rattle.apex_cli.specs.Faults.{fault_in};
-ghost use Rattle.apex_cli.specs.Streams.{HasWritten, HasWrittenSome};
-ghost use Rattle.apex_cli.specs.declared.CliFault.{CliFault as CliFaultOf};
+ghost use Rattle.apex_console.specs.Faults.{fault_in};
+ghost use Rattle.apex_console.specs.Streams.{HasWritten, HasWrittenSome};
+ghost use Rattle.apex_console.specs.declared.CliFault.{CliFault as CliFaultOf};
 ghost use Rattle.apex_report.specs.Texts.{IsOfTable, IsReportOf};
 ghost use Rattle.apex_schedules.specs.Printing.{schedule_text};
 ghost use Rattle.apex_types.specs.declared.entries.Entry.{Entry};
@@ -13,9 +13,8 @@ ghost use Rattle.apex_lab.specs.Tasks.{listed};
 ghost use Rattle.apex_lab.specs.declared.words.Listing.TheVariants.{Lines, Status, Report as ReportIn, Schedule};
 
 use crate::plans::events_in;
-use crate::runs::Run;
 use crate::words::{Form, Listing};
-use apex_cli::CliFault;
+use apex_console::{CliFault, Run};
 use apex_dispatch::Kernel;
 use apex_history::{Counted, Page, Sink, print_history};
 use apex_process::QueueStore;

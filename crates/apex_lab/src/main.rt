@@ -18,7 +18,7 @@ mod tasks;
 mod words;
 
 use crate::program::serve;
-use apex_cli::given_words;
+use apex_console::given_words;
 use apex_history::Counted;
 use std::io;
 use std::process::ExitCode;

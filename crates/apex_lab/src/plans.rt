@@ -4,15 +4,15 @@ ghost use Rattle.apex_machine.specs.Machine.{asked_ticks, event_of, events_of, o
 ghost use Rattle.apex_machine.specs.Events.{IsWithin};
 ghost use Rattle.apex_dispatch.specs.Kernel.{kernel_in};
 ghost use Rattle.apex_history.specs.Counted.{inner_of, failures_of};
-ghost use Rattle.apex_cli.specs.Faults.{fault_in};
+ghost use Rattle.apex_console.specs.Faults.{fault_in};
 ghost use Rattle.apex_schedules.specs.Schedule.{are_cores_below, events_of_items};
-ghost use Rattle.apex_cli.specs.declared.CliFault.{CliFault as CliFaultOf};
+ghost use Rattle.apex_console.specs.declared.CliFault.{CliFault as CliFaultOf};
 ghost use Rattle.apex_lab.specs.Exits.{Shows, first_fault};
 ghost use Rattle.apex_lab.specs.Plans.{IsListOf, IsPlanFor, IsRunOf, IsStyleOf, fault_of_drawing, machine_of};
 ghost use Rattle.apex_lab.specs.Tasks.{IsPictureOfEntries, Picture as PictureAsked, drawn, picture_said, trace};
 
 use crate::tasks::Picture;
-use apex_cli::{CliFault, repeated};
+use apex_console::{CliFault, repeated};
 use apex_dispatch::Kernel;
 use apex_history::{Counted, Sink};
 use apex_pictures::{DrawFault, Frame, Style, draw};

@@ -1,8 +1,7 @@
 //! What the words ask for, done over a reader and two writers.
 ghost use Rattle.std.specs.Prelude.{◌≡◌, MatchResult, map, string_bytes};
 ghost use Rattle.apex_history.specs.Counted.{inner_of, failures_of};
-ghost use Rattle.apex_cli.specs.Exits.{Told};
-ghost use Rattle.apex_cli.specs.Streams.{ports_of};
+ghost use Rattle.apex_console.specs.Streams.{Told, ports_of};
 ghost use Rattle.apex_lab.specs.Ends.{End, end_in, fails, report_of, status_of};
 ghost use Rattle.apex_lab.specs.Exits.{Ends, ShowEnds};
 ghost use Rattle.apex_lab.specs.Tasks.{IsOfEntries, asked_by, showing_said};
@@ -16,7 +15,7 @@ use crate::plans::show;
 use crate::searching::run_search;
 use crate::sources::{Given, given_by};
 use crate::tasks::{Showing, Task, task_asked};
-use apex_cli::CliFault;
+use apex_console::CliFault;
 use apex_history::{Counted, Sink, Source};
 use std::alloc::Global;
 

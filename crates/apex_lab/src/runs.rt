@@ -1,41 +1,16 @@
-//! The runs of a table: by the items of a schedule, and by a pace.
+//! The run of a table by a pace.
 ghost use Rattle.std.specs.Prelude.{◌≡◌, IfOk, IfErr};
 ghost use Rattle.apex_machine.specs.Machine.{opening, run};
 ghost use Rattle.apex_pace.specs.First.{first_schedule};
 ghost use Rattle.apex_rounds.specs.Rounds.{IsAtOpening};
-ghost use Rattle.apex_cli.specs.Reports.{Refuses, answer_of, fault_of_events, runs_to};
+ghost use Rattle.apex_console.specs.Reports.{Refuses, fault_of_events, runs_to};
 ghost use Rattle.apex_lab.specs.Paced.{paced_answer, rounds_until};
 
-use apex_cli::{CliFault, kernel_for, ran};
-use apex_dispatch::Kernel;
+use apex_console::{CliFault, Run, kernel_for};
 use apex_pace::Pace;
 use apex_process::QueueStore;
 use apex_rounds::Rounds;
-use apex_schedules::Item;
 use std::alloc::Global;
-
-/// A run that was made.
-#[derive(Drop)]
-pub struct Run {
-    /// The kernel that made it.
-    pub kernel: Kernel<QueueStore>,
-    /// `HistoryFull` if there were more events.
-    pub fault: Option<CliFault>,
-}
-
-/// Makes the run of the items on the table of this text.
-///
-/// The errors in the order of the checks: the table's fault, `Usage` if an item is of a core that
-/// the table lacks; `Memory` whenever memory is refused.
-pub fn run_of_items(alloc: Global, items: &[Item], text: &[u8]) -> Result<Run, CliFault>
-    ensures ok { IfOk result (λ run. answer_of items.now text.now
-        ≡ runs_to run.kernel.table run.kernel.machine run.fault) }
-    ensures err { IfErr result (λ fault. Refuses fault (answer_of items.now text.now)) }
-{
-    let mut kernel = kernel_for(alloc, items, text)?;
-    let fault = ran(&mut kernel, items);
-    Ok(Run { kernel, fault })
-}
 
 /// Makes the events of the first schedule of the pace up to a time in ticks, on a kernel before any
 /// event. `HistoryFull` if there are more of them than the history has room for.

@@ -1,6 +1,6 @@
 //! A search of the schedules of a pace.
 ghost use Rattle.std.specs.Prelude.{◌≡◌, IfErr, IfOk, Some};
-ghost use Rattle.apex_cli.specs.Streams.{ports_of};
+ghost use Rattle.apex_console.specs.Streams.{ports_of};
 ghost use Rattle.apex_pace.specs.Laws.{IsPace};
 ghost use Rattle.apex_answers.specs.Answers.{answer_end};
 ghost use Rattle.apex_lab.specs.Ends.{end_in};
@@ -10,7 +10,7 @@ use crate::ends::Ending;
 use crate::faults::LabFault;
 use crate::questions::Search;
 use apex_answers::{SearchAnswer, answer_of, process_of};
-use apex_cli::{CliFault, table_for};
+use apex_console::{CliFault, table_for};
 use apex_history::{Counted, Sink, Source, read_all};
 use apex_search::{Facts, Question, TableSystem};
 use apex_table::Table;

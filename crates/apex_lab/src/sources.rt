@@ -1,18 +1,18 @@
 //! What a source gives: a run that is to be shown, or the verdict on a history.
 ghost use Rattle.std.specs.Prelude.{IfOk, IfErr};
 ghost use Rattle.apex_history.specs.Counted.{inner_of, failures_of};
-ghost use Rattle.apex_cli.specs.Reports.{Refuses, answer_of, runs_to};
+ghost use Rattle.apex_console.specs.Reports.{Refuses, answer_of, runs_to};
 ghost use Rattle.apex_lab.specs.Exits.{Gives, IsGivenFor, IsRunTo, outcome_in};
 ghost use Rattle.apex_lab.specs.Tasks.{IsOfEntries, history, paced, schedule, schedule_read, source_said, view_said};
 
 use crate::faults::{LabFault, read_items};
 use crate::parts::parted;
 use crate::plans::{Plan, plan_in, trace_plan};
-use crate::runs::{Run, run_at_pace, run_of_items};
+use crate::runs::run_at_pace;
 use crate::tasks::{Picture, RunSource, Showing, View};
 use crate::words::Listing;
 use apex_check::{Followed, Verdict, follow, verdict_text};
-use apex_cli::{CliFault, table_for};
+use apex_console::{CliFault, Run, run_of, table_for};
 use apex_history::{Counted, Lines, Source, read_all};
 use apex_pace::Pace;
 use apex_process::QueueStore;
@@ -60,7 +60,7 @@ fn given_by_items(alloc: Global, view: View, items: &[Item], text: &[u8]) -> Res
         let plan = trace_plan(alloc, items, table)?;
         return Ok(Given::Picture(plan));
     }
-    let run = run_of_items(alloc, items, text)?;
+    let run = run_of(alloc, items, text)?;
     let given = given_in(alloc, view, run)?;
     Ok(given)
 }

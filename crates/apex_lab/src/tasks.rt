@@ -8,7 +8,7 @@ use crate::linting::{Lint, lint_asked};
 use crate::numbers::{number_given, pace_given, read_time};
 use crate::questions::{Search, search_asked};
 use crate::words::{Listing, Request, SourceWords, ViewWords, request_in};
-use apex_cli::CliFault;
+use apex_console::CliFault;
 use apex_pace::Pace;
 use apex_schedules::Item;
 use apex_types::MOST_ENTRIES;

@@ -1,13 +1,12 @@
 //! The words of the command line.
 ghost use Rattle.std.specs.Prelude.{◌≡◌, false, IfOk, IfErr, IsErrOf, Some, None, map, string_bytes, option_map, option_and_then};
 ghost use Rattle.clap.specs.declared.builder.command.Command.TheViews.{out-Command as fields_of};
-ghost use Rattle.clap.specs.Words.{app_of, found_of, rows_of, rule_of, subcommand_rows_of};
-ghost use Rattle.apex_cli.specs.Faults.{IsUsageOrMemory};
-ghost use Rattle.apex_cli.specs.Words.{flag_rule, says_given};
-ghost use Rattle.apex_lab.specs.Words.{form_in, form_of, given_by, given_in, given_said, lab, lab_of_pictures, lab_of_views, lint_command, lint_in, lint_words_said, question_command, report, request_in, request_of, request_said, search_command, search_in, search_said, shown_in, shown_said, showing_in, svg, svg_in, view_command, view_of};
+ghost use Rattle.clap.specs.Words.{app_of, found_of, rows_of, subcommand_rows_of};
+ghost use Rattle.apex_console.specs.Faults.{IsUsageOrMemory};
+ghost use Rattle.apex_lab.specs.Words.{form_in, given_by, given_in, given_said, lab, lab_of_pictures, lab_of_views, lint_command, lint_in, lint_words_said, question_command, report, request_in, request_of, request_said, search_command, search_in, search_said, shown_in, shown_said, showing_in, svg, svg_in, view_command, view_of};
 
-use apex_cli::{CliFault, matches_of, option};
-use clap::{Arg, ArgAction, ArgMatches, Command};
+use apex_console::{CliFault, flag, has_flag, matches_of, option};
+use clap::{ArgMatches, Command};
 use std::alloc::{AllocError, Global};
 
 /// How a run is given, by the words.
@@ -120,14 +119,6 @@ fn svg_command<'a>(alloc: Global) -> Result<Command<'a>, AllocError>
 {
     let with_from = view_command(alloc, "svg")?.arg(option(alloc, "from"))?;
     with_from.arg(option(alloc, "to"))
-}
-
-/// An option without a value, which may be given.
-fn flag<'a>(alloc: Global, name: &'static str) -> Arg<'a>
-    ensures rule { rule_of result ≡ flag_rule name.now }
-    ensures local { result.global ≡ false }
-{
-    Arg::new(alloc, name).long(name).action(ArgAction::SetTrue)
 }
 
 fn report_command<'a>(alloc: Global) -> Result<Command<'a>, AllocError>
@@ -265,23 +256,15 @@ fn svg_given<'a>(matches: &ArgMatches<'a>) -> ViewWords<'a>
     }
 }
 
-/// The form of a report, by the text of the flag `--json`.
-fn form_by(json: Option<&str>) -> Form
-    ensures { result ≡ form_of (option_map (λ text. text.now) json.entry) }
-{
-    match json {
-        Some("true") => Form::Json,
-        _ => Form::Text,
-    }
-}
-
 /// The form of the report for which a command's matches ask.
 fn form_given(matches: &ArgMatches<'_>) -> Form
     ensures { result ≡ form_in (rows_of (found_of matches.now)) }
 {
-    // The text is read, since the contract of `get_flag` is silent on texts that are no truth
-    // value.
-    form_by(matches.get_str("json"))
+    if has_flag(matches, "json") {
+        Form::Json
+    } else {
+        Form::Text
+    }
 }
 
 /// How the command of this name shows a run, by its matches.
@@ -324,19 +307,12 @@ fn search_given<'a>(matches: &ArgMatches<'a>) -> Option<SearchWords<'a>>
     })
 }
 
-/// The text of a flag says that it is given.
-fn is_given(flag: Option<&str>) -> bool
-    ensures { result ≡ says_given (option_map (λ text. text.now) flag.entry) }
-{
-    matches!(flag, Some("true"))
-}
-
 /// The lint for which a command's matches ask.
 fn lint_given<'a>(matches: &ArgMatches<'a>) -> LintWords<'a>
     ensures { lint_words_said result ≡ lint_in (rows_of (found_of matches.now)) }
 {
     LintWords {
-        json: is_given(matches.get_str("json")),
+        json: has_flag(matches, "json"),
         name: matches.get_str("name"),
         allow: matches.get_str("allow"),
     }

@@ -1,7 +1,8 @@
 //! Each fault, its line and its status.
 
 use apex_check::CheckFault;
-use apex_cli::{CliFault, Exit};
+use apex_cli::Exit;
+use apex_console::CliFault;
 use apex_table::{Key, Part, Place, Section, Subject, TableFault};
 use std::alloc::Global;
 use std::process::Abort;

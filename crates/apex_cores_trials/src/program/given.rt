@@ -1,6 +1,6 @@
 //! The words that the operating system gives.
 
-use apex_cli::{CliFault, given_words};
+use apex_console::{CliFault, given_words};
 use linked_list_allocator::LocalHeap;
 use std::alloc::Allocator;
 use std::env::{Env, FillError};

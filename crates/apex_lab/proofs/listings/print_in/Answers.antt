@@ -1,7 +1,7 @@
 -- The text is that of the form.
 use Rattle.std.proofs.Common.{ℕ, List, ap, subst, sym}
 use Rattle.std.specs.Prelude.{OnErr, OnOk}
-use Rattle.apex_cli.specs.Streams.{HasWritten, HasWrittenSome}
+use Rattle.apex_console.specs.Streams.{HasWritten, HasWrittenSome}
 use Rattle.apex_lab.specs.Plans.{report_in}
 use Rattle.apex_lab.specs.declared.words.Form.{Form}
 use Rattle.apex_lab.proofs.listings.print_in.Goals as goal

@@ -1,6 +1,6 @@
 -- An item's events follow those of the items before it, as many as there is room for.
 use Rattle.std.proofs.Common.{◌≡◌, ◌-◌, arith}
-use Rattle.apex_cli.proofs.ItemRuns.{below_at}
+use Rattle.apex_console.proofs.ItemRuns.{below_at}
 use Rattle.apex_lab.proofs.Listed.{item_put, list_cut, within_put}
 use Rattle.apex_lab.proofs.plans.listed.Goals as goal
 

@@ -2,7 +2,7 @@
 use Rattle.std.proofs.Common.{refl, sym, None, Some}
 use Rattle.std.proofs.KnownBytes.{Keeps-refl}
 use Rattle.std.proofs.lemmas.Result.{err_from_is_err_and}
-use Rattle.apex_cli.specs.declared.CliFault.TheVariants.{Memory}
+use Rattle.apex_console.specs.declared.CliFault.TheVariants.{Memory}
 use Rattle.apex_lab.specs.Exits.{unbegun}
 use Rattle.apex_lab.specs.Plans.{fault_of_drawing}
 use Rattle.apex_lab.proofs.Endings.{pictures_failed, shows_whole}

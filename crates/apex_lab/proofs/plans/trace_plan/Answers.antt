@@ -1,7 +1,7 @@
 -- The fault of the listed run, by whether the items ask for more.
 use Rattle.std.proofs.Common.{◌∙◌, Some, ap}
 use Rattle.std.proofs.lemmas.Bool.{both_ways}
-use Rattle.apex_cli.specs.declared.CliFault.TheVariants.{HistoryFull}
+use Rattle.apex_console.specs.declared.CliFault.TheVariants.{HistoryFull}
 use Rattle.apex_lab.proofs.Listed.{list_is}
 use Rattle.apex_lab.proofs.plans.trace_plan.Goals as goal
 use Rattle.apex_lab.proofs.plans.trace_plan.Goals.{then-found, else-found}

@@ -1,7 +1,7 @@
 -- The fault, by whether the events fit.
 use Rattle.std.proofs.Common.{◌<◌, ◌∙◌, ap, sym, refl, length, Some, arith}
-use Rattle.apex_cli.proofs.ItemRuns.{fault_fits, fault_full, no_room_for}
-use Rattle.apex_cli.specs.declared.CliFault.TheVariants.{HistoryFull}
+use Rattle.apex_console.proofs.ItemRuns.{fault_fits, fault_full, no_room_for}
+use Rattle.apex_console.specs.declared.CliFault.TheVariants.{HistoryFull}
 use Rattle.apex_lab.specs.Paced.{rounds_until}
 use Rattle.apex_lab.proofs.runs.paced.Goals as goal
 

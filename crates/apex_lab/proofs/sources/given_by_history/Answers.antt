@@ -1,7 +1,7 @@
 -- What a history gives, by its verdict.
 use Rattle.std.proofs.Common.{None, refl}
 use Rattle.std.proofs.lemmas.Result.{err_from_is_err_and}
-use Rattle.apex_cli.specs.Reports.{runs_to}
+use Rattle.apex_console.specs.Reports.{runs_to}
 use Rattle.apex_lab.proofs.Endings.{gives_departure, gives_fault, gives_legal, gives_no_memory, outcome_is}
 use Rattle.apex_lab.proofs.sources.given_by_history.Goals as goal
 

@@ -1,0 +1,2 @@
+pub mod ItemRuns
+pub mod CommandLemmas

@@ -1,0 +1,76 @@
+//! The words of a command line.
+ghost use Rattle.std.specs.Prelude.{◌≡◌, false, true, IfOk, IfErr, IsErrOf, Some, None, map, string_bytes};
+ghost use Rattle.clap.specs.Words.{app_of, first_value, found_of, is_simple_and_free, rule_of, subcommand_rows_of};
+ghost use Rattle.apex_schedules.specs.Schedule.{items_of};
+ghost use Rattle.apex_console.specs.Faults.{IsUsageOrMemory};
+ghost use Rattle.apex_console.specs.Words.{HasFault, NamesCommand, flag_rule, option_rule, required_rule, says_given};
+
+use crate::faults::CliFault;
+use apex_schedules::{Item, read_schedule};
+use clap::error::ErrorKind;
+use clap::{Arg, ArgAction, ArgMatches, Command};
+use std::alloc::Global;
+
+/// An option with a value, which may be given.
+pub fn option<'a>(alloc: Global, name: &'static str) -> Arg<'a>
+    ensures rule { rule_of result ≡ option_rule name.now }
+    ensures local { result.global ≡ false }
+{
+    Arg::new(alloc, name).long(name).action(ArgAction::Set)
+}
+
+/// An option with a value, which must be given.
+pub fn required<'a>(alloc: Global, name: &'static str) -> Arg<'a>
+    ensures rule { rule_of result ≡ required_rule name.now }
+    ensures local { result.global ≡ false }
+{
+    option(alloc, name).required(true)
+}
+
+/// An option without a value, which may be given.
+pub fn flag<'a>(alloc: Global, name: &'static str) -> Arg<'a>
+    ensures rule { rule_of result ≡ flag_rule name.now }
+    ensures local { result.global ≡ false }
+{
+    Arg::new(alloc, name).long(name).action(ArgAction::SetTrue)
+}
+
+/// What the words of this command line ask for: the command that they name, and its options.
+///
+/// The first word is the program's name. Words that `clap` refuses for another cause than memory
+/// are `Usage`, and so are those that ask for help.
+pub fn matches_of<'a>(command: Command<'a>, words: &'a [String]) -> Result<ArgMatches<'a>, CliFault>
+    requires { is_simple_and_free (app_of command) ≡ true }
+    ensures ok { IfOk result (λ matches. NamesCommand (app_of command.entry)
+        (map string_bytes words.entry.now) (subcommand_rows_of matches)) }
+    ensures usage { IsErrOf result CliFault.Usage
+        → HasFault (app_of command.entry) (map string_bytes words.entry.now) }
+    ensures faults { IfErr result IsUsageOrMemory }
+{
+    match command.try_get_matches_from(words) {
+        Ok(matches) => Ok(matches),
+        Err(error) if error.kind() == ErrorKind::OutOfMemory => Err(CliFault::Memory),
+        Err(_) => Err(CliFault::Usage),
+    }
+}
+
+/// Whether a command's matches give this flag.
+pub fn has_flag(matches: &ArgMatches<'_>, name: &str) -> bool
+    ensures { result ≡ says_given (first_value (found_of matches.now) name.now) }
+{
+    // The text is read, since the contract of `get_flag` is silent on texts that are no truth
+    // value.
+    matches!(matches.get_str(name), Some("true"))
+}
+
+/// The items of a schedule's text. Any text that is no schedule is `Usage`.
+pub fn scheduled_items(alloc: Global, text: &[u8]) -> Result<Vec<Item>, CliFault>
+    ensures ok { IfOk result (λ items. items_of text.now ≡ Some items.items) }
+    ensures usage { IsErrOf result CliFault.Usage → items_of text.now ≡ None }
+    ensures faults { IfErr result IsUsageOrMemory }
+{
+    match read_schedule(alloc, text)? {
+        Some(items) => Ok(items),
+        None => Err(CliFault::Usage),
+    }
+}
