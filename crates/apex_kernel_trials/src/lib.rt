@@ -34,6 +34,8 @@ mod papers;
 #[cfg(test)]
 mod reports;
 #[cfg(test)]
+mod responses;
+#[cfg(test)]
 mod scans;
 #[cfg(test)]
 mod searches;

@@ -4,7 +4,7 @@ use Rattle.apex_search.specs.Steps.{Searched}
 use Rattle.apex_search.proofs.Along.{IsAlong, along_begins, along_more, along_stops}
 use Rattle.apex_search.proofs.SamePaced.{paced_then, same_canonical_paced}
 use Rattle.apex_search.proofs.Stepping.{here_can, here_counts, here_time, made_fit}
-use Rattle.apex_search.proofs.systems.TableSystem.schedule.Goals as goal
+use Rattle.apex_search.proofs.systems.TableSystem.follow.Goals as goal
 
 pub loop-choice-init : goal.loop-choice-init
 loop-choice-init c =
