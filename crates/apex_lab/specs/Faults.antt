@@ -58,7 +58,7 @@ schedule_line bad =
 -- the line that reports ill-formed words
 abbrev pub usage_line : List ℕ
 usage_line =
-    codes "apex_lab: usage: apex_lab svg|trace|lines|status|report|schedule [--schedule S|--until T], apex_lab search --for WORD, apex_lab lint\n"
+    codes "apex_lab: usage: apex_lab svg|trace|lines|status|report|schedule [--schedule S|--until T], apex_lab search [--for WORD|--worst P], apex_lab lint\n"
 
 -- the line of a fault that the program `apex` has too; ill-formed words have a line of this program
 abbrev pub common_line : CliFault → List ℕ

@@ -19,7 +19,7 @@ use std::alloc::{AllocError, Global};
 
 /// The line that reports ill-formed words.
 pub const USAGE: &str =
-    "apex_lab: usage: apex_lab svg|trace|lines|status|report|schedule [--schedule S|--until T], apex_lab search --for WORD, apex_lab lint\n";
+    "apex_lab: usage: apex_lab svg|trace|lines|status|report|schedule [--schedule S|--until T], apex_lab search [--for WORD|--worst P], apex_lab lint\n";
 
 /// Room for the bytes of a line that reports a fault.
 const LINE_ROOM: usize = 160;
