@@ -43,7 +43,7 @@ module _ (system : Searched) (p : ℕ) where
 
   pub can_show : (worst : Worst) → IsWorst system p worst → (events : List Event) → schedule_in worst ≡ Some events → CanShow system.table events
   can_show (Greatest None states) is events e = absurd (none-some events e)
-  can_show (Greatest (Some slowest) states) is events e = subst (CanShow system.table) (same_Some slowest.schedule.items events e) (from_slowest slowest is.0)
+  can_show (Greatest (Some slowest) states) is events e = subst (CanShow system.table) (same_Some slowest.schedule.items events e) (from_slowest slowest (is.0 slowest refl))
   can_show (Overrun schedule period) is events e = subst (CanShow system.table) (same_Some schedule.items events e) (record {
     earlier = is.leads.earlier;
     last = is.leads.last;
@@ -52,9 +52,9 @@ module _ (system : Searched) (p : ℕ) where
     fits = is.fits;
   })
   can_show (Full None depth) is events e = absurd (none-some events e)
-  can_show (Full (Some slowest) depth) is events e = subst (CanShow system.table) (same_Some slowest.schedule.items events e) (from_slowest slowest is.0)
+  can_show (Full (Some slowest) depth) is events e = subst (CanShow system.table) (same_Some slowest.schedule.items events e) (from_slowest slowest (is.0 slowest refl))
   can_show (Beyond None limit) is events e = absurd (none-some events e)
-  can_show (Beyond (Some slowest) limit) is events e = subst (CanShow system.table) (same_Some slowest.schedule.items events e) (from_slowest slowest is.0)
+  can_show (Beyond (Some slowest) limit) is events e = subst (CanShow system.table) (same_Some slowest.schedule.items events e) (from_slowest slowest (is.0 slowest refl))
 
 -- the events that are shown can be made
 pub can_run : (table : Table) (text : List ℕ) (events : List Event) → table_of text ≡ Ok table → CanShow table events → CanRun text events

@@ -76,22 +76,24 @@ asked_shown p least (callers.Process c) call reply told roster has =
     let r = record_at roster c in
     let both = and_parts _ _ has in
     let ends = and_parts _ _ both.0 in
-    let more = and_parts _ _ ends.1 in
-    let begun = and_parts _ _ more.1 in
-    let goes = and_parts _ _ begun.1 in
-    let is = aged least (roster.now - r.release) r.attributes.period goes.1 in
+    let calls = and_parts _ _ ends.0 in
+    let begun = and_parts _ _ ends.1 in
+    let goes = and_parts _ _ begun.0 in
+    let is = aged least (roster.now - r.release) r.attributes.period begun.1 in
     let same : p ≡ c = (Decides-eqb p c).0 (and_parts _ _ both.1).0 in
     subst (λ (q : ℕ). IsAsked q least (shown (callers.Process c) call reply told roster)) (sym same) (record {
       caller = refl;
-      call = is_wait call ends.0;
-      reply = is_block reply more.0;
-      released = (begun.0, is_not (awaits_first r.wait) goes.0);
+      call = is_wait call calls.0;
+      reply = is_block reply calls.1;
+      released = (goes.0, is_not (awaits_first r.wait) goes.1);
       period = is.0;
       periodic = is.1;
       long = is.2;
     })
-asked_shown p least callers.Init call reply told roster has = let none = (and_parts _ _ (and_parts _ _ (and_parts _ _ has).0).1).1 in cc
-asked_shown p least callers.Nobody call reply told roster has = let none = (and_parts _ _ (and_parts _ _ (and_parts _ _ has).0).1).1 in cc
+asked_shown p least callers.Init call reply told roster has =
+    let none : false ≡ true = (and_parts _ _ (and_parts _ _ has).0).1 in cc
+asked_shown p least callers.Nobody call reply told roster has =
+    let none : false ≡ true = (and_parts _ _ (and_parts _ _ has).0).1 in cc
 
 asked_in : (p least : ℕ) (d : Deed) → has_fact (asked_for p least) d ≡ true → IsAsked p least (shown_of d)
 asked_in p least d has =
@@ -292,11 +294,11 @@ module _ (system : Searched) (p least : ℕ) (path : List ℕ) (fact : LeadsToFa
 pub record IsRising (system now : Searched) (p : ℕ) (search : Search Workplace) (found : Option Slowest) : Type 0 where
   pub same : now ≡ responding system p (above found)
   pub of : IsSearchOf now search
-  pub found : ForSome found (IsSlowest system p)
+  pub best : ForSome found (IsSlowest system p)
 
 pub rising_begins : (system now : Searched) (p : ℕ) (search : Search Workplace) → now ≡ responding system p 0 → IsSearchOf now search
     → IsRising system now p search None
-rising_begins system now p search same of = record { same = same; of = of; found = tt }
+rising_begins system now p search same of = record { same = same; of = of; best = λ x e. absurd (none-some x e) }
 
 -- the schedule of a path is the same, and so are its responses
 module _ (system : Searched) (p n : ℕ) where
@@ -390,7 +392,7 @@ rising_more system now next p search search' found slowest rising of is greater 
       (search_narrower (responding system p (above found)) (asked_for p (slowest.response + 1))
       (asked_less p (above found) (slowest.response + 1) (omega (arith, greater))) search'
       (subst (λ (s : Searched). IsSearchOf s search') rising.same of));
-  found = is;
+  best = λ x e. subst (IsSlowest system p) (same_Some slowest x e) is;
 } where
   then : next ≡ responding system p (slowest.response + 1)
   then = next_is ∙ ap (λ (s : Searched). responding s p (slowest.response + 1)) rising.same
