@@ -1,5 +1,6 @@
 -- The responses to which schedules lead, and those that a search finds.
-use Rattle.std.proofs.Common.{◌≡◌, ℕ, suc, ◌+◌, ◌-◌, ◌*◌, ◌<◌, ◌≤◌, ◌^◌, ◌⊎◌, ◌||◌, Bool, true, false, not, List, [], ◌∷◌, ◌++◌, length, length-append, min, nat_le, Option, None, Some, option_map, inl, inr, refl, sym, ◌∙◌, ap, subst, arith, le_trans, leb-true, le-leb}
+use Rattle.std.proofs.Common.{◌≡◌, ℕ, suc, ◌+◌, ◌-◌, ◌*◌, ◌<◌, ◌≤◌, ◌^◌, ◌⊎◌, Bool, true, false, not, List, [], ◌∷◌, ◌++◌, length, length-append, min, Option, None, Some, option_map, inl, inr, refl, sym, ◌∙◌, ap, subst, arith, le_trans, leb-true, le-leb}
+use Rattle.std.specs.Prelude.{◌||◌, nat_le}
 use Rattle.std.proofs.lemmas.Bool.{and_parts, cases_lt}
 use Rattle.std.proofs.lemmas.Bool.Decides.{Decides-eqb}
 use Rattle.std.proofs.lemmas.Option.{none-some, same_Some}
@@ -396,3 +397,38 @@ rising_more system now next p search search' found slowest rising of is greater 
 } where
   then : next ≡ responding system p (slowest.response + 1)
   then = next_is ∙ ap (λ (s : Searched). responding s p (slowest.response + 1)) rising.same
+
+-- What the search says, in the words of the system that it began with.
+module _ (system now : Searched) (p n : ℕ) (same : now ≡ responding system p n) where
+  again : now ≡ responding now p n
+  again = same ∙ ap (λ (s : Searched). responding s p n) (sym same)
+
+  pub asks : (path : List ℕ) → IsShortestSchedule now path → (least : ℕ) × LeadsToFact (responding now p least) (schedule_of now path)
+  asks path shortest = (n, subst (λ (s : Searched). LeadsToFact s (schedule_of now path)) again shortest.leads)
+
+  pub now_below : NoSchedule now → AllBelow system p n
+  now_below none = all_below system p n (subst NoSchedule same none)
+
+  pub now_below_within : (depth : ℕ) → NoScheduleWithin now depth → AllBelowWithin system p n depth
+  now_below_within depth none = all_below_within system p n depth (subst (λ (s : Searched). NoScheduleWithin s depth) same none)
+
+  module _ (path : List ℕ) (shortest : IsShortestSchedule now path) where
+    there : IsShortestSchedule (responding system p n) path
+    there = subst (λ (s : Searched). IsShortestSchedule s path) same shortest
+
+    pub now_beyond : (limit : ℕ) → limit < length path → AllBelowWithin system p n limit
+    now_beyond limit past = all_below_within system p n limit (none_shorter system p n path limit there past)
+
+    module _ (events : List Event) (job : Job) (is : IsJobOf now p path events job) where
+      its_job : IsJobOf (responding system p n) p path events job
+      its_job = subst (λ (s : Searched). IsJobOf s p path events job) same is
+
+      pub now_rises : job.response ≤ job.period → n ≤ job.response
+      now_rises = rises system p n path events job there its_job
+
+      pub now_slowest : (slowest : Slowest) → slowest.response ≡ job.response → slowest.schedule.items ≡ events
+          → job.response ≤ job.period → length path ≤ system.table.limit → IsSlowest system p slowest
+      now_slowest = is_slowest system p n path events job there its_job
+
+      pub now_overruns : job.period < job.response → length path ≤ system.table.limit → IsOverrun system p job.period events
+      now_overruns = overruns system p n path events job there its_job
