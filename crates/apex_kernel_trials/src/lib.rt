@@ -1,8 +1,8 @@
 //! The tests of the kernel and of the printing of lines that no stored case can show: how many
-//! records a turn looks at, lines that no run prints, a writer that fails, and the counters of a
-//! trace; the faults and the warnings of a table, and the lines that report them; the report of a
-//! history; searches of a small system and of two tables; and the words and texts of answers. It has
-//! no code of its own.
+//! records a turn looks at, lines that no run prints, a writer that fails, the counters of a trace,
+//! and a value change dump; the faults and the warnings of a table, and the lines that report them;
+//! the report of a history; searches of a small system and of two tables; and the words and texts of
+//! answers. It has no code of its own.
 #![tactic(auto)]
 
 #[cfg(test)]
@@ -43,3 +43,5 @@ mod service_reports;
 mod traces;
 #[cfg(test)]
 mod warnings;
+#[cfg(test)]
+mod waves;

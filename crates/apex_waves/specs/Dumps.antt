@@ -4,7 +4,7 @@ use Rattle.apex_machine.specs.Machine.{Machine, objects_after, opening}
 use Rattle.apex_machine.specs.processes.Roster.{Roster, opening_roster}
 use Rattle.apex_machine.specs.table.Table.{Table}
 use Rattle.apex_machine.specs.text.Listing.{texts_of}
-use Rattle.apex_pictures.specs.Instants.{hundredths, instant_after, next_instant}
+use Rattle.apex_waves.specs.Instants.{units, instant_after, next_instant}
 use Rattle.apex_waves.specs.Heads.{head_text}
 use Rattle.apex_waves.specs.Levels.{Moment, moment_of}
 use Rattle.apex_waves.specs.Signals.{signals_of}
@@ -20,9 +20,9 @@ abbrev pub moment_after : Table → Machine → ℕ → Moment
 moment_after table machine k =
     moment_of (roster_after table machine k) (objects_after table (take k machine.history))
 
--- the time of that moment: its instant on the axis of a trace, in hundredths of a unit
+-- the time of that moment: its instant on the axis of a trace, in units of a unit
 abbrev pub time_after : Machine → ℕ → ℕ
-time_after machine k = hundredths (instant_after (take k machine.history))
+time_after machine k = units (instant_after (take k machine.history))
 
 -- the line of a time
 abbrev pub time_line : ℕ → List ℕ
@@ -50,7 +50,7 @@ moment_in table machine = moment_of machine.roster (objects_after table machine.
 -- the end of a dump: the time that the next moment would have now, so that the last values last until then
 abbrev pub end_text : Machine → List ℕ
 end_text machine =
-    time_line (hundredths (next_instant (instant_after machine.history) machine.roster.now))
+    time_line (units (next_instant (instant_after machine.history) machine.roster.now))
 
 -- the dump of a machine
 abbrev pub dump_text : Table → Machine → List ℕ

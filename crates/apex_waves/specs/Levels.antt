@@ -5,10 +5,12 @@ use Rattle.apex_machine.specs.processes.Owners.{owner}
 use Rattle.apex_machine.specs.processes.Roster.{Roster}
 use Rattle.apex_machine.specs.processes.Running.{chosen, process_state}
 use Rattle.apex_machine.specs.services.BlackboardServices.{blackboard_kind}
+use Rattle.apex_machine.specs.services.BufferServices.{buffer_kind}
 use Rattle.apex_machine.specs.services.EventFlagServices.{event_flag_kind}
+use Rattle.apex_machine.specs.services.SemaphoreServices.{semaphore_kind}
 use Rattle.apex_machine.specs.text.Listing.{object_in}
-use Rattle.apex_pictures.specs.Counts.{content_of, value_of}
-use Rattle.apex_pictures.specs.Trace.{same_process, same_state}
+use Rattle.apex_types.specs.declared.modes.State.{State}
+use Rattle.apex_types.specs.declared.modes.State.TheVariants.{Dormant, Ready, Running, Waiting}
 use Rattle.apex_waves.specs.declared.kinds.Kind.{Kind}
 use Rattle.apex_waves.specs.declared.kinds.Kind.TheVariants.{Core, Process, Semaphore, Buffer, Blackboard, EventFlag, Mutex}
 use Rattle.apex_waves.specs.declared.levels.Level.{Level}
@@ -27,6 +29,14 @@ moment_of roster objects = record { roster = roster; objects = objects }
 -- 1 for yes, 0 for no
 abbrev pub one_if : Bool → ℕ
 one_if holds = if holds then 1 else 0
+
+-- the value of semaphore s
+abbrev pub value_of : Objects → ℕ → ℕ
+value_of objects s = (object_in semaphore_kind objects.semaphores s).value
+
+-- the number of messages in buffer b
+abbrev pub content_of : Objects → ℕ → ℕ
+content_of objects b = length (object_in buffer_kind objects.buffers b).messages
 
 -- the number of messages on blackboard b
 abbrev pub shown_on : Objects → ℕ → ℕ
@@ -51,6 +61,21 @@ level_at moment Mutex m = levels.Process (owner moment.roster m)
 -- what a signal shows
 abbrev pub level_of : Moment → Signal → Level
 level_of moment signal = level_at moment signal.kind signal.place
+
+-- two states are the same
+abbrev pub same_state : State → State → Bool
+same_state Dormant Dormant = true
+same_state Ready Ready = true
+same_state Running Running = true
+same_state Waiting Waiting = true
+same_state state other = false
+
+-- two processes are the same, or both are none
+abbrev pub same_process : Option ℕ → Option ℕ → Bool
+same_process None None = true
+same_process None (Some q) = false
+same_process (Some p) None = false
+same_process (Some p) (Some q) = p == q
 
 -- two levels are the same
 abbrev pub same_level : Level → Level → Bool

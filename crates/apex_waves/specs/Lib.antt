@@ -1,3 +1,5 @@
+pub mod Places
+pub mod Instants
 pub mod Kinds
 pub mod Names
 pub mod Signals

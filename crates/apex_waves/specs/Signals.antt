@@ -1,7 +1,7 @@
 -- The signals of a dump.
 use Rattle.std.specs.Prelude.{ℕ, List}
 use Rattle.apex_machine.specs.table.Table.{Table}
-use Rattle.apex_pictures.specs.Places.{of_places}
+use Rattle.apex_waves.specs.Places.{of_places}
 use Rattle.apex_waves.specs.Kinds.{count_of, of_kinds}
 use Rattle.apex_waves.specs.declared.kinds.Kind.{Kind}
 use Rattle.apex_waves.specs.declared.signals.Signal.{Signal}

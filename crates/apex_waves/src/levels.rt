@@ -1,9 +1,7 @@
 //! The levels of the signals: what each shows at a moment.
 ghost use Rattle.std.specs.Prelude.{◌≡◌, ◌<◌, ◌≤◌, length};
 ghost use Rattle.apex_machine.specs.processes.Running.{process_state};
-ghost use Rattle.apex_pictures.specs.Counts.{content_of, value_of};
-ghost use Rattle.apex_pictures.specs.Trace.{same_process};
-ghost use Rattle.apex_waves.specs.Levels.{level_of, moment_of, raised_of, same_level, shown_on};
+ghost use Rattle.apex_waves.specs.Levels.{content_of, level_of, moment_of, raised_of, same_level, same_process, same_state, shown_on, value_of};
 
 use crate::kinds::Kind;
 use crate::signals::{MOST_SIGNALS, Signal};
@@ -21,6 +19,12 @@ pub(crate) enum Level {
     Process(Option<ProcessId>),
     /// How much an object holds.
     Count(u32),
+}
+
+impl Default for Level {
+    fn default() -> Level {
+        Level::Count(0)
+    }
 }
 
 /// A level for each signal.
@@ -106,13 +110,19 @@ fn is_same_process(before: &Option<ProcessId>, after: &Option<ProcessId>) -> boo
     }
 }
 
+fn is_same_state(before: State, after: State) -> bool
+    ensures { result ≡ same_state before after }
+{
+    before == after
+}
+
 /// Two levels are the same.
 pub(crate) fn is_same_level(before: &Level, after: &Level) -> bool
     ensures { result ≡ same_level before.now after.now }
 {
     match before {
         Level::State(before) => match after {
-            Level::State(after) => before == after,
+            Level::State(after) => is_same_state(*before, *after),
             Level::Process(_) | Level::Count(_) => false,
         },
         Level::Process(before) => match after {

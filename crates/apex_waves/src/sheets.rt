@@ -3,7 +3,8 @@ ghost use Rattle.std.specs.Prelude.{◌≡◌, ◌+◌, ◌≤◌, [], ◌++◌,
 ghost use Rattle.std.specs.Io.KnownBytes.{Appends};
 ghost use Rattle.apex_history.specs.Counted.{inner_of, failures_of, CountsFailure, AppendsBeginning, IsOfWrite};
 ghost use Rattle.apex_history.specs.Page.{Passes};
-ghost use Rattle.apex_waves.specs.declared.sheets.TheConstants.{SHEET_ROOM, STEP_ROOM};
+ghost use Rattle.apex_waves.specs.declared.sheets.TheConstants.{SHEET_ROOM};
+ghost use Rattle.apex_waves.specs.declared.values.TheConstants.{STEP_ROOM};
 
 use crate::values::STEP_ROOM;
 use apex_history::{Counted, Sink};

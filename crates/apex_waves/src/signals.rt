@@ -2,7 +2,7 @@
 ghost use Rattle.std.specs.Prelude.{◌≡◌, ◌+◌, ◌<◌, ◌≤◌, ◌++◌, length};
 ghost use Rattle.arrayvec.specs.ArrayVec.{array_vec_len};
 ghost use Rattle.apex_types.specs.declared.limits.TheConstants.{MOST_PROCESSES};
-ghost use Rattle.apex_pictures.specs.Places.{of_places};
+ghost use Rattle.apex_waves.specs.Places.{of_places};
 ghost use Rattle.apex_waves.specs.Signals.{signal_of, signals_of};
 ghost use Rattle.apex_waves.specs.declared.signals.TheConstants.{MOST_SIGNALS};
 
@@ -20,6 +20,15 @@ pub(crate) struct Signal {
     pub(crate) kind: Kind,
     /// From 0 on.
     pub(crate) place: u8,
+}
+
+impl Default for Signal {
+    fn default() -> Signal {
+        Signal {
+            kind: Kind::Core,
+            place: 0,
+        }
+    }
 }
 
 /// The signals of a table.
