@@ -46,7 +46,12 @@ fn state_of<S: Store>(kernel: &Kernel<S>, process: ProcessId) -> State
 fn value_of<S: Store>(kernel: &Kernel<S>, semaphore: SemaphoreId) -> u32
     ensures { result ≡ value_of kernel.now.objects semaphore }
 {
-    match kernel.situation().objects().semaphores.get(semaphore.place()) {
+    match kernel
+        .situation()
+        .objects()
+        .semaphores
+        .get(semaphore.place())
+    {
         Some(semaphore) => u32::from(semaphore.value()),
         None => 0,
     }
@@ -66,7 +71,12 @@ fn content_of<S: Store>(kernel: &Kernel<S>, buffer: BufferId) -> u32
 fn shown_on<S: Store>(kernel: &Kernel<S>, blackboard: BlackboardId) -> u32
     ensures { result ≡ shown_on kernel.now.objects blackboard }
 {
-    match kernel.situation().objects().blackboards.get(blackboard.place()) {
+    match kernel
+        .situation()
+        .objects()
+        .blackboards
+        .get(blackboard.place())
+    {
         Some(blackboard) => u32::from(blackboard.message().is_some()),
         None => 0,
     }

@@ -8,7 +8,9 @@ ghost use Rattle.apex_waves.specs.declared.signals.TheConstants.{MOST_SIGNALS};
 ghost use Rattle.apex_waves.specs.declared.values.TheConstants.{LEVEL_ROOM, VALUE_ROOM};
 
 use crate::levels::{Level, Levels, is_same_level, level_of};
-use crate::names::{CODE_ROOM, NAME_ROOM, NUMBER_ROOM, process_name, put_code, put_name, put_number};
+use crate::names::{
+    CODE_ROOM, NAME_ROOM, NUMBER_ROOM, process_name, put_code, put_name, put_number,
+};
 use crate::sheets::Sheet;
 use crate::signals::{MOST_SIGNALS, Signal};
 use apex_dispatch::Kernel;
@@ -129,7 +131,13 @@ pub(crate) fn put_changes<S: Store>(
     let mut after = Levels::new();
     for place in 0..signals.len() {
         let level = level_of(kernel, &signals[place]);
-        put_change(sheet, kernel.table(), &signals[place], &before[place], &level);
+        put_change(
+            sheet,
+            kernel.table(),
+            &signals[place],
+            &before[place],
+            &level,
+        );
         after.push(level);
     }
     after
