@@ -42,8 +42,9 @@ def faults_of_paths(name: str, page: str) -> list[str]:
 def words_of_sources() -> set[str]:
     """All words of the code, the definitions and the data, and the names of their files and of the crates."""
     words = {folder.name for folder in HOME.glob("crates/*")}
-    for inside in ("src/**/*", "specs/**/*", "proofs/**/*", "must-fail/*", "data/*", "std*"):
-        for file in HOME.glob(f"crates/*/{inside}"):
+    crates = [f"crates/*/{inside}" for inside in ("src/**/*", "specs/**/*", "proofs/**/*", "must-fail/*", "data/*", "std*")]
+    for files in (*crates, "python/**/*.py"):
+        for file in HOME.glob(files):
             if file.is_file():
                 words |= {file.stem} | set(re.findall(r"\w+", file.read_text(errors="replace")))
     return words | wrong_bodies()

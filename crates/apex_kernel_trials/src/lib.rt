@@ -1,7 +1,8 @@
 //! The tests of the kernel and of the printing of lines that no stored case can show: how many
 //! records a turn looks at, lines that no run prints, a writer that fails, and the counters of a
 //! trace; the faults and the warnings of a table, and the lines that report them; the report of a
-//! history; searches of a small system and of two tables; the words and texts of answers; and
+//! history; entries and a listing as objects of JSON; the reasons of turns; searches of a small
+//! system and of two tables; the words and texts of answers; departures that are explained; and
 //! sessions that answer commands. It has no code of its own.
 #![tactic(auto)]
 
@@ -9,6 +10,8 @@
 mod answers;
 #[cfg(test)]
 mod censuses;
+#[cfg(test)]
+mod departures;
 #[cfg(test)]
 mod devices;
 #[cfg(test)]
@@ -26,11 +29,15 @@ mod lints;
 #[cfg(test)]
 mod object_reports;
 #[cfg(test)]
+mod objects;
+#[cfg(test)]
 mod outlines;
 #[cfg(test)]
 mod paces;
 #[cfg(test)]
 mod papers;
+#[cfg(test)]
+mod reasons;
 #[cfg(test)]
 mod reports;
 #[cfg(test)]

@@ -1,6 +1,7 @@
 //! Whole sessions: what is written on the text of a table and of commands.
 use crate::papers::paper;
 use apex_history::{Counted, FailAt};
+use apex_objects::Form;
 use apex_steps::{StepFault, serve_steps};
 use std::alloc::Global;
 use std::io::{self, Error, ErrorKind, Read, Write};
@@ -123,7 +124,7 @@ fn talk<R: Abort>(
     let text = text_of(rt, alloc, lines);
     let mut reader = Counted::new(FailAt::new(text, failing_read));
     let mut writer = Counted::new(paper(rt, alloc, 8_192, failing_write));
-    let end = serve_steps(alloc, &mut reader, &mut writer);
+    let end = serve_steps(alloc, Form::Text, &mut reader, &mut writer);
     let device = writer.into_inner();
     let mut held = Vec::new(alloc);
     held.extend_from_slice(device.held()).expect(rt, "memory");
@@ -139,6 +140,29 @@ fn said_on<R: Abort>(rt: &R, alloc: Global, lines: &[u8]) -> String {
         Some((_, behind)) => String::from_str(alloc, behind).expect(rt, "memory"),
         None => said,
     }
+}
+
+/// What is said in objects behind the init steps on a line that is refused, on a wait of process 1, on
+/// `next` and on `front`.
+const OBJECTS: &str = r#"{"ok":8}
+{"fault":"no such core"}
+{"number":9,"now":0,"who":"core0","process":1,"name":"P1","call":"WAIT_SEMAPHORE S infinite","reply":"BLOCKED","notices":[]}
+{"ok":9}
+{"next":null,"cores":[1]}
+{"ok":9}
+{"front":9,"now":0,"running":[null,{"process":2,"name":"P2"}]}
+{"ok":9}
+"#;
+
+#[test]
+fn each_line_is_answered_in_objects(rt: HostRuntime) {
+    let text = text_of(&rt, rt.alloc(), b"2\n0\nnext\nfront\n");
+    let mut reader = Counted::new(FailAt::new(text, 0));
+    let mut writer = Counted::new(paper(&rt, rt.alloc(), 8_192, 0));
+    let end = serve_steps(rt.alloc(), Form::Json, &mut reader, &mut writer);
+    assert!(rt; end.is_ok());
+    let device = writer.into_inner();
+    assert!(rt; device.held().ends_with(OBJECTS.as_bytes()));
 }
 
 #[test]
@@ -249,7 +273,7 @@ fn shown_before<R: Abort>(rt: &R, alloc: Global, text: &[u8], read: u32) -> Stri
         waiting: Vec::new(alloc),
         shown: Vec::new(alloc),
     });
-    let end = serve_steps(alloc, &mut reader, &mut writer);
+    let end = serve_steps(alloc, Form::Text, &mut reader, &mut writer);
     assert!(rt; end == Err(StepFault::Read), "read {read}");
     let paper = writer.into_inner();
     assert!(rt; paper.waiting.is_empty(), "read {read}");

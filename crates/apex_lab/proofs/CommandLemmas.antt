@@ -1,8 +1,8 @@
 -- What options ask for, by their texts.
-use Rattle.std.proofs.Common.{◌≡◌, Bool, codes, refl, sym, List, Option, Some}
+use Rattle.std.proofs.Common.{◌≡◌, Bool, codes, refl, sym, List, Option, Some, None}
 use Rattle.clap.specs.Words.{Row, Text, first_of}
 use Rattle.apex_console.specs.Words.{says_given}
-use Rattle.apex_lab.specs.Words.{LintSaid, SearchSaid, as_svg, given_by, lint_in, search_in}
+use Rattle.apex_lab.specs.Words.{Given, LintSaid, SearchSaid, as_svg, given_by, given_in, lint_in, search_in, why_in, why_of}
 
 pub same_svg : {f k l m : Option Text} → f ≡ k → l ≡ m → as_svg f l ≡ as_svg k m
 same_svg a b = rw (a, b) refl
@@ -38,3 +38,12 @@ pub same_lint : {json : Bool} {name allow : Option Text} (rows : List Row)
     → json ≡ says_given (first_of (codes "json") rows) → name ≡ first_of (codes "name") rows
     → allow ≡ first_of (codes "allow") rows → lint_for json name allow ≡ lint_in rows
 same_lint rows a b c = rw (a, b, c) refl
+
+-- the reason of an entry, by the run and the text of the entry
+pub same_why : {given : Given} {entry : Text} (rows : List Row) → Some given ≡ given_in rows → Some entry ≡ first_of (codes "entry") rows
+    → Some (why_of given entry) ≡ why_in rows
+same_why rows a b = rw (sym a, sym b) refl
+
+-- no entry is given
+pub no_why : {given : Given} (rows : List Row) → Some given ≡ given_in rows → None ≡ first_of (codes "entry") rows → None ≡ why_in rows
+no_why rows a b = rw (sym a, sym b) refl

@@ -12,7 +12,7 @@ use Rattle.apex_table.specs.Reading.{table_of}
 use Rattle.apex_table.specs.declared.TableFault.{TableFault}
 use Rattle.apex_lab.specs.Searches.{IsMissing, IsRefusalOf, IsSystemOf, IsTextFault, asked_process, question_about, question_of}
 use Rattle.apex_lab.specs.declared.faults.LabFault.{LabFault}
-use Rattle.apex_lab.specs.declared.faults.LabFault.TheVariants.{Common, NoProcess, Schedule, StatesFull}
+use Rattle.apex_lab.specs.declared.faults.LabFault.TheVariants.{Common, NoEntry, NoProcess, Schedule, StatesFull}
 use Rattle.apex_lab.specs.declared.questions.Search.{Search}
 
 -- memory was refused, or the text is no table, by the result of reading it
@@ -33,6 +33,7 @@ pub missing_process : (search : Search) (text : List ℕ) (table : Table) (fault
 missing_process search text table (Common fault) is missing = absurd missing
 missing_process search text table (NoProcess name) is missing = (table, is, missing)
 missing_process search text table (Schedule bad) is missing = absurd missing
+missing_process search text table (NoEntry number) is missing = absurd missing
 missing_process search text table (StatesFull room) is missing = absurd missing
 
 -- a question of these facts, about this process or about any

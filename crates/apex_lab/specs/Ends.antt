@@ -5,7 +5,7 @@ use Rattle.apex_views.specs.Shows as showing
 use Rattle.apex_lab.specs.Faults.{fault_of_showing, line_of_fault, status_of_fault}
 use Rattle.apex_lab.specs.declared.faults.LabFault.{LabFault}
 use Rattle.apex_lab.specs.declared.ends.Ending.{Ending}
-use Rattle.apex_lab.specs.declared.ends.Ending.TheVariants.{Complete, Departed, Found, Refused, Warned}
+use Rattle.apex_lab.specs.declared.ends.Ending.TheVariants.{Complete, Departed, Explained, Found, Refused, Warned}
 
 -- the end of the program
 pub data End : Type 0 where
@@ -16,6 +16,8 @@ pub data End : Type 0 where
   departs : List ℕ → End
   -- a search found a schedule
   finds : End
+  -- the history that was checked departs
+  explains : End
   -- there is a warning about a table
   warns : End
   -- a text is no table
@@ -34,6 +36,7 @@ abbrev pub end_in : Result Ending LabFault → End
 end_in (Ok Complete) = complete
 end_in (Ok (Departed verdict)) = departs verdict.items
 end_in (Ok Found) = finds
+end_in (Ok Explained) = explains
 end_in (Ok Warned) = warns
 end_in (Ok Refused) = refuses
 end_in (Err fault) = fails fault
@@ -45,6 +48,7 @@ abbrev pub status_of : End → ℕ
 status_of complete = 0
 status_of (departs report) = 1
 status_of finds = 1
+status_of explains = 1
 status_of warns = 1
 status_of refuses = 3
 status_of (fails fault) = status_of_fault fault
@@ -54,6 +58,7 @@ abbrev pub report_of : End → List ℕ
 report_of complete = []
 report_of (departs report) = report
 report_of finds = []
+report_of explains = []
 report_of warns = []
 report_of refuses = []
 report_of (fails fault) = line_of_fault fault

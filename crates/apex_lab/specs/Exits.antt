@@ -1,16 +1,20 @@
 -- How the program ends.
-use Rattle.std.specs.Prelude.{◌≡◌, List, ℕ, Result, Ok, Err}
+use Rattle.std.specs.Prelude.{◌≡◌, Bool, List, ℕ, Result, Ok, Err}
 use Rattle.std.specs.Io.KnownBytes.{Keeps}
 use Rattle.apex_history.specs.Ports.{Ports, NoneFails}
 use Rattle.apex_console.specs.declared.CliFault.TheVariants.{Memory, Usage}
+use Rattle.apex_objects.specs.declared.Form.{Form}
 use Rattle.apex_views.specs.Faults.{IsBadIn}
-use Rattle.apex_views.specs.Showings.{Showing}
+use Rattle.apex_views.specs.Showings.{Showing, Source}
 use Rattle.apex_views.specs.Shows.{ShowEnd, ShowEnds}
 use Rattle.apex_views.specs.declared.BadSchedule.{BadSchedule}
+use Rattle.apex_lab.specs.Checks.{CheckEnds}
 use Rattle.apex_lab.specs.Ends.{End, end_of_showing, fails}
 use Rattle.apex_lab.specs.Lints.{Lint, LintEnds}
 use Rattle.apex_lab.specs.Searches.{SearchEnds}
-use Rattle.apex_lab.specs.Tasks.{Asked, Unasked, ill_formed, no_schedule, to_lint, to_search, to_show}
+use Rattle.apex_lab.specs.Steps.{StepEnds}
+use Rattle.apex_lab.specs.Tasks.{Asked, Unasked, ill_formed, no_schedule, to_check, to_lint, to_search, to_show, to_step, to_why}
+use Rattle.apex_lab.specs.Whys.{WhyEnds}
 use Rattle.apex_lab.specs.declared.faults.LabFault.TheVariants.{Common, Schedule as BadText}
 use Rattle.apex_lab.specs.declared.questions.Search.{Search}
 
@@ -38,3 +42,13 @@ pub data Ends (asked : Result Asked Unasked) (before : Ports) : End → Ports �
   -- a table is linted
   of_lint : {lint : Lint} {ends : End} {after : Ports} → asked ≡ Ok (to_lint lint)
       → LintEnds lint before ends after → Ends asked before ends after
+  -- commands are answered
+  of_steps : {form : Form} {ends : End} {after : Ports} → asked ≡ Ok (to_step form)
+      → StepEnds form before ends after → Ends asked before ends after
+  -- a history is explained
+  of_check : {comments : Bool} {ends : End} {after : Ports} → asked ≡ Ok (to_check comments)
+      → CheckEnds comments before ends after → Ends asked before ends after
+  -- the reason of an entry is shown
+  of_why : {source : Source} {entry : ℕ} {ends : End} {after : Ports}
+      → asked ≡ Ok (to_why source entry) → WhyEnds source entry before ends after
+      → Ends asked before ends after

@@ -7,7 +7,7 @@ use Rattle.apex_views.specs.Faults.{schedule_line}
 use Rattle.apex_views.specs.declared.ShowFault.{ShowFault}
 use Rattle.apex_views.specs.declared.ShowFault.TheVariants as showing
 use Rattle.apex_lab.specs.declared.faults.LabFault.{LabFault}
-use Rattle.apex_lab.specs.declared.faults.LabFault.TheVariants.{Common, NoProcess, Schedule, StatesFull}
+use Rattle.apex_lab.specs.declared.faults.LabFault.TheVariants.{Common, NoEntry, NoProcess, Schedule, StatesFull}
 
 -- a fault of a showing
 abbrev pub fault_of_showing : ShowFault → LabFault
@@ -17,7 +17,7 @@ fault_of_showing (showing.Schedule bad) = Schedule bad
 -- the line that reports ill-formed words
 abbrev pub usage_line : List ℕ
 usage_line =
-    codes "apex_lab: usage: apex_lab svg|trace|lines|status|report|schedule [--schedule S|--until T], apex_lab search --for WORD, apex_lab lint\n"
+    codes "apex_lab: usage: apex_lab svg|trace|lines|status|report|schedule [--schedule S|--until T], apex_lab search --for WORD, apex_lab lint|step|check, apex_lab why --entry N\n"
 
 -- the line of a fault that the program `apex` has too; ill-formed words have a line of this program
 abbrev pub common_line : CliFault → List ℕ
@@ -28,6 +28,10 @@ common_line fault = fault_line (Some fault)
 abbrev pub process_line : List ℕ → List ℕ
 process_line name = codes "apex_lab: no process " ++ name ++ codes "\n"
 
+-- the line that reports that the history of a run has no entry of this number
+abbrev pub entry_line : ℕ → List ℕ
+entry_line number = codes "apex_lab: no entry " ++ decimal number ++ codes "\n"
+
 -- the line that reports that a search has room for this many states, and reached more
 abbrev pub states_line : ℕ → List ℕ
 states_line room = codes "apex_lab: search full after " ++ decimal room ++ codes " states\n"
@@ -37,12 +41,14 @@ abbrev pub line_of_fault : LabFault → List ℕ
 line_of_fault (Common fault) = common_line fault
 line_of_fault (Schedule bad) = schedule_line bad
 line_of_fault (NoProcess name) = process_line name
+line_of_fault (NoEntry number) = entry_line number
 line_of_fault (StatesFull room) = states_line room
 
--- the exit status of a fault: 2 for a schedule's text and for a process that is not there, 4 if a
--- search has no room for more states, else that of `apex`
+-- the exit status of a fault: 2 for a schedule's text and for a process or an entry that is not
+-- there, 4 if a search has no room for more states, else that of `apex`
 abbrev pub status_of_fault : LabFault → ℕ
 status_of_fault (Common fault) = common_status fault
 status_of_fault (Schedule bad) = 2
 status_of_fault (NoProcess name) = 2
+status_of_fault (NoEntry number) = 2
 status_of_fault (StatesFull room) = 4

@@ -6,4 +6,7 @@ pub mod Tasks
 pub mod Ends
 pub mod Lints
 pub mod Searches
+pub mod Steps
+pub mod Checks
+pub mod Whys
 pub mod Exits

@@ -1,19 +1,21 @@
 -- What the program is asked to do.
-use Rattle.std.specs.Prelude.{◌≡◌, ◌⊎◌, List, Option, Some, None, Result, Ok, Err, length, nat_le, if◌then◌else◌, option_and_then, option_map}
+use Rattle.std.specs.Prelude.{◌≡◌, ◌⊎◌, ℕ, Bool, List, Option, Some, None, Result, Ok, Err, length, nat_le, if◌then◌else◌, option_and_then, option_map}
 use Rattle.clap.specs.Words.{Text}
 use Rattle.apex_types.specs.declared.limits.TheConstants.{MOST_ENTRIES}
 use Rattle.apex_console.specs.declared.CliFault.TheVariants.{Memory, Usage}
 use Rattle.apex_pace.specs.Laws.{IsPace}
 use Rattle.apex_schedules.specs.declared.Item.{Item}
 use Rattle.apex_schedules.specs.Groups.{grouped_items_of}
+use Rattle.apex_schedules.specs.Schedule.{positive_of}
+use Rattle.apex_objects.specs.declared.Form.{Form}
 use Rattle.apex_views.specs.Faults.{IsBadIn}
-use Rattle.apex_views.specs.Showings.{IsOfEntries, Picture, Showing, Source, View, drawn, history, listed, paced, schedule, schedule_read, showing_said, showing_with, svg, trace}
+use Rattle.apex_views.specs.Showings.{IsOfEntries, Picture, Showing, Source, View, drawn, history, listed, paced, schedule, schedule_read, showing_said, showing_with, source_said, svg, trace}
 use Rattle.apex_lab.specs.Lints.{Lint, lint_asked, lint_said}
 use Rattle.apex_lab.specs.Numbers.{number_in, pace_in, time_of}
 use Rattle.apex_lab.specs.Questions.{search_asked}
-use Rattle.apex_lab.specs.Words.{Given, Request, Shown, as_listing, as_svg, as_trace, by_history, by_pace, by_schedule, by_schedule_read, lint_of, request_of, search_of, show_of}
+use Rattle.apex_lab.specs.Words.{Given, Request, Shown, as_listing, as_svg, as_trace, by_history, by_pace, by_schedule, by_schedule_read, check_of, lint_of, request_of, search_of, show_of, step_of, why_of}
 use Rattle.apex_lab.specs.declared.faults.LabFault.{LabFault}
-use Rattle.apex_lab.specs.declared.faults.LabFault.TheVariants.{Common, NoProcess, Schedule as BadText, StatesFull}
+use Rattle.apex_lab.specs.declared.faults.LabFault.TheVariants.{Common, NoEntry, NoProcess, Schedule as BadText, StatesFull}
 use Rattle.apex_lab.specs.declared.questions.Search.{Search}
 use Rattle.apex_lab.specs.declared.tasks.Task.{Task}
 use Rattle.apex_lab.specs.declared.tasks.Task.TheVariants as task
@@ -26,6 +28,12 @@ pub data Asked : Type 0 where
   to_search : Search → Asked
   -- to lint a table
   to_lint : Lint → Asked
+  -- to answer commands in this form
+  to_step : Form → Asked
+  -- to explain a history, which may have comments
+  to_check : Bool → Asked
+  -- for the reason of the entry of this number, of a run that is given in this way
+  to_why : Source → ℕ → Asked
 
 -- why words ask for nothing
 pub data Unasked : Type 0 where
@@ -83,6 +91,12 @@ abbrev pub showing_asked : Result Showing Unasked → Result Asked Unasked
 showing_asked (Err unasked) = Err unasked
 showing_asked (Ok showing) = Ok (to_show showing)
 
+-- the reason of an entry, if the run and the number are there
+abbrev pub why_asked : Result Source Unasked → Option ℕ → Result Asked Unasked
+why_asked source None = Err ill_formed
+why_asked (Err unasked) (Some entry) = Err unasked
+why_asked (Ok source) (Some entry) = Ok (to_why source entry)
+
 -- what a request asks for
 abbrev pub asked_in_request : Request → Result Asked Unasked
 asked_in_request (show_of given shown) =
@@ -90,6 +104,9 @@ asked_in_request (show_of given shown) =
 asked_in_request (search_of said) =
     or_unasked ill_formed (option_map to_search (search_asked said))
 asked_in_request (lint_of said) = or_unasked ill_formed (option_map to_lint (lint_asked said))
+asked_in_request (step_of form) = Ok (to_step form)
+asked_in_request (check_of comments) = Ok (to_check comments)
+asked_in_request (why_of given entry) = why_asked (source_in given) (positive_of entry)
 
 -- the same, if there is a request
 abbrev pub asked_in : Option Request → Result Asked Unasked
@@ -105,12 +122,18 @@ abbrev pub task_said : Task → Asked
 task_said (task.Show showing) = to_show (showing_said showing)
 task_said (task.Search search) = to_search search
 task_said (task.Lint lint) = to_lint (lint_said lint)
+task_said (task.Step form) = to_step form
+task_said (task.Check comments) = to_check comments
+task_said (task.Why why) = to_why (source_said why.source) why.entry
 
 -- the same of a view that is asked for, and the pace of a search is one
 abbrev pub IsInRange : Task → Type 0
 IsInRange (task.Show showing) = IsOfEntries showing.view
 IsInRange (task.Search search) = IsPace search.pace
 IsInRange (task.Lint lint) = Unit {0}
+IsInRange (task.Step form) = Unit {0}
+IsInRange (task.Check comments) = Unit {0}
+IsInRange (task.Why why) = Unit {0}
 
 -- the fault, memory aside, with which the program ends if words ask for nothing
 abbrev pub IsUnasked : {X : Type 0} → Result X Unasked → LabFault → Type 0
@@ -118,5 +141,6 @@ IsUnasked asked (Common fault) =
     (fault ≡ Memory) ⊎ ((fault ≡ Usage) × (asked ≡ Err ill_formed))
 IsUnasked asked (StatesFull states) = ⊥
 IsUnasked asked (NoProcess name) = ⊥
+IsUnasked asked (NoEntry number) = ⊥
 IsUnasked asked (BadText bad) =
     (text : Text) × (asked ≡ Err (no_schedule text)) × IsBadIn text bad

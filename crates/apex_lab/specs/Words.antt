@@ -3,8 +3,8 @@ use Rattle.std.specs.Prelude.{Bool, List, Option, Some, None, codes, if◌then�
 use Rattle.std.specs.Str.{bytes_eq}
 use Rattle.clap.specs.Words.{App, Row, Text, first_of, new_app, with_rule, with_subcommand}
 use Rattle.apex_console.specs.Words.{flag_rule, option_rule, program_alone, request_by, says_given}
-use Rattle.apex_views.specs.declared.Form.{Form}
-use Rattle.apex_views.specs.declared.Form.TheVariants as forms
+use Rattle.apex_objects.specs.declared.Form.{Form}
+use Rattle.apex_objects.specs.declared.Form.TheVariants as forms
 use Rattle.apex_lab.specs.declared.words.LintWords.{LintWords}
 use Rattle.apex_views.specs.declared.Listing.{Listing}
 use Rattle.apex_views.specs.declared.Listing.TheVariants.{Lines, Status, Report, Schedule}
@@ -32,9 +32,9 @@ svg =
     with_rule (with_rule (view_command (codes "svg")) (option_rule (codes "from")))
     (option_rule (codes "to"))
 
--- `report`, which has `[--json]` too
-abbrev pub report : App
-report = with_rule (view_command (codes "report")) (flag_rule (codes "json"))
+-- the command of this name, with `[--json]` too
+abbrev pub json_view_command : Text → App
+json_view_command name = with_rule (view_command name) (flag_rule (codes "json"))
 
 -- the program's command line, with its commands for pictures
 abbrev pub lab_of_pictures : App
@@ -48,9 +48,9 @@ lab_of_views =
     with_subcommand
     (with_subcommand
     (with_subcommand
-    (with_subcommand lab_of_pictures (view_command (codes "lines")).top)
-    (view_command (codes "status")).top)
-    report.top)
+    (with_subcommand lab_of_pictures (json_view_command (codes "lines")).top)
+    (json_view_command (codes "status")).top)
+    (json_view_command (codes "report")).top)
     (view_command (codes "schedule")).top
 
 -- `search [--for WORD] [--process P] [--service WORD]`
@@ -77,9 +77,29 @@ lint_command =
     (option_rule (codes "name")))
     (option_rule (codes "allow"))
 
+-- `step [--json]`
+abbrev pub step_command : App
+step_command = with_rule (new_app (codes "step")) (flag_rule (codes "json"))
+
+-- `check [--comments]`
+abbrev pub check_command : App
+check_command = with_rule (new_app (codes "check")) (flag_rule (codes "comments"))
+
+-- `why`, which has `[--entry N]` besides the options that say how a run is given
+abbrev pub why_command : App
+why_command = with_rule (view_command (codes "why")) (option_rule (codes "entry"))
+
+-- the program's command line, with its commands that show a run, that search and that lint
+abbrev pub lab_of_searches : App
+lab_of_searches =
+    with_subcommand (with_subcommand lab_of_views search_command.top) lint_command.top
+
 -- the program's command line, with all its commands
 abbrev pub lab : App
-lab = with_subcommand (with_subcommand lab_of_views search_command.top) lint_command.top
+lab =
+    with_subcommand
+    (with_subcommand (with_subcommand lab_of_searches step_command.top) check_command.top)
+    why_command.top
 
 -- how a run is given
 pub data Given : Type 0 where
@@ -127,6 +147,12 @@ pub data Request : Type 0 where
   search_of : SearchSaid → Request
   -- to lint a table
   lint_of : LintSaid → Request
+  -- to answer commands in this form
+  step_of : Form → Request
+  -- to explain a history, which may have comments
+  check_of : Bool → Request
+  -- for the reason of the entry of this number, of a run that is given in this way
+  why_of : Given → Text → Request
 
 -- how a run is given, of a value of the program
 abbrev pub given_said : SourceWords → Given
@@ -167,6 +193,9 @@ abbrev pub request_said : RequestIn → Request
 request_said (request.Show source view) = show_of (given_said source) (shown_said view)
 request_said (request.Search words) = search_of (search_said words)
 request_said (request.Lint words) = lint_of (lint_words_said words)
+request_said (request.Step form) = step_of form
+request_said (request.Check comments) = check_of comments
+request_said (request.Why source entry) = why_of (given_said source) entry.now
 
 -- how a run is given, by the text of a schedule: `-` stands for one that is read
 abbrev pub given_by_schedule : Text → Given
@@ -195,11 +224,11 @@ shown_in shown rows = option_map (λ given. show_of given shown) (given_in rows)
 abbrev pub svg_in : List Row → Shown
 svg_in rows = as_svg (first_of (codes "from") rows) (first_of (codes "to") rows)
 
--- the form of a report, by the text of the flag
+-- the form of a listing, by the text of the flag
 abbrev pub form_of : Option Text → Form
 form_of json = if says_given json then forms.Json else forms.Text
 
--- the form of the report for the rows of a command
+-- the form of the listing for the rows of a command
 abbrev pub form_in : List Row → Form
 form_in rows = form_of (first_of (codes "json") rows)
 
@@ -208,8 +237,8 @@ abbrev pub view_of : Text → List Row → Option Shown
 view_of name rows =
     if bytes_eq name (codes "svg") then Some (svg_in rows)
     else if bytes_eq name (codes "trace") then Some as_trace
-    else if bytes_eq name (codes "lines") then Some (as_listing Lines)
-    else if bytes_eq name (codes "status") then Some (as_listing Status)
+    else if bytes_eq name (codes "lines") then Some (as_listing (Lines (form_in rows)))
+    else if bytes_eq name (codes "status") then Some (as_listing (Status (form_in rows)))
     else if bytes_eq name (codes "report") then Some (as_listing (Report (form_in rows)))
     else if bytes_eq name (codes "schedule") then Some (as_listing Schedule) else None
 
@@ -240,11 +269,25 @@ lint_in rows = record {
   allow = first_of (codes "allow") rows;
 }
 
+-- the history that the rows of a command ask to explain may have comments
+abbrev pub comments_in : List Row → Bool
+comments_in rows = says_given (first_of (codes "comments") rows)
+
+-- the entry whose reason the rows of a command ask for; none if none is given
+abbrev pub why_in : List Row → Option Request
+why_in rows =
+    option_and_then (λ given. option_map (why_of given) (first_of (codes "entry") rows))
+    (given_in rows)
+
 -- what the command of this name asks for, with its rows
 abbrev pub request_in : Text × List Row → Option Request
 request_in found =
     if bytes_eq found.0 (codes "search") then option_map search_of (search_in found.1)
     else if bytes_eq found.0 (codes "lint") then Some (lint_of (lint_in found.1))
+    else if bytes_eq found.0 (codes "step") then Some (step_of (form_in found.1))
+    else if bytes_eq found.0 (codes "check")
+    then Some (check_of (comments_in found.1))
+    else if bytes_eq found.0 (codes "why") then why_in found.1
     else showing_in found.0 found.1
 
 -- what the words ask for; none if they ask for nothing that the program does

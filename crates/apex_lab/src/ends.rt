@@ -5,7 +5,7 @@ ghost use Rattle.apex_console.specs.Streams.{Told};
 ghost use Rattle.apex_lab.specs.Ends.{end_in, report_of, status_of};
 ghost use Rattle.apex_lab.specs.Faults.{line_of_fault};
 
-use crate::faults::{LabFault, USAGE, process_line, states_line};
+use crate::faults::{LabFault, USAGE, entry_line, process_line, states_line};
 use apex_console::{CliFault, fault_line, write_error};
 use apex_history::{Counted, Lines, Sink};
 use apex_views::schedule_line;
@@ -13,13 +13,15 @@ use apex_views::schedule_line;
 /// The end of the program if it meets no fault.
 #[derive(Drop)]
 pub enum Ending {
-    /// The run was shown, no schedule leads to what a search looks for, or there is no warning about
+    /// All was done: the run or the reason was shown, the history is legal, no schedule leads to what a search looks for, or there is no warning about
     /// a table.
     Complete,
     /// The history departs from what the partition does: the text of the verdict.
     Departed(Lines),
     /// A search found a schedule.
     Found,
+    /// The history that was checked departs: the explanation was written.
+    Explained,
     /// There is a warning about a table.
     Warned,
     /// A text is no table: its faults were written.
@@ -32,7 +34,7 @@ pub fn status_of(outcome: &Result<Ending, LabFault>) -> u8
 {
     match outcome {
         Ok(Ending::Complete) => 0,
-        Ok(Ending::Departed(_) | Ending::Found | Ending::Warned) => 1,
+        Ok(Ending::Departed(_) | Ending::Found | Ending::Explained | Ending::Warned) => 1,
         Ok(Ending::Refused) => 3,
         Err(fault) => fault.status(),
     }
@@ -52,6 +54,9 @@ fn tell_fault<E: Sink>(fault: &LabFault, error_writer: &mut Counted<E>)
         LabFault::NoProcess(name) => {
             write_error(process_line(name).as_slice(), error_writer);
         }
+        LabFault::NoEntry(number) => {
+            write_error(entry_line(*number).as_str().as_bytes(), error_writer);
+        }
         LabFault::StatesFull(room) => {
             write_error(states_line(*room).as_str().as_bytes(), error_writer);
         }
@@ -69,7 +74,9 @@ pub fn tell<E: Sink>(outcome: &Result<Ending, LabFault>, error_writer: &mut Coun
         (failures_of error_writer.old) (failures_of error_writer.new) }
 {
     match outcome {
-        Ok(Ending::Complete | Ending::Found | Ending::Warned | Ending::Refused) => {}
+        Ok(
+            Ending::Complete | Ending::Found | Ending::Explained | Ending::Warned | Ending::Refused,
+        ) => {}
         Ok(Ending::Departed(verdict)) => write_error(verdict.as_slice(), error_writer),
         Err(fault) => tell_fault(fault, error_writer),
     }

@@ -3,7 +3,7 @@ ghost use Rattle.std.specs.Prelude.{◌≡◌, ◌+◌, ◌≤◌, ◌++◌, len
 ghost use Rattle.arrayvec.specs.ArrayVec.{array_vec_len};
 ghost use Rattle.apex_console.specs.Faults.{fault_of_read};
 ghost use Rattle.apex_console.specs.declared.CliFault.TheVariants.{Memory};
-ghost use Rattle.apex_lab.specs.Faults.{fault_of_showing, process_line, states_line, status_of_fault};
+ghost use Rattle.apex_lab.specs.Faults.{entry_line, fault_of_showing, process_line, states_line, status_of_fault};
 ghost use Rattle.apex_lab.specs.declared.faults.LabFault.TheVariants.{Common};
 ghost use Rattle.apex_lab.specs.declared.faults.TheConstants.{PROCESS_ROOM};
 
@@ -17,13 +17,13 @@ use std::alloc::AllocError;
 
 /// The line that reports ill-formed words.
 pub const USAGE: &str =
-    "apex_lab: usage: apex_lab svg|trace|lines|status|report|schedule [--schedule S|--until T], apex_lab search --for WORD, apex_lab lint\n";
+    "apex_lab: usage: apex_lab svg|trace|lines|status|report|schedule [--schedule S|--until T], apex_lab search --for WORD, apex_lab lint|step|check, apex_lab why --entry N\n";
 
-/// Room for the bytes of the line that reports that a search has no room for more states.
-const STATES_ROOM: usize = 64;
+/// Room for the bytes of a line that reports a fault with a number.
+const NUMBER_ROOM: usize = 64;
 
-/// The line that reports that a search has no room for more states.
-pub type StatesLine = ArrayString<STATES_ROOM>;
+/// A line that reports a fault with a number.
+pub type NumberLine = ArrayString<NUMBER_ROOM>;
 
 /// Room for the bytes of the line that reports that there is no such process.
 const PROCESS_ROOM: usize = 64;
@@ -40,6 +40,8 @@ pub enum LabFault {
     Schedule(BadSchedule),
     /// The table has no process of this name or number.
     NoProcess(Name),
+    /// The history of a run has no entry of this number.
+    NoEntry(u32),
     /// A search has room for this many states, and reached more.
     StatesFull(u32),
 }
@@ -51,7 +53,7 @@ impl LabFault {
     {
         match self {
             LabFault::Common(fault) => fault.status(),
-            LabFault::Schedule(_) | LabFault::NoProcess(_) => 2,
+            LabFault::Schedule(_) | LabFault::NoProcess(_) | LabFault::NoEntry(_) => 2,
             LabFault::StatesFull(_) => 4,
         }
     }
@@ -92,12 +94,25 @@ impl From<ReadFault> for LabFault {
     }
 }
 
+/// The line that reports that the history of a run has no entry of this number.
+#[tactic(auto, using(std::proofs::Common::append_assoc))]
+pub fn entry_line(number: u32) -> NumberLine
+    ensures { result.bytes ≡ entry_line number }
+{
+    let mut line = NumberLine::new();
+    line.push_str("apex_lab: no entry ");
+    let mut buffer = Buffer::new();
+    line.push_str(buffer.format(number));
+    line.push_str("\n");
+    line
+}
+
 /// The line that reports that a search has no room for more states.
 #[tactic(auto, using(std::proofs::Common::append_assoc))]
-pub fn states_line(room: u32) -> StatesLine
+pub fn states_line(room: u32) -> NumberLine
     ensures { result.bytes ≡ states_line room }
 {
-    let mut line = StatesLine::new();
+    let mut line = NumberLine::new();
     line.push_str("apex_lab: search full after ");
     let mut buffer = Buffer::new();
     line.push_str(buffer.format(room));

@@ -1,7 +1,9 @@
 //! The program `apex_lab`: shows the run of a schedule or of a pace, or a history that is legal, as
-//! a picture or as a listing, searches the schedules of a pace, and lints a table.
+//! a picture or as a listing, searches the schedules of a pace, lints a table, answers commands,
+//! explains a history that departs, and gives the reason of an entry.
 #![tactic(auto)]
 
+mod checking;
 mod ends;
 mod faults;
 mod linting;
@@ -9,7 +11,9 @@ mod numbers;
 mod program;
 mod questions;
 mod searching;
+mod stepping;
 mod tasks;
+mod whys;
 mod words;
 
 use crate::program::serve;

@@ -8,11 +8,14 @@ ghost use Rattle.apex_lab.specs.Exits.{Ends};
 ghost use Rattle.apex_lab.specs.Tasks.{asked_by};
 ghost use Rattle.apex_lab.specs.declared.faults.LabFault.TheVariants.{Common};
 
+use crate::checking::run_check;
 use crate::ends::{Ending, status_of, tell};
 use crate::faults::LabFault;
 use crate::linting::run_lint;
 use crate::searching::run_search;
+use crate::stepping::run_steps;
 use crate::tasks::{Task, task_asked};
+use crate::whys::run_why;
 use apex_console::CliFault;
 use apex_history::{Counted, Sink, Source};
 use apex_views::{ShowFault, Shown, show_run};
@@ -45,6 +48,9 @@ fn carry_out<R: Source, W: Sink>(
         Task::Show(showing) => ending_of(show_run(alloc, &showing, reader, writer)),
         Task::Search(search) => run_search(alloc, &search, reader, writer),
         Task::Lint(lint) => run_lint(alloc, &lint, reader, writer),
+        Task::Step(form) => run_steps(alloc, form, reader, writer),
+        Task::Check { comments } => run_check(alloc, comments, reader, writer),
+        Task::Why(why) => run_why(alloc, why, reader, writer),
     }
 }
 

@@ -1,15 +1,19 @@
 //! What the program is asked to do.
 ghost use Rattle.std.specs.Prelude.{◌≡◌, IfOk, IfErr, IfSome, Ok, Some, option_map, map, string_bytes};
+ghost use Rattle.apex_schedules.specs.Schedule.{positive_of};
 ghost use Rattle.apex_views.specs.Showings.{IsOfEntries, showing_said, source_said, view_said};
-ghost use Rattle.apex_lab.specs.Tasks.{IsInRange, IsUnasked, asked_by, asked_in_request, paced_source, showing_of, source_in, task_said, view_in};
+ghost use Rattle.apex_lab.specs.Tasks.{IsInRange, IsUnasked, asked_by, asked_in_request, paced_source, showing_of, source_in, task_said, to_why, view_in, why_asked};
 ghost use Rattle.apex_lab.specs.Words.{given_said, request_said, shown_said};
 
 use crate::faults::LabFault;
 use crate::linting::{Lint, lint_asked};
 use crate::numbers::{number_given, pace_given, read_time};
 use crate::questions::{Search, search_asked};
+use crate::whys::Why;
 use crate::words::{Request, SourceWords, ViewWords, request_in};
 use apex_console::CliFault;
+use apex_objects::Form;
+use apex_schedules::read_positive;
 use apex_types::MOST_ENTRIES;
 use apex_views::{Picture, RunSource, Showing, View, read_items};
 use std::alloc::Global;
@@ -23,6 +27,12 @@ pub enum Task<'a> {
     Search(Search),
     /// To lint a table.
     Lint(Lint<'a>),
+    /// To answer commands in this form.
+    Step(Form),
+    /// To explain a history, which may have comments.
+    Check { comments: bool },
+    /// For the reason of an entry.
+    Why(Why),
 }
 
 /// The run of a pace, by the texts of its time, its turns and its percentage. None if one is
@@ -98,6 +108,22 @@ fn read_showing(
     Ok(Showing { source, view })
 }
 
+/// The entry of a run whose reason is asked for. `Usage` if a number is ill-formed, which comes
+/// before a fault of a schedule's text.
+fn read_why(alloc: Global, source: SourceWords<'_>, entry: &str) -> Result<Why, LabFault>
+    ensures ok { IfOk result (λ why.
+        why_asked (source_in (given_said source.entry)) (positive_of entry.entry.now)
+        ≡ Ok (to_why (source_said why.source) why.entry)) }
+    ensures err { IfErr result (IsUnasked
+        (why_asked (source_in (given_said source.entry)) (positive_of entry.entry.now))) }
+{
+    let Some(entry) = read_positive(entry.as_bytes()) else {
+        return Err(LabFault::Common(CliFault::Usage));
+    };
+    let source = read_source(alloc, source)?;
+    Ok(Why { source, entry })
+}
+
 /// What a request asks for. `Usage` if a number or a word is ill-formed.
 fn task_of<'a>(alloc: Global, request: Request<'a>) -> Result<Task<'a>, LabFault>
     ensures ok { IfOk result (λ task. asked_in_request (request_said request.entry)
@@ -118,6 +144,12 @@ fn task_of<'a>(alloc: Global, request: Request<'a>) -> Result<Task<'a>, LabFault
             Some(lint) => Ok(Task::Lint(lint)),
             None => Err(LabFault::Common(CliFault::Usage)),
         },
+        Request::Step(form) => Ok(Task::Step(form)),
+        Request::Check { comments } => Ok(Task::Check { comments }),
+        Request::Why(source, entry) => {
+            let why = read_why(alloc, source, entry)?;
+            Ok(Task::Why(why))
+        }
     }
 }
 

@@ -3,10 +3,11 @@ ghost use Rattle.std.specs.Prelude.{◌≡◌, false, IfOk, IfErr, IsErrOf, Some
 ghost use Rattle.clap.specs.declared.builder.command.Command.TheViews.{out-Command as fields_of};
 ghost use Rattle.clap.specs.Words.{app_of, found_of, rows_of, subcommand_rows_of};
 ghost use Rattle.apex_console.specs.Faults.{IsUsageOrMemory};
-ghost use Rattle.apex_lab.specs.Words.{form_in, given_by, given_in, given_said, lab, lab_of_pictures, lab_of_views, lint_command, lint_in, lint_words_said, question_command, report, request_in, request_of, request_said, search_command, search_in, search_said, shown_said, showing_in, svg, svg_in, view_command, view_of};
+ghost use Rattle.apex_lab.specs.Words.{check_command, comments_in, form_in, given_by, given_in, given_said, json_view_command, lab, lab_of_pictures, lab_of_searches, lab_of_views, lint_command, lint_in, lint_words_said, question_command, request_in, request_of, request_said, search_command, search_in, search_said, shown_said, showing_in, step_command, svg, svg_in, view_command, view_of, why_command, why_in};
 
 use apex_console::{CliFault, flag, has_flag, matches_of, option};
-use apex_views::{Form, Listing};
+use apex_objects::Form;
+use apex_views::Listing;
 use clap::{ArgMatches, Command};
 use std::alloc::{AllocError, Global};
 
@@ -79,6 +80,12 @@ pub enum Request<'a> {
     Search(SearchWords<'a>),
     /// To lint a table.
     Lint(LintWords<'a>),
+    /// To answer commands in this form.
+    Step(Form),
+    /// To explain a history, which may have comments.
+    Check { comments: bool },
+    /// For the reason of the entry of this number, of a run that is given in this way.
+    Why(SourceWords<'a>, &'a str),
 }
 
 /// The command of this name, with the options that say how a run is given.
@@ -100,11 +107,12 @@ fn svg_command<'a>(alloc: Global) -> Result<Command<'a>, AllocError>
     with_from.arg(option(alloc, "to"))
 }
 
-fn report_command<'a>(alloc: Global) -> Result<Command<'a>, AllocError>
-    ensures app { IfOk result (λ c. app_of c ≡ report) }
+/// The command of this name, with `--json` too.
+fn json_view_command<'a>(alloc: Global, name: &'static str) -> Result<Command<'a>, AllocError>
+    ensures app { IfOk result (λ c. app_of c ≡ json_view_command name.now) }
     ensures local { IfOk result (λ c. (fields_of c).has_globals ≡ false) }
 {
-    view_command(alloc, "report")?.arg(flag(alloc, "json"))
+    view_command(alloc, name)?.arg(flag(alloc, "json"))
 }
 
 /// The program's command line, with its commands for pictures.
@@ -122,9 +130,9 @@ fn view_commands<'a>(alloc: Global) -> Result<Command<'a>, AllocError>
     ensures { IfOk result (λ c. app_of c ≡ lab_of_views) }
 {
     let pictures = picture_commands(alloc)?;
-    let with_lines = pictures.subcommand(view_command(alloc, "lines")?)?;
-    let with_status = with_lines.subcommand(view_command(alloc, "status")?)?;
-    let with_report = with_status.subcommand(report_command(alloc)?)?;
+    let with_lines = pictures.subcommand(json_view_command(alloc, "lines")?)?;
+    let with_status = with_lines.subcommand(json_view_command(alloc, "status")?)?;
+    let with_report = with_status.subcommand(json_view_command(alloc, "report")?)?;
     with_report.subcommand(view_command(alloc, "schedule")?)
 }
 
@@ -158,19 +166,55 @@ fn lint_command<'a>(alloc: Global) -> Result<Command<'a>, AllocError>
     with_name.arg(option(alloc, "allow"))
 }
 
-fn command<'a>(alloc: Global) -> Result<Command<'a>, AllocError>
-    ensures { IfOk result (λ c. app_of c ≡ lab) }
+/// The command `step`.
+fn step_command<'a>(alloc: Global) -> Result<Command<'a>, AllocError>
+    ensures app { IfOk result (λ c. app_of c ≡ step_command) }
+    ensures local { IfOk result (λ c. (fields_of c).has_globals ≡ false) }
+{
+    Command::new(alloc, "step").arg(flag(alloc, "json"))
+}
+
+/// The command `check`.
+fn check_command<'a>(alloc: Global) -> Result<Command<'a>, AllocError>
+    ensures app { IfOk result (λ c. app_of c ≡ check_command) }
+    ensures local { IfOk result (λ c. (fields_of c).has_globals ≡ false) }
+{
+    Command::new(alloc, "check").arg(flag(alloc, "comments"))
+}
+
+/// The command `why`.
+fn why_command<'a>(alloc: Global) -> Result<Command<'a>, AllocError>
+    ensures app { IfOk result (λ c. app_of c ≡ why_command) }
+    ensures local { IfOk result (λ c. (fields_of c).has_globals ≡ false) }
+{
+    view_command(alloc, "why")?.arg(option(alloc, "entry"))
+}
+
+/// The program's command line, with its commands that show a run, that search and that lint.
+fn search_commands<'a>(alloc: Global) -> Result<Command<'a>, AllocError>
+    ensures { IfOk result (λ c. app_of c ≡ lab_of_searches) }
 {
     let views = view_commands(alloc)?;
     let with_search = views.subcommand(search_command(alloc)?)?;
     with_search.subcommand(lint_command(alloc)?)
 }
 
+fn command<'a>(alloc: Global) -> Result<Command<'a>, AllocError>
+    ensures { IfOk result (λ c. app_of c ≡ lab) }
+{
+    let searches = search_commands(alloc)?;
+    let with_step = searches.subcommand(step_command(alloc)?)?;
+    let with_check = with_step.subcommand(check_command(alloc)?)?;
+    with_check.subcommand(why_command(alloc)?)
+}
+
 /// What the words ask for: `svg`, `trace`, `lines`, `status`, `report` or `schedule`, with
 /// `--schedule S`, with `--until T [--turns K] [--early E]`, or with neither; `svg` also with
-/// `[--from N] [--to M]`, and `report` with `[--json]`; or `search` with `--for WORD [--process P]
-/// [--service WORD] [--turns K] [--early E] [--states N]`; or `lint` with `[--json] [--name FILE]
-/// [--allow WORD,WORD]`. Other words are `Usage`.
+/// `[--from N] [--to M]`, and `lines`, `status` and `report` with `[--json]`; or `search` with
+/// `--for WORD [--process P] [--service WORD] [--turns K] [--early E] [--states N]`; or `lint` with
+/// `[--json] [--name FILE] [--allow WORD,WORD]`; or `step` with `[--json]`;
+/// or `check` with `[--comments]`; or `why` with `--entry N` and a run as for `lines`. Other words
+/// are `Usage`.
 pub fn request_in<'a>(alloc: Global, words: &'a [String]) -> Result<Request<'a>, CliFault>
     ensures ok { IfOk result (λ r. request_of (map string_bytes words.entry.now)
         ≡ Some (request_said r)) }
@@ -235,7 +279,7 @@ fn svg_given<'a>(matches: &ArgMatches<'a>) -> ViewWords<'a>
     }
 }
 
-/// The form of the report for which a command's matches ask.
+/// The form of the listing for which a command's matches ask.
 fn form_given(matches: &ArgMatches<'_>) -> Form
     ensures { result ≡ form_in (rows_of (found_of matches.now)) }
 {
@@ -253,8 +297,8 @@ fn view_given<'a>(name: &str, matches: &ArgMatches<'a>) -> Option<ViewWords<'a>>
     match name {
         "svg" => Some(svg_given(matches)),
         "trace" => Some(ViewWords::Trace),
-        "lines" => Some(ViewWords::Listing(Listing::Lines)),
-        "status" => Some(ViewWords::Listing(Listing::Status)),
+        "lines" => Some(ViewWords::Listing(Listing::Lines(form_given(matches)))),
+        "status" => Some(ViewWords::Listing(Listing::Status(form_given(matches)))),
         "report" => Some(ViewWords::Listing(Listing::Report(form_given(matches)))),
         "schedule" => Some(ViewWords::Listing(Listing::Schedule)),
         _ => None,
@@ -297,6 +341,22 @@ fn lint_given<'a>(matches: &ArgMatches<'a>) -> LintWords<'a>
     }
 }
 
+/// Whether the history that a command's matches ask to explain may have comments.
+fn comments_given(matches: &ArgMatches<'_>) -> bool
+    ensures { result ≡ comments_in (rows_of (found_of matches.now)) }
+{
+    has_flag(matches, "comments")
+}
+
+/// The entry whose reason a command's matches ask for. None if none is given.
+fn why_given<'a>(matches: &ArgMatches<'a>) -> Option<Request<'a>>
+    ensures { option_map request_said result ≡ why_in (rows_of (found_of matches.now)) }
+{
+    let source = source_given(matches)?;
+    let entry = matches.get_str("entry")?;
+    Some(Request::Why(source, entry))
+}
+
 /// What the command of this name asks for, by its matches.
 fn asked_by<'a>(name: &str, matches: &ArgMatches<'a>) -> Option<Request<'a>>
     ensures { option_map request_said result
@@ -305,6 +365,11 @@ fn asked_by<'a>(name: &str, matches: &ArgMatches<'a>) -> Option<Request<'a>>
     match name {
         "search" => Some(Request::Search(search_given(matches)?)),
         "lint" => Some(Request::Lint(lint_given(matches))),
+        "step" => Some(Request::Step(form_given(matches))),
+        "check" => Some(Request::Check {
+            comments: comments_given(matches),
+        }),
+        "why" => why_given(matches),
         _ => showing_given(name, matches),
     }
 }

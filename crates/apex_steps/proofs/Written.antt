@@ -1,6 +1,6 @@
 -- What was written when calls of a writer follow one another.
-use Rattle.std.proofs.Common.{◌≡◌, ℕ, List, [], ◌∷◌, ◌++◌, Option, Result, Ok, Err, OnErr, OnOk, refl, sym, append-nil}
-use Rattle.std.proofs.KnownBytes.{Appends-kept, Appends-trans}
+use Rattle.std.proofs.Common.{◌≡◌, ℕ, List, [], ◌++◌, Option, Result, Ok, Err, OnErr, OnOk, refl, sym, append-nil}
+use Rattle.std.proofs.KnownBytes.{Appends-kept, Appends-nil}
 use Rattle.std.specs.Io.KnownBytes.{Appends, Keeps}
 use Rattle.apex_history.specs.Counted.{AppendsBeginning}
 use Rattle.apex_history.specs.Page.{Passes}
@@ -21,24 +21,26 @@ pub flushes : {W E : Type 0} (drains : W → Result (Unit {0}) E → W → Type 
 flushes drains before after (Ok tt) drained = (before, drained)
 flushes drains before after (Err e) drained = tt
 
--- a text was written, and more behind it
+-- a text was written, and a prefix of more behind it
 pub beginning_behind : (a b c : Option (List ℕ)) (text more : List ℕ) → Appends a b text → AppendsBeginning b c more
     → AppendsBeginning a c (text ++ more)
 beginning_behind a b c text more first begun = beginning_after a b c (text ++ more) more (text, refl, first) begun
 
+-- nothing was written yet, or all
+pub passes_none : (a : Option (List ℕ)) (text : List ℕ) → Passes a a text text
+passes_none a text = ([], refl, Appends-nil a)
+
+pub passes_all_by : {T E : Type 0} (r : Result T E) (a b : Option (List ℕ)) (text held : List ℕ) → held ≡ []
+    → OnOk r (Appends a b text) → OnOk r (Passes a b text held)
+passes_all_by (Ok x) a b text held none appends = (text, rw none (sym (append-nil text)), appends)
+passes_all_by (Err e) a b text held none appends = tt
+
 -- what is held of a text was written, and more behind it
-pub passes_whole : (a b c : Option (List ℕ)) (text held more : List ℕ) → Passes a b text held → Appends b c (held ++ more)
-    → Appends a c (text ++ more)
-passes_whole a b c text held more passes written =
-    passes_all a b c (text ++ more) (held ++ more) (passes_with a b text held more passes) written
+module _ {T E : Type 0} (a b c : Option (List ℕ)) (text held more put : List ℕ) (passes : Passes a b text held) (is : put ≡ held ++ more) where
+  pub whole_by : (r : Result T E) → OnOk r (Appends b c put) → OnOk r (Appends a c (text ++ more))
+  whole_by (Ok x) appends = passes_all a b c (text ++ more) (held ++ more) (passes_with a b text held more passes) (rw is at appends)
+  whole_by (Err e) appends = tt
 
-pub passes_begun : (a b c : Option (List ℕ)) (text held more : List ℕ) → Passes a b text held → AppendsBeginning b c (held ++ more)
-    → AppendsBeginning a c (text ++ more)
-passes_begun a b c text held more passes begun =
-    beginning_after a b c (text ++ more) (held ++ more) (passes_with a b text held more passes) begun
-
--- the same of an answer
-pub begun_behind_by : {T E : Type 0} (r : Result T E) (a b c : Option (List ℕ)) (text more : List ℕ) → Appends a b text
-    → OnErr r (AppendsBeginning b c more) → OnErr r (AppendsBeginning a c (text ++ more))
-begun_behind_by (Ok x) a b c text more first begun = tt
-begun_behind_by (Err e) a b c text more first begun = beginning_behind a b c text more first begun
+  pub begun_by : (r : Result T E) → OnErr r (AppendsBeginning b c put) → OnErr r (AppendsBeginning a c (text ++ more))
+  begun_by (Ok x) begun = tt
+  begun_by (Err e) begun = beginning_after a b c (text ++ more) (held ++ more) (passes_with a b text held more passes) (rw is at begun)

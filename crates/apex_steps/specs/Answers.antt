@@ -1,5 +1,5 @@
--- The answer to a command: its text, and the session after it.
-use Rattle.std.specs.Prelude.{◌≡◌, ℕ, zero, suc, ◌+◌, Bool, true, false, List, [], ◌∷◌, ◌++◌, length, drop, Option, Some, None, codes, decimal, is_some, ◌||◌, nat_le, nat_lt, if◌then◌else◌}
+-- The answer to a command: what is said, its text, and the session behind it.
+use Rattle.std.specs.Prelude.{◌≡◌, ℕ, ◌+◌, Bool, true, false, List, [], ◌∷◌, ◌++◌, length, drop, Option, Some, None, codes, decimal, is_some, ◌||◌, nat_le, nat_lt, if◌then◌else◌}
 use Rattle.apex_types.specs.declared.limits.TheConstants.{MOST_LINE}
 use Rattle.apex_machine.specs.Machine.{Machine, situation_of}
 use Rattle.apex_machine.specs.Situations.{Situation, due_call}
@@ -14,8 +14,13 @@ use Rattle.apex_schedules.specs.declared.Item.{Item}
 use Rattle.apex_steps.specs.Terms.{Event}
 use Rattle.apex_steps.specs.Commands.{Command, makes, lists, looks_ahead, shows_front, marks, goes_back, quits, command_of}
 use Rattle.apex_steps.specs.Sessions.{Session, after_events, marked, gone_back}
+use Rattle.apex_steps.specs.declared.answers.Answered.{Answered}
+use Rattle.apex_steps.specs.declared.answers.Saying.{Saying}
+use Rattle.apex_steps.specs.declared.answers.Saying.TheVariants.{Refused, Done, State, Next, Front, Made}
 use Rattle.apex_steps.specs.declared.refusals.Refusal.{Refusal}
 use Rattle.apex_steps.specs.declared.refusals.Refusal.TheVariants.{NoCommand, NoSuchCore, NoSuchMark, TooLong, NoLineFeed}
+
+-- ---- texts
 
 -- the reason why a line is not carried out
 abbrev pub reason_text : Refusal → List ℕ
@@ -29,10 +34,6 @@ reason_text NoLineFeed = codes "no line feed"
 unfoldable pub fault_line : Refusal → List ℕ
 fault_line refusal = codes "fault " ++ reason_text refusal ++ codes "\n"
 
--- a line that is too long has a line feed behind it, or the text has ended before it
-abbrev pub refusal_of : Bool → Refusal
-refusal_of is_ended = if is_ended then TooLong else NoLineFeed
-
 -- `ok`, or `full` if events were left for which the history has no room, and a space
 abbrev pub closing_word : Bool → List ℕ
 closing_word fits = if fits then codes "ok " else codes "full "
@@ -41,47 +42,6 @@ closing_word fits = if fits then codes "ok " else codes "full "
 unfoldable pub closing_line : Bool → Session → List ℕ
 closing_line fits session =
     closing_word fits ++ decimal (length session.machine.history) ++ codes "\n"
-
--- an answer: its text, and the session after it
-pub record Answer : Type 0 where
-  pub text : List ℕ
-  pub session : Session
-
--- the line is not carried out, and nothing changes
-abbrev pub refused : Refusal → Session → Answer
-refused refusal session = record { text = fault_line refusal; session = session }
-
--- the lines of the entries that the session has more than it had before
-abbrev pub new_lines : Session → Session → List ℕ
-new_lines before after =
-    lines_of before.table (drop (length before.machine.history) after.machine.history)
-
--- the history has room for all of these events
-abbrev pub has_room_for : List Event → Session → Bool
-has_room_for events session =
-    nat_le (length session.machine.history + length events) session.table.limit
-
--- events are made: the lines of their entries, and whether there was room for all
-unfoldable pub made : List Event → Session → Answer
-made events session = record {
-  text = new_lines session (after_events session events)
-      ++ closing_line (has_room_for events session) (after_events session events);
-  session = after_events session events;
-}
-
--- items are made if the table has their cores
-unfoldable pub made_items : List Item → Session → Answer
-made_items items session =
-    if are_cores_below session.table.cores items then made (events_of_items items) session
-    else refused NoSuchCore session
-
--- the session goes on as this one, and says this
-abbrev pub says : List ℕ → Session → Answer
-says text session = record { text = text ++ closing_line true session; session = session }
-
--- the answer to `state`
-unfoldable pub listed : Session → Answer
-listed session = says (listing session.table session.machine) session
 
 -- a space, and the number of the core, if the core has something to do: work is open there, an init
 -- step is due or a process runs
@@ -117,40 +77,79 @@ front_line table machine =
     ++ decimal machine.roster.now
     ++ texts_of (λ core. running_text (chosen machine.roster core)) table.cores ++ codes "\n"
 
--- the answer to `next`
-unfoldable pub looked_ahead : Session → Answer
-looked_ahead session = says (next_line session.table session.machine) session
+-- the lines of an answer before its last line
+abbrev pub body_text : Saying → Session → List ℕ
+body_text (Refused refusal) session = []
+body_text Done session = []
+body_text State session = listing session.table session.machine
+body_text Next session = next_line session.table session.machine
+body_text Front session = front_line session.table session.machine
+body_text (Made from fits) session = lines_of session.table (drop from session.machine.history)
 
--- the answer to `front`
-unfoldable pub shown_front : Session → Answer
-shown_front session = says (front_line session.table session.machine) session
+-- the last line of an answer
+abbrev pub last_line : Saying → Session → List ℕ
+last_line (Refused refusal) session = fault_line refusal
+last_line (Made from fits) session = closing_line fits session
+last_line saying session = closing_line true session
 
--- the session goes on as this one, and says no more than that
-unfoldable pub says_no_more : Session → Answer
-says_no_more session = says [] session
+-- all lines of an answer
+unfoldable pub text_of : Saying → Session → List ℕ
+text_of saying session = body_text saying session ++ last_line saying session
+
+-- ---- answers
+
+-- this is said, and the session goes on
+abbrev pub says : Saying → Session → Answered
+says saying session = record { session = session; saying = saying; is_last = false }
+
+-- the same, and the session ends
+abbrev pub ends : Saying → Session → Answered
+ends saying session = record { session = session; saying = saying; is_last = true }
+
+-- the history has room for all of these events
+abbrev pub has_room_for : List Event → Session → Bool
+has_room_for events session =
+    nat_le (length session.machine.history + length events) session.table.limit
+
+-- events are made: the lines of the entries that the session has more than before, and whether
+-- there was room for all
+unfoldable pub made : List Event → Session → Answered
+made events session =
+    says (Made (length session.machine.history) (has_room_for events session))
+    (after_events session events)
+
+-- items are made if the table has their cores
+unfoldable pub made_items : List Item → Session → Answered
+made_items items session =
+    if are_cores_below session.table.cores items then made (events_of_items items) session
+    else says (Refused NoSuchCore) session
 
 -- the answer to going back
-unfoldable pub gone : Session → Option Session → Answer
-gone session None = refused NoSuchMark session
-gone session (Some back) = says_no_more back
+unfoldable pub gone : Session → Option Session → Answered
+gone session None = says (Refused NoSuchMark) session
+gone session (Some back) = says Done back
 
 -- the answer to a command
-unfoldable pub answer_to : Command → Session → Answer
+unfoldable pub answer_to : Command → Session → Answered
 answer_to (makes items) session = made_items items session
-answer_to lists session = listed session
-answer_to looks_ahead session = looked_ahead session
-answer_to shows_front session = shown_front session
-answer_to (marks name) session = says_no_more (marked name session)
+answer_to lists session = says State session
+answer_to looks_ahead session = says Next session
+answer_to shows_front session = says Front session
+answer_to (marks name) session = says Done (marked name session)
 answer_to (goes_back name) session = gone session (gone_back name session)
-answer_to quits session = says_no_more session
+answer_to quits session = ends Done session
 
 -- the answer to a line that is a command, or is none
-abbrev pub answer_to_any : Option Command → Session → Answer
-answer_to_any None session = refused NoCommand session
+abbrev pub answer_to_any : Option Command → Session → Answered
+answer_to_any None session = says (Refused NoCommand) session
 answer_to_any (Some command) session = answer_to command session
 
 -- the answer to a line, which is given without its line feed
-unfoldable pub answer : List ℕ → Session → Answer
+unfoldable pub answer : List ℕ → Session → Answered
 answer line session =
-    if nat_lt MOST_LINE (length line) then refused TooLong session
+    if nat_lt MOST_LINE (length line) then says (Refused TooLong) session
     else answer_to_any (command_of line) session
+
+-- the answer to bytes at the end that are no line
+abbrev pub unended : Session → Answered
+unended session = ends (Refused NoLineFeed) session

@@ -8,6 +8,7 @@ use Rattle.apex_steps.specs.declared.commands.Command.{Command as CommandRead}
 use Rattle.apex_steps.specs.declared.commands.Command.TheVariants as command
 use Rattle.apex_steps.specs.declared.commands.Onward.{Onward}
 use Rattle.apex_steps.specs.declared.commands.Onward.TheVariants as onward
+use Rattle.apex_steps.specs.declared.commands.TheConstants.{BLANK}
 
 -- what a line asks for
 pub data Command : Type 0 where
@@ -55,11 +56,11 @@ abbrev pub either_command : Option Command → Option Command → Option Command
 either_command (Some command) other = Some command
 either_command None other = other
 
--- the command of a line, which is given without its line feed: its words, with one space (32)
--- between two, or else a schedule
+-- the command of a line, which is given without its line feed: its words, with one blank between
+-- two, or else a schedule
 unfoldable pub command_of : List ℕ → Option Command
 command_of line =
-    either_command (command_of_words (parts 32 line)) (option_map makes (items_of line))
+    either_command (command_of_words (parts BLANK line)) (option_map makes (items_of line))
 
 -- the command of a value of the program
 abbrev pub onward_said : Onward → Command

@@ -4,6 +4,8 @@ pub mod Commands
 pub mod Sessions
 pub mod Kept
 pub mod Answers
+pub mod Objects
+pub mod Desks
 pub mod Conversations
 pub mod Faults
 pub mod Endings

@@ -1,516 +1,175 @@
-//! The answer to one line.
-ghost use Rattle.std.specs.Prelude.{◌≡◌, ◌+◌, ◌≤◌, ◌++◌, Some, true, false, [], option_map, IfErr, IfOk, OnErr, OnOk, if◌then◌else◌};
-ghost use Rattle.std.specs.Io.KnownBytes.{Appends};
-ghost use Rattle.arrayvec.specs.ArrayVec.{array_vec_len};
-ghost use Rattle.apex_types.specs.declared.limits.TheConstants.{MOST_LINE};
-ghost use Rattle.apex_history.specs.Counted.{inner_of, failures_of, AppendsBeginning};
-ghost use Rattle.apex_history.specs.declared.puts.TheConstants.{LINES_ROOM};
+//! The answer to one line: what is said, and the session behind it.
+ghost use Rattle.std.specs.Prelude.{◌≡◌, true, IfOk, option_map};
 ghost use Rattle.apex_schedules.specs.Schedule.{are_cores_below, events_of_items};
-ghost use Rattle.apex_steps.specs.Answers.{answer, answer_to, answer_to_any, closing_line, fault_line, gone, listed, looked_ahead, made, made_items, says_no_more, shown_front};
+ghost use Rattle.apex_steps.specs.Answers.{answer, answer_to, answer_to_any, gone, made, made_items, says, unended};
 ghost use Rattle.apex_steps.specs.Commands.{command_of, command_said, onward_said};
-ghost use Rattle.apex_steps.specs.Conversations.{CountsWritten, IsFlushed, IsOfAnswer, is_last, is_quit};
 ghost use Rattle.apex_steps.specs.Sessions.{gone_back, marked};
-ghost use Rattle.apex_steps.specs.declared.refusals.Refusal.TheVariants.{NoSuchMark};
+ghost use Rattle.apex_steps.specs.declared.answers.Saying.TheVariants.{Done};
 
 use crate::commands::{Command, Onward, read_command};
-use crate::desks::Desk;
-use crate::faults::StepFault;
 use crate::refusals::Refusal;
 use crate::sessions::Session;
-use apex_history::{Counted, Sink};
 use apex_schedules::{Item, are_cores_below};
 use apex_types::MOST_LINE;
-use std::alloc::Global;
+use std::alloc::{AllocError, Global};
 
-/// A session after the answer to a line.
+/// What is said on a line, about the session behind it.
+#[derive(Clone, Copy)]
+pub(crate) enum Saying {
+    /// The line is not carried out.
+    Refused(Refusal),
+    /// No more than the last line of an answer.
+    Done,
+    /// The listing of the state.
+    State,
+    /// The next instant, and the cores that have something to do.
+    Next,
+    /// The number of entries, the time, and the process of each core.
+    Front,
+    /// The lines of the entries from this place on. It fits if the history had room for all events.
+    Made { from: usize, fits: bool },
+}
+
+/// The answer to a line.
 #[derive(Drop)]
 pub(crate) struct Answered {
+    /// The session behind the line.
     pub(crate) session: Session,
+    pub(crate) saying: Saying,
     /// Whether the line was the last one that is answered.
     pub(crate) is_last: bool,
 }
 
 impl Answered {
-    pub(crate) fn new(session: Session, ends: bool) -> Answered
-        ensures session { result.session ≡ session }
-        ensures last { result.is_last ≡ ends }
+    /// This is said, and the session goes on.
+    pub(crate) fn says(session: Session, saying: Saying) -> Answered
+        ensures { result ≡ says saying session }
     {
         Answered {
             session,
-            is_last: ends,
+            saying,
+            is_last: false,
+        }
+    }
+
+    /// The session ends at bytes that are no line.
+    pub(crate) fn unended(session: Session) -> Answered
+        ensures { result ≡ unended session }
+    {
+        Answered {
+            session,
+            saying: Saying::Refused(Refusal::NoLineFeed),
+            is_last: true,
         }
     }
 }
 
-/// Closes the answer of a command that was carried out.
-fn close<W: Sink>(
-    session: &Session,
-    desk: &mut Desk,
-    writer: &mut Counted<W>,
-) -> Result<(), StepFault>
-    requires { array_vec_len desk.old.lines + MOST_LINE ≤ LINES_ROOM }
-    ensures ok { OnOk result (Appends (W.contents (inner_of writer.old))
-        (W.contents (inner_of writer.new))
-        (desk.old.lines.items ++ closing_line true session.now)) }
-    ensures err { OnErr result (AppendsBeginning (W.contents (inner_of writer.old))
-        (W.contents (inner_of writer.new))
-        (desk.old.lines.items ++ closing_line true session.now)) }
-    ensures flushed { OnOk result (IsFlushed W.drains (inner_of writer.new)) }
-    ensures empty { OnOk result (desk.new.lines.items ≡ []) }
-    ensures counted { CountsWritten result (failures_of writer.old) (failures_of writer.new) }
-    ensures fault { IfErr result IsOfAnswer }
-{
-    desk.close(session, true, writer)?;
-    Ok(())
-}
-
-/// Answers that a line is not carried out, and why.
-fn refuse<W: Sink>(
-    refusal: Refusal,
-    desk: &mut Desk,
-    writer: &mut Counted<W>,
-) -> Result<(), StepFault>
-    requires { desk.old.lines.items ≡ [] }
-    ensures ok { OnOk result (Appends (W.contents (inner_of writer.old))
-        (W.contents (inner_of writer.new)) (fault_line refusal)) }
-    ensures err { OnErr result (AppendsBeginning (W.contents (inner_of writer.old))
-        (W.contents (inner_of writer.new)) (fault_line refusal)) }
-    ensures flushed { OnOk result (IsFlushed W.drains (inner_of writer.new)) }
-    ensures empty { OnOk result (desk.new.lines.items ≡ []) }
-    ensures counted { CountsWritten result (failures_of writer.old) (failures_of writer.new) }
-    ensures fault { IfErr result IsOfAnswer }
-{
-    desk.refuse(refusal, writer)?;
-    Ok(())
-}
-
-/// Answers with no more than the line that closes the answer.
-#[tactic(auto, unfolding(crate::specs::Answers::says_no_more))]
-fn say_no_more<W: Sink>(
-    session: &Session,
-    desk: &mut Desk,
-    writer: &mut Counted<W>,
-) -> Result<(), StepFault>
-    requires { desk.old.lines.items ≡ [] }
-    ensures ok { OnOk result (Appends (W.contents (inner_of writer.old))
-        (W.contents (inner_of writer.new)) (says_no_more session.now).text) }
-    ensures err { OnErr result (AppendsBeginning (W.contents (inner_of writer.old))
-        (W.contents (inner_of writer.new)) (says_no_more session.now).text) }
-    ensures flushed { OnOk result (IsFlushed W.drains (inner_of writer.new)) }
-    ensures empty { OnOk result (desk.new.lines.items ≡ []) }
-    ensures counted { CountsWritten result (failures_of writer.old) (failures_of writer.new) }
-    ensures fault { IfErr result IsOfAnswer }
-{
-    close(session, desk, writer)
-}
-
-/// Answers with the listing of the state.
-#[tactic(auto, unfolding(crate::specs::Answers::listed))]
-fn list<W: Sink>(
-    session: &Session,
-    desk: &mut Desk,
-    writer: &mut Counted<W>,
-) -> Result<(), StepFault>
-    requires { desk.old.lines.items ≡ [] }
-    ensures ok { OnOk result (Appends (W.contents (inner_of writer.old))
-        (W.contents (inner_of writer.new)) (listed session.now).text) }
-    ensures err { OnErr result (AppendsBeginning (W.contents (inner_of writer.old))
-        (W.contents (inner_of writer.new)) (listed session.now).text) }
-    ensures flushed { OnOk result (IsFlushed W.drains (inner_of writer.new)) }
-    ensures empty { OnOk result (desk.new.lines.items ≡ []) }
-    ensures counted { CountsWritten result (failures_of writer.old) (failures_of writer.new) }
-    ensures fault { IfErr result IsOfAnswer }
-{
-    desk.list(session.kernel(), writer)?;
-    close(session, desk, writer)
-}
-
-/// Answers with the next instant and the cores that have something to do.
-#[tactic(auto, unfolding(crate::specs::Answers::looked_ahead))]
-fn look_ahead<W: Sink>(
-    session: &Session,
-    desk: &mut Desk,
-    writer: &mut Counted<W>,
-) -> Result<(), StepFault>
-    requires { desk.old.lines.items ≡ [] }
-    ensures ok { OnOk result (Appends (W.contents (inner_of writer.old))
-        (W.contents (inner_of writer.new)) (looked_ahead session.now).text) }
-    ensures err { OnErr result (AppendsBeginning (W.contents (inner_of writer.old))
-        (W.contents (inner_of writer.new)) (looked_ahead session.now).text) }
-    ensures flushed { OnOk result (IsFlushed W.drains (inner_of writer.new)) }
-    ensures empty { OnOk result (desk.new.lines.items ≡ []) }
-    ensures counted { CountsWritten result (failures_of writer.old) (failures_of writer.new) }
-    ensures fault { IfErr result IsOfAnswer }
-{
-    desk.put_next(session.kernel());
-    close(session, desk, writer)
-}
-
-/// Answers with the number of entries, the time, and the process that each core runs.
-#[tactic(auto, unfolding(crate::specs::Answers::shown_front))]
-fn show_front<W: Sink>(
-    session: &Session,
-    desk: &mut Desk,
-    writer: &mut Counted<W>,
-) -> Result<(), StepFault>
-    requires { desk.old.lines.items ≡ [] }
-    ensures ok { OnOk result (Appends (W.contents (inner_of writer.old))
-        (W.contents (inner_of writer.new)) (shown_front session.now).text) }
-    ensures err { OnErr result (AppendsBeginning (W.contents (inner_of writer.old))
-        (W.contents (inner_of writer.new)) (shown_front session.now).text) }
-    ensures flushed { OnOk result (IsFlushed W.drains (inner_of writer.new)) }
-    ensures empty { OnOk result (desk.new.lines.items ≡ []) }
-    ensures counted { CountsWritten result (failures_of writer.old) (failures_of writer.new) }
-    ensures fault { IfErr result IsOfAnswer }
-{
-    desk.put_front(session.kernel());
-    close(session, desk, writer)
-}
-
-/// Makes the events of the items, whose cores the table has, and answers with the lines of their
-/// entries.
+/// Makes the events of the items, whose cores the table has.
 #[tactic(auto, unfolding(crate::specs::Answers::made))]
-fn make_events<W: Sink>(
-    session: &mut Session,
-    items: &[Item],
-    desk: &mut Desk,
-    writer: &mut Counted<W>,
-) -> Result<(), StepFault>
-    requires empty { desk.old.lines.items ≡ [] }
-    requires cores { are_cores_below session.old.table.cores items.now ≡ true }
-    ensures ok { OnOk result (Appends (W.contents (inner_of writer.old))
-        (W.contents (inner_of writer.new)) (made (events_of_items items.now) session.old).text) }
-    ensures session { OnOk result
-        (session.new ≡ (made (events_of_items items.now) session.old).session) }
-    ensures err { OnErr result (AppendsBeginning (W.contents (inner_of writer.old))
-        (W.contents (inner_of writer.new)) (made (events_of_items items.now) session.old).text) }
-    ensures flushed { OnOk result (IsFlushed W.drains (inner_of writer.new)) }
-    ensures empty { OnOk result (desk.new.lines.items ≡ []) }
-    ensures counted { CountsWritten result (failures_of writer.old) (failures_of writer.new) }
-    ensures fault { IfErr result IsOfAnswer }
+fn make_events(mut session: Session, items: &[Item]) -> Answered
+    requires { are_cores_below session.table.cores items.now ≡ true }
+    ensures { result ≡ made (events_of_items items.now) session }
 {
-    let before = session.kernel().entries().len();
+    let from = session.kernel().entries().len();
     let fits = session.make(items);
-    desk.put_entries(session.kernel(), before, writer)?;
-    desk.close(session, fits, writer)?;
-    Ok(())
+    Answered::says(session, Saying::Made { from, fits })
 }
 
-/// Makes the events of the items, and answers with the lines of their entries.
+/// Makes the events of the items, if the table has their cores.
 #[tactic(auto, unfolding(crate::specs::Answers::made_items))]
-fn make<W: Sink>(
-    session: &mut Session,
-    items: &[Item],
-    desk: &mut Desk,
-    writer: &mut Counted<W>,
-) -> Result<(), StepFault>
-    requires { desk.old.lines.items ≡ [] }
-    ensures ok { OnOk result (Appends (W.contents (inner_of writer.old))
-        (W.contents (inner_of writer.new)) (made_items items.now session.old).text) }
-    ensures session { OnOk result (session.new ≡ (made_items items.now session.old).session) }
-    ensures err { OnErr result (AppendsBeginning (W.contents (inner_of writer.old))
-        (W.contents (inner_of writer.new)) (made_items items.now session.old).text) }
-    ensures flushed { OnOk result (IsFlushed W.drains (inner_of writer.new)) }
-    ensures empty { OnOk result (desk.new.lines.items ≡ []) }
-    ensures counted { CountsWritten result (failures_of writer.old) (failures_of writer.new) }
-    ensures fault { IfErr result IsOfAnswer }
+fn make(session: Session, items: &[Item]) -> Answered
+    ensures { result ≡ made_items items.now session }
 {
     if are_cores_below(session.kernel().table().cores(), items) {
-        make_events(session, items, desk, writer)
+        make_events(session, items)
     } else {
-        refuse(Refusal::NoSuchCore, desk, writer)
+        Answered::says(session, Saying::Refused(Refusal::NoSuchCore))
     }
 }
 
 /// Marks the present state with a name.
-#[tactic(auto, unfolding(crate::specs::Answers::says_no_more))]
-fn mark<W: Sink>(
-    alloc: Global,
-    session: &mut Session,
-    name: &[u8],
-    desk: &mut Desk,
-    writer: &mut Counted<W>,
-) -> Result<(), StepFault>
-    requires { desk.old.lines.items ≡ [] }
-    ensures ok { OnOk result (Appends (W.contents (inner_of writer.old))
-        (W.contents (inner_of writer.new)) (says_no_more (marked name.now session.old)).text) }
-    ensures session { OnOk result
-        (session.new ≡ (says_no_more (marked name.now session.old)).session) }
-    ensures err { OnErr result (AppendsBeginning (W.contents (inner_of writer.old))
-        (W.contents (inner_of writer.new)) (says_no_more (marked name.now session.old)).text) }
-    ensures flushed { OnOk result (IsFlushed W.drains (inner_of writer.new)) }
-    ensures empty { OnOk result (desk.new.lines.items ≡ []) }
-    ensures counted { CountsWritten result (failures_of writer.old) (failures_of writer.new) }
-    ensures fault { IfErr result IsOfAnswer }
+#[tactic(auto, unfolding(crate::specs::Answers::answer_to))]
+fn mark(alloc: Global, mut session: Session, name: &[u8]) -> Result<Answered, AllocError>
+    ensures { IfOk result (λ answered. answered ≡ says Done (marked name.now session)) }
 {
     session.mark(alloc, name)?;
-    close(session, desk, writer)
+    Ok(Answered::says(session, Saying::Done))
 }
 
-/// Carries out a command that goes on from the present state, and answers it.
-#[tactic(auto, unfolding(crate::specs::Answers::answer_to, crate::specs::Answers::listed, crate::specs::Answers::looked_ahead, crate::specs::Answers::shown_front, crate::specs::Answers::says_no_more))]
-fn answer_onward<W: Sink>(
-    alloc: Global,
-    session: &mut Session,
-    command: &Onward<'_>,
-    desk: &mut Desk,
-    writer: &mut Counted<W>,
-) -> Result<(), StepFault>
-    requires { desk.old.lines.items ≡ [] }
-    ensures ok { OnOk result (Appends (W.contents (inner_of writer.old))
-        (W.contents (inner_of writer.new)) (answer_to (onward_said command.now) session.old).text) }
-    ensures session { OnOk result
-        (session.new ≡ (answer_to (onward_said command.now) session.old).session) }
-    ensures err { OnErr result (AppendsBeginning (W.contents (inner_of writer.old))
-        (W.contents (inner_of writer.new)) (answer_to (onward_said command.now) session.old).text) }
-    ensures flushed { OnOk result (IsFlushed W.drains (inner_of writer.new)) }
-    ensures empty { OnOk result (desk.new.lines.items ≡ []) }
-    ensures counted { CountsWritten result (failures_of writer.old) (failures_of writer.new) }
-    ensures fault { IfErr result IsOfAnswer }
-{
-    match command {
-        Onward::Make(items) => make(session, items.as_slice(), desk, writer),
-        Onward::State => list(session, desk, writer),
-        Onward::Next => look_ahead(session, desk, writer),
-        Onward::Front => show_front(session, desk, writer),
-        Onward::Mark(name) => mark(alloc, session, name, desk, writer),
-        Onward::Quit => say_no_more(session, desk, writer),
-    }
-}
-
-/// Answers going back to a mark, which was found or not.
-fn answer_back<W: Sink>(
-    session: &Session,
-    found: bool,
-    desk: &mut Desk,
-    writer: &mut Counted<W>,
-) -> Result<(), StepFault>
-    requires { desk.old.lines.items ≡ [] }
-    ensures ok { OnOk result (Appends (W.contents (inner_of writer.old))
-        (W.contents (inner_of writer.new))
-        (if found then (says_no_more session.now).text else fault_line NoSuchMark)) }
-    ensures err { OnErr result (AppendsBeginning (W.contents (inner_of writer.old))
-        (W.contents (inner_of writer.new))
-        (if found then (says_no_more session.now).text else fault_line NoSuchMark)) }
-    ensures flushed { OnOk result (IsFlushed W.drains (inner_of writer.new)) }
-    ensures empty { OnOk result (desk.new.lines.items ≡ []) }
-    ensures counted { CountsWritten result (failures_of writer.old) (failures_of writer.new) }
-    ensures fault { IfErr result IsOfAnswer }
-{
-    if found {
-        say_no_more(session, desk, writer)
-    } else {
-        refuse(Refusal::NoSuchMark, desk, writer)
-    }
-}
-
-/// Goes back to the latest mark of this name, and answers whether there was one.
-#[tactic(auto, unfolding(crate::specs::Answers::gone, crate::specs::Answers::says_no_more))]
-fn go_back<W: Sink>(
-    alloc: Global,
-    session: Session,
-    name: &[u8],
-    desk: &mut Desk,
-    writer: &mut Counted<W>,
-) -> Result<Session, StepFault>
-    requires { desk.old.lines.items ≡ [] }
-    ensures ok { OnOk result (Appends (W.contents (inner_of writer.old))
-        (W.contents (inner_of writer.new)) (gone session (gone_back name.now session)).text) }
-    ensures session { IfOk result
-        (λ after. after ≡ (gone session (gone_back name.now session)).session) }
-    ensures err { OnErr result (AppendsBeginning (W.contents (inner_of writer.old))
-        (W.contents (inner_of writer.new)) (gone session (gone_back name.now session)).text) }
-    ensures flushed { OnOk result (IsFlushed W.drains (inner_of writer.new)) }
-    ensures empty { OnOk result (desk.new.lines.items ≡ []) }
-    ensures counted { CountsWritten result (failures_of writer.old) (failures_of writer.new) }
-    ensures fault { IfErr result IsOfAnswer }
+/// Goes back to the latest mark of this name, if there is one.
+#[tactic(auto, unfolding(crate::specs::Answers::gone))]
+fn go_back(alloc: Global, session: Session, name: &[u8]) -> Result<Answered, AllocError>
+    ensures { IfOk result (λ answered. answered ≡ gone session (gone_back name.now session)) }
 {
     let (session, found) = session.back(alloc, name)?;
-    answer_back(&session, found, desk, writer)?;
-    Ok(session)
-}
-
-/// Carries out a command that goes on from the present state, and answers it.
-fn go_on<W: Sink>(
-    alloc: Global,
-    mut session: Session,
-    command: &Onward<'_>,
-    desk: &mut Desk,
-    writer: &mut Counted<W>,
-) -> Result<Session, StepFault>
-    requires { desk.old.lines.items ≡ [] }
-    ensures ok { OnOk result (Appends (W.contents (inner_of writer.old))
-        (W.contents (inner_of writer.new)) (answer_to (onward_said command.now) session).text) }
-    ensures session { IfOk result
-        (λ after. after ≡ (answer_to (onward_said command.now) session).session) }
-    ensures err { OnErr result (AppendsBeginning (W.contents (inner_of writer.old))
-        (W.contents (inner_of writer.new)) (answer_to (onward_said command.now) session).text) }
-    ensures flushed { OnOk result (IsFlushed W.drains (inner_of writer.new)) }
-    ensures empty { OnOk result (desk.new.lines.items ≡ []) }
-    ensures counted { CountsWritten result (failures_of writer.old) (failures_of writer.new) }
-    ensures fault { IfErr result IsOfAnswer }
-{
-    answer_onward(alloc, &mut session, command, desk, writer)?;
-    Ok(session)
-}
-
-/// Carries out a command, and answers it.
-#[tactic(auto, unfolding(crate::specs::Answers::answer_to))]
-fn answer_to<W: Sink>(
-    alloc: Global,
-    session: Session,
-    command: &Command<'_>,
-    desk: &mut Desk,
-    writer: &mut Counted<W>,
-) -> Result<Session, StepFault>
-    requires { desk.old.lines.items ≡ [] }
-    ensures ok { OnOk result (Appends (W.contents (inner_of writer.old))
-        (W.contents (inner_of writer.new)) (answer_to (command_said command.now) session).text) }
-    ensures session { IfOk result
-        (λ after. after ≡ (answer_to (command_said command.now) session).session) }
-    ensures err { OnErr result (AppendsBeginning (W.contents (inner_of writer.old))
-        (W.contents (inner_of writer.new)) (answer_to (command_said command.now) session).text) }
-    ensures flushed { OnOk result (IsFlushed W.drains (inner_of writer.new)) }
-    ensures empty { OnOk result (desk.new.lines.items ≡ []) }
-    ensures counted { CountsWritten result (failures_of writer.old) (failures_of writer.new) }
-    ensures fault { IfErr result IsOfAnswer }
-{
-    match command {
-        Command::Back(name) => go_back(alloc, session, name, desk, writer),
-        Command::Onward(onward) => go_on(alloc, session, onward, desk, writer),
+    if found {
+        Ok(Answered::says(session, Saying::Done))
+    } else {
+        Ok(Answered::says(session, Saying::Refused(Refusal::NoSuchMark)))
     }
 }
 
-/// Answers that a line is not carried out, and why. The session goes on.
-fn refuse_line<W: Sink>(
-    session: Session,
-    refusal: Refusal,
-    desk: &mut Desk,
-    writer: &mut Counted<W>,
-) -> Result<Answered, StepFault>
-    requires { desk.old.lines.items ≡ [] }
-    ensures ok { OnOk result (Appends (W.contents (inner_of writer.old))
-        (W.contents (inner_of writer.new)) (fault_line refusal)) }
-    ensures session { IfOk result (λ after. after.session ≡ session) }
-    ensures last { IfOk result (λ after. after.is_last ≡ false) }
-    ensures err { OnErr result (AppendsBeginning (W.contents (inner_of writer.old))
-        (W.contents (inner_of writer.new)) (fault_line refusal)) }
-    ensures flushed { OnOk result (IsFlushed W.drains (inner_of writer.new)) }
-    ensures empty { OnOk result (desk.new.lines.items ≡ []) }
-    ensures counted { CountsWritten result (failures_of writer.old) (failures_of writer.new) }
-    ensures fault { IfErr result IsOfAnswer }
+/// Carries out a command that goes on from the present state.
+#[tactic(auto, unfolding(crate::specs::Answers::answer_to))]
+fn go_on(alloc: Global, session: Session, command: &Onward<'_>) -> Result<Answered, AllocError>
+    ensures { IfOk result (λ answered. answered ≡ answer_to (onward_said command.now) session) }
 {
-    refuse(refusal, desk, writer)?;
-    Ok(Answered::new(session, false))
+    match command {
+        Onward::Make(items) => Ok(make(session, items.as_slice())),
+        Onward::State => Ok(Answered::says(session, Saying::State)),
+        Onward::Next => Ok(Answered::says(session, Saying::Next)),
+        Onward::Front => Ok(Answered::says(session, Saying::Front)),
+        Onward::Mark(name) => mark(alloc, session, name),
+        Onward::Quit => Ok(Answered {
+            session,
+            saying: Saying::Done,
+            is_last: true,
+        }),
+    }
 }
 
-/// Answers a line that is this command.
-fn carry_out<W: Sink>(
-    alloc: Global,
-    session: Session,
-    command: &Command<'_>,
-    desk: &mut Desk,
-    writer: &mut Counted<W>,
-) -> Result<Answered, StepFault>
-    requires { desk.old.lines.items ≡ [] }
-    ensures ok { OnOk result (Appends (W.contents (inner_of writer.old))
-        (W.contents (inner_of writer.new)) (answer_to (command_said command.now) session).text) }
-    ensures session { IfOk result
-        (λ after. after.session ≡ (answer_to (command_said command.now) session).session) }
-    ensures last { IfOk result
-        (λ after. after.is_last ≡ is_quit (Some (command_said command.now))) }
-    ensures err { OnErr result (AppendsBeginning (W.contents (inner_of writer.old))
-        (W.contents (inner_of writer.new)) (answer_to (command_said command.now) session).text) }
-    ensures flushed { OnOk result (IsFlushed W.drains (inner_of writer.new)) }
-    ensures empty { OnOk result (desk.new.lines.items ≡ []) }
-    ensures counted { CountsWritten result (failures_of writer.old) (failures_of writer.new) }
-    ensures fault { IfErr result IsOfAnswer }
+/// Carries out a command.
+#[tactic(auto, unfolding(crate::specs::Answers::answer_to))]
+fn carry_out(alloc: Global, session: Session, command: &Command<'_>) -> Result<Answered, AllocError>
+    ensures { IfOk result (λ answered. answered ≡ answer_to (command_said command.now) session) }
 {
-    let is_last = command.is_quit();
-    let session = answer_to(alloc, session, command, desk, writer)?;
-    Ok(Answered::new(session, is_last))
+    match command {
+        Command::Back(name) => go_back(alloc, session, name),
+        Command::Onward(onward) => go_on(alloc, session, onward),
+    }
 }
 
-/// Answers a line that is this command, or that is none.
-fn answer_to_any<W: Sink>(
+/// Carries out a command, if there is one.
+fn answer_to_any(
     alloc: Global,
     session: Session,
     command: &Option<Command<'_>>,
-    desk: &mut Desk,
-    writer: &mut Counted<W>,
-) -> Result<Answered, StepFault>
-    requires { desk.old.lines.items ≡ [] }
-    ensures ok { OnOk result (Appends (W.contents (inner_of writer.old))
-        (W.contents (inner_of writer.new))
-        (answer_to_any (option_map command_said command.now) session).text) }
-    ensures session { IfOk result (λ after. after.session
-        ≡ (answer_to_any (option_map command_said command.now) session).session) }
-    ensures last { IfOk result
-        (λ after. after.is_last ≡ is_quit (option_map command_said command.now)) }
-    ensures err { OnErr result (AppendsBeginning (W.contents (inner_of writer.old))
-        (W.contents (inner_of writer.new))
-        (answer_to_any (option_map command_said command.now) session).text) }
-    ensures flushed { OnOk result (IsFlushed W.drains (inner_of writer.new)) }
-    ensures empty { OnOk result (desk.new.lines.items ≡ []) }
-    ensures counted { CountsWritten result (failures_of writer.old) (failures_of writer.new) }
-    ensures fault { IfErr result IsOfAnswer }
+) -> Result<Answered, AllocError>
+    ensures { IfOk result (λ answered. answered
+        ≡ answer_to_any (option_map command_said command.now) session) }
 {
     match command {
-        Some(command) => carry_out(alloc, session, command, desk, writer),
-        None => refuse_line(session, Refusal::NoCommand, desk, writer),
+        Some(command) => carry_out(alloc, session, command),
+        None => Ok(Answered::says(session, Saying::Refused(Refusal::NoCommand))),
     }
 }
 
-/// Reads a line's command, and answers the line.
-fn answer_command<W: Sink>(
-    alloc: Global,
-    session: Session,
-    line: &[u8],
-    desk: &mut Desk,
-    writer: &mut Counted<W>,
-) -> Result<Answered, StepFault>
-    requires { desk.old.lines.items ≡ [] }
-    ensures ok { OnOk result (Appends (W.contents (inner_of writer.old))
-        (W.contents (inner_of writer.new)) (answer_to_any (command_of line.now) session).text) }
-    ensures session { IfOk result
-        (λ after. after.session ≡ (answer_to_any (command_of line.now) session).session) }
-    ensures last { IfOk result (λ after. after.is_last ≡ is_quit (command_of line.now)) }
-    ensures err { OnErr result (AppendsBeginning (W.contents (inner_of writer.old))
-        (W.contents (inner_of writer.new)) (answer_to_any (command_of line.now) session).text) }
-    ensures flushed { OnOk result (IsFlushed W.drains (inner_of writer.new)) }
-    ensures empty { OnOk result (desk.new.lines.items ≡ []) }
-    ensures counted { CountsWritten result (failures_of writer.old) (failures_of writer.new) }
-    ensures fault { IfErr result IsOfAnswer }
+/// Carries out the command that a line is, if it is one.
+fn answer_command(alloc: Global, session: Session, line: &[u8]) -> Result<Answered, AllocError>
+    ensures { IfOk result (λ answered. answered ≡ answer_to_any (command_of line.now) session) }
 {
     let command = read_command(alloc, line)?;
-    answer_to_any(alloc, session, &command, desk, writer)
+    answer_to_any(alloc, session, &command)
 }
 
-/// Answers a line, which is given without its line feed. The writer is flushed behind the answer.
-///
-/// If a write failed, a prefix of the answer was written; if memory was refused, nothing.
-#[tactic(auto, unfolding(crate::specs::Answers::answer, crate::specs::Conversations::is_last))]
-pub(crate) fn answer<W: Sink>(
-    alloc: Global,
-    session: Session,
-    line: &[u8],
-    desk: &mut Desk,
-    writer: &mut Counted<W>,
-) -> Result<Answered, StepFault>
-    requires { desk.old.lines.items ≡ [] }
-    ensures ok { OnOk result (Appends (W.contents (inner_of writer.old))
-        (W.contents (inner_of writer.new)) (answer line.now session).text) }
-    ensures session { IfOk result (λ after. after.session ≡ (answer line.now session).session) }
-    ensures last { IfOk result (λ after. after.is_last ≡ is_last line.now) }
-    ensures err { OnErr result (AppendsBeginning (W.contents (inner_of writer.old))
-        (W.contents (inner_of writer.new)) (answer line.now session).text) }
-    ensures flushed { OnOk result (IsFlushed W.drains (inner_of writer.new)) }
-    ensures empty { OnOk result (desk.new.lines.items ≡ []) }
-    ensures counted { CountsWritten result (failures_of writer.old) (failures_of writer.new) }
-    ensures fault { IfErr result IsOfAnswer }
+/// Carries out a line, which is given without its line feed, and says what its answer is. It fails
+/// only for want of memory.
+#[tactic(auto, unfolding(crate::specs::Answers::answer))]
+pub(crate) fn answer(alloc: Global, session: Session, line: &[u8]) -> Result<Answered, AllocError>
+    ensures { IfOk result (λ answered. answered ≡ answer line.now session) }
 {
     if line.len() > MOST_LINE {
-        return refuse_line(session, Refusal::TooLong, desk, writer);
+        return Ok(Answered::says(session, Saying::Refused(Refusal::TooLong)));
     }
-    answer_command(alloc, session, line, desk, writer)
+    answer_command(alloc, session, line)
 }

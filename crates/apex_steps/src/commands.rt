@@ -1,12 +1,15 @@
 //! The command that a line is.
-ghost use Rattle.std.specs.Prelude.{◌≡◌, Some, IfOk, option_map};
+ghost use Rattle.std.specs.Prelude.{◌≡◌, IfOk, option_map};
 ghost use Rattle.apex_history.specs.Words.{parts};
-ghost use Rattle.apex_steps.specs.Conversations.{is_quit};
 ghost use Rattle.apex_steps.specs.Commands.{command_of, command_of_word, command_of_words, command_said, command_with_name};
+ghost use Rattle.apex_steps.specs.declared.commands.TheConstants.{BLANK};
 
 use apex_history::cut;
 use apex_schedules::{Item, read_schedule};
 use std::alloc::{AllocError, Global};
+
+/// The byte between two words.
+const BLANK: u8 = b' ';
 
 /// What a line asks for.
 #[derive(Drop)]
@@ -32,15 +35,6 @@ pub(crate) enum Onward<'a> {
     Mark(&'a [u8]),
     /// The end.
     Quit,
-}
-
-impl<'a> Command<'a> {
-    /// Whether the session ends behind the answer.
-    pub(crate) fn is_quit(&self) -> bool
-        ensures { result ≡ is_quit (Some (command_said self.now)) }
-    {
-        matches!(self, Command::Onward(Onward::Quit))
-    }
 }
 
 /// The command that is one word.
@@ -78,13 +72,13 @@ fn command_with_name<'a>(word: &[u8], name: &'a [u8]) -> Option<Command<'a>>
 /// The command that is the words of a line.
 #[tactic(auto, using(crate::proofs::Parts::no_command))]
 fn command_of_words(line: &[u8]) -> Option<Command<'_>>
-    ensures { option_map command_said result ≡ command_of_words (parts 32 line.now) }
+    ensures { option_map command_said result ≡ command_of_words (parts BLANK line.now) }
 {
-    let (word, after) = cut(line, b' ');
+    let (word, after) = cut(line, BLANK);
     let Some(after) = after else {
         return command_of_word(word);
     };
-    let (name, more) = cut(after, b' ');
+    let (name, more) = cut(after, BLANK);
     match more {
         Some(_) => None,
         None => command_with_name(word, name),

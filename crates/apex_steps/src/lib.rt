@@ -2,15 +2,17 @@
 #![tactic(auto)]
 
 mod answers;
+mod busy;
 mod commands;
 mod conversations;
 mod desks;
 mod events;
 mod faults;
+mod line_desks;
+mod object_desks;
 mod refusals;
 mod sessions;
 
 pub use conversations::{converse, serve_steps};
 pub use faults::StepFault;
-pub use refusals::Refusal;
 pub use sessions::Session;

@@ -3,8 +3,8 @@ ghost use Rattle.std.specs.Prelude.{◌≡◌, ◌≤◌, length};
 ghost use Rattle.apex_steps.specs.Answers.{reason_text};
 
 /// The reason why a line is not carried out. Nothing changes then.
-#[derive(Clone, Copy, Debug, PartialEq, Eq)]
-pub enum Refusal {
+#[derive(Clone, Copy)]
+pub(crate) enum Refusal {
     /// The line is no command.
     NoCommand,
     /// An item is of a core that the table lacks.
@@ -19,7 +19,7 @@ pub enum Refusal {
 
 impl Refusal {
     /// The text of the reason.
-    pub fn text(self) -> &'static str
+    pub(crate) fn text(self) -> &'static str
         ensures text { result.now ≡ reason_text self }
         ensures short { length result.now ≤ 13 }
     {

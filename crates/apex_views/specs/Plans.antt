@@ -10,6 +10,10 @@ use Rattle.apex_types.specs.declared.entries.Event.{Event}
 use Rattle.apex_calls.specs.Lines.{lines_of}
 use Rattle.apex_history.specs.Counted.{AppendsBeginning}
 use Rattle.apex_console.specs.Reports.{fault_of_events}
+use Rattle.apex_objects.specs.Entries.{objects_of}
+use Rattle.apex_objects.specs.Listing.{listing_objects}
+use Rattle.apex_objects.specs.declared.Form.{Form}
+use Rattle.apex_objects.specs.declared.Form.TheVariants as forms
 use Rattle.apex_report.specs.Json.{report_json}
 use Rattle.apex_report.specs.Texts.{report_text}
 use Rattle.apex_schedules.specs.Printing.{schedule_text}
@@ -24,8 +28,6 @@ use Rattle.apex_pictures.specs.declared.Style.{Style}
 use Rattle.apex_pictures.specs.declared.Style.TheVariants as style
 use Rattle.apex_views.specs.Showings.{Picture, View, drawn, listed, svg, trace}
 use Rattle.apex_views.specs.declared.plans.Plan.{Plan}
-use Rattle.apex_views.specs.declared.showings.Form.{Form}
-use Rattle.apex_views.specs.declared.showings.Form.TheVariants as forms
 use Rattle.apex_views.specs.declared.showings.Listing.{Listing}
 use Rattle.apex_views.specs.declared.showings.Listing.TheVariants as lists
 
@@ -61,16 +63,26 @@ pub record IsPlanFor (picture : Picture) (plan : Plan) : Type 0 where
   pub within : All (IsWithin plan.table.cores) plan.events.items
   pub style : IsStyleOf picture plan.style
 
+-- the entries of a history, in this form
+abbrev pub history_in : Form → tables.Table → List Entry → List ℕ
+history_in forms.Text table history = lines_of table history
+history_in forms.Json table history = objects_of table history
+
+-- the last state of a machine, in this form
+abbrev pub status_in : Form → tables.Table → Machine → List ℕ
+status_in forms.Text table machine = listing table machine
+status_in forms.Json table machine = listing_objects table machine
+
 -- the report of a history, in this form
 abbrev pub report_in : Form → tables.Table → List Entry → List ℕ
 report_in forms.Text table history = report_text table history
 report_in forms.Json table history = report_json table history
 
--- the text of a listing of a machine: the lines of its history, its last state, the report of its
+-- the text of a listing of a machine: the entries of its history, its last state, the report of its
 -- history, or the schedule of its events with a line feed
 abbrev pub listing_text : Listing → tables.Table → Machine → List ℕ
-listing_text lists.Lines table machine = lines_of table machine.history
-listing_text lists.Status table machine = listing table machine
+listing_text (lists.Lines form) table machine = history_in form table machine.history
+listing_text (lists.Status form) table machine = status_in form table machine
 listing_text (lists.Report form) table machine = report_in form table machine.history
 listing_text lists.Schedule table machine =
     schedule_text (events_of machine.history) ++ codes "\n"

@@ -12,4 +12,5 @@ mod sources;
 
 pub use faults::{BadSchedule, Reason, ShowFault, read_items, schedule_line};
 pub use showing::{Shown, show_run};
-pub use showings::{Form, Listing, Picture, RunSource, Showing, View};
+pub use showings::{Listing, Picture, RunSource, Showing, View};
+pub use sources::{Given, given_by};

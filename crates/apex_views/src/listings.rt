@@ -4,6 +4,7 @@ ghost use Rattle.apex_history.specs.Counted.{inner_of, failures_of, CountsFailur
 ghost use Rattle.apex_console.specs.Faults.{fault_in};
 ghost use Rattle.apex_console.specs.Streams.{HasWritten, HasWrittenSome};
 ghost use Rattle.apex_console.specs.declared.CliFault.{CliFault as CliFaultOf};
+ghost use Rattle.apex_objects.specs.declared.Form.TheVariants.{Text, Json};
 ghost use Rattle.apex_report.specs.Texts.{IsOfTable, IsReportOf};
 ghost use Rattle.apex_schedules.specs.Printing.{schedule_text};
 ghost use Rattle.apex_types.specs.declared.entries.Entry.{Entry};
@@ -13,10 +14,11 @@ ghost use Rattle.apex_views.specs.Showings.{listed};
 ghost use Rattle.apex_views.specs.declared.showings.Listing.TheVariants.{Lines, Status, Report as ReportIn, Schedule};
 
 use crate::plans::events_in;
-use crate::showings::{Form, Listing};
+use crate::showings::Listing;
 use apex_console::{CliFault, Run};
 use apex_dispatch::Kernel;
 use apex_history::{Counted, Page, Sink, print_history};
+use apex_objects::{Form, ObjectLines, print_history_objects, print_listing_objects};
 use apex_process::QueueStore;
 use apex_report::{Report, print_report, print_report_json, report_of};
 use apex_schedules::print_schedule;
@@ -32,7 +34,7 @@ fn write_lines<W: Sink>(
     kernel: &Kernel<QueueStore>,
     writer: &mut Counted<W>,
 ) -> Result<(), CliFault>
-    ensures { Shows (listed Lines) kernel.now.table kernel.now.machine
+    ensures { Shows (listed (Lines Text)) kernel.now.table kernel.now.machine
         (W.contents (inner_of writer.old)) (failures_of writer.old) (fault_in result)
         (W.contents (inner_of writer.new)) (failures_of writer.new) }
 {
@@ -44,18 +46,51 @@ fn write_lines<W: Sink>(
     }
 }
 
+/// Writes the entries of a kernel's history as objects.
+fn write_history_objects<W: Sink>(
+    kernel: &Kernel<QueueStore>,
+    writer: &mut Counted<W>,
+) -> Result<(), CliFault>
+    ensures { Shows (listed (Lines Json)) kernel.now.table kernel.now.machine
+        (W.contents (inner_of writer.old)) (failures_of writer.old) (fault_in result)
+        (W.contents (inner_of writer.new)) (failures_of writer.new) }
+{
+    let mut objects = ObjectLines::new();
+    kernel.holds();
+    match print_history_objects(kernel.table(), kernel.entries(), &mut objects, writer) {
+        Ok(()) => Ok(()),
+        Err(_) => Err(CliFault::Write),
+    }
+}
+
 /// Writes the last state of a kernel.
 fn write_status<W: Sink>(
     alloc: Global,
     kernel: &Kernel<QueueStore>,
     writer: &mut Counted<W>,
 ) -> Result<(), CliFault>
-    ensures { Shows (listed Status) kernel.now.table kernel.now.machine
+    ensures { Shows (listed (Status Text)) kernel.now.table kernel.now.machine
         (W.contents (inner_of writer.old)) (failures_of writer.old) (fault_in result)
         (W.contents (inner_of writer.new)) (failures_of writer.new) }
 {
     let mut page = Page::new(alloc)?;
     match kernel.print_status(&mut page, writer) {
+        Ok(()) => Ok(()),
+        Err(_) => Err(CliFault::Write),
+    }
+}
+
+/// Writes the last state of a kernel as objects.
+fn write_status_objects<W: Sink>(
+    kernel: &Kernel<QueueStore>,
+    writer: &mut Counted<W>,
+) -> Result<(), CliFault>
+    ensures { Shows (listed (Status Json)) kernel.now.table kernel.now.machine
+        (W.contents (inner_of writer.old)) (failures_of writer.old) (fault_in result)
+        (W.contents (inner_of writer.new)) (failures_of writer.new) }
+{
+    let mut objects = ObjectLines::new();
+    match print_listing_objects(kernel, &mut objects, writer) {
         Ok(()) => Ok(()),
         Err(_) => Err(CliFault::Write),
     }
@@ -141,8 +176,10 @@ fn write_listing<W: Sink>(
         (W.contents (inner_of writer.new)) (failures_of writer.new) }
 {
     match listing {
-        Listing::Lines => write_lines(alloc, kernel, writer),
-        Listing::Status => write_status(alloc, kernel, writer),
+        Listing::Lines(Form::Text) => write_lines(alloc, kernel, writer),
+        Listing::Lines(Form::Json) => write_history_objects(kernel, writer),
+        Listing::Status(Form::Text) => write_status(alloc, kernel, writer),
+        Listing::Status(Form::Json) => write_status_objects(kernel, writer),
         Listing::Report(form) => write_report(alloc, form, kernel, writer),
         Listing::Schedule => write_schedule(alloc, kernel, writer),
     }

@@ -1,4 +1,5 @@
 //! How a run is given, and how it is shown.
+use apex_objects::Form;
 use apex_pace::Pace;
 use apex_schedules::Item;
 
@@ -24,22 +25,13 @@ pub enum Picture {
     Trace,
 }
 
-/// The form of a report.
-#[derive(Clone, Copy, Debug, PartialEq, Eq)]
-pub enum Form {
-    /// As lines.
-    Text,
-    /// As one JSON object.
-    Json,
-}
-
 /// A listing of a run.
 #[derive(Clone, Copy, Debug, PartialEq, Eq)]
 pub enum Listing {
-    /// The lines of its history.
-    Lines,
+    /// The entries of its history.
+    Lines(Form),
     /// Its last state.
-    Status,
+    Status(Form),
     /// The figures of each core and each process.
     Report(Form),
     /// The schedule of its events.

@@ -14,3 +14,7 @@ returns-in-NoProcess g c =
 pub returns-in-StatesFull : goal.returns-in-StatesFull
 returns-in-StatesFull g c =
     rw c.in-StatesFull.is (told_line _ _ _ _ (c.as_bytes-in-StatesFull.ensures.value ∙ c.as_str-in-StatesFull.ensures.value ∙ c.states_line.ensures) c.write_error-in-StatesFull.ensures)
+
+pub returns-in-NoEntry : goal.returns-in-NoEntry
+returns-in-NoEntry g c =
+    rw c.in-NoEntry.is (told_line _ _ _ _ (c.as_bytes-in-NoEntry.ensures.value ∙ c.as_str-in-NoEntry.ensures.value ∙ c.entry_line.ensures) c.write_error-in-NoEntry.ensures)

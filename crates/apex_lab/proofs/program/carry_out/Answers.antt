@@ -2,7 +2,7 @@
 use Rattle.std.proofs.Common.{refl}
 use Rattle.std.proofs.KnownBytes.{Keeps-refl}
 use Rattle.std.proofs.lemmas.Result.{err_from_is_err_and}
-use Rattle.apex_lab.specs.Exits.{of_lint, of_search, of_showing}
+use Rattle.apex_lab.specs.Exits.{of_check, of_lint, of_search, of_showing, of_steps, of_why}
 use Rattle.apex_lab.proofs.Endings.{ends_unasked}
 use Rattle.apex_lab.proofs.program.carry_out.Goals as goal
 
@@ -19,3 +19,12 @@ returns-in-Search g c = of_search (rw c.in-Search.is at c.in_ok-task.ensures.ok)
 
 pub returns-in-Lint : goal.returns-in-Lint
 returns-in-Lint g c = of_lint (rw c.in-Lint.is at c.in_ok-task.ensures.ok) c.run_lint.ensures
+
+pub returns-in-Step : goal.returns-in-Step
+returns-in-Step g c = of_steps (rw c.in-Step.is at c.in_ok-task.ensures.ok) c.run_steps.ensures
+
+pub returns-in-Check : goal.returns-in-Check
+returns-in-Check g c = of_check (rw c.in-Check.is at c.in_ok-task.ensures.ok) c.run_check.ensures
+
+pub returns-in-Why : goal.returns-in-Why
+returns-in-Why g c = of_why (rw c.in-Why.is at c.in_ok-task.ensures.ok) c.run_why.ensures

@@ -6,7 +6,9 @@ use Rattle.apex_lab.proofs.words.command.Goals as goal
 pub returns : goal.returns
 returns c =
     let top = λ (a : App). a.top in
-    let search_is = c.in_ok-with_search.ensures.shape c.in_ok-search_command.ensures.local
-    ∙ ap₂ with_subcommand c.in_ok-views.ensures (ap top c.in_ok-search_command.ensures.app) in
-    IfOk-weaker c.subcommand-2.result _ _ (λ r h. h.shape c.in_ok-lint_command.ensures.local
-    ∙ ap₂ with_subcommand search_is (ap top c.in_ok-lint_command.ensures.app)) c.subcommand-2.ensures
+    let step_is = c.in_ok-with_step.ensures.shape c.in_ok-step_command.ensures.local
+    ∙ ap₂ with_subcommand c.in_ok-searches.ensures (ap top c.in_ok-step_command.ensures.app) in
+    let check_is = c.in_ok-with_check.ensures.shape c.in_ok-check_command.ensures.local
+    ∙ ap₂ with_subcommand step_is (ap top c.in_ok-check_command.ensures.app) in
+    IfOk-weaker c.subcommand-3.result _ _ (λ r h. h.shape c.in_ok-why_command.ensures.local
+    ∙ ap₂ with_subcommand check_is (ap top c.in_ok-why_command.ensures.app)) c.subcommand-3.ensures

@@ -1,61 +1,70 @@
-use Rattle.std.proofs.Common.{◌≡◌, ◌∙◌, refl, true, false, []}
-use Rattle.std.proofs.KnownBytes.{Appends-nil, Consumes-nil}
+use Rattle.std.proofs.Common.{◌≡◌, [], Some, refl}
 use Rattle.std.proofs.lemmas.Result.{err_from_is_err_and}
 use Rattle.std.specs.Io.KnownBytes.{prepend_known}
-use Rattle.apex_history.specs.Counted.{inner_of}
-use Rattle.apex_steps.specs.Conversations.{GoesOn, Says}
-use Rattle.apex_steps.proofs.Said.{said_none}
-use Rattle.apex_steps.proofs.Talks.{begins_behind, begins_unread, goes_behind, says_behind}
+use Rattle.apex_history.specs.Counted.{inner_of, failures_of}
+use Rattle.apex_history.specs.Ports.{ports}
+use Rattle.apex_check.specs.Ahead.{IsAhead}
+use Rattle.apex_steps.specs.Conversations.{Hears}
+use Rattle.apex_steps.specs.declared.faults.StepFault.TheVariants.{Memory}
+use Rattle.apex_steps.proofs.Talks.{cut_before, cut_within, ends_here, ends_with, goes_on, talks_none}
 use Rattle.apex_steps.proofs.conversations.converse.Goals as goal
 
-pub returns-in_err-desk-clause-err : goal.returns-in_err-desk-clause-err
-returns-in_err-desk-clause-err g c =
+pub returns-in_err-desk : goal.returns-in_err-desk
+returns-in_err-desk g c =
     let p = err_from_is_err_and c.from_residual.result c.from_residual.ensures.1 in
-    rw p.1 (begins_unread c.args.session c.args.pending.now (g.R.Source.remaining (inner_of c.args.reader.now)) (g.W.Sink.contents (inner_of c.args.writer.now)))
+    let start = ports (prepend_known c.args.pending.now (g.R.Source.remaining (inner_of c.args.reader.now))) (g.W.Sink.contents (inner_of c.args.writer.now))
+    (failures_of c.args.reader.now) (failures_of c.args.writer.now) in
+    rw (p.1, p.2) (cut_before c.args.form c.args.session c.args.session start start start (talks_none c.args.form c.args.session start) Memory refl refl refl)
 
 pub loop-desk-init : goal.loop-desk-init
 loop-desk-init g c =
-    let left = prepend_known c.args.pending.now (g.R.Source.remaining (inner_of c.args.reader.now)) in
-    record {
-      said = ([], [], Consumes-nil left, Appends-nil (g.W.Sink.contents (inner_of c.args.writer.now)), said_none c.args.session);
-      empty = c.in_ok-desk.ensures;
-      reads = refl;
-      writes = refl;
-    }
+    let start = ports (prepend_known c.args.pending.now (g.R.Source.remaining (inner_of c.args.reader.now))) (g.W.Sink.contents (inner_of c.args.writer.now))
+    (failures_of c.args.reader.now) (failures_of c.args.writer.now) in
+    record { talked = talks_none c.args.form c.args.session start; empty = c.in_ok-desk.ensures }
 
-pub returns-in_err-answered-clause-err : goal.returns-in_err-answered-clause-err
-returns-in_err-answered-clause-err g c =
-    let (taken, written, gone, wrote, has) = c.loop-desk.invariant.said in
-    let old = prepend_known c.args.pending.now (g.R.Source.remaining (inner_of c.args.reader.now)) in
-    let mid = prepend_known c.loop-desk.pending (g.R.Source.remaining (inner_of c.loop-desk.reader)) in
-    let p = err_from_is_err_and c.from_residual-in_err-answered.result c.from_residual-in_err-answered.ensures.1 in
-    rw p.1 (begins_behind c.args.session c.loop-desk.session old mid (g.W.Sink.contents (inner_of c.args.writer.now))
-    (g.W.Sink.contents (inner_of c.loop-desk.writer)) (g.W.Sink.contents (inner_of c.answer_next.new.writer)) taken written gone wrote has
-    c.in_err-answered.ensures.err)
+pub returns-in_err-heard : goal.returns-in_err-heard
+returns-in_err-heard g c =
+    let p = err_from_is_err_and c.from_residual-in_err-heard.result c.from_residual-in_err-heard.ensures.1 in
+    let after = ports (prepend_known c.hear.new.pending (g.R.Source.remaining (inner_of c.hear.new.reader))) (g.W.Sink.contents (inner_of c.loop-desk.writer))
+    (failures_of c.hear.new.reader) (failures_of c.loop-desk.writer) in
+    rw (p.1, p.2) (cut_before c.args.form c.args.session c.loop-desk.session _ _ after c.loop-desk.invariant.talked c.in_err-heard.field-0.0
+    c.in_err-heard.ensures.counted refl refl)
 
-pub returns-then-answered-clause-ok : goal.returns-then-answered-clause-ok
-returns-then-answered-clause-ok g c =
-    let (taken, written, gone, wrote, has) = c.loop-desk.invariant.said in
-    let old = prepend_known c.args.pending.now (g.R.Source.remaining (inner_of c.args.reader.now)) in
-    let mid = prepend_known c.loop-desk.pending (g.R.Source.remaining (inner_of c.loop-desk.reader)) in
-    let b = g.W.Sink.contents (inner_of c.loop-desk.writer) in
-    let d = g.W.Sink.contents (inner_of c.answer_next.new.writer) in
-    let says : Says c.loop-desk.session mid b d = rw c.if-answered.true at c.in_ok-answered.ensures.ok in
-    says_behind c.args.session c.loop-desk.session old mid (g.W.Sink.contents (inner_of c.args.writer.now)) b d taken written gone wrote has says
+pub returns-in_default : goal.returns-in_default
+returns-in_default g c =
+    let before = prepend_known c.loop-desk.pending (g.R.Source.remaining (inner_of c.loop-desk.reader)) in
+    let after = ports (prepend_known c.hear.new.pending (g.R.Source.remaining (inner_of c.hear.new.reader))) (g.W.Sink.contents (inner_of c.loop-desk.writer))
+    (failures_of c.hear.new.reader) (failures_of c.loop-desk.writer) in
+    let ahead : IsAhead [] before = rw c.in_default.is at c.in_ok-heard.ensures.ok in
+    ends_here c.args.form c.args.session c.loop-desk.session _ _ after c.loop-desk.invariant.talked ahead refl (c.in_ok-heard.ensures.counted, refl)
+
+pub returns-in_err-say : goal.returns-in_err-say
+returns-in_err-say g c =
+    let p = err_from_is_err_and c.from_residual-in_err-say.result c.from_residual-in_err-say.ensures.1 in
+    let before = prepend_known c.loop-desk.pending (g.R.Source.remaining (inner_of c.loop-desk.reader)) in
+    let left = prepend_known c.hear.new.pending (g.R.Source.remaining (inner_of c.hear.new.reader)) in
+    let after = ports left (g.W.Sink.contents (inner_of c.say.new.writer)) (failures_of c.hear.new.reader) (failures_of c.say.new.writer) in
+    let hears : Hears c.loop-desk.session before left c.in-Some.answered = rw c.in-Some.is at c.in_ok-heard.ensures.ok in
+    rw (p.1, p.2) (cut_within c.args.form c.args.session c.loop-desk.session _ _ after c.loop-desk.invariant.talked c.in-Some.answered hears
+    c.in_err-say.ensures.err c.in_ok-heard.ensures.counted c.in_err-say.ensures.counted)
+
+pub returns-then-answered : goal.returns-then-answered
+returns-then-answered g c =
+    let before = prepend_known c.loop-desk.pending (g.R.Source.remaining (inner_of c.loop-desk.reader)) in
+    let left = prepend_known c.hear.new.pending (g.R.Source.remaining (inner_of c.hear.new.reader)) in
+    let after = ports left (g.W.Sink.contents (inner_of c.say.new.writer)) (failures_of c.hear.new.reader) (failures_of c.say.new.writer) in
+    let hears : Hears c.loop-desk.session before left c.in-Some.answered = rw c.in-Some.is at c.in_ok-heard.ensures.ok in
+    ends_with c.args.form c.args.session c.loop-desk.session _ _ after c.loop-desk.invariant.talked c.in-Some.answered hears c.if-answered.true
+    c.in_ok-say.ensures.ok (c.in_ok-heard.ensures.counted, c.in_ok-say.ensures.counted)
 
 pub loop-desk-preserved : goal.loop-desk-preserved
 loop-desk-preserved g c =
-    let (taken, written, gone, wrote, has) = c.loop-desk.invariant.said in
-    let old = prepend_known c.args.pending.now (g.R.Source.remaining (inner_of c.args.reader.now)) in
-    let mid = prepend_known c.loop-desk.pending (g.R.Source.remaining (inner_of c.loop-desk.reader)) in
-    let new = prepend_known c.answer_next.new.pending (g.R.Source.remaining (inner_of c.answer_next.new.reader)) in
-    let b = g.W.Sink.contents (inner_of c.loop-desk.writer) in
-    let d = g.W.Sink.contents (inner_of c.answer_next.new.writer) in
-    let after = c.in_ok-answered.answered.session in
-    let on : GoesOn c.loop-desk.session after mid new b d = rw c.if-answered.false at c.in_ok-answered.ensures.ok in
+    let before = prepend_known c.loop-desk.pending (g.R.Source.remaining (inner_of c.loop-desk.reader)) in
+    let left = prepend_known c.hear.new.pending (g.R.Source.remaining (inner_of c.hear.new.reader)) in
+    let after = ports left (g.W.Sink.contents (inner_of c.say.new.writer)) (failures_of c.hear.new.reader) (failures_of c.say.new.writer) in
+    let hears : Hears c.loop-desk.session before left c.in-Some.answered = rw c.in-Some.is at c.in_ok-heard.ensures.ok in
     record {
-      said = goes_behind c.args.session c.loop-desk.session old mid (g.W.Sink.contents (inner_of c.args.writer.now)) b d taken written gone wrote has after new on;
-      empty = c.in_ok-answered.ensures.empty;
-      reads = c.in_ok-answered.ensures.reads ∙ c.loop-desk.invariant.reads;
-      writes = c.in_ok-answered.ensures.writes ∙ c.loop-desk.invariant.writes;
+      talked = goes_on c.args.form c.args.session c.loop-desk.session _ _ after c.loop-desk.invariant.talked c.in-Some.answered hears c.if-answered.false
+          c.in_ok-say.ensures.ok (c.in_ok-heard.ensures.counted, c.in_ok-say.ensures.counted);
+      empty = c.in_ok-say.ensures.empty;
     }

@@ -1,4 +1,4 @@
-use Rattle.std.proofs.Common.{◌≡◌, ◌∙◌, refl}
+use Rattle.std.proofs.Common.{◌≡◌, refl}
 use Rattle.std.proofs.KnownBytes.{Keeps-refl}
 use Rattle.std.proofs.lemmas.Result.{err_from_is_err_and}
 use Rattle.std.specs.Io.KnownBytes.{prepend_known}
@@ -40,6 +40,6 @@ returns g c =
     let after = ports (g.R.Source.remaining (inner_of c.converse.new.reader)) (g.W.Sink.contents (inner_of c.converse.new.writer))
     (failures_of c.converse.new.reader) (failures_of c.converse.new.writer) in
     let before = ports known (g.W.Sink.contents (inner_of c.args.writer.now)) (failures_of c.args.reader.now) (failures_of c.args.writer.now) in
-    ends_conversed front c.in_ok-table.table known mid lines reads (rw none at taken) before after c.converse.result refl
-    (rw c.in_ok-session.ensures at c.converse.ensures.ok) (rw c.in_ok-session.ensures at c.converse.ensures.err) c.converse.ensures.fault
-    (rw c.in_ok-table.ensures.counted at c.converse.ensures.reads) c.converse.ensures.writes
+    let end = prepend_known c.converse.new.pending (g.R.Source.remaining (inner_of c.converse.new.reader)) in
+    ends_conversed front c.in_ok-table.table known mid lines reads (rw none at taken) before after end c.converse.result refl
+    (rw (c.in_ok-session.ensures, c.in_ok-table.ensures.counted) at c.converse.ensures)

@@ -2,8 +2,8 @@
 use Rattle.std.proofs.Common.{ℕ, List, ap, subst, sym}
 use Rattle.std.specs.Prelude.{OnErr, OnOk}
 use Rattle.apex_console.specs.Streams.{HasWritten, HasWrittenSome}
+use Rattle.apex_objects.specs.declared.Form.{Form}
 use Rattle.apex_views.specs.Plans.{report_in}
-use Rattle.apex_views.specs.declared.showings.Form.{Form}
 use Rattle.apex_views.proofs.listings.print_in.Goals as goal
 
 pub returns-in-Text-clause-ok : goal.returns-in-Text-clause-ok

@@ -1,5 +1,6 @@
 use Rattle.std.proofs.KnownBytes.{Keeps-refl}
 use Rattle.std.proofs.lemmas.Result.{err_from_is_err_and}
+use Rattle.apex_objects.specs.declared.Form.TheVariants.{Text}
 use Rattle.apex_views.specs.Shows.{unbegun}
 use Rattle.apex_views.specs.declared.showings.Listing.TheVariants.{Status}
 use Rattle.apex_views.proofs.ListingEndings.{lists_prefix, lists_whole}
@@ -11,7 +12,7 @@ returns-in_err-page g c =
     rw (p.1, p.2) (unbegun (Keeps-refl _))
 
 pub returns-in-Ok : goal.returns-in-Ok
-returns-in-Ok g c = lists_whole Status c.args.kernel.now.table c.args.kernel.now.machine c.in-Ok.ensures.ok c.in-Ok.ensures.counted
+returns-in-Ok g c = lists_whole (Status Text) c.args.kernel.now.table c.args.kernel.now.machine c.in-Ok.ensures.ok c.in-Ok.ensures.counted
 
 pub returns : goal.returns
-returns g c = lists_prefix Status c.args.kernel.now.table c.args.kernel.now.machine c.in-Err.ensures.err c.in-Err.ensures.counted
+returns g c = lists_prefix (Status Text) c.args.kernel.now.table c.args.kernel.now.machine c.in-Err.ensures.err c.in-Err.ensures.counted

@@ -1,0 +1,99 @@
+//! The bytes of a line, put so that each can be seen.
+ghost use Rattle.std.specs.Prelude.{◌≡◌, ◌==◌, ◌<◌, ◌≤◌, ◌++◌, decimal, length, false, OnOk};
+ghost use Rattle.std.specs.Fmt.{digit_glyph};
+ghost use Rattle.std.specs.List.{common_prefix_len};
+ghost use Rattle.apex_departures.specs.Shown.{are_spaces, column, escaped, is_plain, shown, shown_byte};
+
+use itoa::Buffer;
+use std::alloc::AllocError;
+
+/// Puts bytes as they are.
+pub(crate) fn put(text: &mut Vec<u8>, bytes: &[u8]) -> Result<(), AllocError>
+    ensures { OnOk result (text.new.items ≡ text.old.items ++ bytes.now) }
+{
+    text.extend_from_slice(bytes)
+}
+
+/// Puts a number by its digits.
+pub(crate) fn put_number(text: &mut Vec<u8>, number: usize) -> Result<(), AllocError>
+    ensures { OnOk result (text.new.items ≡ text.old.items ++ decimal number) }
+{
+    let mut buffer = Buffer::new();
+    text.extend_from_slice(buffer.format(number).as_bytes())
+}
+
+/// A hexadecimal digit.
+fn digit(value: u8) -> u8
+    requires { value < 16 }
+    ensures { result ≡ digit_glyph false value }
+{
+    if value < 10 {
+        b'0' + value
+    } else {
+        b'a' - 10 + value
+    }
+}
+
+/// Puts `\x` and the two digits of a byte.
+fn put_escaped(text: &mut Vec<u8>, byte: u8) -> Result<(), AllocError>
+    ensures { OnOk result (text.new.items ≡ text.old.items ++ escaped byte) }
+{
+    text.extend_from_slice(&[b'\\', b'x', digit(byte / 16), digit(byte % 16)])
+}
+
+/// Whether the byte is seen as it is: 0x20 to 0x7E.
+fn is_plain(byte: u8) -> bool
+    ensures { result ≡ is_plain byte }
+{
+    32 <= byte && byte <= 126
+}
+
+/// Whether all bytes are spaces.
+fn are_spaces(bytes: &[u8]) -> bool
+    ensures { result ≡ are_spaces bytes.now }
+{
+    bytes.iter().all(|byte| *byte == b' ')
+}
+
+/// Puts a byte of a line, escaped if it is not seen as it is or is a space at the line's end.
+fn put_byte(text: &mut Vec<u8>, ends: bool, byte: u8) -> Result<(), AllocError>
+    ensures { OnOk result (text.new.items ≡ text.old.items ++ shown_byte ends byte) }
+{
+    if ends || !is_plain(byte) {
+        return put_escaped(text, byte);
+    }
+    text.push(byte)?;
+    Ok(())
+}
+
+/// Puts a line as it is shown.
+pub(crate) fn put_shown(text: &mut Vec<u8>, line: &[u8]) -> Result<(), AllocError>
+    ensures { OnOk result (text.new.items ≡ text.old.items ++ shown line.now) }
+{
+    let mut left = line;
+    while let Some((byte, rest)) = left.split_first() {
+        put_byte(text, are_spaces(left), *byte)?;
+        left = rest;
+    }
+    Ok(())
+}
+
+/// The number of bytes, from the front on, in which two lines are the same.
+#[tactic(auto, using(crate::proofs::Columns::ends_one, crate::proofs::Columns::ends_other, crate::proofs::Columns::differs, crate::proofs::Columns::one_more))]
+fn same_bytes(one: &[u8], other: &[u8]) -> usize
+    ensures same { result ≡ common_prefix_len ◌==◌ one.now other.now }
+    ensures within { result ≤ length one.now }
+{
+    let mut at = 0;
+    while at < one.len() && at < other.len() && one[at] == other[at] {
+        at += 1;
+    }
+    at
+}
+
+/// The column, counted from 1, of the first byte in which two lines differ.
+pub(crate) fn column(one: &[u8], other: &[u8]) -> usize
+    ensures { result ≡ column one.now other.now }
+{
+    same_bytes(one, other) + 1
+}

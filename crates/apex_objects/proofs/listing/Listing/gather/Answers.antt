@@ -1,0 +1,28 @@
+-- The text of the next thing goes behind those before it.
+use Rattle.std.proofs.Common.{◌<◌, arith}
+use Rattle.apex_history.proofs.Outcomes.{OnErr-always}
+use Rattle.apex_dispatch.proofs.Gathering.{gathers_next, begins_next}
+use Rattle.apex_objects.specs.Sections.{thing_count, thing_text}
+use Rattle.apex_objects.proofs.listing.Listing.gather.Goals as goal
+
+pub loop-place-preserved : goal.loop-place-preserved
+loop-place-preserved g c =
+    let at = c.loop-place.invariant in
+    let text = thing_text c.args.self.now c.args.section in
+    record {
+      many = at.many;
+      room = c.in_ok-make_room.ensures.room;
+      lines = gathers_next _ _ _ c.args.line.now.items c.loop-place.line.items text c.loop-place.place at.lines c.make_room.new.lines.items
+          (rw c.put.ensures at c.in_ok-make_room.ensures.ok);
+      failures = grind (arith, at.failures, c.in_ok-make_room.ensures.counted);
+    }
+
+pub returns-in_err-make_room-clause-err : goal.returns-in_err-make_room-clause-err
+returns-in_err-make_room-clause-err g c =
+    let at = c.loop-place.invariant in
+    let text = thing_text c.args.self.now c.args.section in
+    let within : c.loop-place.place < thing_count c.args.self.now c.args.section =
+    omega (arith, c.loop-place-test.true, at.many) in
+    OnErr-always c.from_residual.result
+    (begins_next _ _ _ c.args.line.now.items c.loop-place.line.items text c.loop-place.place at.lines _ within
+    (rw c.put.ensures at c.in_err-make_room.ensures.err))

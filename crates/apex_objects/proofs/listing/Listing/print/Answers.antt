@@ -1,0 +1,40 @@
+-- The next section goes behind those before it, and what is held behind the last one goes out.
+use Rattle.std.proofs.Common.{◌≡◌, arith}
+use Rattle.std.proofs.lemmas.Result.{on_err_weaker, on_ok_weaker}
+use Rattle.apex_history.proofs.Outcomes.{OnErr-always}
+use Rattle.apex_history.proofs.Passing.{beginning_after, passes_all}
+use Rattle.apex_dispatch.proofs.Gathering.{gathers_piece, begins_piece}
+use Rattle.apex_objects.proofs.Listed.{sections_listed}
+use Rattle.apex_objects.specs.Sections.{sections, section_text}
+use Rattle.apex_objects.specs.declared.listing.Section.TheVariants.{Head}
+use Rattle.apex_objects.proofs.listing.Listing.print.Goals as goal
+
+pub loop-section-preserved : goal.loop-section-preserved
+loop-section-preserved g c =
+    let at = c.loop-section.invariant in
+    let text = section_text c.args.self.now in
+    record {
+      room = c.in_ok-gather.ensures.room;
+      lines = gathers_piece _ _ _ c.loop-section.line.items text sections c.loop-section.section-index Head c.loop-section-test.true
+          at.lines c.gather.new.line.items c.in_ok-gather.ensures.ok;
+      failures = grind (arith, at.failures, c.in_ok-gather.ensures.counted);
+    }
+
+pub returns-in_err-gather-clause-err : goal.returns-in_err-gather-clause-err
+returns-in_err-gather-clause-err g c =
+    let text = section_text c.args.self.now in
+    OnErr-always c.from_residual.result (rw (← sections_listed c.args.self.now)
+    (begins_piece _ _ _ c.loop-section.line.items text sections c.loop-section.section-index Head c.loop-section-test.true
+    c.loop-section.invariant.lines c.in_err-gather.ensures.err))
+
+pub returns-clause-ok : goal.returns-clause-ok
+returns-clause-ok g c =
+    let last : c.loop-section.section-index ≡ 8 = omega (arith, c.loop-section-test.false, c.loop-section.auto.section-index-end) in
+    rw (← sections_listed c.args.self.now)
+    (on_ok_weaker c.hand_on.result (passes_all _ _ _ _ _ (rw last at c.loop-section.invariant.lines)) c.hand_on.ensures.ok)
+
+pub returns-clause-err : goal.returns-clause-err
+returns-clause-err g c =
+    let last : c.loop-section.section-index ≡ 8 = omega (arith, c.loop-section-test.false, c.loop-section.auto.section-index-end) in
+    rw (← sections_listed c.args.self.now)
+    (on_err_weaker c.hand_on.result (beginning_after _ _ _ _ _ (rw last at c.loop-section.invariant.lines)) c.hand_on.ensures.err)

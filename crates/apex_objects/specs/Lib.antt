@@ -1,0 +1,9 @@
+pub mod Terms
+pub mod Parts
+pub mod Words
+pub mod Entries
+pub mod Rows
+pub mod Laws
+pub mod Listing
+pub mod Sections
+pub mod Answers

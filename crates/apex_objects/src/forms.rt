@@ -1,0 +1,10 @@
+//! The form of what is written.
+
+/// The form of what is written.
+#[derive(Clone, Copy, Debug, PartialEq, Eq)]
+pub enum Form {
+    /// As lines of text.
+    Text,
+    /// As objects of JSON.
+    Json,
+}

@@ -1,0 +1,4 @@
+mod Decided
+mod Services
+mod Moved
+mod Reasoned

@@ -1,0 +1,10 @@
+pub mod Terms
+pub mod Guards
+pub mod Callers
+pub mod ObjectRows
+pub mod Rows
+pub mod Effects
+pub mod Decisions
+pub mod Premises
+pub mod Reasons
+pub mod Texts

@@ -1,0 +1,25 @@
+-- The terms in which the definitions speak: the values of a partition, as the code declares them.
+pub use Rattle.apex_machine.specs.declared.holdings.Holding.{Holding}
+pub use Rattle.apex_machine.specs.declared.records.Queue.{Queue}
+pub use Rattle.apex_machine.specs.declared.records.Record.{Record}
+pub use Rattle.apex_machine.specs.declared.records.Wait.{Wait}
+pub use Rattle.apex_machine.specs.declared.works.OpenWork.{OpenWork}
+pub use Rattle.apex_types.specs.declared.calls.BlackboardService.{BlackboardService}
+pub use Rattle.apex_types.specs.declared.calls.BufferService.{BufferService}
+pub use Rattle.apex_types.specs.declared.calls.Call.{Call}
+pub use Rattle.apex_types.specs.declared.calls.CallerCall.{CallerCall}
+pub use Rattle.apex_types.specs.declared.calls.EventFlagService.{EventFlagService}
+pub use Rattle.apex_types.specs.declared.calls.Message.{Message}
+pub use Rattle.apex_types.specs.declared.calls.MutexService.{MutexService}
+pub use Rattle.apex_types.specs.declared.calls.ObjectCall.{ObjectCall}
+pub use Rattle.apex_types.specs.declared.calls.PartitionCall.{PartitionCall}
+pub use Rattle.apex_types.specs.declared.calls.ProcessService.{ProcessService}
+pub use Rattle.apex_types.specs.declared.calls.SemaphoreService.{SemaphoreService}
+pub use Rattle.apex_types.specs.declared.calls.TimeCall.{TimeCall}
+pub use Rattle.apex_types.specs.declared.calls.Timeout.{Timeout}
+pub use Rattle.apex_types.specs.declared.entries.Caller.{Caller}
+pub use Rattle.apex_types.specs.declared.entries.Entry.{Entry}
+pub use Rattle.apex_types.specs.declared.entries.Event.{Event}
+pub use Rattle.apex_types.specs.declared.entries.Reply.{Reply}
+pub use Rattle.apex_types.specs.declared.entries.ReturnCode.{ReturnCode}
+pub use Rattle.apex_types.specs.declared.modes.Mode.{Mode}
