@@ -9,7 +9,7 @@ _apex() {
         lab:*:search | picture:*:search) words='--for --process --service --turns --early --states' ;;
         lab:*:lint | picture:*:lint) words='--json --name --allow' ;;
         lab:*:step | picture:*:step) words='--json' ;;
-        lab:*:check | picture:*:check) words='--comments' ;;
+        lab:*:check | picture:*:check) words='--json --comments' ;;
         lab:*:why | picture:*:why) words='--entry --schedule --schedule-file --until --turns --early' ;;
         lab:* | picture:*) words='--schedule --schedule-file --until --turns --early --from --to --json' ;;
     esac

@@ -11,6 +11,9 @@ use Rattle.apex_check.specs.declared.verdicts.CheckFault.TheVariants.{Memory, Ba
 use Rattle.apex_check.specs.Verdicts.{HasFollowed, IsAtFault, verdict_text}
 use Rattle.apex_departures.specs.Terms.{Event}
 use Rattle.apex_departures.specs.Lines.{followed_text, given_parts, number_given, part_given}
+use Rattle.apex_objects.specs.declared.Form.{Form}
+use Rattle.apex_objects.specs.declared.Form.TheVariants as forms
+use Rattle.apex_departures.specs.Objects.{departure_object, legal_object, reason_end}
 use Rattle.apex_departures.specs.Pages.{departure_text, reason_line}
 use Rattle.apex_departures.specs.Why.{HasEvent, IsReasonAt}
 
@@ -44,11 +47,28 @@ lines_text comments given table (DepartsAt n expected) =
     departure_text table (number_given comments given n) (part_given comments given (n - 1))
     expected
 
+-- the same as an object of JSON
+abbrev pub lines_object : Bool → List (List ℕ) → Table → Verdict → List ℕ
+lines_object comments given table (Legal n) = legal_object n
+lines_object comments given table (DepartsAt n expected) =
+    departure_object table (number_given comments given n) (part_given comments given (n - 1))
+    expected
+
+-- the same in this form
+abbrev pub lines_in : Form → Bool → List (List ℕ) → Table → Verdict → List ℕ
+lines_in forms.Text comments given table verdict = lines_text comments given table verdict
+lines_in forms.Json comments given table verdict = lines_object comments given table verdict
+
+-- the reason in this form, which stands last
+abbrev pub reason_in : Form → List ℕ → List ℕ
+reason_in forms.Text reason = reason_line reason
+reason_in forms.Json reason = reason_end reason
+
 -- these bytes, and then the reason of the event of this number
-abbrev pub AppendsReason : Table → List Event → ℕ → List ℕ → List ℕ → Type 0
-AppendsReason table events number front page =
+abbrev pub AppendsReason : Form → Table → List Event → ℕ → List ℕ → List ℕ → Type 0
+AppendsReason form table events number front page =
     (reason : List ℕ) × IsReasonAt table events number reason
-    × (page ≡ front ++ reason_line reason)
+    × (page ≡ front ++ reason_in form reason)
 
 -- the number of the machine's entry that a verdict shows, if it shows one
 abbrev pub shown_number : Verdict → Option ℕ
@@ -56,15 +76,16 @@ shown_number (Legal n) = None
 shown_number (DepartsAt n expected) = if is_some expected then Some n else None
 
 -- these bytes, and then the reason of the event of this number, if there is one
-abbrev pub EndsPage : Table → List Event → Option ℕ → List ℕ → List ℕ → Type 0
-EndsPage table events None front page = page ≡ front
-EndsPage table events (Some n) front page = AppendsReason table events n front page
+abbrev pub EndsPage : Form → Table → List Event → Option ℕ → List ℕ → List ℕ → Type 0
+EndsPage form table events None front page = page ≡ front
+EndsPage form table events (Some n) front page = AppendsReason form table events n front page
 
 -- the explanation of a verdict by a machine after these events; if the verdict shows an entry, the
 -- reason of that entry stands last
-abbrev pub IsPage : Bool → List (List ℕ) → Table → List Event → Verdict → List ℕ → Type 0
-IsPage comments given table events verdict page =
-    EndsPage table events (shown_number verdict) (lines_text comments given table verdict) page
+abbrev pub IsPage : Form → Bool → List (List ℕ) → Table → List Event → Verdict → List ℕ → Type 0
+IsPage form comments given table events verdict page =
+    EndsPage form table events (shown_number verdict) (lines_in form comments given table verdict)
+    page
 
 -- an event has the number, if there is one
 abbrev pub HasEventIfAny : List Event → Option ℕ → Type 0
@@ -77,14 +98,14 @@ ShowsEvent events verdict = HasEventIfAny events (shown_number verdict)
 
 -- The verdict on a text, and its explanation: that on the text without comments, by the number of
 -- the line as it was given. The machine is that after the events that were made for the verdict.
-pub record IsExplained (comments : Bool) (text : List ℕ) (verdict : Verdict) (page : List ℕ) :
-    Type 0 where
+pub record IsExplained (form : Form) (comments : Bool) (text : List ℕ) (verdict : Verdict)
+    (page : List ℕ) : Type 0 where
   pub table : Table
   pub machine : Machine
   pub found : Verdict
   pub followed : HasFollowed (followed_text comments text) table found machine
   pub given : verdict ≡ verdict_given comments (given_parts text) found
-  pub explains : IsPage comments (given_parts text) table (events_of machine.history) found page
+  pub explains : IsPage form comments (given_parts text) table (events_of machine.history) found page
 
 -- The fault of a text is that of the text without comments, by the number of the line as it was
 -- given; or memory was refused.

@@ -3,5 +3,6 @@ pub mod Lines
 pub mod Shown
 pub mod Why
 pub mod Pages
+pub mod Objects
 pub mod Explained
 pub mod Ends

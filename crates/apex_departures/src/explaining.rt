@@ -6,16 +6,18 @@ ghost use Rattle.apex_history.specs.Counted.{inner_of, failures_of, AppendsBegin
 ghost use Rattle.apex_history.specs.Ports.{ports};
 ghost use Rattle.apex_check.specs.Steps.{IsTellable};
 ghost use Rattle.apex_departures.specs.Ends.{Ends};
-ghost use Rattle.apex_departures.specs.Explained.{AppendsReason, EndsPage, HasEventIfAny, IsExplained, IsPage, IsRefused, ShowsEvent, fault_given, fault_in_memory, fault_of_reading, lines_text, shown_number, verdict_given};
+ghost use Rattle.apex_departures.specs.Explained.{AppendsReason, EndsPage, HasEventIfAny, IsExplained, IsPage, IsRefused, ShowsEvent, fault_given, fault_in_memory, fault_of_reading, lines_in, lines_object, lines_text, reason_in, shown_number, verdict_given};
 ghost use Rattle.apex_departures.specs.Lines.{line_parts, number_given};
 ghost use Rattle.apex_departures.specs.Why.{HasEvent};
 
 use crate::lines::{given_line, put_followed};
+use crate::objects::{put_departure_object, put_legal_object, put_reason_end};
 use crate::pages::{put_departure, put_legal, put_reason};
 use crate::whys::why;
 use apex_check::{CheckFault, Followed, Verdict, follow};
 use apex_dispatch::Kernel;
 use apex_history::{Counted, ReadFault, Sink, Source, read_all};
+use apex_objects::Form;
 use apex_process::QueueStore;
 use apex_table::Table;
 use std::alloc::{AllocError, Global};
@@ -70,7 +72,29 @@ fn fault_of_reading(fault: ReadFault) -> CheckFault
     }
 }
 
-/// Puts an explanation without the reason of the machine's entry.
+/// Puts an explanation as an object without the reason of the machine's entry.
+fn put_lines_object(
+    alloc: Global,
+    page: &mut Vec<u8>,
+    table: &Table,
+    comments: bool,
+    history: &[u8],
+    verdict: &Verdict,
+) -> Result<(), AllocError>
+    requires { IsTellable table.now verdict.now }
+    ensures { OnOk result (page.new.items ≡ page.old.items
+        ++ lines_object comments (line_parts history.now) table.now verdict.now) }
+{
+    match verdict {
+        Verdict::Legal(count) => put_legal_object(page, *count),
+        Verdict::DepartsAt(number, expected) => {
+            let line = given_line(comments, history, *number);
+            put_departure_object(alloc, page, table, &line, expected)
+        }
+    }
+}
+
+/// Puts an explanation as lines without the reason of the machine's entry.
 fn put_lines(
     page: &mut Vec<u8>,
     table: &Table,
@@ -91,20 +115,51 @@ fn put_lines(
     }
 }
 
+/// Puts an explanation in this form without the reason of the machine's entry.
+fn put_lines_in(
+    alloc: Global,
+    form: Form,
+    page: &mut Vec<u8>,
+    table: &Table,
+    comments: bool,
+    history: &[u8],
+    verdict: &Verdict,
+) -> Result<(), AllocError>
+    requires { IsTellable table.now verdict.now }
+    ensures { OnOk result (page.new.items ≡ page.old.items
+        ++ lines_in form comments (line_parts history.now) table.now verdict.now) }
+{
+    match form {
+        Form::Text => put_lines(page, table, comments, history, verdict),
+        Form::Json => put_lines_object(alloc, page, table, comments, history, verdict),
+    }
+}
+
+/// Puts a reason in this form.
+fn put_reason_in(form: Form, page: &mut Vec<u8>, reason: &[u8]) -> Result<(), AllocError>
+    ensures { OnOk result (page.new.items ≡ page.old.items ++ reason_in form reason.now) }
+{
+    match form {
+        Form::Text => put_reason(page, reason),
+        Form::Json => put_reason_end(page, reason),
+    }
+}
+
 /// Puts the reason of the kernel's entry of this number.
 #[tactic(auto, using(crate::proofs::Following::not_lacking))]
 fn put_why(
     alloc: Global,
+    form: Form,
     page: &mut Vec<u8>,
     kernel: Kernel<QueueStore>,
     number: u32,
 ) -> Result<(), AllocError>
     requires { HasEvent (events_of kernel.machine.history) number }
-    ensures { OnOk result (AppendsReason kernel.table (events_of kernel.machine.history) number
+    ensures { OnOk result (AppendsReason form kernel.table (events_of kernel.machine.history) number
         page.old.items page.new.items) }
 {
     match why(alloc, kernel, number) {
-        Ok(Some(reason)) => put_reason(page, reason.as_slice()),
+        Ok(Some(reason)) => put_reason_in(form, page, reason.as_slice()),
         Ok(None) => Ok(()),
         Err(error) => Err(error),
     }
@@ -129,16 +184,17 @@ fn shown_number(verdict: &Verdict) -> Option<u32>
 /// Puts the reason of the kernel's entry of this number, if there is one.
 fn put_reason_of(
     alloc: Global,
+    form: Form,
     page: &mut Vec<u8>,
     number: Option<u32>,
     kernel: Kernel<QueueStore>,
 ) -> Result<(), AllocError>
     requires { HasEventIfAny (events_of kernel.machine.history) number }
-    ensures { OnOk result (EndsPage kernel.table (events_of kernel.machine.history) number
+    ensures { OnOk result (EndsPage form kernel.table (events_of kernel.machine.history) number
         page.old.items page.new.items) }
 {
     match number {
-        Some(number) => put_why(alloc, page, kernel, number),
+        Some(number) => put_why(alloc, form, page, kernel, number),
         None => Ok(()),
     }
 }
@@ -146,6 +202,7 @@ fn put_reason_of(
 /// Puts the explanation of a verdict by the kernel that gave it.
 fn put_page(
     alloc: Global,
+    form: Form,
     page: &mut Vec<u8>,
     comments: bool,
     history: &[u8],
@@ -155,11 +212,19 @@ fn put_page(
     requires empty { page.old.items ≡ [] }
     requires tellable { IsTellable kernel.table verdict.now }
     requires shows { ShowsEvent (events_of kernel.machine.history) verdict.now }
-    ensures { OnOk result (IsPage comments (line_parts history.now) kernel.table
+    ensures { OnOk result (IsPage form comments (line_parts history.now) kernel.table
         (events_of kernel.machine.history) verdict.now page.new.items) }
 {
-    match put_lines(page, kernel.table(), comments, history, verdict) {
-        Ok(()) => put_reason_of(alloc, page, shown_number(verdict), kernel),
+    match put_lines_in(
+        alloc,
+        form,
+        page,
+        kernel.table(),
+        comments,
+        history,
+        verdict,
+    ) {
+        Ok(()) => put_reason_of(alloc, form, page, shown_number(verdict), kernel),
         Err(error) => Err(error),
     }
 }
@@ -168,6 +233,7 @@ fn put_page(
 /// Its explanation is put.
 fn told(
     alloc: Global,
+    form: Form,
     page: &mut Vec<u8>,
     comments: bool,
     history: &[u8],
@@ -178,11 +244,11 @@ fn told(
     requires shows { ShowsEvent (events_of followed.kernel.machine.history) followed.verdict }
     ensures verdict { IfOk result (λ verdict. verdict
         ≡ verdict_given comments (line_parts history.now) followed.verdict) }
-    ensures page { OnOk result (IsPage comments (line_parts history.now) followed.kernel.table
+    ensures page { OnOk result (IsPage form comments (line_parts history.now) followed.kernel.table
         (events_of followed.kernel.machine.history) followed.verdict page.new.items) }
 {
     let Followed { verdict, kernel } = followed;
-    match put_page(alloc, page, comments, history, &verdict, kernel) {
+    match put_page(alloc, form, page, comments, history, &verdict, kernel) {
         Ok(()) => Ok(verdict_given(comments, history, verdict)),
         Err(error) => Err(error),
     }
@@ -191,20 +257,21 @@ fn told(
 /// The verdict on a text, by the number of the line as it was given. Its explanation is put.
 fn put_explained(
     alloc: Global,
+    form: Form,
     page: &mut Vec<u8>,
     comments: bool,
     text: &[u8],
 ) -> Result<Verdict, CheckFault>
     requires { page.old.items ≡ [] }
     ensures ok { IfOk result
-        (λ verdict. IsExplained comments text.now verdict page.new.items) }
+        (λ verdict. IsExplained form comments text.now verdict page.new.items) }
     ensures err { IfErr result (IsRefused comments text.now) }
 {
     let mut followed = Vec::new(alloc);
     let history = put_followed(&mut followed, comments, text)?;
     let mut reader = Counted::new(followed.as_slice());
     match follow(alloc, |table| QueueStore::new(alloc, table), &mut reader) {
-        Ok(followed) => match told(alloc, page, comments, history, followed) {
+        Ok(followed) => match told(alloc, form, page, comments, history, followed) {
             Ok(verdict) => Ok(verdict),
             Err(_) => Err(CheckFault::Memory),
         },
@@ -231,17 +298,18 @@ fn write_page<W: Sink>(page: &Vec<u8>, writer: &mut Counted<W>) -> io::Result<()
 /// are empty or begin with `#` are left out before; numbers of lines count them. What is written
 /// is `legal` with the number of lines that are not left out, or `departs at` with the number of
 /// the line, the line that was given, the line that the machine expects, the column, counted from
-/// 1, in which they differ, and the reason of the machine's entry (this profile). With a fault
-/// nothing is written, except for `Write`, which leaves a prefix of the explanation.
+/// 1, in which they differ, and the reason of the machine's entry (this profile), each as a line or
+/// as a member of an object of JSON. With a fault nothing is written, except for `Write`, which leaves a prefix of the explanation.
 ///
 /// Memory is taken for the text too. The errors are those of [`follow`], and `Write`.
 pub fn explain<R: Source, W: Sink>(
     alloc: Global,
+    form: Form,
     comments: bool,
     reader: &mut Counted<R>,
     writer: &mut Counted<W>,
 ) -> Result<Verdict, CheckFault>
-    ensures { Ends comments
+    ensures { Ends form comments
         (ports (R.remaining (inner_of reader.old)) (W.contents (inner_of writer.old))
         (failures_of reader.old) (failures_of writer.old))
         result
@@ -253,7 +321,7 @@ pub fn explain<R: Source, W: Sink>(
         Err(fault) => return Err(fault_of_reading(fault)),
     };
     let mut page = Vec::new(alloc);
-    let verdict = put_explained(alloc, &mut page, comments, text.as_slice())?;
+    let verdict = put_explained(alloc, form, &mut page, comments, text.as_slice())?;
     match write_page(&page, writer) {
         Ok(()) => Ok(verdict),
         Err(_) => Err(CheckFault::Write),

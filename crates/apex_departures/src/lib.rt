@@ -4,6 +4,7 @@
 
 mod explaining;
 mod lines;
+mod objects;
 mod pages;
 mod putting;
 mod whys;

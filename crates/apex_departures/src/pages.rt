@@ -44,7 +44,7 @@ fn put_column(page: &mut Vec<u8>, given: &[u8], line: &[u8]) -> Result<(), Alloc
 }
 
 /// A line without its line feed.
-fn unended(line: &[u8]) -> &[u8]
+pub(crate) fn unended(line: &[u8]) -> &[u8]
     ensures { result.now ≡ unended line.now }
 {
     &line[..line.len().saturating_sub(1)]

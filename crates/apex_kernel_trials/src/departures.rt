@@ -3,6 +3,7 @@ use crate::papers::paper;
 use apex_check::{CheckFault, Verdict};
 use apex_departures::explain;
 use apex_history::{Counted, FailAt};
+use apex_objects::Form;
 use std::alloc::Global;
 use std::process::Abort;
 
@@ -94,6 +95,23 @@ const DEPARTURES: [(usize, &[u8], &str); 8] = [
     ),
 ];
 
+/// The same as an object.
+const OBJECTS: [(usize, &[u8], &str); 3] = [
+    (7, b"", "{\"legal\":7}\n"),
+    (
+        0,
+        b"1 0 core0 init CREATE_SEMAPHORE S -> NO_ERROR\r\n",
+        r#"{"departs":1,"given":"1 0 core0 init CREATE_SEMAPHORE S -> NO_ERROR\\x0d","expected":"1 0 core0 init CREATE_SEMAPHORE S -> NO_ERROR","column":46,"reason":"init step 0: no guard of the service holds"}
+"#,
+    ),
+    (
+        7,
+        b"8 0 core0 - idle -> IDLE\n",
+        r#"{"departs":8,"given":"8 0 core0 - idle -> IDLE","expected":null,"column":1,"reason":null}
+"#,
+    ),
+];
+
 /// Lines among which there are comments, and the explanation.
 const COMMENTED: [(&str, &str); 4] = [
     ("# nothing\n\n#\n", "legal 0\n"),
@@ -145,13 +163,14 @@ fn text_of<R: Abort>(rt: &R, alloc: Global, count: usize, lines: &[u8]) -> Vec<u
 fn told<R: Abort>(
     rt: &R,
     alloc: Global,
+    form: Form,
     comments: bool,
     text: Vec<u8>,
     failing: (u64, u64),
 ) -> (Result<Verdict, CheckFault>, Vec<u8>) {
     let mut reader = Counted::new(FailAt::new(text, failing.0));
     let mut writer = Counted::new(paper(rt, alloc, 8_192, failing.1));
-    let end = explain(alloc, comments, &mut reader, &mut writer);
+    let end = explain(alloc, form, comments, &mut reader, &mut writer);
     let device = writer.into_inner();
     let mut held = Vec::new(alloc);
     held.extend_from_slice(device.held()).expect(rt, "memory");
@@ -163,7 +182,18 @@ fn each_departure_is_explained(rt: HostRuntime) {
     let alloc = rt.alloc();
     for (count, lines, want) in DEPARTURES {
         let text = text_of(&rt, alloc, count, lines);
-        let (end, held) = told(&rt, alloc, false, text, (0, 0));
+        let (end, held) = told(&rt, alloc, Form::Text, false, text, (0, 0));
+        assert!(&rt; end.is_ok());
+        assert!(&rt; held.as_slice() == want.as_bytes(), "{want}");
+    }
+}
+
+#[test]
+fn each_departure_is_an_object(rt: HostRuntime) {
+    let alloc = rt.alloc();
+    for (count, lines, want) in OBJECTS {
+        let text = text_of(&rt, alloc, count, lines);
+        let (end, held) = told(&rt, alloc, Form::Json, false, text, (0, 0));
         assert!(&rt; end.is_ok());
         assert!(&rt; held.as_slice() == want.as_bytes(), "{want}");
     }
@@ -174,7 +204,7 @@ fn comments_are_left_out(rt: HostRuntime) {
     let alloc = rt.alloc();
     for (lines, want) in COMMENTED {
         let text = text_of(&rt, alloc, 0, lines.as_bytes());
-        let (end, held) = told(&rt, alloc, true, text, (0, 0));
+        let (end, held) = told(&rt, alloc, Form::Text, true, text, (0, 0));
         assert!(&rt; end.is_ok());
         assert!(&rt; held.as_slice() == want.as_bytes(), "{want}");
     }
@@ -185,7 +215,7 @@ fn faults_count_comments(rt: HostRuntime) {
     let alloc = rt.alloc();
     for (lines, comments, want) in FAULTS {
         let text = text_of(&rt, alloc, 0, lines.as_bytes());
-        let (end, held) = told(&rt, alloc, comments, text, (0, 0));
+        let (end, held) = told(&rt, alloc, Form::Text, comments, text, (0, 0));
         assert!(&rt; end.is_err_and(|fault| fault == want), "{lines}");
         assert!(&rt; held.is_empty());
     }
@@ -194,10 +224,24 @@ fn faults_count_comments(rt: HostRuntime) {
 #[test]
 fn a_failed_call_is_told(rt: HostRuntime) {
     let alloc = rt.alloc();
-    let (end, held) = told(&rt, alloc, false, text_of(&rt, alloc, 7, b""), (1, 0));
+    let (end, held) = told(
+        &rt,
+        alloc,
+        Form::Text,
+        false,
+        text_of(&rt, alloc, 7, b""),
+        (1, 0),
+    );
     assert!(&rt; end.is_err_and(|fault| fault == CheckFault::Read));
     assert!(&rt; held.is_empty());
-    let (end, held) = told(&rt, alloc, false, text_of(&rt, alloc, 7, b""), (0, 1));
+    let (end, held) = told(
+        &rt,
+        alloc,
+        Form::Text,
+        false,
+        text_of(&rt, alloc, 7, b""),
+        (0, 1),
+    );
     assert!(&rt; end.is_err_and(|fault| fault == CheckFault::Write));
     assert!(&rt; held.is_empty());
 }

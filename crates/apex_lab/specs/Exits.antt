@@ -46,8 +46,8 @@ pub data Ends (asked : Result Asked Unasked) (before : Ports) : End → Ports �
   of_steps : {form : Form} {ends : End} {after : Ports} → asked ≡ Ok (to_step form)
       → StepEnds form before ends after → Ends asked before ends after
   -- a history is explained
-  of_check : {comments : Bool} {ends : End} {after : Ports} → asked ≡ Ok (to_check comments)
-      → CheckEnds comments before ends after → Ends asked before ends after
+  of_check : {form : Form} {comments : Bool} {ends : End} {after : Ports}
+      → asked ≡ Ok (to_check form comments) → CheckEnds form comments before ends after → Ends asked before ends after
   -- the reason of an entry is shown
   of_why : {source : Source} {entry : ℕ} {ends : End} {after : Ports}
       → asked ≡ Ok (to_why source entry) → WhyEnds source entry before ends after

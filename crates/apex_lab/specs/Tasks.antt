@@ -30,8 +30,8 @@ pub data Asked : Type 0 where
   to_lint : Lint → Asked
   -- to answer commands in this form
   to_step : Form → Asked
-  -- to explain a history, which may have comments
-  to_check : Bool → Asked
+  -- to explain in this form a history, which may have comments
+  to_check : Form → Bool → Asked
   -- for the reason of the entry of this number, of a run that is given in this way
   to_why : Source → ℕ → Asked
 
@@ -105,7 +105,7 @@ asked_in_request (search_of said) =
     or_unasked ill_formed (option_map to_search (search_asked said))
 asked_in_request (lint_of said) = or_unasked ill_formed (option_map to_lint (lint_asked said))
 asked_in_request (step_of form) = Ok (to_step form)
-asked_in_request (check_of comments) = Ok (to_check comments)
+asked_in_request (check_of form comments) = Ok (to_check form comments)
 asked_in_request (why_of given entry) = why_asked (source_in given) (positive_of entry)
 
 -- the same, if there is a request
@@ -123,7 +123,7 @@ task_said (task.Show showing) = to_show (showing_said showing)
 task_said (task.Search search) = to_search search
 task_said (task.Lint lint) = to_lint (lint_said lint)
 task_said (task.Step form) = to_step form
-task_said (task.Check comments) = to_check comments
+task_said (task.Check form comments) = to_check form comments
 task_said (task.Why why) = to_why (source_said why.source) why.entry
 
 -- the same of a view that is asked for, and the pace of a search is one
@@ -132,7 +132,7 @@ IsInRange (task.Show showing) = IsOfEntries showing.view
 IsInRange (task.Search search) = IsPace search.pace
 IsInRange (task.Lint lint) = Unit {0}
 IsInRange (task.Step form) = Unit {0}
-IsInRange (task.Check comments) = Unit {0}
+IsInRange (task.Check form comments) = Unit {0}
 IsInRange (task.Why why) = Unit {0}
 
 -- the fault, memory aside, with which the program ends if words ask for nothing

@@ -81,9 +81,11 @@ lint_command =
 abbrev pub step_command : App
 step_command = with_rule (new_app (codes "step")) (flag_rule (codes "json"))
 
--- `check [--comments]`
+-- `check [--json] [--comments]`
 abbrev pub check_command : App
-check_command = with_rule (new_app (codes "check")) (flag_rule (codes "comments"))
+check_command =
+    with_rule (with_rule (new_app (codes "check")) (flag_rule (codes "json")))
+    (flag_rule (codes "comments"))
 
 -- `why`, which has `[--entry N]` besides the options that say how a run is given
 abbrev pub why_command : App
@@ -149,8 +151,8 @@ pub data Request : Type 0 where
   lint_of : LintSaid → Request
   -- to answer commands in this form
   step_of : Form → Request
-  -- to explain a history, which may have comments
-  check_of : Bool → Request
+  -- to explain in this form a history, which may have comments
+  check_of : Form → Bool → Request
   -- for the reason of the entry of this number, of a run that is given in this way
   why_of : Given → Text → Request
 
@@ -194,7 +196,7 @@ request_said (request.Show source view) = show_of (given_said source) (shown_sai
 request_said (request.Search words) = search_of (search_said words)
 request_said (request.Lint words) = lint_of (lint_words_said words)
 request_said (request.Step form) = step_of form
-request_said (request.Check comments) = check_of comments
+request_said (request.Check form comments) = check_of form comments
 request_said (request.Why source entry) = why_of (given_said source) entry.now
 
 -- how a run is given, by the text of a schedule: `-` stands for one that is read
@@ -286,7 +288,7 @@ request_in found =
     else if bytes_eq found.0 (codes "lint") then Some (lint_of (lint_in found.1))
     else if bytes_eq found.0 (codes "step") then Some (step_of (form_in found.1))
     else if bytes_eq found.0 (codes "check")
-    then Some (check_of (comments_in found.1))
+    then Some (check_of (form_in found.1) (comments_in found.1))
     else if bytes_eq found.0 (codes "why") then why_in found.1
     else showing_in found.0 found.1
 

@@ -10,6 +10,7 @@ use apex_check::{CheckFault, Verdict};
 use apex_console::CliFault;
 use apex_departures::explain;
 use apex_history::{Counted, Sink, Source};
+use apex_objects::Form;
 use std::alloc::Global;
 
 /// The end of the program with this verdict.
@@ -24,15 +25,16 @@ fn ending_of(verdict: Result<Verdict, CheckFault>) -> Result<Ending, LabFault>
 }
 
 /// Checks the history that the reader has behind its table, which may have comments, and writes the
-/// verdict, with its explanation if the history departs.
+/// verdict in this form, with its explanation if the history departs.
 pub fn run_check<R: Source, W: Sink>(
     alloc: Global,
+    form: Form,
     comments: bool,
     reader: &mut Counted<R>,
     writer: &mut Counted<W>,
 ) -> Result<Ending, LabFault>
-    ensures { CheckEnds comments (ports_of R.remaining W.contents reader.old writer.old)
+    ensures { CheckEnds form comments (ports_of R.remaining W.contents reader.old writer.old)
         (end_in result) (ports_of R.remaining W.contents reader.new writer.new) }
 {
-    ending_of(explain(alloc, comments, reader, writer))
+    ending_of(explain(alloc, form, comments, reader, writer))
 }

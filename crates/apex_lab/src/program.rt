@@ -49,7 +49,7 @@ fn carry_out<R: Source, W: Sink>(
         Task::Search(search) => run_search(alloc, &search, reader, writer),
         Task::Lint(lint) => run_lint(alloc, &lint, reader, writer),
         Task::Step(form) => run_steps(alloc, form, reader, writer),
-        Task::Check { comments } => run_check(alloc, comments, reader, writer),
+        Task::Check { form, comments } => run_check(alloc, form, comments, reader, writer),
         Task::Why(why) => run_why(alloc, why, reader, writer),
     }
 }

@@ -29,8 +29,8 @@ pub enum Task<'a> {
     Lint(Lint<'a>),
     /// To answer commands in this form.
     Step(Form),
-    /// To explain a history, which may have comments.
-    Check { comments: bool },
+    /// To explain in this form a history, which may have comments.
+    Check { form: Form, comments: bool },
     /// For the reason of an entry.
     Why(Why),
 }
@@ -145,7 +145,7 @@ fn task_of<'a>(alloc: Global, request: Request<'a>) -> Result<Task<'a>, LabFault
             None => Err(LabFault::Common(CliFault::Usage)),
         },
         Request::Step(form) => Ok(Task::Step(form)),
-        Request::Check { comments } => Ok(Task::Check { comments }),
+        Request::Check { form, comments } => Ok(Task::Check { form, comments }),
         Request::Why(source, entry) => {
             let why = read_why(alloc, source, entry)?;
             Ok(Task::Why(why))

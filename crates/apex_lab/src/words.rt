@@ -82,8 +82,8 @@ pub enum Request<'a> {
     Lint(LintWords<'a>),
     /// To answer commands in this form.
     Step(Form),
-    /// To explain a history, which may have comments.
-    Check { comments: bool },
+    /// To explain in this form a history, which may have comments.
+    Check { form: Form, comments: bool },
     /// For the reason of the entry of this number, of a run that is given in this way.
     Why(SourceWords<'a>, &'a str),
 }
@@ -179,7 +179,8 @@ fn check_command<'a>(alloc: Global) -> Result<Command<'a>, AllocError>
     ensures app { IfOk result (λ c. app_of c ≡ check_command) }
     ensures local { IfOk result (λ c. (fields_of c).has_globals ≡ false) }
 {
-    Command::new(alloc, "check").arg(flag(alloc, "comments"))
+    let with_json = Command::new(alloc, "check").arg(flag(alloc, "json"))?;
+    with_json.arg(flag(alloc, "comments"))
 }
 
 /// The command `why`.
@@ -213,7 +214,7 @@ fn command<'a>(alloc: Global) -> Result<Command<'a>, AllocError>
 /// `[--from N] [--to M]`, and `lines`, `status` and `report` with `[--json]`; or `search` with
 /// `--for WORD [--process P] [--service WORD] [--turns K] [--early E] [--states N]`; or `lint` with
 /// `[--json] [--name FILE] [--allow WORD,WORD]`; or `step` with `[--json]`;
-/// or `check` with `[--comments]`; or `why` with `--entry N` and a run as for `lines`. Other words
+/// or `check` with `[--json] [--comments]`; or `why` with `--entry N` and a run as for `lines`. Other words
 /// are `Usage`.
 pub fn request_in<'a>(alloc: Global, words: &'a [String]) -> Result<Request<'a>, CliFault>
     ensures ok { IfOk result (λ r. request_of (map string_bytes words.entry.now)
@@ -367,6 +368,7 @@ fn asked_by<'a>(name: &str, matches: &ArgMatches<'a>) -> Option<Request<'a>>
         "lint" => Some(Request::Lint(lint_given(matches))),
         "step" => Some(Request::Step(form_given(matches))),
         "check" => Some(Request::Check {
+            form: form_given(matches),
             comments: comments_given(matches),
         }),
         "why" => why_given(matches),

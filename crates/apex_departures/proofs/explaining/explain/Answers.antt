@@ -15,7 +15,7 @@ returns-in-Err g c =
     let reader = c.read_all.new.reader in
     let after = ports (g.R.Source.remaining (inner_of reader)) (g.W.Sink.contents (inner_of c.args.writer.now)) (failures_of reader)
     (failures_of c.args.writer.now) in
-    rw c.fault_of_reading.ensures (ends_unread c.args.comments before after c.in-Err.fault c.in-Err.ensures.counted refl (Keeps-refl _))
+    rw c.fault_of_reading.ensures (ends_unread c.args.form c.args.comments before after c.in-Err.fault c.in-Err.ensures.counted refl (Keeps-refl _))
 
 pub returns-in_err-verdict : goal.returns-in_err-verdict
 returns-in_err-verdict g c =
