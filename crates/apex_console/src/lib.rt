@@ -10,7 +10,7 @@ mod reports;
 mod streams;
 mod words;
 
-pub use events::repeated;
+pub use events::{repeated, run_items};
 pub use faults::{CliFault, fault_line};
 pub use given::given_words;
 pub use kernels::{kernel_for, ran, table_for};

@@ -13,10 +13,9 @@ ghost use Rattle.apex_views.specs.Plans.{report_in};
 ghost use Rattle.apex_views.specs.Showings.{listed};
 ghost use Rattle.apex_views.specs.declared.showings.Listing.TheVariants.{Lines, Status, Report as ReportIn, Schedule};
 
-use crate::plans::events_in;
 use crate::showings::Listing;
 use apex_console::{CliFault, Run};
-use apex_dispatch::Kernel;
+use apex_dispatch::{Kernel, events_in};
 use apex_history::{Counted, Page, Sink, print_history};
 use apex_objects::{Form, ObjectLines, print_history_objects, print_listing_objects};
 use apex_process::QueueStore;

@@ -1,6 +1,6 @@
 //! The pictures that are drawn of a run.
 ghost use Rattle.std.specs.Prelude.{◌≡◌, true, All, IfOk, Option};
-ghost use Rattle.apex_machine.specs.Machine.{asked_ticks, event_of, events_of, opening};
+ghost use Rattle.apex_machine.specs.Machine.{events_of, opening};
 ghost use Rattle.apex_machine.specs.Events.{IsWithin};
 ghost use Rattle.apex_dispatch.specs.Kernel.{kernel_in};
 ghost use Rattle.apex_history.specs.Counted.{inner_of, failures_of};
@@ -13,14 +13,14 @@ ghost use Rattle.apex_views.specs.Showings.{IsPictureOfEntries, Picture as Pictu
 
 use crate::showings::Picture;
 use apex_console::{CliFault, repeated};
-use apex_dispatch::Kernel;
+use apex_dispatch::{Kernel, events_in};
 use apex_history::{Counted, Sink};
 use apex_pictures::{DrawFault, Frame, Style, draw};
 use apex_process::QueueStore;
 use apex_schedules::Item;
 use apex_store::Store;
 use apex_table::Table;
-use apex_types::{Event, LentEntry, Reply, Who};
+use apex_types::Event;
 use std::alloc::{AllocError, Global};
 
 /// A picture that is to be drawn: its style, and the events of which it is.
@@ -31,37 +31,6 @@ pub struct Plan {
     pub events: Vec<Event>,
     /// `HistoryFull` if there were more events.
     pub fault: Option<CliFault>,
-}
-
-/// How many ticks a tick asked for.
-fn asked_ticks(reply: &Reply) -> u32
-    ensures { result ≡ asked_ticks reply.now }
-{
-    match reply {
-        Reply::Advanced(asked, _) => *asked,
-        _ => 0,
-    }
-}
-
-/// The event of an entry.
-fn event_of(entry: &LentEntry<'_>) -> Event
-    ensures { result ≡ event_of entry.entry.now }
-{
-    match entry.who {
-        Who::Core(core) => Event::Turn(core),
-        Who::Ticker => Event::Tick(asked_ticks(&entry.reply)),
-    }
-}
-
-/// The events of a kernel's history.
-pub fn events_in<S: Store>(alloc: Global, kernel: &Kernel<S>) -> Result<Vec<Event>, AllocError>
-    ensures { IfOk result (λ events. events.items ≡ events_of kernel.now.machine.history) }
-{
-    let mut events = Vec::new(alloc);
-    for entry in kernel.entries() {
-        events.push(event_of(&entry))?;
-    }
-    Ok(events)
 }
 
 /// The style in which a picture shows a kernel's history.

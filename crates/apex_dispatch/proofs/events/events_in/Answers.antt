@@ -3,7 +3,7 @@ use Rattle.std.proofs.Common.{List, [], ◌∷◌, ◌++◌, ◌∙◌, ap, sym,
 use Rattle.std.proofs.lemmas.List.{map-append}
 use Rattle.apex_machine.specs.Machine.{event_of}
 use Rattle.apex_types.specs.declared.entries.Event.{Event}
-use Rattle.apex_views.proofs.plans.events_in.Goals as goal
+use Rattle.apex_dispatch.proofs.events.events_in.Goals as goal
 
 pub loop-entry-preserved : goal.loop-entry-preserved
 loop-entry-preserved g c =
