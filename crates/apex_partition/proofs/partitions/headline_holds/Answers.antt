@@ -11,6 +11,7 @@ use Rattle.apex_dispatch.specs.Kernel.{KernelState}
 use Rattle.apex_process.specs.Queued.{Queued}
 use Rattle.apex_process.specs.State.{AreListsOfState}
 use Rattle.apex_laws.proofs.Sound.{IsSound, sound_run}
+use Rattle.apex_partition.specs.Headline.{KeepsHeadline}
 use Rattle.apex_partition.specs.Standing.{IsInOneQueue, RunsByLists, IsQueuedAs}
 use Rattle.apex_partition.proofs.Standing.{chosen_runs, in_one_queue, queued_as, urgent_runs}
 use Rattle.apex_partition.proofs.partitions.headline_holds.Goals as goal
@@ -19,6 +20,7 @@ from_start : (s : ℕ) → 0 + s ≡ s
 from_start s = omega arith
 
 pub returns : goal.returns
+unfolding KeepsHeadline
 returns c =
     let kernel = c.args.kernel.now in
     let roster = kernel.machine.roster in
