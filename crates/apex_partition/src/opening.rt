@@ -1,16 +1,18 @@
 //! The opening of a partition that threads will share.
-ghost use Rattle.std.specs.Prelude.{◌≡◌, ◌≤◌, IfOk, None, length, vec_len};
+ghost use Rattle.std.specs.Prelude.{◌≡◌, ◌≤◌, [], IfOk, None, length, vec_len};
 ghost use Rattle.apex_types.specs.declared.limits.TheConstants.{MOST_CORES};
 ghost use Rattle.apex_types.specs.declared.entries.Who.TheVariants.{Ticker as ToTicker};
+ghost use Rattle.apex_board.specs.Boards.{HasPublished};
 ghost use Rattle.apex_receipts.specs.Receipts.{unspoken, unspoken_cores, IsNamedAfter};
 ghost use Rattle.apex_partition.specs.Seats.{IsSeated};
+ghost use Rattle.apex_partition.specs.Steps.{opened};
 
 use crate::partitions::Partition;
 use crate::published::Published;
 use crate::seats::{Seat, Ticker};
 use crate::shared::Shared;
-use apex_board::{Board, NewBoard};
-use apex_receipts::{Naming, Opened, Voice};
+use apex_board::{Board, NewBoard, Publisher};
+use apex_receipts::{Naming, Opened, Scribe, Voice};
 use apex_table::Table;
 use apex_types::CoreId;
 use std::alloc::{AllocError, Global};
@@ -27,6 +29,58 @@ fn seated<P: Naming>(alloc: Global, voices: Vec<Voice<P>>) -> Result<Vec<Seat<P>
         seats.push(Seat::new(core, voice))?;
     }
     Ok(seats)
+}
+
+/// The scribe of the partition, a seat for each core, in the order of their numbers, and the ticker,
+/// which have this opened book. Nothing is written in it.
+fn makers<P: Naming>(
+    alloc: Global,
+    opened: Opened,
+) -> Result<(Scribe<P>, Vec<Seat<P>>, Ticker<P>), AllocError>
+    requires named { IsNamedAfter P.book P.scribe P.voice opened }
+    requires cores { length opened.cores ≡ P.table.cores }
+    requires few_cores { P.table.cores ≤ MOST_CORES }
+    ensures scribe { IfOk result (λ makers. makers.0 ≡ []) }
+    ensures seated { IfOk result (λ makers. IsSeated makers.1.items) }
+    ensures each { IfOk result (λ makers. vec_len makers.1 ≡ P.table.cores) }
+    ensures seats { IfOk result (λ makers. makers.1.items ≡ unspoken_cores P.table.cores) }
+    ensures ticker { IfOk result (λ makers. makers.2 ≡ unspoken ToTicker) }
+{
+    let (scribe, voices, voice) = opened.into_parts::<P>(alloc)?;
+    let seats = seated(alloc, voices)?;
+    Ok((scribe, seats, Ticker::new(voice)))
+}
+
+/// The partition of this table before any event.
+fn booted<P: Naming>(alloc: Global, table: Table) -> Result<Partition, AllocError>
+    requires { P.table ≡ table }
+    ensures { IfOk result (λ partition. partition ≡ opened P.table partition.store) }
+{
+    Partition::boot(alloc, table)
+}
+
+/// A partition before any event, a seat for each core, in the order of their numbers, and the
+/// ticker. The partition publishes its fronts by this publisher, if it has readers.
+fn open_with<P: Naming>(
+    alloc: Global,
+    table: Table,
+    opened: Opened,
+    publisher: Option<Publisher<P>>,
+) -> Result<(Shared<P>, Vec<Seat<P>>, Ticker<P>), AllocError>
+    requires table { P.table ≡ table }
+    requires named { IsNamedAfter P.book P.scribe P.voice opened }
+    requires cores { length opened.cores ≡ table.cores }
+    requires publisher { HasPublished P.cell [] publisher }
+    ensures seated { IfOk result (λ all. IsSeated all.1.items) }
+    ensures each { IfOk result (λ all. vec_len all.1 ≡ P.table.cores) }
+    ensures seats { IfOk result (λ all. all.1.items ≡ unspoken_cores P.table.cores) }
+    ensures ticker { IfOk result (λ all. all.2 ≡ unspoken ToTicker) }
+{
+    table.lawful();
+    let partition = booted::<P>(alloc, table)?;
+    let (scribe, seats, ticker) = makers::<P>(alloc, opened)?;
+    let shared = Shared::new(Published::new(partition, scribe, publisher));
+    Ok((shared, seats, ticker))
 }
 
 /// A partition before any event, a seat for each core, in the order of their numbers, the ticker,
@@ -51,14 +105,10 @@ pub fn open_read<P: Naming>(
     ensures ticker { IfOk result (λ all. all.2 ≡ unspoken ToTicker) }
     ensures board { IfOk result (λ all. all.3 ≡ board.readers) }
 {
-    table.lawful();
     let cores = usize::from(table.cores());
-    let partition = Partition::boot(alloc, table)?;
-    let (scribe, voices, voice) = opened.into_parts::<P>(alloc)?;
     let (publisher, board) = board.into_parts::<P>(alloc, cores)?;
-    let seats = seated(alloc, voices)?;
-    let shared = Shared::new(Published::new(partition, scribe, publisher));
-    Ok((shared, seats, Ticker::new(voice), board))
+    let (shared, seats, ticker) = open_with(alloc, table, opened, publisher)?;
+    Ok((shared, seats, ticker, board))
 }
 
 /// A partition as `open_read` opens it, without readers: it publishes nothing.
@@ -76,11 +126,5 @@ pub fn open<P: Naming>(
     ensures seats { IfOk result (λ all. all.1.items ≡ unspoken_cores P.table.cores) }
     ensures ticker { IfOk result (λ all. all.2 ≡ unspoken ToTicker) }
 {
-    let (shared, seats, ticker, _board) = open_read(
-        alloc,
-        table,
-        opened,
-        NewBoard::without_readers(),
-    )?;
-    Ok((shared, seats, ticker))
+    open_with(alloc, table, opened, None)
 }

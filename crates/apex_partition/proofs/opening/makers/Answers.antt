@@ -3,7 +3,7 @@ use Rattle.std.specs.Prelude.{vec_len}
 use Rattle.apex_receipts.specs.Receipts.{Spoken}
 use Rattle.apex_partition.specs.Seats.{IsSeated}
 use Rattle.apex_partition.proofs.Seated.{count_fresh, fresh_seats}
-use Rattle.apex_partition.proofs.opening.open_read.Goals as goal
+use Rattle.apex_partition.proofs.opening.makers.Goals as goal
 
 pub returns-clause-seated : goal.returns-clause-seated
 returns-clause-seated g c = subst IsSeated (sym c.in_ok-seats.ensures) (fresh_seats 0 g.P.Naming.table.cores)
