@@ -15,7 +15,7 @@ use crate::partitions::Partition;
 use crate::seats::{Seat, Ticker};
 use apex_board::Publisher;
 use apex_receipts::{Naming, Receipt, Scribe, Voice};
-use apex_types::{Entry as KeptEntry, Full};
+use apex_types::{Entry as KeptEntry, Full, LentEntry};
 use std::marker::Model;
 use std::sync::Wait;
 
@@ -44,6 +44,19 @@ impl<P: Naming> Model for Published<P> {
         × HasPublished P.cell l.partition.machine.history l.publisher };
 }
 
+/// The partition's last entry, which it has just made for the voice.
+fn latest_for<'a, P: Naming>(
+    partition: &'a Partition,
+    scribe: &Scribe<P>,
+    voice: &Voice<P>,
+) -> LentEntry<'a>
+    requires { (e : Entry)
+        × IsLatest scribe.now voice.now.who e partition.now.machine.history }
+    ensures { IsLatest scribe.now voice.now.who result partition.entry.now.machine.history }
+{
+    partition.latest()
+}
+
 /// Writes down the entry that the partition has just made, for its voice.
 fn record_latest<P: Naming>(
     partition: &Partition,
@@ -59,7 +72,8 @@ fn record_latest<P: Naming>(
     ensures place { result.place ≡ length voice.old.own + 1 }
 {
     partition.stays_within();
-    scribe.record(voice, &partition.latest())
+    let entry = latest_for(partition, scribe, voice);
+    scribe.record(voice, &entry)
 }
 
 /// Writes that entry down as `record_latest` does. Its receipt takes the place of this one.
@@ -79,7 +93,8 @@ fn record_latest_into<P: Naming>(
     ensures place { receipt.new.place ≡ length voice.old.own + 1 }
 {
     partition.stays_within();
-    scribe.record_into(voice, &partition.latest(), receipt);
+    let entry = latest_for(partition, scribe, voice);
+    scribe.record_into(voice, &entry, receipt);
 }
 
 /// Publishes the front after the partition's last entry, if it has readers.
