@@ -77,7 +77,7 @@ discipline = "FIFO"
 
 /// Both processes are released at 0: `high` ends its job at 1, and `low`, which then has the core, at
 /// 3. `slow` has another core, and works for 6 of each 4 ticks.
-const JOBS: &str = r#"
+pub(crate) const JOBS: &str = r#"
 cores = 2
 
 [[process]]
@@ -159,7 +159,7 @@ fn entry_with<R: Abort>(
 }
 
 /// The process of this number ends a job after at least this many ticks.
-fn responds<R: Abort>(rt: &R, alloc: Global, number: u8, ticks: u32) -> bool {
+fn responds<R: Abort>(rt: &R, alloc: Global, number: u8, ticks: u64) -> bool {
     entry_with(rt, alloc, JOBS, Fact::Response(ticks), of(number), None) > 0
 }
 

@@ -1,10 +1,10 @@
 use Rattle.std.proofs.Common.{slice_index, sym}
 use Rattle.apex_search.specs.Counts.{paced_in}
 use Rattle.apex_search.specs.Steps.{Searched}
-use Rattle.apex_search.proofs.Along.{IsAlong, along_begins, along_more, along_stops}
+use Rattle.apex_search.proofs.Along.{IsAlong, along_begins, along_more, along_stops, form_after}
 use Rattle.apex_search.proofs.SamePaced.{paced_then, same_canonical_paced}
 use Rattle.apex_search.proofs.Stepping.{here_can, here_counts, here_time, made_fit}
-use Rattle.apex_search.proofs.systems.TableSystem.schedule.Goals as goal
+use Rattle.apex_search.proofs.systems.TableSystem.follow.Goals as goal
 
 pub loop-choice-init : goal.loop-choice-init
 loop-choice-init c =
@@ -69,3 +69,9 @@ loop-choice-preserved c =
     (paced_in c.loop-choice.paced) c.loop-choice.events.items c.loop-choice.choice-index along
     c.turns_are_few.ensures c.forms_are_ready.ensures c.loop-choice-test.true c.in-Some.event c.in-Some.ensures.value c.in-Some.ensures.range
     (paced_in c.make.new.self) c.make.ensures.step (paced_in c.canonical-paced-in-loop-choice.result) c.canonical-paced-in-loop-choice.ensures)
+
+pub returns-in_default-clause-form : goal.returns-in_default-clause-form
+returns-in_default-clause-form c = form_after c.args.self.now c.args.path.now (paced_in c.loop-choice.paced) c.loop-choice.events.items c.loop-choice.choice-index c.loop-choice.invariant
+
+pub returns-clause-form : goal.returns-clause-form
+returns-clause-form c = form_after c.args.self.now c.args.path.now (paced_in c.loop-choice.paced) c.loop-choice.events.items c.loop-choice.choice-index c.loop-choice.invariant
