@@ -23,7 +23,7 @@ use Rattle.apex_search.specs.Facts.{Shown, has_fact, has_one, is_age, is_blocked
 use Rattle.apex_search.specs.Forms.{canonical_paced}
 use Rattle.apex_search.specs.Steps.{Searched, event_of}
 use Rattle.apex_search.specs.Terms.{Call, Caller, Event, Notice, Question, Record, Reply}
-use Rattle.apex_search.specs.Worst.{AllBelow, AllBelowWithin, EndsJob, IsFormAfter, IsJobOf, IsOverrun, IsSlowest, LeadsToResponse, above, last_job, responding}
+use Rattle.apex_search.specs.Worst.{AllBelow, AllBelowWithin, EndsJob, IsFormAfter, IsJobOf, IsOverrun, IsSlower, IsSlowest, LeadsToResponse, above, last_job, responding}
 use Rattle.apex_search.specs.declared.facts.Fact.TheVariants.{Response}
 use Rattle.apex_search.specs.declared.systems.Workplace.{Workplace}
 use Rattle.apex_search.specs.declared.worst.Job.{Job}
@@ -292,14 +292,34 @@ module _ (system : Searched) (p least : ℕ) (path : List ℕ) (fact : LeadsToFa
 -- The search, so far.
 
 -- it asks for a response of more ticks than the greatest one that was found
-pub record IsRising (system now : Searched) (p : ℕ) (search : Search Workplace) (found : Option Slowest) : Type 0 where
-  pub same : now ≡ responding system p (above found)
+pub record IsRising (system now : Searched) (p least : ℕ) (search : Search Workplace) (found : Option Slowest) : Type 0 where
+  pub same : now ≡ responding system p least
   pub of : IsSearchOf now search
   pub best : ForSome found (IsSlowest system p)
+  pub is : least ≡ above found
+  pub few : least ≤ 2 ^ 32
 
 pub rising_begins : (system now : Searched) (p : ℕ) (search : Search Workplace) → now ≡ responding system p 0 → IsSearchOf now search
-    → IsRising system now p search None
-rising_begins system now p search same of = record { same = same; of = of; best = λ x e. absurd (none-some x e) }
+    → IsRising system now p 0 search None
+rising_begins system now p search same of = record {
+  same = same;
+  of = of;
+  best = λ x e. absurd (none-some x e);
+  is = refl;
+  few = omega arith;
+}
+
+-- a greater one is found
+pub rising_more : (system now : Searched) (p least : ℕ) (search : Search Workplace) (slowest : Slowest)
+    → IsSlower system now p least search slowest
+    → IsRising system now p (slowest.response + 1) search (Some slowest)
+rising_more system now p least search slowest slower = record {
+  same = slower.asks;
+  of = slower.of;
+  best = λ x e. subst (IsSlowest system p) (same_Some slowest x e) slower.is;
+  is = refl;
+  few = omega (arith, slower.few);
+}
 
 -- the schedule of a path is the same, and so are its responses
 module _ (system : Searched) (p n : ℕ) where
@@ -382,22 +402,6 @@ module _ (system : Searched) (p n : ℕ) where
   pub none_shorter : (path : List ℕ) (limit : ℕ) → IsShortestSchedule asking path → limit < length path → NoScheduleWithin asking limit
   none_shorter path limit shortest past events short leads = let long = shortest.shortest events leads in omega (arith, long, short, past)
 
--- a greater one is found
-pub rising_more : (system now next : Searched) (p : ℕ) (search search' : Search Workplace) (found : Option Slowest) (slowest : Slowest)
-    → IsRising system now p search found → IsSearchOf now search' → IsSlowest system p slowest → above found ≤ slowest.response
-    → next ≡ responding now p (slowest.response + 1)
-    → IsRising system next p search' (Some slowest)
-rising_more system now next p search search' found slowest rising of is greater next_is = record {
-  same = then;
-  of = subst (λ (s : Searched). IsSearchOf s search') (sym then)
-      (search_narrower (responding system p (above found)) (asked_for p (slowest.response + 1))
-      (asked_less p (above found) (slowest.response + 1) (omega (arith, greater))) search'
-      (subst (λ (s : Searched). IsSearchOf s search') rising.same of));
-  best = λ x e. subst (IsSlowest system p) (same_Some slowest x e) is;
-} where
-  then : next ≡ responding system p (slowest.response + 1)
-  then = next_is ∙ ap (λ (s : Searched). responding s p (slowest.response + 1)) rising.same
-
 -- What the search says, in the words of the system that it began with.
 module _ (system now : Searched) (p n : ℕ) (same : now ≡ responding system p n) where
   again : now ≡ responding now p n
@@ -432,3 +436,20 @@ module _ (system now : Searched) (p n : ℕ) (same : now ≡ responding system p
 
       pub now_overruns : job.period < job.response → length path ≤ system.table.limit → IsOverrun system p job.period events
       now_overruns = overruns system p n path events job there its_job
+
+      -- and the question is for a greater one
+      pub now_slower : (next : Searched) (search : Search Workplace) (slowest : Slowest) → slowest.response ≡ job.response
+          → slowest.schedule.items ≡ events → job.response ≤ job.period → job.period < 2 ^ 32 → length path ≤ system.table.limit
+          → next ≡ responding now p (slowest.response + 1) → IsSearchOf now search → IsSlower system next p n search slowest
+      now_slower next search slowest response these within few short next_is of = record {
+        is = now_slowest slowest response these within short;
+        more = omega (arith, now_rises within, response);
+        few = omega (arith, within, few, response);
+        asks = then;
+        of = subst (λ (s : Searched). IsSearchOf s search) (sym then)
+            (search_narrower (responding system p n) (asked_for p (slowest.response + 1))
+            (asked_less p n (slowest.response + 1) (omega (arith, now_rises within, response))) search
+            (subst (λ (s : Searched). IsSearchOf s search) same of));
+      } where
+        then : next ≡ responding system p (slowest.response + 1)
+        then = next_is ∙ ap (λ (s : Searched). responding s p (slowest.response + 1)) same

@@ -1,19 +1,24 @@
 -- The greatest response of a process: what a search for it says of the schedules of a pace.
-use Rattle.std.specs.Prelude.{◌≡◌, ℕ, ◌+◌, ◌-◌, ◌<◌, ◌≤◌, All, List, [], ◌∷◌, ◌++◌, length, Option, None, Some, option_map}
+use Rattle.std.specs.Prelude.{◌≡◌, ℕ, ◌+◌, ◌-◌, ◌^◌, ◌<◌, ◌≤◌, All, List, [], ◌∷◌, ◌++◌, length, Option, None, Some, option_map}
 use Rattle.std.specs.Option.{ForSome}
+use Rattle.apex_explore.specs.declared.searches.Search.{Search}
 use Rattle.apex_machine.specs.Events.{IsWithin}
 use Rattle.apex_machine.specs.Situations.{deed}
 use Rattle.apex_machine.specs.processes.Periods.{IsReleased}
 use Rattle.apex_machine.specs.processes.Roster.{Roster, record_at}
 use Rattle.apex_pace.specs.Pace.{KeepsPace, Paced, paced_opening, paced_run}
 use Rattle.apex_search.specs.Answers.{schedule_of}
+use Rattle.apex_search.specs.Census.{IsSearchOf}
 use Rattle.apex_search.specs.Facts.{Shown, shown_of}
 use Rattle.apex_search.specs.Forms.{canonical_paced}
 use Rattle.apex_search.specs.Laws.{StandsFor}
 use Rattle.apex_search.specs.Steps.{IsFormed, Searched}
 use Rattle.apex_search.specs.Terms.{Event}
 use Rattle.apex_search.specs.declared.facts.Fact.TheVariants.{Response}
+use Rattle.apex_search.specs.declared.systems.Workplace.{Workplace}
 use Rattle.apex_search.specs.declared.worst.Job.{Job}
+use Rattle.apex_search.specs.declared.worst.Round.{Round}
+use Rattle.apex_search.specs.declared.worst.Round.TheVariants as rounds
 use Rattle.apex_search.specs.declared.worst.Slowest.{Slowest}
 use Rattle.apex_search.specs.declared.worst.Worst.{Worst}
 use Rattle.apex_search.specs.declared.worst.Worst.TheVariants.{Greatest, Overrun, Full, Beyond}
@@ -99,6 +104,26 @@ abbrev pub responding : Searched → ℕ → ℕ → Searched
 responding system p ticks = record system {
   question = record { facts = Response ticks ∷ []; process = Some p; service = None };
 }
+
+-- the job has a response of at least this many ticks, and the search asks for a greater one now
+pub record IsSlower (system now : Searched) (p least : ℕ) (search : Search Workplace)
+    (slowest : Slowest) : Type 0 where
+  pub is : IsSlowest system p slowest
+  pub more : least ≤ slowest.response
+  pub few : slowest.response < 2 ^ 32
+  pub asks : now ≡ responding system p (slowest.response + 1)
+  pub of : IsSearchOf now search
+
+-- what a search on for a response of process p of at least this many ticks says
+abbrev pub IsRound : Searched → Searched → ℕ → ℕ → Search Workplace → Round → Type 0
+IsRound system now p least search (rounds.Slower slowest) =
+    IsSlower system now p least search slowest
+IsRound system now p least search (rounds.Overrun schedule period) =
+    IsOverrun system p period schedule.items
+IsRound system now p least search (rounds.Closed states) = AllBelow system p least
+IsRound system now p least search (rounds.Full depth) = AllBelowWithin system p least depth
+IsRound system now p least search (rounds.Beyond limit) =
+    (limit ≡ system.table.limit) × AllBelowWithin system p least limit
 
 -- the period of process p, if it has one, and the ticks since its last release
 abbrev pub last_job : Roster → ℕ → Option Job

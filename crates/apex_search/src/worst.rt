@@ -1,11 +1,13 @@
 //! The greatest response of a process.
 ghost use Rattle.std.specs.Prelude.{◌≡◌, ℕ, IfOk, option_map};
 ghost use Rattle.apex_search.specs.Answers.{LeadsToFact, schedule_of};
+ghost use Rattle.apex_search.specs.Census.{IsSearchOf};
 ghost use Rattle.apex_search.specs.Counts.{paced_in};
-ghost use Rattle.apex_search.specs.Worst.{IsJobOf, IsWorst, last_job, responding, schedule_in};
+ghost use Rattle.apex_search.specs.Steps.{Searched};
+ghost use Rattle.apex_search.specs.Worst.{IsJobOf, IsRound, IsWorst, last_job, responding, schedule_in};
 
 use crate::paced::PacedSituation;
-use crate::systems::TableSystem;
+use crate::systems::{TableSystem, Workplace};
 use apex_explore::{Answer, Search};
 use apex_store::Store;
 use apex_types::{Event, ProcessId};
@@ -44,6 +46,21 @@ pub enum Worst {
         found: Option<Slowest>,
         limit: u32,
     },
+}
+
+/// What a search on for a response of at least some number of ticks says.
+#[derive(Drop)]
+enum Round {
+    /// This job has one.
+    Slower(Slowest),
+    /// The schedule has one of more than a period, which has this many ticks.
+    Overrun { schedule: Vec<Event>, period: u32 },
+    /// No schedule has one.
+    Closed { states: usize },
+    /// No schedule of at most `depth` events has one.
+    Full { depth: usize },
+    /// No schedule for whose entries the history has room has one.
+    Beyond { limit: u32 },
 }
 
 /// A job: the period of its process, and its response in ticks.
@@ -93,6 +110,68 @@ impl TableSystem {
         }
     }
 
+    /// Searches on for a response of at least this many ticks. If one of at most a period is found,
+    /// the question is for a greater one afterwards. Fails only for want of memory.
+    fn next_response(
+        &mut self,
+        alloc: Global,
+        search: &mut Search<Workplace>,
+        process: ProcessId,
+        least: u64,
+    ) -> Result<Round, AllocError>
+        requires asks { self.old ≡ responding self.old process least }
+        requires search { IsSearchOf self.old search.old }
+        ensures { (system : Searched) → self.old ≡ responding system process least
+            → IfOk result (IsRound system self.new process least search.new) }
+    {
+        let path = match self.go_on(alloc, search)? {
+            Answer::Found(path) => path,
+            Answer::Closed { states } => return Ok(Round::Closed { states }),
+            Answer::Full { depth } => return Ok(Round::Full { depth }),
+        };
+        let limit = self.table().limit();
+        if path.len() > limit as usize {
+            return Ok(Round::Beyond { limit });
+        }
+        let (schedule, job) = self.job_of(alloc, path.as_slice(), process)?;
+        let Job { period, response } = job;
+        if response > u64::from(period) {
+            return Ok(Round::Overrun { schedule, period });
+        }
+        self.ask_for_response(process, response + 1);
+        Ok(Round::Slower(Slowest { response, schedule }))
+    }
+
+    /// Asks for a greater response as long as one is found. Fails only for want of memory.
+    fn greatest_response(
+        &mut self,
+        alloc: Global,
+        search: &mut Search<Workplace>,
+        process: ProcessId,
+    ) -> Result<Worst, AllocError>
+        requires asks { self.old ≡ responding self.old process 0 }
+        requires search { IsSearchOf self.old search.old }
+        ensures { (system : Searched) → self.old ≡ responding system process 0
+            → IfOk result (IsWorst system process) }
+    {
+        let mut found = None;
+        let mut least = 0;
+        loop {
+            match self.next_response(alloc, search, process, least)? {
+                Round::Slower(slowest) => {
+                    least = slowest.response + 1;
+                    found = Some(slowest);
+                }
+                Round::Overrun { schedule, period } => {
+                    return Ok(Worst::Overrun { schedule, period });
+                }
+                Round::Closed { states } => return Ok(Worst::Greatest { found, states }),
+                Round::Full { depth } => return Ok(Worst::Full { found, depth }),
+                Round::Beyond { limit } => return Ok(Worst::Beyond { found, limit }),
+            }
+        }
+    }
+
     /// Searches the schedules of the pace, the shortest first, for the greatest response of the
     /// process. The room for `room` states is taken before the first event. Fails only for want of
     /// memory.
@@ -110,26 +189,7 @@ impl TableSystem {
     {
         self.ask_for_response(process, 0);
         let mut search = Search::new(alloc, &self, room)?;
-        let mut found = None;
-        loop {
-            match self.go_on(alloc, &mut search)? {
-                Answer::Found(path) => {
-                    let limit = self.table().limit();
-                    if path.len() > limit as usize {
-                        return Ok(Worst::Beyond { found, limit });
-                    }
-                    let (schedule, job) = self.job_of(alloc, path.as_slice(), process)?;
-                    let Job { period, response } = job;
-                    if response > u64::from(period) {
-                        return Ok(Worst::Overrun { schedule, period });
-                    }
-                    self.ask_for_response(process, response + 1);
-                    found = Some(Slowest { response, schedule });
-                }
-                Answer::Closed { states } => return Ok(Worst::Greatest { found, states }),
-                Answer::Full { depth } => return Ok(Worst::Full { found, depth }),
-            }
-        }
+        self.greatest_response(alloc, &mut search, process)
     }
 }
 

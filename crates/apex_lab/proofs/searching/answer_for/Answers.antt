@@ -1,8 +1,3 @@
+-- What is found is what the search says.
+use Rattle.apex_lab.proofs.SearchLemmas.{fact_says, facts_say, response_says}
 use Rattle.apex_lab.proofs.searching.answer_for.Goals as goal
-
-pub returns-clause-ok : goal.returns-clause-ok
-returns-clause-ok c = record {
-  system = c.in_ok-system.system;
-  of = c.in_ok-system.ensures.ok;
-  answers = c.in_ok-answer.ensures;
-}
