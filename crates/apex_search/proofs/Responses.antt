@@ -404,7 +404,7 @@ module _ (system : Searched) (p n : ℕ) where
 
 -- What the search says, in the words of the system that it began with.
 module _ (system now : Searched) (p n : ℕ) (same : now ≡ responding system p n) where
-  again : now ≡ responding now p n
+  pub again : now ≡ responding now p n
   again = same ∙ ap (λ (s : Searched). responding s p n) (sym same)
 
   pub asks : (path : List ℕ) → IsShortestSchedule now path → (least : ℕ) × LeadsToFact (responding now p least) (schedule_of now path)
