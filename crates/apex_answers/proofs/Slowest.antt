@@ -3,9 +3,9 @@ use Rattle.std.proofs.Common.{◌≡◌, ◌∙◌, ◌++◌, ◌+◌, ◌≤◌
 use Rattle.std.proofs.lemmas.Option.{none-some, same_Some}
 use Rattle.std.specs.List.{last_or}
 use Rattle.apex_calls.specs.Lines.{line_of}
-use Rattle.apex_dispatch.specs.Kernel.{KernelState}
+use Rattle.apex_dispatch.specs.Kernel.{KernelState, kernel_in}
 use Rattle.apex_machine.specs.Events.{IsWithin}
-use Rattle.apex_machine.specs.Machine.{Machine, entry_of, opening, run}
+use Rattle.apex_machine.specs.Machine.{Machine, entry_of, events_of, opening, run}
 use Rattle.apex_machine.specs.Situations.{deed, maker}
 use Rattle.apex_machine.specs.table.Table.{IsLawful, Table}
 use Rattle.apex_pace.specs.Pace.{paced_opening, paced_run}
@@ -60,6 +60,33 @@ module _ (system : Searched) (p : ℕ) where
 pub can_run : (table : Table) (text : List ℕ) (events : List Event) → table_of text ≡ Ok table → CanShow table events → CanRun text events
 can_run table text events read can = record { table = table; read = read; own = can.own; fits = can.fits }
 
+-- the kernel of the text makes the events
+module _ {S : Type 0} (text : List ℕ) (events : List Event) (can : CanRun text events) (before : KernelState S)
+    (read : table_of text ≡ Ok before.table) (opened : before ≡ kernel_in before.table (opening before.table) before.store) where
+  same : before.table ≡ can.table
+  same = same_table (table_of text) before.table can.table read can.read
+
+  pub own_events : All (IsWithin before.table.cores) events
+  own_events = subst (λ (t : Table). All (IsWithin t.cores) events) (sym same) can.own
+
+  empty : before.machine.history ≡ []
+  empty = ap (λ (k : KernelState S). k.machine.history) opened
+
+  pub has_room : length before.machine.history + length events ≤ before.table.limit
+  has_room = omega (arith, can.fits, ap (λ (h : List Entry). length h) empty, ap (λ (t : Table). t.limit) same)
+
+  pub has_run : (after : KernelState S)
+      → after ≡ kernel_in before.table (run before.table (opening before.table) (events_of before.machine.history ++ events)) after.store
+      → HasRun text events after
+  has_run after done =
+      let table : after.table ≡ before.table = ap (λ (k : KernelState S). k.table) done in
+      record {
+        table = read ∙ ap Ok (sym table);
+        machine = ap (λ (k : KernelState S). k.machine) done
+            ∙ ap (λ (h : List Entry). run before.table (opening before.table) (events_of h ++ events)) empty
+            ∙ ap (λ (t : Table). run t (opening t) events) (sym table);
+      }
+
 -- the run of a schedule shows its last entry
 pub shows_run : {S : Type 0} (table : Table) → IsLawful table → (text : List ℕ) (events : List Event) (kernel : KernelState S)
     → table_of text ≡ Ok table → CanShow table events → HasRun text events kernel
@@ -83,7 +110,7 @@ shows_run table lawful text events kernel read can ran =
     (shows events entry (record { earlier = can.earlier; last = can.last; is = can.is; entry_is = refl; ends = ends }))
 
 module _ (system : Searched) (p room : ℕ) (answer : WorstAnswer) (is : IsWorst system p answer.worst) where
-  answer_with : (found : Option (List Event)) → schedule_in answer.worst ≡ found → ShowsRun system.table found (run_part found answer.kernel)
+  pub answer_with : (found : Option (List Event)) → schedule_in answer.worst ≡ found → ShowsRun system.table found (run_part found answer.kernel)
       → IsWorstAnswer system p room answer
   answer_with found e shown = record {
     worst = answer.worst;

@@ -47,7 +47,7 @@ census_end room census = ended room census.found.items census.end
 -- the text that a search for all facts, with room for this many states, may answer, and its end
 pub record SaysCensus (system : Searched) (room : ℕ) (text : List ℕ) (end : SearchEnd) : Type 0
   where
-  pub census : Census
-  pub is : IsCensus system census
-  pub text_is : text ≡ census_text room census
-  pub end_is : end ≡ census_end room census
+    pub census : Census
+    pub is : IsCensus system census
+    pub text_is : text ≡ census_text room census
+    pub end_is : end ≡ census_end room census

@@ -73,12 +73,12 @@ worst_end room (Beyond found limit) = is_beyond limit
 -- answer, and its end
 pub record SaysWorst (system : Searched) (p room : ℕ) (text : List ℕ) (end : SearchEnd) : Type 0
   where
-  pub worst : Worst
-  pub is : IsWorst system p worst
-  pub run : List ℕ
-  pub shows : ShowsRun system.table (schedule_in worst) run
-  pub text_is : text ≡ head_text worst ++ run ++ tail_text room worst
-  pub end_is : end ≡ worst_end room worst
+    pub worst : Worst
+    pub is : IsWorst system p worst
+    pub run : List ℕ
+    pub shows : ShowsRun system.table (schedule_in worst) run
+    pub text_is : text ≡ head_text worst ++ run ++ tail_text room worst
+    pub end_is : end ≡ worst_end room worst
 
 -- the schedule, if there is one, and the line of the last entry of its kernel
 abbrev pub run_part : {S : Type 0} → Option (List Event) → Option (KernelState S) → List ℕ

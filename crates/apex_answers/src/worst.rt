@@ -58,14 +58,20 @@ pub fn worst_of(
 {
     system.table().lawful();
     let worst = system.worst(alloc, process, room)?;
-    let kernel = match worst.schedule() {
-        Some(events) => Some(kernel_after(alloc, text, events)?),
-        None => None,
-    };
-    Ok(WorstAnswer { worst, kernel })
+    match worst.schedule() {
+        Some(events) => {
+            let kernel = Some(kernel_after(alloc, text, events)?);
+            Ok(WorstAnswer { worst, kernel })
+        }
+        None => Ok(WorstAnswer {
+            worst,
+            kernel: None,
+        }),
+    }
 }
 
 /// A line of these words and this number.
+#[tactic(auto, using(std::proofs::Common::append_assoc))]
 fn number_line(words: &str, number: usize) -> Text
     requires { length words.now ≤ 20 }
     ensures text { result.bytes ≡ words.now ++ decimal number ++ codes "\n" }
@@ -88,14 +94,20 @@ fn head(worst: &Worst) -> Text
             text.push_str("no response\n");
             text
         }
-        Worst::Greatest { found: Some(slowest), .. } => {
-            number_line("worst ", slowest.response as usize)
-        }
+        Worst::Greatest {
+            found: Some(slowest),
+            ..
+        } => { number_line("worst ", slowest.response as usize) }
         Worst::Overrun { period, .. } => number_line("worst over ", *period as usize),
         Worst::Full { found: None, .. } | Worst::Beyond { found: None, .. } => Text::new(),
-        Worst::Full { found: Some(slowest), .. } | Worst::Beyond { found: Some(slowest), .. } => {
-            number_line("worst at least ", slowest.response as usize)
+        Worst::Full {
+            found: Some(slowest),
+            ..
         }
+        | Worst::Beyond {
+            found: Some(slowest),
+            ..
+        } => { number_line("worst at least ", slowest.response as usize) }
     }
 }
 
@@ -137,10 +149,13 @@ impl WorstAnswer {
             (run_part (schedule_in self.now.worst) self.now.kernel)) }
         ensures counted { CountsFailure result (failures_of writer.old) (failures_of writer.new) }
     {
-        match (self.worst.schedule(), &self.kernel) {
-            (Some(events), Some(kernel)) => write_run(events, kernel, writer),
-            _ => Ok(()),
-        }
+        let Some(events) = self.worst.schedule() else {
+            return Ok(());
+        };
+        let Some(kernel) = &self.kernel else {
+            return Ok(());
+        };
+        write_run(events, kernel, writer)
     }
 
     /// Writes the text of the answer of a search with room for this many states. Takes no memory.

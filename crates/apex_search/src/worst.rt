@@ -33,7 +33,10 @@ pub enum Worst {
     },
     /// These are the events of a shortest schedule with a response of more than a period, which has
     /// this many ticks. How great a response can be then is not said.
-    Overrun { schedule: Vec<Event>, period: u32 },
+    Overrun {
+        schedule: Vec<Event>,
+        period: u32,
+    },
     /// No schedule of at most `depth` events has a greater response than that of `found`, or any if
     /// it is none, and there is no room for more states.
     Full {

@@ -43,9 +43,11 @@ returns-in-Closed c system same =
 
 pub returns-in-Full : goal.returns-in-Full
 returns-in-Full c system same =
-    let rising = c.loop-found.invariant system same in
-    (rising.best, subst (λ (n : ℕ). AllBelowWithin system c.args.process n c.in-Full.depth) rising.is
-    (rw c.in-Full.is at (c.in_ok-slowest.ensures system rising.same)))
+    let rising = c.loop-found.invariant system same in (
+      rising.best,
+      subst (λ (n : ℕ). AllBelowWithin system c.args.process n c.in-Full.depth) rising.is
+          (rw c.in-Full.is at (c.in_ok-slowest.ensures system rising.same)),
+    )
 
 pub returns-in-Beyond : goal.returns-in-Beyond
 returns-in-Beyond c system same =

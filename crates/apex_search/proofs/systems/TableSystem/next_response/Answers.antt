@@ -17,9 +17,11 @@ pub returns-then-len-limit : goal.returns-then-len-limit
 returns-then-len-limit c system same =
     let limit : c.limit-limit.result ≡ system.table.limit =
     c.limit-limit.ensures.value ∙ ap (λ (t : Table). t.limit) (c.table.ensures ∙ ap (λ (s : Searched). s.table) same) in
-    let past : c.limit-limit.result < length c.in-Found.path.items = omega (arith, c.len.ensures, c.if-len-limit.true) in
-    (limit, now_beyond system c.args.self.now c.args.process c.args.least same c.in-Found.path.items
-    (rw c.in-Found.is at c.in_ok-path.ensures.says) c.limit-limit.result past)
+    let past : c.limit-limit.result < length c.in-Found.path.items = omega (arith, c.len.ensures, c.if-len-limit.true) in (
+      limit,
+      now_beyond system c.args.self.now c.args.process c.args.least same c.in-Found.path.items
+          (rw c.in-Found.is at c.in_ok-path.ensures.says) c.limit-limit.result past,
+    )
 
 pub returns-then-response-from : goal.returns-then-response-from
 returns-then-response-from c system same =
