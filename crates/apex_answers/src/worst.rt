@@ -53,15 +53,18 @@ pub fn worst_of(
     room: u32,
     text: &[u8],
 ) -> Result<WorstAnswer, AllocError>
-    requires table { table_of text.now ≡ Ok system.table }
+    requires { table_of text.now ≡ Ok system.table }
     ensures { IfOk result (IsWorstAnswer system process room) }
 {
     system.table().lawful();
     let worst = system.worst(alloc, process, room)?;
     match worst.schedule() {
         Some(events) => {
-            let kernel = Some(kernel_after(alloc, text, events)?);
-            Ok(WorstAnswer { worst, kernel })
+            let kernel = kernel_after(alloc, text, events)?;
+            Ok(WorstAnswer {
+                worst,
+                kernel: Some(kernel),
+            })
         }
         None => Ok(WorstAnswer {
             worst,

@@ -17,7 +17,7 @@ use Rattle.apex_search.specs.declared.Census.{Census}
 use Rattle.apex_search.specs.declared.Fact.{Fact}
 use Rattle.apex_table.specs.Reading.{table_of}
 use Rattle.apex_table.specs.declared.TableFault.{TableFault}
-use Rattle.apex_lab.specs.Searches.{HasFacts, HasGreatest, HasShortest, IsAnswerFor, IsMissing, IsRefusalOf, IsSystemOf, IsTextFault, asked_process, for_fact, for_facts, for_response}
+use Rattle.apex_lab.specs.Searches.{HasFacts, HasGreatest, HasShortest, IsAnswerFor, IsMissing, IsRefusalOf, IsSystemOf, IsTextFault, asked_process, for_fact, for_facts, for_response, system_about}
 use Rattle.apex_lab.specs.declared.faults.LabFault.{LabFault}
 use Rattle.apex_lab.specs.declared.faults.LabFault.TheVariants.{Common, NoEntry, NoProcess, Schedule, StatesFull}
 use Rattle.apex_lab.specs.declared.questions.Search.{Search}
@@ -45,6 +45,11 @@ missing_process asked text table (Schedule bad) is missing = absurd missing
 missing_process asked text table (NoEntry number) is missing = absurd missing
 missing_process asked text table (StatesFull room) is missing = absurd missing
 
+pub same_system : (pace : Pace) (facts : List Fact) (service : Option Service) (table : Table) (process : Option ℕ) (system : Searched)
+    → system.table ≡ table → system.pace ≡ pace → system.question ≡ record { facts = facts; process = process; service = service }
+    → system ≡ system_about table pace facts process service
+same_system pace facts service table process system same at question = rw (sym same, sym at, sym question) refl
+
 -- the system of a question
 pub is_system : (pace : Pace) (facts : List Fact) (asked : Option Text) (service : Option Service) (text : List ℕ) (table : Table) (process : Option ℕ) (system : Searched)
     → table_of text ≡ Ok table → asked_process table asked ≡ Some process
@@ -55,7 +60,7 @@ is_system pace facts asked service text table process system read found same at 
   of = read;
   place = process;
   asked = found;
-  is = rw (sym same, sym at, sym question) refl;
+  is = same_system pace facts service table process system same at question;
 }
 
 -- it is that of the table of the text

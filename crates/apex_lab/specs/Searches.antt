@@ -68,7 +68,7 @@ pub data SaysFor (search : Search) (table : Table) : List ℕ → SearchEnd → 
   for_response : (process : Text) (place : ℕ)
       → {text : List ℕ} {ends : SearchEnd} → search.sought ≡ sought.Response process
       → place_of table process ≡ Some place
-      → SaysWorst (system_about table search.pace [] None None) place search.room text ends
+      → SaysWorst (system_about table search.pace all_facts None None) place search.room text ends
       → SaysFor search table text ends
 
 -- the end of the program with the end of a search
@@ -157,7 +157,7 @@ pub record HasGreatest (search : Search) (process : Text) (text : List ℕ) (ans
   pub of : table_of text ≡ Ok table
   pub place : ℕ
   pub asked : place_of table process ≡ Some place
-  pub answers : IsWorstAnswer (system_about table search.pace [] None None) place search.room answer
+  pub answers : IsWorstAnswer (system_about table search.pace all_facts None None) place search.room answer
 
 -- the table has no process of the name or number that is asked for
 abbrev pub IsMissing : Table → Option Text → LabFault → Type 0

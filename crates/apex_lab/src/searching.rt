@@ -6,6 +6,7 @@ ghost use Rattle.apex_history.specs.Counted.{inner_of, failures_of, CountsFailur
 ghost use Rattle.apex_pace.specs.Laws.{IsPace};
 ghost use Rattle.apex_answers.specs.Answers.{answer_end};
 ghost use Rattle.apex_answers.specs.Censuses.{census_end};
+ghost use Rattle.apex_answers.specs.Processes.{place_of};
 ghost use Rattle.apex_answers.specs.Worst.{worst_end};
 ghost use Rattle.apex_lab.specs.Ends.{end_in};
 ghost use Rattle.apex_lab.specs.Searches.{HasFacts, HasGreatest, HasShortest, IsAnswerFor, IsMissing, IsRefusalOf, IsSystemOf, SearchEnds, asked_name, asked_process, end_of_search, lab_end, lab_text};
@@ -35,6 +36,17 @@ pub enum LabAnswer {
     Response(WorstAnswer),
 }
 
+/// The process of this name or number. `NoProcess` if the table has none.
+fn named_process(table: &Table, name: Name) -> Result<ProcessId, LabFault>
+    ensures ok { IfOk result (λ process. place_of table.now name ≡ Some process) }
+    ensures err { IfErr result (IsMissing table.now (Some name)) }
+{
+    match process_of(table, &name) {
+        Some(process) => Ok(process),
+        None => Err(LabFault::NoProcess(name)),
+    }
+}
+
 /// The process that a search is about, if it is about one. `NoProcess` if the table has none of this
 /// name or number.
 fn asked_process(table: &Table, asked: Option<Name>) -> Result<Option<ProcessId>, LabFault>
@@ -44,10 +56,8 @@ fn asked_process(table: &Table, asked: Option<Name>) -> Result<Option<ProcessId>
     let Some(name) = asked else {
         return Ok(None);
     };
-    match process_of(table, &name) {
-        Some(process) => Ok(Some(process)),
-        None => Err(LabFault::NoProcess(name)),
-    }
+    let process = named_process(table, name)?;
+    Ok(Some(process))
 }
 
 /// The system of the table of this text, with the question for these facts, of this process and this
@@ -123,11 +133,9 @@ fn response_answer(
     ensures err { IfErr result (IsRefusalOf (Some name) text.now) }
 {
     let table = table_for(alloc, &[], text)?;
-    let Some(process) = process_of(&table, &name) else {
-        return Err(LabFault::NoProcess(name));
-    };
+    let process = named_process(&table, name)?;
     let question = Question {
-        facts: Facts::of(&[]),
+        facts: Facts::all(),
         process: None,
         service: None,
     };
@@ -147,16 +155,16 @@ fn answer_for(alloc: Global, search: &Search, text: &[u8]) -> Result<LabAnswer, 
 {
     match search.sought {
         Sought::Fact(fact, process, service) => {
-            let answer = fact_answer(alloc, search, fact, process, service, text)?;
-            Ok(LabAnswer::Fact(answer))
+            let shortest = fact_answer(alloc, search, fact, process, service, text)?;
+            Ok(LabAnswer::Fact(shortest))
         }
         Sought::Facts(process, service) => {
             let census = facts_answer(alloc, search, process, service, text)?;
             Ok(LabAnswer::Facts(census))
         }
         Sought::Response(name) => {
-            let answer = response_answer(alloc, search, name, text)?;
-            Ok(LabAnswer::Response(answer))
+            let greatest = response_answer(alloc, search, name, text)?;
+            Ok(LabAnswer::Response(greatest))
         }
     }
 }

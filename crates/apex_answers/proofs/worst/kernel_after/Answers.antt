@@ -7,8 +7,8 @@ pub run-requires : goal.run-requires
 run-requires c =
     own_events c.args.text.now c.args.events.now c.requires c.in_ok-kernel.kernel c.in_ok-kernel.ensures.table c.in_ok-kernel.ensures.opened
 
-pub returns-in-Ok : goal.returns-in-Ok
-returns-in-Ok c =
+pub returns : goal.returns
+returns c =
     has_run c.args.text.now c.args.events.now c.requires c.in_ok-kernel.kernel c.in_ok-kernel.ensures.table c.in_ok-kernel.ensures.opened
     c.run.new.self c.in-Ok.ensures.done
 
