@@ -1,8 +1,9 @@
 -- The system of a search, and the faults of its table's text.
-use Rattle.std.proofs.Common.{◌≡◌, ◌∙◌, ap, inl, inr, ℕ, List, [], Option, Some, refl, subst, sym, Ok, Err}
+use Rattle.std.proofs.Common.{◌≡◌, ◌∙◌, ◌<◌, ap, arith, inl, inr, ℕ, List, [], ◌∷◌, length, Option, Some, refl, subst, sym, Ok, Err}
 use Rattle.std.specs.Prelude.{Result}
 use Rattle.clap.specs.Words.{Text}
 use Rattle.apex_answers.specs.Answers.{IsAnswerOf}
+use Rattle.apex_answers.specs.Censuses.{ended}
 use Rattle.apex_answers.specs.declared.SearchAnswer.{SearchAnswer}
 use Rattle.apex_answers.specs.declared.WorstAnswer.{WorstAnswer}
 use Rattle.apex_calls.specs.declared.Service.{Service}
@@ -14,10 +15,14 @@ use Rattle.apex_pace.specs.declared.paces.Pace.{Pace}
 use Rattle.apex_search.specs.Census.{IsCensus}
 use Rattle.apex_search.specs.Steps.{Searched}
 use Rattle.apex_search.specs.declared.Census.{Census}
+use Rattle.apex_search.specs.declared.End.TheVariants.{Closed}
 use Rattle.apex_search.specs.declared.Fact.{Fact}
+use Rattle.apex_search.specs.declared.Finding.{Finding}
 use Rattle.apex_table.specs.Reading.{table_of}
 use Rattle.apex_table.specs.declared.TableFault.{TableFault}
-use Rattle.apex_lab.specs.Searches.{HasFacts, HasGreatest, HasShortest, IsAnswerFor, IsMissing, IsRefusalOf, IsSystemOf, IsTextFault, asked_process, for_fact, for_facts, for_response, system_about}
+use Rattle.apex_lab.specs.Searches.{HasFacts, HasGreatest, HasShortest, IsAnswerFor, IsMissing, IsRefusalOf, IsSystemOf, IsTextFault, asked_process, for_fact, end_of_search, for_facts, for_response, system_about}
+use Rattle.apex_lab.specs.Ends.{complete}
+use Rattle.apex_lab.specs.Ends as program
 use Rattle.apex_lab.specs.declared.faults.LabFault.{LabFault}
 use Rattle.apex_lab.specs.declared.faults.LabFault.TheVariants.{Common, NoEntry, NoProcess, Schedule, StatesFull}
 use Rattle.apex_lab.specs.declared.questions.Search.{Search}
@@ -67,6 +72,15 @@ is_system pace facts asked service text table process system read found same at 
 pub system_table : (pace : Pace) (facts : List Fact) (asked : Option Text) (service : Option Service) (text : List ℕ) (system : Searched)
     → IsSystemOf pace facts asked service text system → table_of text ≡ Ok system.table
 system_table pace facts asked service text system is = is.of ∙ ap Ok (sym (ap (λ (s : Searched). s.table) is.is))
+
+-- the end of a census that is closed, by whether there is a finding
+pub ends_without : (room states : ℕ) (found : List Finding) → length found ≡ 0 → end_of_search (ended room found (Closed states)) ≡ complete
+ends_without room states [] none = refl
+ends_without room states (finding ∷ others) none = absurd (omega arith)
+
+pub ends_with : (room states : ℕ) (found : List Finding) → 0 < length found → end_of_search (ended room found (Closed states)) ≡ program.finds
+ends_with room states [] some = absurd (omega arith)
+ends_with room states (finding ∷ others) some = refl
 
 -- what is found is what the search says
 module _ (search : Search) (text : List ℕ) where

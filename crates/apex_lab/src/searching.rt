@@ -187,8 +187,13 @@ fn ending_of_census(census: &Census, room: u32) -> Result<Ending, LabFault>
 {
     match census.end {
         End::Full { .. } => Err(LabFault::StatesFull(room)),
-        End::Closed { .. } if census.found.is_empty() => Ok(Ending::Complete),
-        End::Closed { .. } => Ok(Ending::Found),
+        End::Closed { .. } => {
+            if census.found.is_empty() {
+                Ok(Ending::Complete)
+            } else {
+                Ok(Ending::Found)
+            }
+        }
     }
 }
 
