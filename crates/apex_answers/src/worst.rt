@@ -1,5 +1,5 @@
 //! What a search for the greatest response of a process says, as a value and as a text.
-ghost use Rattle.std.specs.Prelude.{◌≡◌, ◌≤◌, ◌++◌, IfOk, Ok, codes, decimal, length, OnErr, OnOk};
+ghost use Rattle.std.specs.Prelude.{◌≡◌, ◌≤◌, ◌++◌, IfOk, Ok, Some, codes, decimal, length, OnErr, OnOk};
 ghost use Rattle.std.specs.Io.KnownBytes.{Appends};
 ghost use Rattle.arrayvec.specs.ArrayString.{array_string_len};
 ghost use Rattle.apex_history.specs.Counted.{inner_of, failures_of, CountsFailure, AppendsBeginning};
@@ -141,6 +141,26 @@ fn tail(worst: &Worst, room: u32) -> Text
     }
 }
 
+/// Writes the line of a schedule, and that of the last entry of its kernel, if there is one.
+fn write_made_run<W: Sink>(
+    events: &[Event],
+    kernel: &Option<Kernel<QueueStore>>,
+    writer: &mut Counted<W>,
+) -> IoResult<()>
+    ensures ok { OnOk result
+        (Appends (W.contents (inner_of writer.old)) (W.contents (inner_of writer.new))
+        (run_part (Some events.now) kernel.now)) }
+    ensures err { OnErr result
+        (AppendsBeginning (W.contents (inner_of writer.old)) (W.contents (inner_of writer.new))
+        (run_part (Some events.now) kernel.now)) }
+    ensures counted { CountsFailure result (failures_of writer.old) (failures_of writer.new) }
+{
+    match kernel {
+        Some(kernel) => write_run(events, kernel, writer),
+        None => Ok(()),
+    }
+}
+
 impl WorstAnswer {
     /// Writes the schedule that was found, if one was, and the line of its last entry.
     fn print_run<W: Sink>(&self, writer: &mut Counted<W>) -> IoResult<()>
@@ -152,13 +172,10 @@ impl WorstAnswer {
             (run_part (schedule_in self.now.worst) self.now.kernel)) }
         ensures counted { CountsFailure result (failures_of writer.old) (failures_of writer.new) }
     {
-        let Some(events) = self.worst.schedule() else {
-            return Ok(());
-        };
-        let Some(kernel) = &self.kernel else {
-            return Ok(());
-        };
-        write_run(events, kernel, writer)
+        match self.worst.schedule() {
+            Some(events) => write_made_run(events, &self.kernel, writer),
+            None => Ok(()),
+        }
     }
 
     /// Writes the text of the answer of a search with room for this many states. Takes no memory.

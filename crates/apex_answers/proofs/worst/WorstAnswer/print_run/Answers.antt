@@ -1,14 +1,14 @@
--- The schedule is the one that was found, and so is its kernel.
+-- The schedule is the one that was found.
 use Rattle.std.proofs.Common.{◌≡◌, sym, Some}
 use Rattle.apex_search.specs.Worst.{schedule_in}
 use Rattle.apex_answers.proofs.worst.WorstAnswer.print_run.Goals as goal
 
-pub returns-clause-ok : goal.returns-clause-ok
-returns-clause-ok g c =
+pub returns-in-Some-clause-ok : goal.returns-in-Some-clause-ok
+returns-in-Some-clause-ok g c =
     let found : schedule_in c.args.self.now.worst ≡ Some c.in-Some.events.now = sym (rw c.in-Some.is at c.schedule.ensures) in
-    rw (found, c.in-Some-2.is) c.write_run.ensures.ok
+    rw found c.write_made_run.ensures.ok
 
-pub returns-clause-err : goal.returns-clause-err
-returns-clause-err g c =
+pub returns-in-Some-clause-err : goal.returns-in-Some-clause-err
+returns-in-Some-clause-err g c =
     let found : schedule_in c.args.self.now.worst ≡ Some c.in-Some.events.now = sym (rw c.in-Some.is at c.schedule.ensures) in
-    rw (found, c.in-Some-2.is) c.write_run.ensures.err
+    rw found c.write_made_run.ensures.err
