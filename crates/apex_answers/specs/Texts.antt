@@ -17,7 +17,7 @@ found_head events = codes "found at " ++ decimal (length events) ++ codes "\n"
 
 -- a schedule without its line's first word, and the line of an entry
 abbrev pub made_text : List Event → List ℕ → List ℕ
-made_text events line = schedule_text events ++ codes "\nentry: " ++ line
+made_text events line = schedule_text events ++ (codes "\nentry: " ++ line)
 
 -- a schedule, and the line of an entry
 abbrev pub run_text : List Event → List ℕ → List ℕ

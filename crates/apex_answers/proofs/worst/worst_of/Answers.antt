@@ -11,14 +11,14 @@ kernel_after-requires c =
     can_run c.args.system.table c.args.text.now c.in-Some.events.now c.requires
     (can_show c.args.system c.args.process c.in_ok-worst.worst c.in_ok-worst.ensures c.in-Some.events.now found)
 
-pub returns-in-Some : goal.returns-in-Some
-returns-in-Some c =
+pub returns-in_ok-kernel-in-Some : goal.returns-in_ok-kernel-in-Some
+returns-in_ok-kernel-in-Some c =
     let found : schedule_in c.in_ok-worst.worst ≡ Some c.in-Some.events.now = sym (rw c.in-Some.is at c.schedule.ensures) in
     let lawful : IsLawful c.args.system.table = rw c.table.ensures at c.lawful.ensures in
-    answer_with c.args.system c.args.process c.args.room (record { worst = c.in_ok-worst.worst; kernel = Some c.in_ok-kernel.kernel })
+    answer_with c.args.system c.args.process c.args.room (record { worst = c.in_ok-worst.worst; kernel = Some c.in_ok-kernel-in-Some.kernel })
     c.in_ok-worst.ensures (Some c.in-Some.events.now) found
-    (shows_run c.args.system.table lawful c.args.text.now c.in-Some.events.now c.in_ok-kernel.kernel c.requires
-    (can_show c.args.system c.args.process c.in_ok-worst.worst c.in_ok-worst.ensures c.in-Some.events.now found) c.in_ok-kernel.ensures)
+    (shows_run c.args.system.table lawful c.args.text.now c.in-Some.events.now c.in_ok-kernel-in-Some.kernel c.requires
+    (can_show c.args.system c.args.process c.in_ok-worst.worst c.in_ok-worst.ensures c.in-Some.events.now found) c.in_ok-kernel-in-Some.ensures)
 
 pub returns-in-None : goal.returns-in-None
 returns-in-None c =
