@@ -1,8 +1,6 @@
 //! The pictures that are drawn of a run.
 ghost use Rattle.std.specs.Prelude.{◌≡◌, true, All, IfOk, Option};
-ghost use Rattle.apex_machine.specs.Machine.{events_of, opening};
 ghost use Rattle.apex_machine.specs.Events.{IsWithin};
-ghost use Rattle.apex_dispatch.specs.Kernel.{kernel_in};
 ghost use Rattle.apex_history.specs.Counted.{inner_of, failures_of};
 ghost use Rattle.apex_console.specs.Faults.{fault_in};
 ghost use Rattle.apex_schedules.specs.Schedule.{are_cores_below, events_of_items};
@@ -12,11 +10,10 @@ ghost use Rattle.apex_views.specs.Plans.{IsListOf, IsPlanFor, IsRunOf, IsStyleOf
 ghost use Rattle.apex_views.specs.Showings.{IsPictureOfEntries, Picture as PictureAsked, drawn, picture_said, trace};
 
 use crate::showings::Picture;
-use apex_console::{CliFault, repeated};
+use apex_console::{CliFault, booted, repeated};
 use apex_dispatch::{Kernel, events_in};
 use apex_history::{Counted, Sink};
 use apex_pictures::{DrawFault, Frame, Style, draw};
-use apex_process::QueueStore;
 use apex_schedules::Item;
 use apex_store::Store;
 use apex_table::Table;
@@ -132,14 +129,6 @@ fn fault_of(fault: DrawFault) -> CliFault
         DrawFault::Memory => CliFault::Memory,
         DrawFault::Write => CliFault::Write,
     }
-}
-
-/// The kernel of a table before any event.
-fn booted(alloc: Global, table: Table) -> Result<Kernel<QueueStore>, AllocError>
-    ensures { IfOk result (λ kernel. kernel ≡ kernel_in table (opening table) kernel.store) }
-{
-    let store = QueueStore::new(alloc, &table)?;
-    Kernel::boot(alloc, table, store)
 }
 
 /// Draws the picture of a plan, and answers its fault once it is drawn.
