@@ -3,14 +3,15 @@ ghost use Rattle.std.specs.Prelude.{◌≡◌, ℕ, IfOk, IsOk, Ok};
 ghost use Rattle.apex_dispatch.specs.Kernel.{kernel_in};
 ghost use Rattle.apex_machine.specs.Machine.{opening};
 ghost use Rattle.apex_search.specs.Answers.{IsShortestSchedule};
-ghost use Rattle.apex_table.specs.Reading.{table_of};
+ghost use Rattle.apex_reading.specs.Reading.{table_of};
 ghost use Rattle.apex_answers.specs.Answers.{IsAnswerOf};
 
 use apex_dispatch::Kernel;
 use apex_explore::Answer;
 use apex_process::QueueStore;
+use apex_reading::{TableFault, read_table};
 use apex_search::TableSystem;
-use apex_table::{Table, TableFault, read_table};
+use apex_table::Table;
 use apex_types::Event;
 use std::alloc::{AllocError, Global};
 

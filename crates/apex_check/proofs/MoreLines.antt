@@ -8,7 +8,7 @@ use Rattle.std.proofs.lemmas.List.{length-map, map-append}
 use Rattle.std.proofs.Math.Seq.{take-append_seam, get_or-append_seam}
 use Rattle.apex_types.specs.declared.limits.TheConstants.{MOST_LINE}
 use Rattle.apex_check.specs.Terms.{Entry, Event}
-use Rattle.apex_table.proofs.Results.{all_append}
+use Rattle.apex_reading.proofs.Results.{all_append}
 use Rattle.apex_types.specs.declared.entries.Event.TheVariants.{Turn, Tick}
 use Rattle.apex_machine.specs.table.Table.{Table}
 use Rattle.apex_calls.specs.Lines.{line_of, lines_of}

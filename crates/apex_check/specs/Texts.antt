@@ -3,7 +3,7 @@
 use Rattle.std.specs.Prelude.{◌≡◌, ◌≢◌, ◌==◌, ℕ, Bool, List, ◌++◌, codes, count_by, flat_map}
 use Rattle.std.specs.List.{AllByRecursion}
 use Rattle.apex_machine.specs.table.Table.{Table}
-use Rattle.apex_table.specs.Reading.{table_of}
+use Rattle.apex_reading.specs.Reading.{table_of}
 use Rattle.std.specs.declared.result.Result.TheVariants.{Ok}
 
 abbrev pub is_line_feed : ℕ → Bool

@@ -1,7 +1,7 @@
 //! The table of a text: the part before the first line that is exactly `%%`.
 ghost use Rattle.std.specs.Prelude.{◌≡◌, ◌≢◌, ◌≤◌, ◌++◌, ℕ, List, length, take, drop, IfOk, IfErr, OnOk, Ok, true, false};
 ghost use Rattle.std.specs.Io.KnownBytes.{Consumes, prepend_known};
-ghost use Rattle.apex_table.specs.Reading.{table_of};
+ghost use Rattle.apex_reading.specs.Reading.{table_of};
 ghost use Rattle.apex_history.specs.Counted.{inner_of, failures_of};
 ghost use Rattle.apex_check.specs.Faults.{CountsCheck, IsFaultOf};
 ghost use Rattle.apex_check.specs.Texts.{IsTableText, ended, separator};
@@ -9,7 +9,8 @@ ghost use Rattle.apex_check.specs.Texts.{IsTableText, ended, separator};
 use crate::pending::{Next, Pending};
 use crate::verdicts::CheckFault;
 use apex_history::{Counted, Source};
-use apex_table::{Table, read_table};
+use apex_reading::read_table;
+use apex_table::Table;
 use std::alloc::{AllocError, Global};
 
 /// Whether a line, with its line feed, is the separator.

@@ -9,7 +9,8 @@ ghost use Rattle.apex_check.specs.Verdicts.{verdict_text};
 ghost use Rattle.apex_check.specs.declared.verdicts.CheckFault.TheVariants.{Memory};
 
 use apex_history::{Lines, NextSteps, put_line};
-use apex_table::{Table, TableFault};
+use apex_reading::TableFault;
+use apex_table::Table;
 use apex_types::Entry;
 use itoa::Buffer;
 use std::alloc::AllocError;

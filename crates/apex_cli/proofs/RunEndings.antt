@@ -2,7 +2,7 @@
 use Rattle.std.proofs.Common.{◌≡◌, ◌++◌, ◌∙◌, ap, sym, refl, is_ok, append_assoc, inl, inr, List, ℕ, Bool, Option, Some, Ok}
 use Rattle.std.specs.Io.KnownBytes.{Appends, Keeps}
 use Rattle.std.proofs.KnownBytes.{Appends-trans}
-use Rattle.apex_table.specs.Reading.{table_of}
+use Rattle.apex_reading.specs.Reading.{table_of}
 use Rattle.apex_history.specs.Counted.{AppendsBeginning, CountsFault}
 use Rattle.apex_history.specs.Ports.{IsLeft, NoneFails, Ports}
 use Rattle.apex_history.specs.declared.ReadFault.{ReadFault}

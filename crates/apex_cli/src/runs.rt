@@ -2,7 +2,7 @@
 ghost use Rattle.std.specs.Prelude.{◌≡◌, All, IfOk, IfErr, None, OnOk, OnErr, length};
 ghost use Rattle.apex_board.specs.Fronts.{IsFrontAfter};
 ghost use Rattle.apex_calls.specs.Lines.{IsPrintable};
-ghost use Rattle.apex_table.specs.Reading.{table_of};
+ghost use Rattle.apex_reading.specs.Reading.{table_of};
 ghost use Rattle.apex_history.specs.Counted.{failures_of, CountsFailure};
 ghost use Rattle.apex_console.specs.Faults.{fault_in};
 ghost use Rattle.apex_cli.specs.FrontLines.{front_text};
@@ -16,7 +16,8 @@ use apex_console::CliFault;
 use apex_cores::{Gate, RunFault, RunPlan, run_partition, run_partition_read};
 use apex_history::{Counted, Page, Sink, Source, print_history, read_all};
 use apex_partition::{Closed, Front, Naming, NewBoard, Opened, Partition, Reader};
-use apex_table::{Table, read_table};
+use apex_reading::read_table;
+use apex_table::Table;
 use apex_types::{CoreId, ProcessId};
 use std::alloc::Global;
 use std::io;

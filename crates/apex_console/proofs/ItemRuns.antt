@@ -7,7 +7,7 @@ use Rattle.std.proofs.lemmas.List.Folds.{list_all_at}
 use Rattle.apex_types.specs.declared.entries.Event.{Event}
 use Rattle.apex_machine.specs.Machine.{Machine, accept, run, opening}
 use Rattle.apex_machine.specs.table.Table.{Table}
-use Rattle.apex_table.specs.Reading.{table_of}
+use Rattle.apex_reading.specs.Reading.{table_of}
 use Rattle.apex_laws.proofs.Runs.{accept-room, length-happen, run-append}
 use Rattle.apex_schedules.specs.declared.Item.{Item}
 use Rattle.apex_console.specs.declared.faults.CliFault.{CliFault}

@@ -5,8 +5,8 @@ use Rattle.apex_machine.specs.table.Table as tables
 use Rattle.apex_machine.specs.text.Listing.{listing}
 use Rattle.apex_machine.specs.Machine.{Machine, run, opening}
 use Rattle.apex_calls.specs.Lines.{lines_of}
-use Rattle.apex_table.specs.declared.TableFault.{TableFault}
-use Rattle.apex_table.specs.Reading.{table_of}
+use Rattle.apex_reading.specs.declared.TableFault.{TableFault}
+use Rattle.apex_reading.specs.Reading.{table_of}
 use Rattle.apex_schedules.specs.declared.Item.{Item}
 use Rattle.apex_console.specs.declared.faults.CliFault.{CliFault}
 use Rattle.apex_console.specs.declared.faults.CliFault.TheVariants.{Usage, Table, HistoryFull, Memory}

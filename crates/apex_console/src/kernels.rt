@@ -2,7 +2,7 @@
 ghost use Rattle.std.specs.Prelude.{◌≡◌, true, IfErr, IfOk, Ok};
 ghost use Rattle.apex_machine.specs.Machine.{opening};
 ghost use Rattle.apex_dispatch.specs.Kernel.{kernel_in};
-ghost use Rattle.apex_table.specs.Reading.{table_of};
+ghost use Rattle.apex_reading.specs.Reading.{table_of};
 ghost use Rattle.apex_console.specs.Reports.{Refuses, answer_of, fault_of_events};
 ghost use Rattle.apex_schedules.specs.Schedule.{are_cores_below, events_of_items};
 ghost use Rattle.apex_console.specs.Schedule.{after_events};
@@ -11,8 +11,9 @@ use crate::events::run_items;
 use crate::faults::CliFault;
 use apex_dispatch::Kernel;
 use apex_process::QueueStore;
+use apex_reading::read_table;
 use apex_schedules::{Item, are_cores_below};
-use apex_table::{Table, read_table};
+use apex_table::Table;
 use std::alloc::{AllocError, Global};
 
 /// The table of this text, for items of its cores.

@@ -7,7 +7,8 @@ use crate::steps::{Step, take_steps};
 use apex_partition::{
     Board, Naming, NewBoard, Opened, Reader, Receipt, Seat, Shared, Ticker, open_read,
 };
-use apex_table::{Table, read_table};
+use apex_reading::read_table;
+use apex_table::Table;
 use std::alloc::Global;
 use std::marker::Brand;
 use std::mem::drop;

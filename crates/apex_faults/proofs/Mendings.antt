@@ -6,9 +6,9 @@ use Rattle.std.proofs.lemmas.Str.{IsUtf8-string_bytes}
 use Rattle.toml.specs.Data.{Data, Members, table}
 use Rattle.toml.specs.Parse.{parse_document}
 use Rattle.apex_machine.specs.table.Table.{Table}
-use Rattle.apex_table.specs.Outcome.{◌>>=◌}
-use Rattle.apex_table.specs.Reading.{document, reading, table_of}
-use Rattle.apex_table.proofs.Document.{found}
+use Rattle.apex_reading.specs.Outcome.{◌>>=◌}
+use Rattle.apex_reading.specs.Reading.{document, reading, table_of}
+use Rattle.apex_reading.proofs.Document.{found}
 use Rattle.apex_faults.specs.Depth.{is_printable}
 use Rattle.apex_faults.specs.Faults.{fault_in, fault_of, faults, faults_after, BeginsWith, faults_by, faults_in, faults_of}
 use Rattle.apex_faults.specs.Mended.{mended}

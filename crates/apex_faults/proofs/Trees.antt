@@ -10,7 +10,7 @@ use Rattle.toml.specs.Data.{Data, item, Members, member}
 use Rattle.toml.specs.declared.value.Value.{Value}
 use Rattle.toml.specs.View.{view, items_view, members_view}
 use Rattle.toml.proofs.Views.{Entry}
-use Rattle.apex_table.specs.Keys.{key_names}
+use Rattle.apex_reading.specs.Keys.{key_names}
 use Rattle.apex_faults.specs.Trees.{first_items, with_item, with_member, without_member}
 
 members_by : (o : Ordering) (a b c : List Entry)

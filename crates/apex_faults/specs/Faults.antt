@@ -3,7 +3,7 @@
 use Rattle.std.specs.Prelude.{◌≡◌, ℕ, zero, suc, if◌then◌else◌, List, [], ◌∷◌, Option, Some, None, Result, Ok, Err}
 use Rattle.toml.specs.Data.{Data, Members, table}
 use Rattle.apex_machine.specs.table.Table.{Table}
-use Rattle.apex_table.specs.Reading.{document, reading}
+use Rattle.apex_reading.specs.Reading.{document, reading}
 use Rattle.apex_faults.specs.Depth.{is_printable}
 use Rattle.apex_faults.specs.Mended.{mended}
 use Rattle.apex_faults.specs.Terms.{TableFault}

@@ -1,7 +1,7 @@
 -- The faults that are named for a text: all of them, or the first one of a text that is too long.
 use Rattle.std.specs.Prelude.{ℕ, nat_le, if◌then◌else◌, List, [], ◌∷◌, length, Result, Ok, Err}
 use Rattle.apex_machine.specs.table.Table.{Table}
-use Rattle.apex_table.specs.Reading.{table_of}
+use Rattle.apex_reading.specs.Reading.{table_of}
 use Rattle.apex_faults.specs.Faults.{faults_of}
 use Rattle.apex_faults.specs.Terms.{TableFault}
 use Rattle.apex_faults.specs.declared.findings.TheConstants.{LONGEST_LISTED}

@@ -3,16 +3,16 @@
 use Rattle.std.specs.Prelude.{codes, decimal, ℕ, pos, false, List, [], ◌∷◌, ◌++◌}
 use Rattle.toml.specs.Data.{Data, Members, no_members, integer, boolean, string, array, table, item, no_items}
 use Rattle.apex_types.specs.declared.limits.TheConstants.{MOST_CORES, MOST_ENTRIES, MOST_MESSAGE, MOST_PROFILE, MOST_VALUE}
-use Rattle.apex_table.specs.Blackboards.{blackboards}
-use Rattle.apex_table.specs.Buffers.{buffers}
-use Rattle.apex_table.specs.EventFlags.{event_flags}
-use Rattle.apex_table.specs.Fault.{key_word}
-use Rattle.apex_table.specs.Mutexes.{mutexes}
-use Rattle.apex_table.specs.Processes.{process_keys}
-use Rattle.apex_table.specs.Reading.{top_keys}
-use Rattle.apex_table.specs.Semaphores.{semaphores}
-use Rattle.apex_table.specs.declared.fault.Section.TheVariants as section
-use Rattle.apex_table.specs.declared.key.Key.TheVariants as key
+use Rattle.apex_reading.specs.Blackboards.{blackboards}
+use Rattle.apex_reading.specs.Buffers.{buffers}
+use Rattle.apex_reading.specs.EventFlags.{event_flags}
+use Rattle.apex_reading.specs.Fault.{key_word}
+use Rattle.apex_reading.specs.Mutexes.{mutexes}
+use Rattle.apex_reading.specs.Processes.{process_keys}
+use Rattle.apex_reading.specs.Reading.{top_keys}
+use Rattle.apex_reading.specs.Semaphores.{semaphores}
+use Rattle.apex_reading.specs.declared.fault.Section.TheVariants as section
+use Rattle.apex_reading.specs.declared.key.Key.TheVariants as key
 use Rattle.apex_faults.specs.Terms.{Key, Section}
 use Rattle.apex_faults.specs.Trees.{with_member}
 

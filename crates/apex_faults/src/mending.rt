@@ -1,13 +1,13 @@
 //! A table's tree in which one fault is mended.
 ghost use Rattle.std.specs.Prelude.{◌≡◌, option_map, string_bytes, IfOk};
 ghost use Rattle.toml.specs.View.{view, array_view, table_view};
-ghost use Rattle.apex_table.specs.Keys.{is_one_of};
+ghost use Rattle.apex_reading.specs.Keys.{is_one_of};
 ghost use Rattle.apex_faults.specs.Trees.{first_items, without_member};
 ghost use Rattle.apex_faults.specs.Mended.{cut, fault_path, mended, mended_part, most_at, other_name, plain_part, retyped_section, widened, without_other, without_unknown};
 
 use crate::paths::{PathStep, changed, found, subject_path};
 use crate::plain::{array_of, keys_of, plain_entry, plain_section, plain_step, plain_value};
-use apex_table::{Key, Part, Section, Subject, TableFault};
+use apex_reading::{Key, Part, Section, Subject, TableFault};
 use apex_types::{MOST_INIT_STEPS, MOST_OBJECTS, MOST_PROCESSES, MOST_STEPS};
 use std::alloc::{AllocError, Global};
 use toml::{Table, Value};

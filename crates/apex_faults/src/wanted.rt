@@ -2,7 +2,7 @@
 ghost use Rattle.std.specs.Prelude.{◌≤◌};
 
 use apex_calls::{Kind, Shape};
-use apex_table::{Key, Section};
+use apex_reading::{Key, Section};
 use apex_types::{
     MOST_CORES, MOST_ENTRIES, MOST_MESSAGE, MOST_MESSAGES, MOST_NAME, MOST_PRIORITY, MOST_PROFILE,
     MOST_SPAN, MOST_STEPS, MOST_VALUE,

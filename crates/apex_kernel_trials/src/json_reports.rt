@@ -4,8 +4,9 @@
 use crate::papers::paper;
 use crate::reports::fill;
 use apex_history::{Counted, FailAt, Log};
+use apex_reading::read_table;
 use apex_report::{print_report_json, report_of};
-use apex_table::{Table, read_table};
+use apex_table::Table;
 use apex_types::{DeadlineType, MOST_ENTRIES, Notice, ProcessId, ReturnCode};
 use std::alloc::Global;
 use std::mem::drop;

@@ -6,7 +6,8 @@ ghost use Rattle.apex_calls.specs.Lines.{IsPrintable};
 
 use crate::papers::paper;
 use apex_history::{Counted, FailAt, print_entry};
-use apex_table::{Table, read_table};
+use apex_reading::read_table;
+use apex_table::Table;
 use apex_types::{
     BufferCall, BufferId, BufferService, Call, Caller, CallerCall, CoreId, LentEntry, MOST_CORES,
     MOST_ENTRIES, MOST_LINE, MOST_NOTICES, MOST_PROCESSES, MOST_SPAN, MOST_TICKS, Message, Notice,

@@ -5,7 +5,7 @@ ghost use Rattle.std.specs.Prelude.{◌≤◌, length};
 
 use crate::reports::{called, normal, printed, push_next, ticked};
 use apex_history::Log;
-use apex_table::read_table;
+use apex_reading::read_table;
 use apex_types::{
     BufferCall, BufferId, BufferService, Call, Caller, CoreId, LentEntry, Message, MutexCall,
     MutexId, MutexService, Notice, Origin, ProcessId, Reply, ReturnCode, SemaphoreCall,

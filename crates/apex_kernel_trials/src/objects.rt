@@ -6,7 +6,7 @@ use apex_dispatch::Kernel;
 use apex_history::{Counted, FailAt};
 use apex_objects::{ObjectLines, hand_on, make_room, print_listing_objects, put_entry_object};
 use apex_process::QueueStore;
-use apex_table::read_table;
+use apex_reading::read_table;
 use apex_types::CoreId;
 use std::alloc::Global;
 use std::mem::drop;

@@ -2,8 +2,8 @@
 
 use crate::scans::booted;
 use apex_pace::Pace;
+use apex_reading::read_table;
 use apex_rounds::Rounds;
-use apex_table::read_table;
 use apex_types::{LentEntry, Reply, Who};
 use std::mem::drop;
 

@@ -1,8 +1,8 @@
 //! The texts of reasons, one turn after the other.
 
 use crate::scans::{booted, turn_of};
+use apex_reading::read_table;
 use apex_reasons::reason_of;
-use apex_table::read_table;
 use apex_types::{CoreId, Event};
 use std::mem::drop;
 

@@ -5,8 +5,9 @@ ghost use Rattle.std.specs.Prelude.{◌<◌, ◌≤◌, length};
 
 use crate::papers::paper;
 use apex_history::{Counted, FailAt, Log};
+use apex_reading::read_table;
 use apex_report::{print_report, report_of};
-use apex_table::{Table, read_table};
+use apex_table::Table;
 use apex_types::{
     Call, Caller, CallerCall, CoreId, DeadlineType, LentEntry, MOST_ENTRIES, Notice, PartitionCall,
     ProcessId, Reply, RequestedMode, ReturnCode, SemaphoreCall, SemaphoreId, SemaphoreService,

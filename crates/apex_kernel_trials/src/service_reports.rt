@@ -4,7 +4,7 @@ ghost use Rattle.std.specs.Prelude.{◌≤◌};
 
 use crate::reports::{called, normal, printed, push_next, ticked};
 use apex_history::Log;
-use apex_table::read_table;
+use apex_reading::read_table;
 use apex_types::{
     Call, Caller, CoreId, LentEntry, Named, Notice, ProcessCall, ProcessId, ProcessService, Reply,
     ReturnCode, SemaphoreCall, SemaphoreId, SemaphoreService, Span, TimeCall, Who,

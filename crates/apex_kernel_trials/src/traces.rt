@@ -3,7 +3,7 @@
 use crate::scans::booted;
 use apex_history::Counted;
 use apex_pictures::{Style, draw};
-use apex_table::read_table;
+use apex_reading::read_table;
 use apex_types::{CoreId, Event};
 use std::alloc::Global;
 use std::mem::drop;

@@ -1,7 +1,7 @@
 //! The warnings of a table: one of each kind, and of a table without any.
 
 use apex_lint::lint;
-use apex_table::read_table;
+use apex_reading::read_table;
 use std::alloc::Global;
 use std::mem::drop;
 use std::process::Abort;

@@ -8,8 +8,8 @@ use Rattle.apex_machine.specs.table.Table.{Table}
 use Rattle.apex_search.specs.Steps.{Searched}
 use Rattle.apex_search.specs.declared.Fact.{Fact}
 use Rattle.apex_search.specs.declared.Question.{Question}
-use Rattle.apex_table.specs.Reading.{table_of}
-use Rattle.apex_table.specs.declared.TableFault.{TableFault}
+use Rattle.apex_reading.specs.Reading.{table_of}
+use Rattle.apex_reading.specs.declared.TableFault.{TableFault}
 use Rattle.apex_lab.specs.Searches.{IsMissing, IsRefusalOf, IsSystemOf, IsTextFault, asked_process, question_about, question_of}
 use Rattle.apex_lab.specs.declared.faults.LabFault.{LabFault}
 use Rattle.apex_lab.specs.declared.faults.LabFault.TheVariants.{Common, NoEntry, NoProcess, Schedule, StatesFull}

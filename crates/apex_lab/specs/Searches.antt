@@ -10,8 +10,8 @@ use Rattle.apex_history.specs.Ports.{AReadFails, AWriteFails, NoneFails, Ports}
 use Rattle.apex_machine.specs.table.Table.{Table}
 use Rattle.apex_search.specs.Steps.{Searched, searched}
 use Rattle.apex_search.specs.declared.Question.{Question}
-use Rattle.apex_table.specs.Reading.{table_of}
-use Rattle.apex_table.specs.declared.TableFault.{TableFault}
+use Rattle.apex_reading.specs.Reading.{table_of}
+use Rattle.apex_reading.specs.declared.TableFault.{TableFault}
 use Rattle.apex_answers.specs.Answers.{IsAnswerOf, Says, SearchEnd, finds, is_beyond, is_full, never}
 use Rattle.apex_answers.specs.Processes.{place_of}
 use Rattle.apex_answers.specs.declared.SearchAnswer.{SearchAnswer}

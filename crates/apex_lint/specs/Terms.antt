@@ -7,11 +7,11 @@ pub use Rattle.apex_types.specs.declared.calls.Timeout.{Timeout}
 pub use Rattle.apex_machine.specs.declared.holdings.Holding.{Holding}
 pub use Rattle.apex_machine.specs.declared.records.Attributes.{Attributes}
 pub use Rattle.apex_machine.specs.declared.records.Queue.{Queue}
-pub use Rattle.apex_table.specs.declared.fault.Place.{Place}
-pub use Rattle.apex_table.specs.declared.fault.Section.{Section}
-pub use Rattle.apex_table.specs.declared.fault.TableFault.{TableFault}
-pub use Rattle.apex_table.specs.declared.subject.Part.{Part}
-pub use Rattle.apex_table.specs.declared.subject.Subject.{Subject}
+pub use Rattle.apex_reading.specs.declared.fault.Place.{Place}
+pub use Rattle.apex_reading.specs.declared.fault.Section.{Section}
+pub use Rattle.apex_reading.specs.declared.fault.TableFault.{TableFault}
+pub use Rattle.apex_reading.specs.declared.subject.Part.{Part}
+pub use Rattle.apex_reading.specs.declared.subject.Subject.{Subject}
 pub use Rattle.apex_lint.specs.declared.acts.Act.{Act}
 pub use Rattle.apex_lint.specs.declared.objects.Group.{Group}
 pub use Rattle.apex_lint.specs.declared.process_warnings.ProcessWarning.{ProcessWarning}

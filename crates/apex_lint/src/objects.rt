@@ -5,7 +5,8 @@ ghost use Rattle.apex_lint.specs.Objects.{group_count, group_queue};
 ghost use Rattle.apex_lint.specs.Remarks.{group_section};
 
 use apex_machine::Queue;
-use apex_table::{Section, Table};
+use apex_reading::Section;
+use apex_table::Table;
 use apex_types::{BlackboardId, BufferId, EventId, MutexId, SemaphoreId};
 
 /// The objects of one kind.

@@ -1,7 +1,7 @@
 //! The report on a table's text: a line or an object of JSON for each remark.
 ghost use Rattle.std.specs.Prelude.{◌≡◌, ◌+◌, ◌++◌, map, string_bytes, IfOk};
 ghost use Rattle.std.specs.List.{All};
-ghost use Rattle.apex_table.specs.Reading.{table_of};
+ghost use Rattle.apex_reading.specs.Reading.{table_of};
 ghost use Rattle.apex_faults.specs.Locations.{IsLocationIn};
 ghost use Rattle.apex_lint.specs.Remarks.{head, heads_by};
 ghost use Rattle.apex_lint.specs.Terms.{Remark};
@@ -10,7 +10,7 @@ ghost use Rattle.apex_lint.specs.Reports.{HasALineForEach, IsReportOn, column_me
 use crate::remarks::{Remark, remarks_on_faults, remarks_on_table};
 use apex_faults::Location;
 use apex_json::put_json;
-use apex_table::{Part, Subject, TableFault, read_table};
+use apex_reading::{Part, Subject, TableFault, read_table};
 use std::alloc::{AllocError, Global};
 
 /// How a report is written.

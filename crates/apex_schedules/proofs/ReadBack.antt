@@ -12,9 +12,9 @@ use Rattle.std.proofs.lemmas.List.Splits.{slice_split_none}
 use Rattle.apex_types.specs.declared.limits.TheConstants.{MOST_CORES, MOST_ENTRIES, MOST_TICKS}
 use Rattle.apex_types.specs.declared.entries.Event.TheVariants as event
 use Rattle.apex_history.specs.Words.{parts, ticks_of}
-use Rattle.apex_table.proofs.Returns.{number_of_decimal, words_spaced}
-use Rattle.apex_table.proofs.Slots.{and_true}
-use Rattle.apex_table.proofs.Spelling.{number_model}
+use Rattle.apex_reading.proofs.Returns.{number_of_decimal, words_spaced}
+use Rattle.apex_reading.proofs.Slots.{and_true}
+use Rattle.apex_reading.proofs.Spelling.{number_model}
 use Rattle.apex_schedules.specs.Terms.{Event}
 use Rattle.apex_schedules.specs.declared.schedule.Item.{Item}
 use Rattle.apex_schedules.specs.declared.schedule.Item.TheVariants.{Turns, Tick}

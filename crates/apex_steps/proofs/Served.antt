@@ -2,7 +2,7 @@
 use Rattle.std.proofs.Common.{◌≡◌, ℕ, List, [], ◌++◌, Option, Result, Ok, Err, refl, subst}
 use Rattle.std.specs.Io.KnownBytes.{Consumes, Keeps}
 use Rattle.apex_machine.specs.table.Table.{Table}
-use Rattle.apex_table.specs.Reading.{table_of}
+use Rattle.apex_reading.specs.Reading.{table_of}
 use Rattle.apex_history.specs.Ports.{IsLeft, Ports, ports}
 use Rattle.apex_check.specs.declared.CheckFault.{CheckFault}
 use Rattle.apex_check.specs.declared.CheckFault.TheVariants as checking

@@ -35,7 +35,8 @@ impl Model for ProcessConfig {
 }
 
 impl ProcessConfig {
-    pub(crate) fn new(
+    /// A process of these attributes and this script. Only a table has them in range.
+    pub fn new(
         name: Name,
         attributes: Attributes,
         core: CoreId,
@@ -142,12 +143,8 @@ impl Model for SemaphoreConfig {
 }
 
 impl SemaphoreConfig {
-    pub(crate) fn new(
-        name: Name,
-        maximum: u16,
-        initial: u16,
-        discipline: Discipline,
-    ) -> SemaphoreConfig
+    /// A semaphore of these attributes. Only a table has them in range.
+    pub fn new(name: Name, maximum: u16, initial: u16, discipline: Discipline) -> SemaphoreConfig
         ensures { result ≡ record {
           name = name;
           maximum = maximum;
@@ -214,7 +211,8 @@ impl Model for BufferConfig {
 }
 
 impl BufferConfig {
-    pub(crate) fn new(name: Name, length: u8, capacity: u8, discipline: Discipline) -> BufferConfig
+    /// A buffer of these attributes. Only a table has them in range.
+    pub fn new(name: Name, length: u8, capacity: u8, discipline: Discipline) -> BufferConfig
         ensures { result ≡ record {
           name = name;
           length = length;
@@ -274,7 +272,8 @@ impl Model for BlackboardConfig {
 }
 
 impl BlackboardConfig {
-    pub(crate) fn new(name: Name, length: u8) -> BlackboardConfig
+    /// A blackboard of these attributes. Only a table has them in range.
+    pub fn new(name: Name, length: u8) -> BlackboardConfig
         ensures { result ≡ record { name = name; length = length } }
     {
         BlackboardConfig { name, length }
@@ -309,7 +308,8 @@ impl Model for EventFlagConfig {
 }
 
 impl EventFlagConfig {
-    pub(crate) fn new(name: Name) -> EventFlagConfig
+    /// An event flag of this name.
+    pub fn new(name: Name) -> EventFlagConfig
         ensures { result ≡ record { name = name } }
     {
         EventFlagConfig { name }
@@ -339,7 +339,8 @@ impl Model for MutexConfig {
 }
 
 impl MutexConfig {
-    pub(crate) fn new(name: Name, ceiling: u8, discipline: Discipline) -> MutexConfig
+    /// A mutex of these attributes. Only a table has them in range.
+    pub fn new(name: Name, ceiling: u8, discipline: Discipline) -> MutexConfig
         ensures { result ≡ record { name = name; ceiling = ceiling; discipline = discipline } }
     {
         MutexConfig {

@@ -2,8 +2,8 @@
 ghost use Rattle.std.specs.Prelude.{◌≡◌, ◌<◌, ◌≤◌, length, option_map, slice_get};
 ghost use Rattle.apex_types.specs.declared.limits.TheConstants.{MOST_CORES, MOST_ENTRIES, MOST_LITERAL, MOST_OBJECTS, MOST_PROCESSES};
 ghost use Rattle.apex_machine.specs.table.Table.{IsLawful, process_config, semaphore_config, buffer_config, blackboard_config, event_flag_config, mutex_config, call_in, literal_text};
-ghost use Rattle.apex_table.specs.Reading.{table_with};
-ghost use Rattle.apex_table.specs.StepTexts.{step_text, IsWithTexts};
+ghost use Rattle.apex_table.specs.Tables.{table_with};
+ghost use Rattle.apex_table.specs.ScriptTexts.{step_text, IsWithTexts};
 
 use crate::configs::{
     BlackboardConfig, BufferConfig, EventFlagConfig, MutexConfig, ProcessConfig, SemaphoreConfig,
@@ -30,8 +30,8 @@ pub struct Table {
 
 impl Model for Table {
     ghost use Rattle.apex_machine.specs.table.Table.{Table};
-    ghost use Rattle.apex_table.specs.Reading.{table_with};
-    ghost use Rattle.apex_table.specs.StepTexts.{IsWithTexts};
+    ghost use Rattle.apex_table.specs.Tables.{table_with};
+    ghost use Rattle.apex_table.specs.ScriptTexts.{IsWithTexts};
 
     ghost Value = { Table };
 
@@ -43,7 +43,9 @@ impl Model for Table {
 }
 
 impl Table {
-    pub(crate) fn new(
+    /// The table of these parts. It has to be lawful, and `texts` has to have the texts of the steps
+    /// of its scripts, process by process.
+    pub fn new(
         profile: Profile,
         cores: u8,
         limit: u32,
@@ -207,7 +209,7 @@ impl Table {
 
     /// The text of the step at this place of the process's script, counted from 0, or none past its
     /// end: its call, as a line writes it.
-    #[tactic(auto, using(crate::proofs::KeptTexts::text_at))]
+    #[tactic(auto, using(crate::proofs::TextAt::text_at))]
     pub fn step_text(&self, process: ProcessId, place: usize) -> Option<&[u8]>
         ensures { option_map (λ text. text.now) result ≡ step_text self.now process place }
     {

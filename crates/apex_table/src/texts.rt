@@ -1,8 +1,6 @@
-//! The texts of the steps of all scripts, as the table has them.
-ghost use Rattle.std.specs.Prelude.{◌≡◌, ◌∷◌, map, slice_get, option_map, IfOk};
-ghost use Rattle.apex_table.specs.Processes.{ProcessDraft};
+//! The texts of the steps of a script, as the table keeps them.
+ghost use Rattle.std.specs.Prelude.{◌≡◌, map, slice_get, option_map, IfOk};
 
-use crate::processes::Draft;
 use std::alloc::{AllocError, Global};
 use std::marker::Model;
 
@@ -45,7 +43,8 @@ impl Model for ScriptTexts {
 }
 
 impl ScriptTexts {
-    fn of(alloc: Global, script: &[&str]) -> Result<ScriptTexts, AllocError>
+    /// These texts. It fails only for want of memory.
+    pub fn of(alloc: Global, script: &[&str]) -> Result<ScriptTexts, AllocError>
         ensures { IfOk result (λ t. t ≡ map (λ text. text.now) script.now) }
     {
         let mut texts = Vec::with_capacity(alloc, script.len())?;
@@ -64,15 +63,4 @@ impl ScriptTexts {
             None => None,
         }
     }
-}
-
-/// The texts of all scripts, by process.
-pub fn script_texts(alloc: Global, drafts: &[Draft]) -> Result<Vec<ScriptTexts>, AllocError>
-    ensures { IfOk result (λ v. v.items ≡ map (λ (d : ProcessDraft). d.script) drafts.now) }
-{
-    let mut texts = Vec::with_capacity(alloc, drafts.len())?;
-    for draft in drafts {
-        texts.push(ScriptTexts::of(alloc, &draft.script)?)?;
-    }
-    Ok(texts)
 }

@@ -13,7 +13,7 @@ use Rattle.apex_laws.proofs.Runs.{run-append, run-fills, run-full}
 use Rattle.apex_console.proofs.ItemRuns.{answer_is, fault_fits, fault_full, items_split}
 use Rattle.apex_console.specs.Reports.{answer_of, runs_to}
 use Rattle.apex_schedules.specs.Schedule.{are_cores_below, events_of_item, events_of_items}
-use Rattle.apex_table.specs.Reading.{table_of}
+use Rattle.apex_reading.specs.Reading.{table_of}
 use Rattle.apex_console.specs.declared.CliFault.{CliFault}
 use Rattle.apex_console.specs.declared.CliFault.TheVariants.{HistoryFull}
 use Rattle.apex_schedules.specs.declared.Item.{Item}

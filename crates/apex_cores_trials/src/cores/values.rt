@@ -4,8 +4,8 @@ ghost use Rattle.apex_machine.specs.Events.{IsWithin};
 
 use apex_dispatch::Kernel;
 use apex_history::{Counted, Entries, Page, read_line};
+use apex_reading::read_table;
 use apex_store::PlainStore;
-use apex_table::read_table;
 use apex_types::{
     Call, Caller, Event, LentEntry, MOST_PROCESSES, MOST_TICKS, Notice, ObjectCall, ProcessId,
     Reply, ReturnCode, SemaphoreService,

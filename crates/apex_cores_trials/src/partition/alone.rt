@@ -2,7 +2,7 @@
 ghost use Rattle.std.specs.Prelude.{◌<◌};
 
 use apex_partition::Partition;
-use apex_table::read_table;
+use apex_reading::read_table;
 use apex_types::{CoreId, Full};
 use std::mem::drop;
 use std::process::Abort;

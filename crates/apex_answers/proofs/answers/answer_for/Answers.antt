@@ -1,7 +1,7 @@
 -- The kernel has the system's table, and the events are those of the path.
 use Rattle.std.proofs.Common.{◌≡◌, refl}
 use Rattle.apex_machine.specs.table.Table.{IsLawful}
-use Rattle.apex_table.specs.Reading.{table_of}
+use Rattle.apex_reading.specs.Reading.{table_of}
 use Rattle.apex_answers.proofs.Shortest.{same_table, says_full, says_ran}
 use Rattle.apex_answers.proofs.answers.answer_for.Goals as goal
 

@@ -4,7 +4,7 @@ use Rattle.std.proofs.lemmas.Result.{IfOk-weaker}
 use Rattle.apex_machine.specs.Machine.{opening}
 use Rattle.apex_machine.specs.table.Table.{Table}
 use Rattle.apex_dispatch.specs.Kernel.{KernelState, kernel_in}
-use Rattle.apex_table.specs.Reading.{table_of}
+use Rattle.apex_reading.specs.Reading.{table_of}
 use Rattle.apex_answers.proofs.answers.kernel_of.Goals as goal
 
 pub returns-clause-table : goal.returns-clause-table

@@ -1,4 +1,4 @@
-use Rattle.apex_table.proofs.Document.{found, refused}
+use Rattle.apex_reading.proofs.Document.{found, refused}
 use Rattle.apex_faults.proofs.listing.document.Goals as goal
 
 pub returns-in-Ok-clause-some : goal.returns-in-Ok-clause-some

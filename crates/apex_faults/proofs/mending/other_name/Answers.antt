@@ -2,7 +2,7 @@ use Rattle.std.proofs.Common.{Bool, String, Global, not, string_bytes, rules, te
 use Rattle.std.specs.BTreeMap.{keys}
 use Rattle.std.proofs.lemmas.Iterator.Consumers.{YieldsList-from_rest}
 use Rattle.std.proofs.lemmas.Iterator.Search.{find_from_yields_List}
-use Rattle.apex_table.specs.Keys.{is_one_of}
+use Rattle.apex_reading.specs.Keys.{is_one_of}
 use Rattle.apex_faults.proofs.Trees.{name_seen}
 use Rattle.apex_faults.proofs.mending.other_name.Goals as goal
 

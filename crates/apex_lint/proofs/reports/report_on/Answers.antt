@@ -1,5 +1,5 @@
 use Rattle.std.proofs.Common.{◌∙◌, ap}
-use Rattle.apex_table.specs.Reading.{table_of}
+use Rattle.apex_reading.specs.Reading.{table_of}
 use Rattle.apex_lint.specs.Reports.{report_text, verdict_by}
 use Rattle.apex_lint.proofs.reports.report_on.Goals as goal
 

@@ -1,0 +1,31 @@
+use Rattle.std.proofs.Common.{◌≡◌, ◌∙◌, Ok, map, refl, sym, ap, subst, rules}
+use Rattle.apex_machine.specs.table.Table.{IsLawful}
+use Rattle.apex_reading.specs.Names.{names_of}
+use Rattle.apex_reading.specs.Processes.{ProcessDraft}
+use Rattle.apex_table.specs.ScriptTexts.{IsWithTexts}
+use Rattle.apex_reading.specs.Scripts.{with_scripts}
+use Rattle.apex_reading.specs.Init.{init_list}
+use Rattle.apex_table.specs.Tables.{table_with}
+use Rattle.apex_reading.specs.Reading.{TableDraft, with_steps}
+use Rattle.apex_reading.proofs.KeptTexts.{kept_texts}
+use Rattle.apex_reading.proofs.Law.{lawful_of}
+use Rattle.apex_reading.proofs.reading.with_steps.Goals as goal
+
+pub new-requires : goal.new-requires
+unfolding with_steps
+new-requires c =
+    let draft = c.args.draft in
+    let processes = c.in_ok-processes.processes.items in
+    let init = c.in_ok-init.init.items in
+    let scripts : with_scripts (names_of draft.processes draft.objects) draft.processes ≡ Ok processes = search rules in
+    let steps : init_list (names_of draft.processes draft.objects) processes draft.objects draft.init ≡ Ok init = search rules in
+    let lawful : IsLawful (table_with draft.profile draft.cores draft.limit processes draft.objects init) =
+    lawful_of draft _ (record { tree = c.requires.read.tree; read = c.requires.read.read }) (rw (scripts, steps) refl) in
+    subst (λ (d : TableDraft). IsWithTexts c.in_ok-script_texts.script_texts.items (table_with d.profile d.cores d.limit processes d.objects init)) (sym c.draft.view_is)
+    (record {
+      lawful = lawful;
+      kept =
+          (rw c.deref-4.ensures.value at c.in_ok-script_texts.ensures)
+          ∙ ap (λ (d : TableDraft). map (λ (p : ProcessDraft). p.script) d.processes) c.draft.view_is
+          ∙ kept_texts draft.profile draft.cores draft.limit draft.processes processes draft.objects init draft.init lawful scripts steps;
+    })

@@ -1,0 +1,49 @@
+//! The section of event flags.
+ghost use Rattle.apex_reading.specs.EventFlags.{event_flags};
+
+use crate::fault::{Place, Section, TableFault};
+use crate::key::Key;
+use crate::named::Named;
+use crate::sections::{EntryKind, Head};
+use apex_table::EventFlagConfig;
+use apex_types::{MOST_OBJECTS, Name};
+use std::alloc::Global;
+use toml::Table;
+
+impl Named for EventFlagConfig {
+    ghost name_of = { λ e. e.name };
+
+    fn name(&self) -> &Name {
+        EventFlagConfig::name(self)
+    }
+}
+
+/// The kind of event flags.
+#[derive(Drop)]
+pub struct EventFlags;
+
+impl<'a> EntryKind<'a> for EventFlags {
+    type Entry = EventFlagConfig;
+
+    ghost head = { λ _. event_flags.head };
+
+    ghost read = { λ _. event_flags.read };
+
+    fn head(&self) -> Head<'static> {
+        Head {
+            section: Section::EventFlag,
+            most: MOST_OBJECTS,
+            keys: &[Key::Name],
+        }
+    }
+
+    fn entry(
+        &self,
+        _alloc: Global,
+        _at: Place,
+        name: Name,
+        _table: &'a Table,
+    ) -> Result<EventFlagConfig, TableFault> {
+        Ok(EventFlagConfig::new(name))
+    }
+}

@@ -1,0 +1,28 @@
+//! The reading of a table's text, which gives a table or its first fault.
+#![tactic(auto)]
+
+mod blackboards;
+mod buffers;
+mod default_init;
+mod event_flags;
+mod fault;
+mod init;
+mod key;
+mod keys;
+mod mutexes;
+mod named;
+mod names;
+mod objects;
+mod processes;
+mod reading;
+mod scripts;
+mod sections;
+mod semaphores;
+mod steps;
+mod subject;
+mod texts;
+
+pub use fault::{Place, Section, TableFault};
+pub use key::Key;
+pub use reading::read_table;
+pub use subject::{Part, Subject};
