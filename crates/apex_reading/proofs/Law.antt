@@ -24,7 +24,7 @@ use Rattle.apex_reading.specs.Names.{names_of}
 use Rattle.apex_reading.specs.Scripts.{with_scripts}
 use Rattle.apex_reading.specs.Init.{init_texts, init_list}
 use Rattle.apex_table.specs.Tables.{table_with}
-use Rattle.apex_reading.specs.Reading.{top_keys, TableDraft, IsRead, draft, with_steps}
+use Rattle.apex_reading.specs.Reading.{top_keys, TableDraft, IsRead, draft, entries, with_steps}
 use Rattle.apex_reading.proofs.Results.{ok_then, AllFrom, all_from_start}
 use Rattle.apex_reading.proofs.KeyLaws.{number_at_law, number_or_law}
 use Rattle.apex_reading.proofs.ProcessLaws.{some_process_law, IsSoundDraft, process_law}
@@ -88,7 +88,7 @@ pub record IsSoundTable (drafted : TableDraft) : Type 0 where
   pub init : AreFew drafted.init
 
 draft_law : (tree : Members) → IfOk (draft tree) IsSoundTable
-unfolding draft
+unfolding draft entries
 draft_law tree =
     ok_then (known (place Top 0) top_keys tree) _ IsSoundTable (λ ms _.
     ok_then (number_or (place Top 0) 1 1 MOST_PROFILE key.Profile ms) _ IsSoundTable (λ number _.

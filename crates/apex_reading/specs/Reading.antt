@@ -37,6 +37,23 @@ pub record TableDraft : Type 0 where
   pub objects : Objects
   pub init : Option (List (List ℕ))
 
+-- the table of a profile, `cores` cores and a limit, with the entries of TOML's tree, its steps still
+-- as texts
+unfoldable pub entries : Profile → ℕ → ℕ → Members → Result TableDraft TableFault
+entries profile cores limit ms = do
+  drafts ← section (processes profile cores) ms
+  some ← some_process drafts
+  things ← objects ms
+  texts ← init_texts (value_at (key.Entries Init) ms)
+  Ok (record {
+    profile = profile;
+    cores = cores;
+    limit = limit;
+    processes = some;
+    objects = things;
+    init = texts;
+  })
+
 -- the table of TOML's tree, its steps still as texts
 unfoldable pub draft : Members → Result TableDraft TableFault
 draft tree = do
@@ -44,18 +61,7 @@ draft tree = do
   number ← number_or (place Top 0) 1 1 MOST_PROFILE key.Profile ms
   cores ← number_at (place Top 0) 1 MOST_CORES key.Cores ms
   limit ← number_or (place Top 0) USUAL_ENTRIES 1 MOST_ENTRIES key.History ms
-  drafts ← section (processes (profile_of number) cores) ms
-  some ← some_process drafts
-  things ← objects ms
-  texts ← init_texts (value_at (key.Entries Init) ms)
-  Ok (record {
-    profile = profile_of number;
-    cores = cores;
-    limit = limit;
-    processes = some;
-    objects = things;
-    init = texts;
-  })
+  entries (profile_of number) cores limit ms
 
 -- the table that is drafted was read from a tree
 pub record IsRead (drafted : TableDraft) : Type 0 where

@@ -2,7 +2,7 @@
 ghost use Rattle.std.specs.Prelude.{◌≡◌, ◌<◌, ◌≤◌, ◌++◌, length, IfOk};
 ghost use Rattle.apex_types.specs.declared.limits.TheConstants.{MOST_OBJECTS, MOST_PROCESSES};
 ghost use Rattle.apex_types.specs.Places.{map_places};
-ghost use Rattle.apex_reading.specs.DefaultInit.{create, creates, creates_objects, default_init};
+ghost use Rattle.apex_reading.specs.DefaultInit.{create, creates, creates_objects, creates_process, default_init, joined, starts_process};
 
 use apex_calls::Kind;
 use apex_machine::Step;
@@ -54,6 +54,36 @@ fn create_objects(alloc: Global, objects: &Objects) -> Result<Vec<Step>, AllocEr
     Ok(init)
 }
 
+/// Adds the CREATE and the core of each process.
+fn create_processes(init: &mut Vec<Step>, processes: &[ProcessConfig]) -> Result<(), AllocError>
+    requires { length processes.now ≤ MOST_PROCESSES }
+    ensures { IfOk result (λ _. init.new.items ≡ init.old.items
+        ++ joined (map_places creates_process 0 processes.now)) }
+{
+    for (place, process) in processes.iter().enumerate() {
+        let id = ProcessId::at(place as u8);
+        let affinity = ProcessService::InitializeCoreAffinity(process.core().number());
+        init.push(Step::of(create(Kind::Process, place)))?;
+        init.push(Step::of(Call::Process(ObjectCall::KindService(id, affinity))))?;
+    }
+    Ok(())
+}
+
+/// Adds the START of each process that is to start.
+fn start_processes(init: &mut Vec<Step>, processes: &[ProcessConfig]) -> Result<(), AllocError>
+    requires { length processes.now ≤ MOST_PROCESSES }
+    ensures { IfOk result (λ _. init.new.items ≡ init.old.items
+        ++ joined (map_places starts_process 0 processes.now)) }
+{
+    for (place, process) in processes.iter().enumerate() {
+        if process.starts() {
+            let id = ProcessId::at(place as u8);
+            init.push(Step::of(Call::Process(ObjectCall::KindService(id, ProcessService::Start))))?;
+        }
+    }
+    Ok(())
+}
+
 /// The init list of a table that gives none: it creates everything, starts the processes that are
 /// to start, and enters NORMAL.
 pub fn default_init(
@@ -65,18 +95,8 @@ pub fn default_init(
     ensures { IfOk result (λ init. init.items ≡ default_init processes.now objects.now) }
 {
     let mut init = create_objects(alloc, objects)?;
-    for (place, process) in processes.iter().enumerate() {
-        let id = ProcessId::at(place as u8);
-        let affinity = ProcessService::InitializeCoreAffinity(process.core().number());
-        init.push(Step::of(create(Kind::Process, place)))?;
-        init.push(Step::of(Call::Process(ObjectCall::KindService(id, affinity))))?;
-    }
-    for (place, process) in processes.iter().enumerate() {
-        if process.starts() {
-            let id = ProcessId::at(place as u8);
-            init.push(Step::of(Call::Process(ObjectCall::KindService(id, ProcessService::Start))))?;
-        }
-    }
+    create_processes(&mut init, processes)?;
+    start_processes(&mut init, processes)?;
     init.push(Step::of(Call::Partition(PartitionCall::SetPartitionMode(RequestedMode::Normal))))?;
     Ok(init)
 }

@@ -1,9 +1,9 @@
 //! The reading of a whole table.
 ghost use Rattle.std.specs.Prelude.{◌≤◌, length, IfOk, IfSome};
-ghost use Rattle.apex_types.specs.declared.limits.TheConstants.{MOST_INIT_STEPS, MOST_PROCESSES};
+ghost use Rattle.apex_types.specs.declared.limits.TheConstants.{MOST_CORES, MOST_INIT_STEPS, MOST_PROCESSES};
 ghost use Rattle.toml.specs.View.{table_view};
 ghost use Rattle.apex_reading.specs.Outcome.{Gives};
-ghost use Rattle.apex_reading.specs.Reading.{IsRead, draft, with_steps, document, table_of};
+ghost use Rattle.apex_reading.specs.Reading.{IsRead, draft, entries, with_steps, document, table_of};
 ghost use Rattle.apex_reading.specs.StepTexts.{HaveTexts};
 
 use crate::fault::{Place, Section, TableFault};
@@ -62,18 +62,21 @@ impl<'a> Model for TableDraft<'a> {
     } };
 }
 
-/// The table of TOML's tree, its steps still as texts.
-#[tactic(auto, unfolding(crate::specs::Reading::draft))]
-fn read_draft(alloc: Global, tree: &toml::Table) -> Result<TableDraft<'_>, TableFault>
-    ensures gives { Gives (λ d. d) result (draft (table_view tree.now)) }
+/// The table of a profile, `cores` cores and a limit, with the entries of TOML's tree, its steps
+/// still as texts.
+#[tactic(auto, unfolding(crate::specs::Reading::entries))]
+fn read_entries(
+    alloc: Global,
+    profile: Profile,
+    cores: u32,
+    limit: u32,
+    tree: &toml::Table,
+) -> Result<TableDraft<'_>, TableFault>
+    requires { (1 ≤ cores) × (cores ≤ MOST_CORES) }
+    ensures gives { Gives (λ d. d) result (entries profile cores limit (table_view tree.now)) }
     ensures few_processes { IfOk result (λ d. length d.processes ≤ MOST_PROCESSES) }
     ensures few_steps { IfOk result (λ d. IfSome d.init (λ ts. length ts ≤ MOST_INIT_STEPS)) }
 {
-    let at = Place::of(Section::Top);
-    keys::only(at, TOP_KEYS, tree)?;
-    let profile = Profile::of(keys::number_or(at, 1, 1, MOST_PROFILE, tree, Key::Profile)?);
-    let cores = keys::number_at(at, 1, MOST_CORES, tree, Key::Cores)?;
-    let limit = keys::number_or(at, USUAL_ENTRIES, 1, MOST_ENTRIES, tree, Key::History)?;
     let processes = read_section(alloc, &Processes { profile, cores }, tree)?;
     some_process(&processes)?;
     let objects = read_objects(alloc, tree)?;
@@ -86,6 +89,21 @@ fn read_draft(alloc: Global, tree: &toml::Table) -> Result<TableDraft<'_>, Table
         objects,
         init,
     })
+}
+
+/// The table of TOML's tree, its steps still as texts.
+#[tactic(auto, unfolding(crate::specs::Reading::draft))]
+fn read_draft(alloc: Global, tree: &toml::Table) -> Result<TableDraft<'_>, TableFault>
+    ensures gives { Gives (λ d. d) result (draft (table_view tree.now)) }
+    ensures few_processes { IfOk result (λ d. length d.processes ≤ MOST_PROCESSES) }
+    ensures few_steps { IfOk result (λ d. IfSome d.init (λ ts. length ts ≤ MOST_INIT_STEPS)) }
+{
+    let at = Place::of(Section::Top);
+    keys::only(at, TOP_KEYS, tree)?;
+    let profile = Profile::of(keys::number_or(at, 1, 1, MOST_PROFILE, tree, Key::Profile)?);
+    let cores = keys::number_at(at, 1, MOST_CORES, tree, Key::Cores)?;
+    let limit = keys::number_or(at, USUAL_ENTRIES, 1, MOST_ENTRIES, tree, Key::History)?;
+    read_entries(alloc, profile, cores, limit, tree)
 }
 
 /// The table, with the steps of its scripts and its init list.

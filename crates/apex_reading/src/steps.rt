@@ -13,7 +13,7 @@ use crate::subject::Subject;
 use apex_calls::{Row, Shape, call_of, row_of_word};
 use apex_machine::Step;
 use apex_types::Origin;
-use given::{Given, with_word};
+use given::{Given, put_word};
 use std::alloc::Global;
 use words::{is_message, is_number, is_timeout, requested_mode, words};
 
@@ -128,11 +128,11 @@ fn with_words(
         let [word, words @ ..] = words_left else {
             return Ok(given);
         };
-        given = with_word(
+        put_word(
             of_word(at, origin, place),
             origin,
             names,
-            given,
+            &mut given,
             shape,
             word,
         )?;

@@ -35,7 +35,7 @@ impl Model for ProcessConfig {
 }
 
 impl ProcessConfig {
-    /// A process of these attributes and this script. Only a table has them in range.
+    /// A process of these attributes and this script. `Table::new` requires their ranges.
     pub fn new(
         name: Name,
         attributes: Attributes,
@@ -143,7 +143,7 @@ impl Model for SemaphoreConfig {
 }
 
 impl SemaphoreConfig {
-    /// A semaphore of these attributes. Only a table has them in range.
+    /// A semaphore of these attributes. `Table::new` requires their ranges.
     pub fn new(name: Name, maximum: u16, initial: u16, discipline: Discipline) -> SemaphoreConfig
         ensures { result ≡ record {
           name = name;
@@ -211,7 +211,7 @@ impl Model for BufferConfig {
 }
 
 impl BufferConfig {
-    /// A buffer of these attributes. Only a table has them in range.
+    /// A buffer of these attributes. `Table::new` requires their ranges.
     pub fn new(name: Name, length: u8, capacity: u8, discipline: Discipline) -> BufferConfig
         ensures { result ≡ record {
           name = name;
@@ -272,7 +272,7 @@ impl Model for BlackboardConfig {
 }
 
 impl BlackboardConfig {
-    /// A blackboard of these attributes. Only a table has them in range.
+    /// A blackboard of these attributes. `Table::new` requires their ranges.
     pub fn new(name: Name, length: u8) -> BlackboardConfig
         ensures { result ≡ record { name = name; length = length } }
     {
@@ -339,7 +339,7 @@ impl Model for MutexConfig {
 }
 
 impl MutexConfig {
-    /// A mutex of these attributes. Only a table has them in range.
+    /// A mutex of these attributes. `Table::new` requires their ranges.
     pub fn new(name: Name, ceiling: u8, discipline: Discipline) -> MutexConfig
         ensures { result ≡ record { name = name; ceiling = ceiling; discipline = discipline } }
     {

@@ -41,112 +41,84 @@ impl Given {
         }
     }
 
-    fn with_entry(self, entry: u8) -> Given
-        ensures { result ≡ with_entry self entry }
+    fn put_entry(&mut self, entry: u8)
+        ensures { self.new ≡ with_entry self.old entry }
     {
-        let arguments = Arguments {
-            entry,
-            ..self.arguments
-        };
-        Given { arguments, ..self }
+        self.arguments.entry = entry;
     }
 
-    fn with_number(self, number: u32) -> Given
-        ensures { result ≡ with_number self number }
+    fn put_number(&mut self, number: u32)
+        ensures { self.new ≡ with_number self.old number }
     {
-        let arguments = Arguments {
-            number,
-            ..self.arguments
-        };
-        Given { arguments, ..self }
+        self.arguments.number = number;
     }
 
-    fn with_timeout(self, timeout: Timeout) -> Given
-        ensures { result ≡ with_timeout self timeout }
+    fn put_timeout(&mut self, timeout: Timeout)
+        ensures { self.new ≡ with_timeout self.old timeout }
     {
-        let arguments = Arguments {
-            timeout,
-            ..self.arguments
-        };
-        Given { arguments, ..self }
+        self.arguments.timeout = timeout;
     }
 
-    fn with_mode(self, mode: RequestedMode) -> Given
-        ensures { result ≡ with_mode self mode }
+    fn put_mode(&mut self, mode: RequestedMode)
+        ensures { self.new ≡ with_mode self.old mode }
     {
-        let arguments = Arguments {
-            mode,
-            ..self.arguments
-        };
-        Given { arguments, ..self }
+        self.arguments.mode = mode;
     }
 
     /// A name that no entry has is the literal of the step of this origin.
-    fn with_name(self, origin: &Origin, name: &Name, place: Option<u8>) -> Given
-        ensures { result ≡ with_name self origin.now name.now place }
+    fn put_name(&mut self, origin: &Origin, name: &Name, place: Option<u8>)
+        ensures { self.new ≡ with_name self.old origin.now name.now place }
     {
         match place {
             Some(place) => {
-                let arguments = Arguments {
-                    named: Named::Known(place),
-                    ..self.arguments
-                };
-                Given { arguments, ..self }
+                self.arguments.named = Named::Known(place);
             }
-            None => Given {
-                arguments: Arguments {
-                    named: Named::Unknown(*origin),
-                    ..self.arguments
-                },
-                literal: Literal::of(name.as_bytes()),
-            },
+            None => {
+                self.arguments.named = Named::Unknown(*origin);
+                self.literal = Literal::of(name.as_bytes());
+            }
         }
     }
 
     /// The bytes of a message are the literal of the step of this origin.
-    fn with_message(self, origin: &Origin, bytes: Literal) -> Given
-        ensures { result ≡ with_message self origin.now bytes }
+    fn put_message(&mut self, origin: &Origin, bytes: Literal)
+        ensures { self.new ≡ with_message self.old origin.now bytes }
     {
-        let message = Message {
+        self.arguments.message = Message {
             origin: *origin,
             length: bytes.as_bytes().len() as u8,
         };
-        Given {
-            arguments: Arguments {
-                message,
-                ..self.arguments
-            },
-            literal: bytes,
-        }
+        self.literal = bytes;
     }
 }
 
-/// The values with that of a word of this shape, after those before it, in the step of this origin.
+/// Adds the value of a word of this shape to those before it, in the step of this origin.
 #[tactic(auto, unfolding(crate::specs::Steps::with_word))]
-pub fn with_word(
+pub fn put_word(
     subject: Subject,
     origin: &Origin,
     names: &Names,
-    given: Given,
+    given: &mut Given,
     shape: &Shape,
     word: &str,
-) -> Result<Given, TableFault>
-    ensures { Gives (λ g. g) result
-        (with_word subject origin.now names.now given shape.now word.now) }
+) -> Result<(), TableFault>
+    ensures { Gives (λ _. given.new) result
+        (with_word subject origin.now names.now given.old shape.now word.now) }
 {
     match shape {
-        Shape::Entry(kind) => Ok(given.with_entry(entry_of(subject, names.of_kind(kind), word)?)),
+        Shape::Entry(kind) => given.put_entry(entry_of(subject, names.of_kind(kind), word)?),
         Shape::Named(kind) => {
             let name = well_formed(subject, word)?;
             let place = place_of_name(names.of_kind(kind), name.as_bytes());
-            Ok(given.with_name(origin, &name, place))
+            given.put_name(origin, &name, place);
         }
-        Shape::Number(low, high) => Ok(given.with_number(number(subject, *low, *high, word)?)),
-        Shape::Timeout => Ok(given.with_timeout(timeout(subject, word)?)),
-        Shape::Message => Ok(given.with_message(origin, message_bytes(subject, word)?)),
+        Shape::Number(low, high) => given.put_number(number(subject, *low, *high, word)?),
+        Shape::Timeout => given.put_timeout(timeout(subject, word)?),
+        Shape::Message => given.put_message(origin, message_bytes(subject, word)?),
         Shape::Mode => match requested_mode(word) {
-            Some(mode) => Ok(given.with_mode(mode)),
-            None => Err(TableFault::BadStep(subject)),
+            Some(mode) => given.put_mode(mode),
+            None => return Err(TableFault::BadStep(subject)),
         },
     }
+    Ok(())
 }
