@@ -1,5 +1,5 @@
 import re,os
-root='/tmp/g/h7'
+root='.'
 moved={'read_table','TableFault','Place','Section','Key','Subject','Part'}
 for d in ['crates','apex']:
     for dp,dn,fn in os.walk(f'{root}/{d}'):

@@ -1,5 +1,5 @@
 import re, os, sys, glob
-root='/tmp/g/h7'
+root='.'
 stay={('specs.Objects','Objects'):'specs.Objects',
       ('specs.Reading','table_with'):'specs.Tables',
       ('specs.StepTexts','script_texts'):'specs.ScriptTexts',
