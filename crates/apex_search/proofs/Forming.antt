@@ -1,11 +1,12 @@
 -- The canonical records, made one after the other.
-use Rattle.std.proofs.Common.{◌≡◌, ◌≢◌, ◌∙◌, ℕ, zero, suc, ◌+◌, ◌*◌, ◌<◌, ◌≤◌, List, [], ◌∷◌, length, get_or, set, drop, max, pos, ℤ, slice_index, subst, refl, sym, ap, arith, add-one, inl, inr}
+use Rattle.std.proofs.Common.{◌≡◌, ◌≢◌, ◌&&◌, Bool, false, count_by, ◌∙◌, ℕ, zero, suc, ◌+◌, ◌*◌, ◌<◌, ◌≤◌, List, [], ◌∷◌, length, get_or, set, drop, max, pos, ℤ, slice_index, subst, refl, sym, ap, arith, add-one, inl, inr}
 use Rattle.std.proofs.Math.Seq.{drop-cons}
 use Rattle.std.proofs.lemmas.Bool.{cases_eq}
 use Rattle.std.proofs.lemmas.List.{ext_get_or, get_or-set_other, get_or-set_same, length-set}
 use Rattle.apex_types.proofs.Places.{get_or-map_places, length-map_places}
-use Rattle.apex_alike.specs.Canonical.{IsFit, age, canonical_record, canonical_roster, oldest_age, rank}
+use Rattle.apex_alike.specs.Canonical.{IsFit, age, canonical_record, canonical_roster, oldest_age, rank, vies}
 use Rattle.apex_machine.specs.processes.Roster.{Roster, nobody, record_at}
+use Rattle.apex_machine.specs.processes.Running.{is_older}
 use Rattle.apex_search.specs.Forms.{AreRanks, form_of, with_form, with_forms}
 use Rattle.apex_search.specs.Terms.{Mode, Record}
 use Rattle.apex_types.specs.declared.limits.TheConstants.{MOST_PROCESSES}
@@ -22,6 +23,15 @@ pub oldest_least : (now : ℕ) (rs : List Record) (p : ℕ) → p < length rs
 oldest_least now [] p within = absurd (omega (arith, within))
 oldest_least now (r ∷ rs) zero within = omega arith
 oldest_least now (r ∷ rs) (suc p) within = omega (arith, oldest_least now rs p (omega (arith, within)))
+
+-- a process without rivals has none that are older
+none_counted : (is : Record → Bool) (rs : List Record) → ((s : Record) → is s ≡ false) → count_by is rs ≡ 0
+none_counted is [] none = refl
+none_counted is (r ∷ rs) none = rw (none r) (none_counted is rs none)
+
+pub no_rank : (roster : Roster) (r : Record) → ((s : Record) → vies roster.mode r s ≡ false) → 0 ≡ rank roster r
+no_rank roster r none =
+    sym (none_counted (λ s. vies roster.mode r s && is_older s r) roster.records (λ s. rw (none s) refl))
 
 -- the ranks of the processes before a place are counted
 pub record AreRanked (roster : Roster) (ranks : List ℕ) (place : ℕ) : Type 0 where

@@ -1,12 +1,13 @@
 //! The canonical form of the processes: stamps by ranks, instants from the oldest release that
 //! matters on, and nothing that does not matter.
-ghost use Rattle.std.specs.Prelude.{◌≡◌, ◌+◌, ◌*◌, ◌<◌, ◌≤◌, ◌&&◌, length, pos};
+ghost use Rattle.std.specs.Prelude.{◌≡◌, true, false, ◌+◌, ◌*◌, ◌<◌, ◌≤◌, ◌&&◌, length, pos};
 ghost use Rattle.apex_types.specs.declared.limits.TheConstants.{MOST_PROCESSES};
 ghost use Rattle.apex_machine.specs.processes.Periods.{HasNoFutureRelease, awaits_first};
 ghost use Rattle.apex_machine.specs.processes.Roster.{record_at};
 ghost use Rattle.apex_machine.specs.processes.Running.{is_older};
 ghost use Rattle.apex_alike.specs.Canonical.{IsFit, age, canonical_roster, earlier, oldest_age, rank, recent, shares, vies};
 ghost use Rattle.apex_search.specs.Forms.{AreRanks, with_form, with_forms};
+ghost use Rattle.apex_search.specs.Terms.{Record};
 
 use apex_machine::{Queue, Record, Wait};
 use apex_store::{PlainStore, Store};
@@ -37,7 +38,14 @@ fn vies(mode: Mode, one: &Record, other: &Record) -> bool
 fn is_older_rival(mode: Mode, one: &Record, other: &Record) -> bool
     ensures { result ≡ (vies mode one.now other.now && is_older other.now one.now) }
 {
-    vies(mode, one, other) && other.since < one.since
+    other.since < one.since && vies(mode, one, other)
+}
+
+/// The process vies for no core, and is in no queue: so it has no rivals.
+fn is_alone(mode: Mode, fields: &Record) -> bool
+    ensures { result ≡ true → (other : Record) → vies mode fields.now other ≡ false }
+{
+    !fields.is_eligible(mode) && fields.queue().is_none()
 }
 
 /// The number of rivals with older stamps.
@@ -46,10 +54,14 @@ fn rank(store: &PlainStore, process: ProcessId) -> u64
     ensures value { result ≡ rank store.now (record_at store.now process) }
     ensures range { result ≤ MOST_PROCESSES }
 {
-    let (mode, fields) = (store.mode(), store.record(process));
+    // A copy, so that the loop need not read it again.
+    let (mode, fields) = (store.mode(), *store.record(process));
+    if is_alone(mode, &fields) {
+        return 0;
+    }
     let mut older = 0;
     for place in 0..store.process_count() {
-        if is_older_rival(mode, fields, store.record(ProcessId::at(place as u8))) {
+        if is_older_rival(mode, &fields, store.record(ProcessId::at(place as u8))) {
             older += 1;
         }
     }
