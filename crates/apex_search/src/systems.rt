@@ -12,8 +12,9 @@ ghost use Rattle.apex_search.specs.Laws.{FormsReach};
 ghost use Rattle.apex_search.specs.Restored.{IsStored, paced_from};
 ghost use Rattle.apex_search.specs.Steps.{IsWorkplace, form_words};
 ghost use Rattle.apex_search.specs.Stored.{word_count};
+ghost use Rattle.apex_search.specs.Worst.{IsFormAfter, responding};
 
-use crate::facts::Facts;
+use crate::facts::{Fact, Facts};
 use crate::laws::{forms_stand_for_situations, same_forms_have_the_same_words, words_are_exact};
 use crate::paced::PacedSituation;
 use crate::premises::{forms_are_ready, forms_reach, parts_are_kept, turns_are_few};
@@ -24,7 +25,7 @@ use apex_dispatch::{Objects, ProcessObject};
 use apex_explore::{Answer, System, Taken, explore};
 use apex_pace::Pace;
 use apex_table::Table;
-use apex_types::{Event, Notices};
+use apex_types::{Event, Notices, ProcessId};
 use std::alloc::{AllocError, Global};
 use std::marker::Model;
 
@@ -169,6 +170,21 @@ impl TableSystem {
         ensures events { IfOk result (λ events. events.items ≡ schedule_of self.now path.now) }
         ensures within { IfOk result (λ events. All (IsWithin self.now.table.cores) events.items) }
     {
+        let (events, _) = self.follow(alloc, path)?;
+        Ok(events)
+    }
+
+    /// The events of the choices of a path, up to one that is not allowed, and the canonical form of
+    /// the situation to which they lead. Fails only for want of memory.
+    pub(crate) fn follow(
+        &self,
+        alloc: Global,
+        path: &[u32],
+    ) -> Result<(Vec<Event>, PacedSituation), AllocError>
+        ensures events { IfOk result (λ led. led.0.items ≡ schedule_of self.now path.now) }
+        ensures within { IfOk result (λ led. All (IsWithin self.now.table.cores) led.0.items) }
+        ensures form { IfOk result (λ led. IsFormAfter self.now (paced_in led.1) led.0.items) }
+    {
         self.table.lawful();
         turns_are_few(self.pace);
         forms_are_ready();
@@ -178,13 +194,13 @@ impl TableSystem {
         let mut notices = Notices::new();
         for choice in path {
             let Some(event) = paced.event(self.pace, &self.table, *choice) else {
-                return Ok(events);
+                return Ok((events, paced));
             };
             events.push(event)?;
             let _ = paced.make(&self.table, &self.question, event, &mut notices);
             paced = paced.canonical(self.pace);
         }
-        Ok(events)
+        Ok((events, paced))
     }
 
     /// What the answers of a search rest on.
@@ -208,6 +224,17 @@ impl TableSystem {
         ensures { self.new ≡ asking self.old facts }
     {
         self.question.facts = facts;
+    }
+
+    /// From now on the question is for a response of this process of at least this many ticks.
+    pub(crate) fn ask_for_response(&mut self, process: ProcessId, ticks: u64)
+        ensures { self.new ≡ responding self.old process ticks }
+    {
+        self.question = Question {
+            facts: Facts::one(Fact::Response(ticks)),
+            process: Some(process),
+            service: None,
+        };
     }
 
     /// The table.
