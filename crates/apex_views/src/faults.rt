@@ -1,10 +1,11 @@
 //! The faults with which a showing ends, and the line of a text that is no schedule.
 ghost use Rattle.std.specs.Prelude.{◌≡◌, ◌+◌, ◌≤◌, ◌++◌, IfErr, IfOk, decimal};
 ghost use Rattle.arrayvec.specs.ArrayString.{array_string_len};
-ghost use Rattle.apex_console.specs.Faults.{fault_of_read};
+ghost use Rattle.apex_console.specs.Faults.{fault_in, fault_of_read};
 ghost use Rattle.apex_console.specs.declared.CliFault.TheVariants.{Memory};
 ghost use Rattle.apex_schedules.specs.Readings.{AreItemsOf, IsFaultOf};
 ghost use Rattle.apex_views.specs.Faults.{IsBadIn, IsFaultIn, fault_at, line_part, reason_text, schedule_line, too_many_text};
+ghost use Rattle.apex_views.specs.Shows.{first_fault};
 ghost use Rattle.apex_views.specs.declared.faults.ShowFault.TheVariants.{Common};
 ghost use Rattle.apex_views.specs.declared.faults.TheConstants.{LINE_ROOM};
 
@@ -74,6 +75,19 @@ impl From<ReadFault> for ShowFault {
 
     fn from(error: ReadFault) -> ShowFault {
         ShowFault::Common(CliFault::from(error))
+    }
+}
+
+/// The fault of a showing, or else the one that is reported besides.
+pub(crate) fn first_fault(
+    shown: Result<(), CliFault>,
+    reported: Option<CliFault>,
+) -> Result<(), CliFault>
+    ensures { fault_in result ≡ first_fault (fault_in shown) reported }
+{
+    match (shown, reported) {
+        (Ok(()), Some(fault)) => Err(fault),
+        (shown, _) => shown,
     }
 }
 

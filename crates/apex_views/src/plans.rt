@@ -1,5 +1,6 @@
 //! The pictures that are drawn of a run.
 ghost use Rattle.std.specs.Prelude.{◌≡◌, true, All, IfOk, Option};
+ghost use Rattle.apex_machine.specs.Machine.{opening, run};
 ghost use Rattle.apex_machine.specs.Events.{IsWithin};
 ghost use Rattle.apex_history.specs.Counted.{inner_of, failures_of};
 ghost use Rattle.apex_console.specs.Faults.{fault_in};
@@ -9,11 +10,13 @@ ghost use Rattle.apex_views.specs.Shows.{Shows, first_fault};
 ghost use Rattle.apex_views.specs.Plans.{IsListOf, IsPlanFor, IsRunOf, IsStyleOf, fault_of_drawing, machine_of};
 ghost use Rattle.apex_views.specs.Showings.{IsPictureOfEntries, Picture as PictureAsked, drawn, picture_said, trace};
 
+use crate::faults::first_fault;
 use crate::showings::Picture;
 use apex_console::{CliFault, booted, repeated};
 use apex_dispatch::{Kernel, events_in};
 use apex_history::{Counted, Sink};
 use apex_pictures::{DrawFault, Frame, Style, draw};
+use apex_process::QueueStore;
 use apex_schedules::Item;
 use apex_store::Store;
 use apex_table::Table;
@@ -131,6 +134,46 @@ fn fault_of(fault: DrawFault) -> CliFault
     }
 }
 
+/// Draws the picture of the events in this style, on a kernel before any event.
+fn draw_on<W: Sink>(
+    alloc: Global,
+    style: &Style,
+    kernel: &mut Kernel<QueueStore>,
+    events: &[Event],
+    writer: &mut Counted<W>,
+) -> Result<(), CliFault>
+    requires opened { kernel.old.machine ≡ opening kernel.old.table }
+    requires within { All (IsWithin kernel.old.table.cores) events.now }
+    ensures { (picture : PictureAsked) → IsStyleOf picture style.now
+        → Shows (drawn picture) kernel.old.table
+        (run kernel.old.table (opening kernel.old.table) events.now)
+        (W.contents (inner_of writer.old)) (failures_of writer.old) (fault_in result)
+        (W.contents (inner_of writer.new)) (failures_of writer.new) }
+{
+    match draw(alloc, style, kernel, events, writer) {
+        Ok(()) => Ok(()),
+        Err(fault) => Err(fault_of(fault)),
+    }
+}
+
+/// Draws the picture of the run of the events on a table in this style.
+fn draw_run<W: Sink>(
+    alloc: Global,
+    style: &Style,
+    table: Table,
+    events: &[Event],
+    writer: &mut Counted<W>,
+) -> Result<(), CliFault>
+    requires { All (IsWithin table.cores) events.now }
+    ensures { (picture : PictureAsked) → IsStyleOf picture style.now
+        → Shows (drawn picture) table (run table (opening table) events.now)
+        (W.contents (inner_of writer.old)) (failures_of writer.old) (fault_in result)
+        (W.contents (inner_of writer.new)) (failures_of writer.new) }
+{
+    let mut kernel = booted(alloc, table)?;
+    draw_on(alloc, style, &mut kernel, events, writer)
+}
+
 /// Draws the picture of a plan, and answers its fault once it is drawn.
 pub fn show<W: Sink>(alloc: Global, plan: Plan, writer: &mut Counted<W>) -> Result<(), CliFault>
     requires { All (IsWithin plan.table.cores) plan.events.items }
@@ -145,12 +188,6 @@ pub fn show<W: Sink>(alloc: Global, plan: Plan, writer: &mut Counted<W>) -> Resu
         events,
         fault,
     } = plan;
-    let mut kernel = booted(alloc, table)?;
-    match draw(alloc, &style, &mut kernel, events.as_slice(), writer) {
-        Ok(()) => match fault {
-            None => Ok(()),
-            Some(fault) => Err(fault),
-        },
-        Err(fault) => Err(fault_of(fault)),
-    }
+    let shown = draw_run(alloc, &style, table, events.as_slice(), writer);
+    first_fault(shown, fault)
 }
