@@ -27,7 +27,7 @@ end_time machine =
 
 -- what comes after the columns
 abbrev pub foot_text : Style → Table → Machine → List ℕ
-foot_text (Svg frame) table machine = svg.key_text frame
+foot_text (Svg frame) table machine = svg.foot_text frame
 foot_text Trace table machine =
     trace.foot_text table (end_time machine) machine.roster.now (moment_in table machine)
 

@@ -14,6 +14,7 @@ use Rattle.apex_types.specs.declared.entries.Reply.TheVariants.{Advanced}
 use Rattle.apex_pictures.specs.Moments.{Shown, no_cell}
 use Rattle.apex_pictures.specs.Terms.{Caller, Cell, Entry, Notice, Reply, Wait}
 use Rattle.apex_pictures.specs.Texts.{xml_text}
+use Rattle.apex_pictures.specs.declared.excerpts.Excerpt.{Excerpt}
 use Rattle.apex_pictures.specs.declared.frames.Frame.{Frame}
 
 -- texts one behind the other
@@ -236,7 +237,22 @@ column_text table frame entry shown =
     start_text frame entry.number ++ marks_text table frame entry shown ++ column_end
     else []
 
--- what comes after the columns: the key
+-- the key
 unfoldable pub key_text : Frame → List ℕ
 key_text frame = texts (
     codes "<g transform='translate(0," ∷ decimal frame.foot ∷ codes ")'>" ∷ frame.key.now ∷ [])
+
+-- what a picture shows, of which more was asked for
+unfoldable pub excerpt_text : Excerpt → List ℕ
+excerpt_text excerpt = texts (
+    codes "<text x='700' y='9'>entries " ∷ decimal excerpt.first ∷ codes " to "
+    ∷ decimal excerpt.last ∷ codes " of " ∷ decimal excerpt.entries ∷ codes "</text>" ∷ [])
+
+-- the note of what a picture shows, if more was asked for
+abbrev pub note_text : Option Excerpt → List ℕ
+note_text None = []
+note_text (Some excerpt) = excerpt_text excerpt
+
+-- what comes after the columns: the key, with the note behind it
+abbrev pub foot_text : Frame → List ℕ
+foot_text frame = key_text frame ++ note_text frame.excerpt ++ frame.end.now

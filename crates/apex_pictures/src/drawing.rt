@@ -83,7 +83,7 @@ fn put_foot<S: Store>(
         ++ foot_text style.now kernel.now.table kernel.now.machine) }
 {
     match style {
-        Style::Svg(frame) => svg::put_key(text, frame),
+        Style::Svg(frame) => svg::put_foot(text, frame),
         Style::Trace => {
             kernel.holds();
             let end = instant.next(kernel.now());
