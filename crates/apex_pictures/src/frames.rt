@@ -37,8 +37,9 @@ const STYLE: &str =
 const KEY: &str =
     "<rect class='RUNNING' x='20' y='0' width='16' height='10'/><text x='40' y='9'>running</text><rect class='READY' x='110' y='0' width='16' height='10'/><text x='130' y='9'>ready</text><rect class='WAITING' x='185' y='0' width='16' height='10'/><text x='205' y='9'>waiting</text><rect class='owns' x='270' y='4' width='16' height='3'/><text x='290' y='9'>owns a mutex</text><circle class='ring' cx='395' cy='5' r='4'/><text x='405' y='9'>caller</text><path class='woken' d='M460,0 h10 l-5,9 z'/><text x='474' y='9'>woken</text><path class='released' d='M530,0 h10 l-5,9 z'/><text x='544' y='9'>released</text><path class='missed' d='M610,0 h10 l-5,9 z'/><text x='624' y='9'>missed</text>";
 
-/// The end of the file, behind the key.
-const END: &str = "</g>\n</svg>\n";
+/// The end of the file, behind the key: a script that keeps the labels in sight.
+const END: &str =
+    "</g>\n</g>\n<script>\naddEventListener('scroll',()=>document.getElementById('labels').setAttribute('transform','translate('+scrollX+',0)'))\n</script>\n</svg>\n";
 
 /// The entries of a history that are drawn as SVG, and the places of their columns and of the rows.
 #[derive(Drop)]
