@@ -140,9 +140,9 @@ pub ends_as : {before after : Ports} (showing : Showing) (ends other : ShowEnd) 
 ends_as showing ends other same shown_so = rw same shown_so
 
 -- what is drawn is what the style says
-pub excerpt_is : (picture : Picture) (history : List Entry) (style : Style) → IsStyleOf picture history style
-    → excerpt_in (drawn picture) history ≡ excerpt_with style
-excerpt_is (svg window) history (styles.Svg frame) is = ap (λ s. excerpt_at s (length history)) is.is ∙ sym is.shows.excerpt
-excerpt_is (svg window) history styles.Trace is = absurd is
-excerpt_is trace history (styles.Svg frame) is = absurd is
-excerpt_is trace history styles.Trace is = refl
+pub excerpt_is : (picture : Picture) (entries : List Entry) (style : Style) → IsStyleOf picture entries style
+    → excerpt_in (drawn picture) entries ≡ excerpt_with style
+excerpt_is (svg window) entries (styles.Svg frame) is = ap (λ s. excerpt_at s (length entries)) is.is ∙ sym is.shows.excerpt
+excerpt_is (svg window) entries styles.Trace is = absurd is
+excerpt_is trace entries (styles.Svg frame) is = absurd is
+excerpt_is trace entries styles.Trace is = refl

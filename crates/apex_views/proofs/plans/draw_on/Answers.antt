@@ -7,7 +7,7 @@ pub returns-in-Ok : goal.returns-in-Ok
 returns-in-Ok g c = λ picture styled.
     shows_whole (_, (c.args.style.now, styled, refl), c.in-Ok.ensures.ok) c.in-Ok.ensures.counted
 
-pub returns : goal.returns
-returns g c = λ picture styled.
+pub returns-in-Err : goal.returns-in-Err
+returns-in-Err g c = λ picture styled.
     rw c.fault_of.ensures (pictures_failed c.in-Err.fault (_, (c.args.style.now, styled, refl), c.in-Err.ensures.err)
     c.in-Err.ensures.counted)

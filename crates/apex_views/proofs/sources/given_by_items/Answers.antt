@@ -19,7 +19,7 @@ returns-in_err-plan-clause-err c =
 pub returns-in-Picture-Trace-clause-view : goal.returns-in-Picture-Trace-clause-view
 returns-in-Picture-Trace-clause-view c =
     let plan = c.in_ok-plan.plan in
-    rw c.in-Picture-Trace.is (record {
+    rw (c.in-Picture-Trace.is, c.in-Picture-Trace.field-0-is) (record {
       picture = trace;
       is = refl;
       planned = record { within = rw c.in_ok-plan.ensures.table c.in_ok-plan.ensures.run.within; style = rw c.in_ok-plan.ensures.style tt };
