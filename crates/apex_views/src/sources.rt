@@ -4,7 +4,7 @@ ghost use Rattle.apex_history.specs.Counted.{inner_of, failures_of};
 ghost use Rattle.apex_console.specs.Reports.{Refuses, answer_of, runs_to};
 ghost use Rattle.apex_views.specs.Shows.{Gives, IsGivenFor, IsRunTo, outcome_in};
 ghost use Rattle.apex_views.specs.Plans.{IsStyleOf};
-ghost use Rattle.apex_views.specs.Showings.{Picture as PictureAsked, drawn, history, paced, schedule, schedule_read, source_said, svg, view_said};
+ghost use Rattle.apex_views.specs.Showings.{Picture as PictureAsked, drawn, history, paced, picture_said, schedule, schedule_read, source_said, svg, view_said};
 
 use crate::faults::{ShowFault, read_items};
 use crate::parts::parted;
@@ -55,14 +55,24 @@ fn svg_of(alloc: Global, window: Window, run: Run) -> Result<Given, AllocError>
     }
 }
 
+/// A run of which a picture is to be drawn.
+fn pictured(alloc: Global, picture: Picture, run: Run) -> Result<Given, AllocError>
+    ensures run { IfOk result (IsRunTo (runs_to run.kernel.table run.kernel.machine run.fault)) }
+    ensures view { IfOk result (IsGivenFor (drawn (picture_said picture))) }
+{
+    match picture {
+        Picture::Svg(window) => svg_of(alloc, window, run),
+        Picture::Trace => planned(alloc, Style::Trace, run),
+    }
+}
+
 /// A run, to be shown in this view.
 fn given_in(alloc: Global, view: View, run: Run) -> Result<Given, AllocError>
     ensures run { IfOk result (IsRunTo (runs_to run.kernel.table run.kernel.machine run.fault)) }
     ensures view { IfOk result (IsGivenFor (view_said view)) }
 {
     match view {
-        View::Picture(Picture::Svg(window)) => svg_of(alloc, window, run),
-        View::Picture(Picture::Trace) => planned(alloc, Style::Trace, run),
+        View::Picture(picture) => pictured(alloc, picture, run),
         View::Listing(listing) => Ok(Given::Listing(listing, run)),
     }
 }

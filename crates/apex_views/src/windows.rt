@@ -59,18 +59,18 @@ fn is_to(bound: Bound, entry: &LentEntry<'_>) -> bool
     }
 }
 
-/// The span, up to this number.
-fn widened(span: Option<Span>, number: u32) -> Span
-    ensures { result ≡ widened span number }
+/// The span, up to the number of this entry.
+fn widened(span: Option<Span>, entry: &LentEntry<'_>) -> Span
+    ensures { result ≡ widened span entry.entry.now.number }
 {
     match span {
         Some(span) => Span {
             first: span.first,
-            last: number,
+            last: entry.number,
         },
         None => Span {
-            first: number,
-            last: number,
+            first: entry.number,
+            last: entry.number,
         },
     }
 }
@@ -98,7 +98,7 @@ impl Window {
         let mut span = None;
         for entry in kernel.entries() {
             if self.has(&entry) {
-                span = Some(widened(span, entry.number));
+                span = Some(widened(span, &entry));
             }
         }
         span
