@@ -21,7 +21,7 @@ pub returns-in-Picture-Trace-clause-view : goal.returns-in-Picture-Trace-clause-
 returns-in-Picture-Trace-clause-view c =
     let plan = c.in_ok-plan.plan in
     let same : c.in-Picture-Trace.field-0 ≡ Trace = rw c.in-Picture-Trace.is at c.in-Picture-Trace.field-0-is in
-    rw same (record {
+    rw (c.in-Picture-Trace.is, same) (record {
       picture = trace;
       is = refl;
       planned = record { within = rw c.in_ok-plan.ensures.table c.in_ok-plan.ensures.run.within; style = rw c.in_ok-plan.ensures.style tt };
