@@ -1,6 +1,7 @@
 pub mod Words
 pub mod Faults
 pub mod Numbers
+pub mod Windows
 pub mod Questions
 pub mod Tasks
 pub mod Ends

@@ -9,13 +9,14 @@ use Rattle.apex_schedules.specs.Groups.{grouped_items_of}
 use Rattle.apex_schedules.specs.Schedule.{positive_of}
 use Rattle.apex_objects.specs.declared.Form.{Form}
 use Rattle.apex_views.specs.Faults.{IsBadIn}
-use Rattle.apex_views.specs.Showings.{IsOfEntries, Picture, Showing, Source, View, drawn, history, listed, paced, schedule, schedule_read, showing_said, showing_with, source_said, svg, trace}
+use Rattle.apex_views.specs.Showings.{Showing, Source, View, drawn, history, listed, paced, schedule, schedule_read, showing_said, showing_with, source_said, svg, trace}
 use Rattle.apex_lab.specs.Lints.{Lint, lint_asked, lint_said}
-use Rattle.apex_lab.specs.Numbers.{number_in, pace_in, time_of}
+use Rattle.apex_lab.specs.Numbers.{pace_in, time_of}
 use Rattle.apex_lab.specs.Questions.{search_asked}
+use Rattle.apex_lab.specs.Windows.{window_between}
 use Rattle.apex_lab.specs.Words.{Given, Request, Shown, as_listing, as_svg, as_trace, by_history, by_pace, by_schedule, by_schedule_read, check_of, lint_of, request_of, search_of, show_of, step_of, why_of}
 use Rattle.apex_lab.specs.declared.faults.LabFault.{LabFault}
-use Rattle.apex_lab.specs.declared.faults.LabFault.TheVariants.{Common, NoEntry, NoProcess, Schedule as BadText, StatesFull}
+use Rattle.apex_lab.specs.declared.faults.LabFault.TheVariants.{Common, Empty, NoEntry, NoProcess, Schedule as BadText, StatesFull}
 use Rattle.apex_lab.specs.declared.questions.Search.{Search}
 use Rattle.apex_lab.specs.declared.tasks.Task.{Task}
 use Rattle.apex_lab.specs.declared.tasks.Task.TheVariants as task
@@ -69,14 +70,9 @@ source_in by_schedule_read = Ok schedule_read
 source_in (by_pace until turns early) = or_unasked ill_formed (paced_source until turns early)
 source_in by_history = Ok history
 
--- the SVG from the first number to the last, by their texts; none if one is ill-formed
-abbrev pub svg_between : Option Text → Option Text → Option Picture
-svg_between first last =
-    option_and_then (λ n. option_map (svg n) (number_in MOST_ENTRIES last)) (number_in 1 first)
-
--- how a run is shown; none if a number is ill-formed
+-- how a run is shown; none if a bound is ill-formed
 abbrev pub view_in : Shown → Option View
-view_in (as_svg first last) = option_map drawn (svg_between first last)
+view_in (as_svg first last) = option_map (λ window. drawn (svg window)) (window_between first last)
 view_in as_trace = Some (drawn trace)
 view_in (as_listing listing) = Some (listed listing)
 
@@ -126,9 +122,9 @@ task_said (task.Step form) = to_step form
 task_said (task.Check form comments) = to_check form comments
 task_said (task.Why why) = to_why (source_said why.source) why.entry
 
--- the same of a view that is asked for, and the pace of a search is one
+-- the pace of a search is one
 abbrev pub IsInRange : Task → Type 0
-IsInRange (task.Show showing) = IsOfEntries showing.view
+IsInRange (task.Show showing) = Unit {0}
 IsInRange (task.Search search) = IsPace search.pace
 IsInRange (task.Lint lint) = Unit {0}
 IsInRange (task.Step form) = Unit {0}
@@ -142,5 +138,6 @@ IsUnasked asked (Common fault) =
 IsUnasked asked (StatesFull states) = ⊥
 IsUnasked asked (NoProcess name) = ⊥
 IsUnasked asked (NoEntry number) = ⊥
+IsUnasked asked (Empty window) = ⊥
 IsUnasked asked (BadText bad) =
     (text : Text) × (asked ≡ Err (no_schedule text)) × IsBadIn text bad

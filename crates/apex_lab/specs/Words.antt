@@ -117,7 +117,7 @@ pub data Given : Type 0 where
 
 -- how a run is shown
 pub data Shown : Type 0 where
-  -- as SVG, with the texts of the numbers of the first entry and of the last, if they are given
+  -- as SVG, with the texts of the first bound and of the last one, if they are given
   as_svg : Option Text → Option Text → Shown
   -- as a trace
   as_trace : Shown

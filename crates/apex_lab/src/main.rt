@@ -14,6 +14,7 @@ mod searching;
 mod stepping;
 mod tasks;
 mod whys;
+mod windows;
 mod words;
 
 use crate::program::serve;

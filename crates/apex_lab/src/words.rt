@@ -32,7 +32,7 @@ pub enum SourceWords<'a> {
 /// How a run is shown, by the words.
 #[derive(Clone, Copy)]
 pub enum ViewWords<'a> {
-    /// As SVG, with the texts of the numbers of the first entry and of the last, if they are given.
+    /// As SVG, with the texts of the first bound and of the last one, if they are given.
     Svg {
         first: Option<&'a str>,
         last: Option<&'a str>,
