@@ -3,3 +3,4 @@ pub mod Columns
 pub mod Following
 pub mod Numbered
 pub mod Endings
+pub mod ThreeParts

@@ -4,6 +4,7 @@ ghost use Rattle.apex_machine.specs.Machine.{events_of, opening};
 ghost use Rattle.apex_machine.specs.Events.{IsWithin};
 ghost use Rattle.apex_departures.specs.Why.{IsNumbered, IsReasonAt, IsReasonBehind, LacksEvent};
 
+use apex_console::booted;
 use apex_dispatch::{Kernel, events_in};
 use apex_process::QueueStore;
 use apex_reasons::{ReasonText, reason_of};
@@ -11,15 +12,6 @@ use apex_store::Store;
 use apex_table::Table;
 use apex_types::Event;
 use std::alloc::{AllocError, Global};
-
-/// The kernel of a table before any event.
-fn booted(alloc: Global, table: Table) -> Result<Kernel<QueueStore>, AllocError>
-    ensures table { IfOk result (λ kernel. kernel.table ≡ table) }
-    ensures opening { IfOk result (λ kernel. kernel.machine ≡ opening table) }
-{
-    let store = QueueStore::new(alloc, &table)?;
-    Kernel::boot(alloc, table, store)
-}
 
 /// The text of the reason of an event behind these events, which a kernel makes that has made none.
 fn reason_behind<S: Store>(kernel: &mut Kernel<S>, before: &[Event], event: Event) -> ReasonText
@@ -34,7 +26,6 @@ fn reason_behind<S: Store>(kernel: &mut Kernel<S>, before: &[Event], event: Even
 }
 
 /// The text of the reason of an event behind these events, on this table.
-#[tactic(auto, using(crate::proofs::Numbered::within_same, crate::proofs::Numbered::event_same))]
 fn reason_after(
     alloc: Global,
     table: Table,
