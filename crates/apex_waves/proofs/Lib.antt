@@ -1,0 +1,4 @@
+pub mod Nexts
+pub mod NextInstants
+pub mod Steps
+pub mod Printed

@@ -1,0 +1,13 @@
+-- The signals so far follow the others.
+use Rattle.std.proofs.Common.{◌≡◌, ◌+◌, ◌++◌}
+use Rattle.arrayvec.specs.ArrayVec.{array_vec_len}
+use Rattle.apex_waves.specs.Places.{of_places}
+use Rattle.apex_waves.specs.Signals.{signal_of}
+use Rattle.apex_waves.proofs.signals.add_signals.Given as goal
+
+abbrev pub invariant-loop-place : goal.invariant-loop-place
+invariant-loop-place l = record {
+  end : l.place-end ≡ l.count;
+  many : array_vec_len l.signals ≡ array_vec_len l.fn.signals + l.place;
+  signals : l.signals.items ≡ l.fn.signals.items ++ of_places (signal_of l.kind) l.place;
+}
