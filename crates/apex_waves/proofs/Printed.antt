@@ -10,8 +10,9 @@ use Rattle.apex_history.specs.Counted.{AppendsBeginning}
 use Rattle.apex_history.specs.Page.{Passes}
 use Rattle.apex_history.proofs.Passing.{beginning_longer, passes_with}
 use Rattle.apex_types.specs.declared.entries.Event.{Event}
-use Rattle.apex_waves.specs.Dumps.{dump_text, end_text, moment_in, steps_text}
+use Rattle.apex_waves.specs.Dumps.{dump_text, end_text, steps_text}
 use Rattle.apex_waves.specs.Heads.{head_text}
+use Rattle.apex_waves.specs.Moments.{moment_in}
 use Rattle.apex_waves.specs.Printing.{Grows, IsFollowed}
 use Rattle.apex_waves.proofs.Steps.{run_grows}
 

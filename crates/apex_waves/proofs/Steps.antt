@@ -13,8 +13,8 @@ use Rattle.apex_laws.proofs.Runs.{accept-full, accept-room}
 use Rattle.apex_waves.specs.Instants.{units, instant_after}
 use Rattle.apex_types.specs.declared.entries.Entry.{Entry}
 use Rattle.apex_types.specs.declared.entries.Event.{Event}
-use Rattle.apex_waves.specs.Dumps.{entry_text, moment_after, moment_in, roster_after, step_text, steps_text, time_after}
-use Rattle.apex_waves.specs.Levels.{Moment, moment_of}
+use Rattle.apex_waves.specs.Dumps.{entry_text, step_text, steps_text, time_after}
+use Rattle.apex_waves.specs.Moments.{Moment, moment_after, moment_in, moment_of, roster_after}
 use Rattle.apex_waves.specs.Printing.{IsFollowed}
 
 texts_same : (f g : ℕ → List ℕ) (n : ℕ) → ((k : ℕ) → k < n → f k ≡ g k) → texts_of f n ≡ texts_of g n

@@ -1,26 +1,15 @@
 -- The dump of a run: the values before any entry, and for each entry its time and the values that it changes.
-use Rattle.std.specs.Prelude.{ℕ, ◌+◌, List, ◌∷◌, ◌++◌, codes, decimal, flat_map, length, slice_index_or, take}
-use Rattle.apex_machine.specs.Machine.{Machine, objects_after, opening}
-use Rattle.apex_machine.specs.processes.Roster.{Roster, opening_roster}
+use Rattle.std.specs.Prelude.{ℕ, ◌+◌, List, ◌++◌, codes, decimal, flat_map, length, take}
+use Rattle.apex_machine.specs.Machine.{Machine, opening}
 use Rattle.apex_machine.specs.table.Table.{Table}
 use Rattle.apex_machine.specs.text.Listing.{texts_of}
-use Rattle.apex_waves.specs.Instants.{units, instant_after, next_instant}
 use Rattle.apex_waves.specs.Heads.{head_text}
-use Rattle.apex_waves.specs.Levels.{Moment, moment_of}
+use Rattle.apex_waves.specs.Instants.{instant_after, next_instant, units}
+use Rattle.apex_waves.specs.Moments.{Moment, moment_after, moment_in}
 use Rattle.apex_waves.specs.Signals.{signals_of}
 use Rattle.apex_waves.specs.Values.{change_in}
 
--- the roster of a machine after the first k entries of its history
-abbrev pub roster_after : Table → Machine → ℕ → Roster
-roster_after table machine k =
-    slice_index_or (opening_roster table ∷ machine.past) k (opening_roster table)
-
--- the moment of a machine after the first k entries of its history
-abbrev pub moment_after : Table → Machine → ℕ → Moment
-moment_after table machine k =
-    moment_of (roster_after table machine k) (objects_after table (take k machine.history))
-
--- the time of that moment: its instant on the axis of a trace, in units of a unit
+-- the time of a machine after the first k entries of its history
 abbrev pub time_after : Machine → ℕ → ℕ
 time_after machine k = units (instant_after (take k machine.history))
 
@@ -42,10 +31,6 @@ entry_text table machine k =
 -- the steps of all entries
 abbrev pub steps_text : Table → Machine → List ℕ
 steps_text table machine = texts_of (entry_text table machine) (length machine.history)
-
--- the moment of a machine
-abbrev pub moment_in : Table → Machine → Moment
-moment_in table machine = moment_of machine.roster (objects_after table machine.history)
 
 -- the end of a dump: the time that the next moment would have now, so that the last values last until then
 abbrev pub end_text : Machine → List ℕ

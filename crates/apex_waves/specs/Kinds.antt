@@ -1,8 +1,11 @@
--- The kinds of signals: how many of each kind a table has, and the words for them.
+-- The kinds of signals: how many of each kind a table has, and the names of their scopes.
 use Rattle.std.specs.Prelude.{ℕ, List, ◌++◌, codes, length}
 use Rattle.apex_machine.specs.table.Table.{Table}
+use Rattle.apex_waves.specs.Places.{of_places}
 use Rattle.apex_waves.specs.declared.kinds.Kind.{Kind}
 use Rattle.apex_waves.specs.declared.kinds.Kind.TheVariants.{Core, Process, Semaphore, Buffer, Blackboard, EventFlag, Mutex}
+use Rattle.apex_waves.specs.declared.signals.Signal.{Signal}
+use Rattle.apex_waves.specs.declared.signals.Signal.TheVariants as signals
 
 -- the number of signals of a kind: one for each core, each process and each object of the table
 abbrev pub count_of : Table → Kind → ℕ
@@ -14,6 +17,20 @@ count_of table Blackboard = length table.blackboards
 count_of table EventFlag = length table.event_flags
 count_of table Mutex = length table.mutexes
 
+-- the signal of a kind at a place
+abbrev pub signal_at : Kind → ℕ → Signal
+signal_at Core core = signals.Core core
+signal_at Process p = signals.Process p
+signal_at Semaphore s = signals.Semaphore s
+signal_at Buffer b = signals.Buffer b
+signal_at Blackboard b = signals.Blackboard b
+signal_at EventFlag e = signals.EventFlag e
+signal_at Mutex m = signals.Mutex m
+
+-- the signals of a kind, in the order of their places
+abbrev pub signals_in : Table → Kind → List Signal
+signals_in table kind = of_places (signal_at kind) (count_of table kind)
+
 -- the name of a kind's scope
 abbrev pub scope_word : Kind → List ℕ
 scope_word Core = codes "cores"
@@ -23,27 +40,6 @@ scope_word Buffer = codes "buffers"
 scope_word Blackboard = codes "blackboards"
 scope_word EventFlag = codes "events"
 scope_word Mutex = codes "mutexes"
-
--- the letter with which the codes of a kind begin
-abbrev pub letter : Kind → List ℕ
-letter Core = codes "c"
-letter Process = codes "p"
-letter Semaphore = codes "s"
-letter Buffer = codes "b"
-letter Blackboard = codes "k"
-letter EventFlag = codes "e"
-letter Mutex = codes "m"
-
--- The type of a kind's variables, with their size: words are strings, which GTKWave knows beside the types of
--- the standard. Counts are real numbers, which it shows in decimal digits and as a curve.
-abbrev pub type_word : Kind → List ℕ
-type_word Core = codes "string 1"
-type_word Process = codes "string 1"
-type_word Mutex = codes "string 1"
-type_word Semaphore = codes "real 64"
-type_word Buffer = codes "real 64"
-type_word Blackboard = codes "real 64"
-type_word EventFlag = codes "real 64"
 
 -- what all kinds give, one behind the other, in the order of a file
 abbrev pub of_kinds : {A : Type 0} → (Kind → List A) → List A

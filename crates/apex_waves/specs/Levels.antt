@@ -2,7 +2,6 @@
 use Rattle.std.specs.Prelude.{ℕ, Bool, true, false, List, length, Option, None, Some, ◌==◌, if◌then◌else◌, is_some}
 use Rattle.apex_machine.specs.Deeds.{Objects}
 use Rattle.apex_machine.specs.processes.Owners.{owner}
-use Rattle.apex_machine.specs.processes.Roster.{Roster}
 use Rattle.apex_machine.specs.processes.Running.{chosen, process_state}
 use Rattle.apex_machine.specs.services.BlackboardServices.{blackboard_kind}
 use Rattle.apex_machine.specs.services.BufferServices.{buffer_kind}
@@ -11,20 +10,11 @@ use Rattle.apex_machine.specs.services.SemaphoreServices.{semaphore_kind}
 use Rattle.apex_machine.specs.text.Listing.{object_in}
 use Rattle.apex_types.specs.declared.modes.State.{State}
 use Rattle.apex_types.specs.declared.modes.State.TheVariants.{Dormant, Ready, Running, Waiting}
-use Rattle.apex_waves.specs.declared.kinds.Kind.{Kind}
-use Rattle.apex_waves.specs.declared.kinds.Kind.TheVariants.{Core, Process, Semaphore, Buffer, Blackboard, EventFlag, Mutex}
+use Rattle.apex_waves.specs.Moments.{Moment}
 use Rattle.apex_waves.specs.declared.levels.Level.{Level}
 use Rattle.apex_waves.specs.declared.levels.Level.TheVariants as levels
 use Rattle.apex_waves.specs.declared.signals.Signal.{Signal}
-
--- the processes and the objects of a moment
-pub record Moment : Type 0 where
-  pub roster : Roster
-  pub objects : Objects
-
--- the moment of these
-abbrev pub moment_of : Roster → Objects → Moment
-moment_of roster objects = record { roster = roster; objects = objects }
+use Rattle.apex_waves.specs.declared.signals.Signal.TheVariants.{Core, Process, Semaphore, Buffer, Blackboard, EventFlag, Mutex}
 
 -- 1 for yes, 0 for no
 abbrev pub one_if : Bool → ℕ
@@ -46,21 +36,17 @@ shown_on objects b = one_if (is_some (object_in blackboard_kind objects.blackboa
 abbrev pub raised_of : Objects → ℕ → ℕ
 raised_of objects e = one_if (object_in event_flag_kind objects.event_flags e).up
 
--- What the signal of a kind at a place shows: of a core the process that it runs, of a process its state, of a
--- semaphore its value, of a buffer and of a blackboard the number of messages, of an event flag whether it is up,
--- and of a mutex its owner.
-abbrev pub level_at : Moment → Kind → ℕ → Level
-level_at moment Core core = levels.Process (chosen moment.roster core)
-level_at moment Process p = levels.State (process_state moment.roster p)
-level_at moment Semaphore s = levels.Count (value_of moment.objects s)
-level_at moment Buffer b = levels.Count (content_of moment.objects b)
-level_at moment Blackboard b = levels.Count (shown_on moment.objects b)
-level_at moment EventFlag e = levels.Count (raised_of moment.objects e)
-level_at moment Mutex m = levels.Process (owner moment.roster m)
-
--- what a signal shows
+-- What a signal shows: that of a core the process that it runs, of a process its state, of a semaphore its
+-- value, of a buffer and of a blackboard the number of messages, of an event flag whether it is up, and of a
+-- mutex its owner.
 abbrev pub level_of : Moment → Signal → Level
-level_of moment signal = level_at moment signal.kind signal.place
+level_of moment (Core core) = levels.Process (chosen moment.roster core)
+level_of moment (Process p) = levels.State (process_state moment.roster p)
+level_of moment (Semaphore s) = levels.Count (value_of moment.objects s)
+level_of moment (Buffer b) = levels.Count (content_of moment.objects b)
+level_of moment (Blackboard b) = levels.Count (shown_on moment.objects b)
+level_of moment (EventFlag e) = levels.Count (raised_of moment.objects e)
+level_of moment (Mutex m) = levels.Process (owner moment.roster m)
 
 -- two states are the same
 abbrev pub same_state : State → State → Bool

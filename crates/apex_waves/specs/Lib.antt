@@ -1,8 +1,9 @@
 pub mod Places
 pub mod Instants
 pub mod Kinds
-pub mod Names
 pub mod Signals
+pub mod Names
+pub mod Moments
 pub mod Levels
 pub mod Values
 pub mod Heads

@@ -3,7 +3,8 @@ use Rattle.std.specs.Prelude.{ℕ, List, [], ◌∷◌, ◌++◌, Option, None, 
 use Rattle.apex_machine.specs.table.Table.{Table}
 use Rattle.apex_machine.specs.text.Status.{state_text}
 use Rattle.apex_machine.specs.text.Texts.{process_name}
-use Rattle.apex_waves.specs.Levels.{Moment, level_of, same_level}
+use Rattle.apex_waves.specs.Levels.{level_of, same_level}
+use Rattle.apex_waves.specs.Moments.{Moment}
 use Rattle.apex_waves.specs.Names.{code_text, dump_name}
 use Rattle.apex_waves.specs.declared.levels.Level.{Level}
 use Rattle.apex_waves.specs.declared.levels.Level.TheVariants.{State, Process, Count}
@@ -19,7 +20,7 @@ level_text table (Count count) = codes "r" ++ decimal count
 -- the line of a signal's value: the level and the code
 abbrev pub value_text : Table → Signal → Level → List ℕ
 value_text table signal level =
-    level_text table level ++ codes " " ++ code_text signal.kind signal.place ++ codes "\n"
+    level_text table level ++ codes " " ++ code_text signal ++ codes "\n"
 
 -- the line of a signal at a moment
 abbrev pub value_in : Table → Moment → Signal → List ℕ

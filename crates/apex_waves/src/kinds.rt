@@ -1,30 +1,25 @@
 //! The kinds of signals.
-ghost use Rattle.std.specs.Prelude.{◌≡◌, ◌≤◌, length};
+ghost use Rattle.std.specs.Prelude.{◌≡◌, ◌<◌, ◌≤◌, length};
 ghost use Rattle.apex_types.specs.declared.limits.TheConstants.{MOST_PROCESSES};
-ghost use Rattle.apex_waves.specs.Kinds.{count_of, letter, scope_word, type_word};
-ghost use Rattle.apex_waves.specs.declared.kinds.TheConstants.{KIND_ROOM};
+ghost use Rattle.apex_waves.specs.Kinds.{count_of, scope_word, signal_at};
+ghost use Rattle.apex_waves.specs.declared.kinds.TheConstants.{SCOPE_WORD_ROOM};
 
+use crate::signals::Signal;
 use apex_table::Table;
+use apex_types::{BlackboardId, BufferId, CoreId, EventId, MutexId, ProcessId, SemaphoreId};
 
-/// The most bytes of a word for a kind.
-pub(crate) const KIND_ROOM: usize = 12;
+/// The most bytes of the name of a scope.
+pub(crate) const SCOPE_WORD_ROOM: usize = 11;
 
-/// A kind of signals, by what they show.
+/// A kind of signals. Each has a scope of its own.
 #[derive(Clone, Copy)]
 pub(crate) enum Kind {
-    /// The process that a core runs.
     Core,
-    /// The state of a process.
     Process,
-    /// The value of a semaphore.
     Semaphore,
-    /// The number of messages in a buffer.
     Buffer,
-    /// 1 if a blackboard has a message.
     Blackboard,
-    /// 1 if an event flag is up.
     EventFlag,
-    /// The owner of a mutex.
     Mutex,
 }
 
@@ -45,10 +40,27 @@ impl Kind {
         }
     }
 
+    /// Its signal at this place, counted from 0.
+    pub(crate) fn signal(self, table: &Table, place: u8) -> Signal
+        requires { place < count_of table.now self }
+        ensures { result ≡ signal_at self place }
+    {
+        let _cores = table.cores();
+        match self {
+            Kind::Core => Signal::Core(CoreId::new(place)),
+            Kind::Process => Signal::Process(ProcessId::at(place)),
+            Kind::Semaphore => Signal::Semaphore(SemaphoreId::at(place)),
+            Kind::Buffer => Signal::Buffer(BufferId::at(place)),
+            Kind::Blackboard => Signal::Blackboard(BlackboardId::at(place)),
+            Kind::EventFlag => Signal::EventFlag(EventId::at(place)),
+            Kind::Mutex => Signal::Mutex(MutexId::at(place)),
+        }
+    }
+
     /// The name of its scope.
     pub(crate) fn scope(self) -> &'static str
         ensures value { result.now ≡ scope_word self }
-        ensures short { length result.now ≤ KIND_ROOM }
+        ensures short { length result.now ≤ SCOPE_WORD_ROOM }
     {
         match self {
             Kind::Core => "cores",
@@ -58,33 +70,6 @@ impl Kind {
             Kind::Blackboard => "blackboards",
             Kind::EventFlag => "events",
             Kind::Mutex => "mutexes",
-        }
-    }
-
-    /// The letter of its codes.
-    pub(crate) fn letter(self) -> &'static str
-        ensures value { result.now ≡ letter self }
-        ensures short { length result.now ≤ 1 }
-    {
-        match self {
-            Kind::Core => "c",
-            Kind::Process => "p",
-            Kind::Semaphore => "s",
-            Kind::Buffer => "b",
-            Kind::Blackboard => "k",
-            Kind::EventFlag => "e",
-            Kind::Mutex => "m",
-        }
-    }
-
-    /// The type of its variables, with their size.
-    pub(crate) fn type_word(self) -> &'static str
-        ensures value { result.now ≡ type_word self }
-        ensures short { length result.now ≤ KIND_ROOM }
-    {
-        match self {
-            Kind::Core | Kind::Process | Kind::Mutex => "string 1",
-            Kind::Semaphore | Kind::Buffer | Kind::Blackboard | Kind::EventFlag => "real 64",
         }
     }
 }

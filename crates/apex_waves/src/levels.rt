@@ -1,13 +1,13 @@
 //! The levels of the signals: what each shows at a moment.
-ghost use Rattle.std.specs.Prelude.{◌≡◌, ◌<◌, ◌≤◌, length};
+ghost use Rattle.std.specs.Prelude.{◌≡◌};
 ghost use Rattle.apex_machine.specs.processes.Running.{process_state};
-ghost use Rattle.apex_waves.specs.Levels.{content_of, level_of, moment_of, raised_of, same_level, same_process, same_state, shown_on, value_of};
+ghost use Rattle.apex_waves.specs.Levels.{content_of, level_of, raised_of, same_level, same_process, same_state, shown_on, value_of};
+ghost use Rattle.apex_waves.specs.Moments.{moment_in, moment_of};
 
-use crate::kinds::Kind;
 use crate::signals::{MOST_SIGNALS, Signal};
-use apex_dispatch::Kernel;
+use apex_dispatch::{Kernel, Objects};
 use apex_store::Store;
-use apex_types::{BlackboardId, BufferId, CoreId, EventId, MutexId, ProcessId, SemaphoreId, State};
+use apex_types::{BlackboardId, BufferId, EventId, ProcessId, SemaphoreId, State};
 use arrayvec::ArrayVec;
 
 /// What a signal shows.
@@ -31,10 +31,9 @@ impl Default for Level {
 pub(crate) type Levels = ArrayVec<Level, MOST_SIGNALS>;
 
 /// The state of a process; DORMANT if there is no such process.
-fn state_of<S: Store>(kernel: &Kernel<S>, process: ProcessId) -> State
-    ensures { result ≡ process_state kernel.now.machine.roster process }
+fn state_of<S: Store>(store: &S, process: ProcessId) -> State
+    ensures { result ≡ process_state (S.roster store.now) process }
 {
-    let store = kernel.store();
     if process.place() < store.process_count() {
         store.state(process)
     } else {
@@ -43,69 +42,65 @@ fn state_of<S: Store>(kernel: &Kernel<S>, process: ProcessId) -> State
 }
 
 /// The value of a semaphore; 0 if there is no such semaphore.
-fn value_of<S: Store>(kernel: &Kernel<S>, semaphore: SemaphoreId) -> u32
-    ensures { result ≡ value_of kernel.now.objects semaphore }
+fn value_of(objects: &Objects, semaphore: SemaphoreId) -> u32
+    ensures { result ≡ value_of objects.now semaphore }
 {
-    match kernel
-        .situation()
-        .objects()
-        .semaphores
-        .get(semaphore.place())
-    {
+    match objects.semaphores.get(semaphore.place()) {
         Some(semaphore) => u32::from(semaphore.value()),
         None => 0,
     }
 }
 
 /// The number of messages in a buffer; 0 if there is no such buffer.
-fn content_of<S: Store>(kernel: &Kernel<S>, buffer: BufferId) -> u32
-    ensures { result ≡ content_of kernel.now.objects buffer }
+fn content_of(objects: &Objects, buffer: BufferId) -> u32
+    ensures { result ≡ content_of objects.now buffer }
 {
-    match kernel.situation().objects().buffers.get(buffer.place()) {
+    match objects.buffers.get(buffer.place()) {
         Some(buffer) => buffer.messages().len() as u32,
         None => 0,
     }
 }
 
-/// The number of messages on a blackboard; 0 if there is no such blackboard.
-fn shown_on<S: Store>(kernel: &Kernel<S>, blackboard: BlackboardId) -> u32
-    ensures { result ≡ shown_on kernel.now.objects blackboard }
+/// 1 if a blackboard has a message, and else 0.
+fn shown_on(objects: &Objects, blackboard: BlackboardId) -> u32
+    ensures { result ≡ shown_on objects.now blackboard }
 {
-    match kernel
-        .situation()
-        .objects()
-        .blackboards
-        .get(blackboard.place())
-    {
+    match objects.blackboards.get(blackboard.place()) {
         Some(blackboard) => u32::from(blackboard.message().is_some()),
         None => 0,
     }
 }
 
 /// 1 if an event flag is up, and else 0.
-fn raised_of<S: Store>(kernel: &Kernel<S>, event: EventId) -> u32
-    ensures { result ≡ raised_of kernel.now.objects event }
+fn raised_of(objects: &Objects, event: EventId) -> u32
+    ensures { result ≡ raised_of objects.now event }
 {
-    match kernel.situation().objects().event_flags.get(event.place()) {
+    match objects.event_flags.get(event.place()) {
         Some(event) => u32::from(event.is_up()),
         None => 0,
     }
 }
 
+/// What a signal shows of these processes and these objects.
+fn level_in<S: Store>(store: &S, objects: &Objects, signal: &Signal) -> Level
+    ensures { result ≡ level_of (moment_of (S.roster store.now) objects.now) signal.now }
+{
+    match signal {
+        Signal::Core(core) => Level::Process(store.chosen(*core)),
+        Signal::Process(process) => Level::State(state_of(store, *process)),
+        Signal::Semaphore(semaphore) => Level::Count(value_of(objects, *semaphore)),
+        Signal::Buffer(buffer) => Level::Count(content_of(objects, *buffer)),
+        Signal::Blackboard(blackboard) => Level::Count(shown_on(objects, *blackboard)),
+        Signal::EventFlag(event) => Level::Count(raised_of(objects, *event)),
+        Signal::Mutex(mutex) => Level::Process(store.owner(*mutex)),
+    }
+}
+
 /// What a signal shows of a kernel.
 pub(crate) fn level_of<S: Store>(kernel: &Kernel<S>, signal: &Signal) -> Level
-    ensures { result ≡ level_of (moment_of kernel.now.machine.roster kernel.now.objects) signal.now }
+    ensures { result ≡ level_of (moment_in kernel.now.table kernel.now.machine) signal.now }
 {
-    let place = signal.place;
-    match signal.kind {
-        Kind::Core => Level::Process(kernel.store().chosen(CoreId::new(place))),
-        Kind::Process => Level::State(state_of(kernel, ProcessId::at(place))),
-        Kind::Semaphore => Level::Count(value_of(kernel, SemaphoreId::at(place))),
-        Kind::Buffer => Level::Count(content_of(kernel, BufferId::at(place))),
-        Kind::Blackboard => Level::Count(shown_on(kernel, BlackboardId::at(place))),
-        Kind::EventFlag => Level::Count(raised_of(kernel, EventId::at(place))),
-        Kind::Mutex => Level::Process(kernel.store().owner(MutexId::at(place))),
-    }
+    level_in(kernel.store(), kernel.situation().objects(), signal)
 }
 
 fn is_same_process(before: &Option<ProcessId>, after: &Option<ProcessId>) -> bool

@@ -1,14 +1,14 @@
 //! The names and the codes of signals.
-ghost use Rattle.std.specs.Prelude.{◌≡◌, ◌+◌, ◌*◌, ◌<◌, ◌≤◌, ◌++◌, codes, decimal, false, length};
+ghost use Rattle.std.specs.Prelude.{◌≡◌, ◌+◌, ◌<◌, ◌≤◌, ◌++◌, decimal, false, length};
 ghost use Rattle.std.specs.Fmt.{digit_glyph};
 ghost use Rattle.apex_types.specs.declared.limits.TheConstants.{MOST_NAME};
 ghost use Rattle.apex_machine.specs.text.Texts.{process_name, semaphore_name, buffer_name, blackboard_name, event_flag_name, mutex_name};
-ghost use Rattle.apex_waves.specs.Names.{code_text, dump_name, given_name, is_plain, name_byte, number_text, signal_name};
+ghost use Rattle.apex_waves.specs.Names.{code_text, dump_name, is_plain, letter, name_byte, number_text, signal_name};
 ghost use Rattle.apex_waves.specs.declared.names.TheConstants.{CODE_ROOM, NAME_ROOM, NUMBER_ROOM};
 ghost use Rattle.apex_waves.specs.declared.sheets.TheConstants.{SHEET_ROOM};
 
-use crate::kinds::Kind;
 use crate::sheets::Sheet;
+use crate::signals::Signal;
 use apex_table::Table;
 use apex_types::{BlackboardId, BufferId, EventId, MOST_NAME, MutexId, ProcessId, SemaphoreId};
 use itoa::Buffer;
@@ -141,65 +141,65 @@ fn mutex_name(table: &Table, mutex: MutexId) -> &[u8]
     }
 }
 
-/// The name that the table gives to what a signal shows.
-fn given_name<'a>(table: &'a Table, kind: Kind, place: u8) -> &'a [u8]
-    ensures value { result.now ≡ given_name table.now kind place }
-    ensures short { length result.now ≤ MOST_NAME }
+/// Puts the name of a signal.
+#[tactic(auto, using(std::proofs::Common::append_assoc))]
+pub(crate) fn put_signal_name(sheet: &mut Sheet, table: &Table, signal: &Signal)
+    requires { length sheet.old + NAME_ROOM ≤ SHEET_ROOM }
+    ensures text { sheet.new ≡ sheet.old ++ signal_name table.now signal.now }
+    ensures short { length sheet.new ≤ length sheet.old + NAME_ROOM }
 {
-    match kind {
-        Kind::Core => &[],
-        Kind::Process => process_name(table, ProcessId::at(place)),
-        Kind::Semaphore => semaphore_name(table, SemaphoreId::at(place)),
-        Kind::Buffer => buffer_name(table, BufferId::at(place)),
-        Kind::Blackboard => blackboard_name(table, BlackboardId::at(place)),
-        Kind::EventFlag => event_flag_name(table, EventId::at(place)),
-        Kind::Mutex => mutex_name(table, MutexId::at(place)),
+    match signal {
+        Signal::Core(core) => {
+            sheet.put("core");
+            put_number(sheet, u64::from(core.number()));
+        }
+        Signal::Process(process) => put_name(sheet, process_name(table, *process)),
+        Signal::Semaphore(semaphore) => put_name(sheet, semaphore_name(table, *semaphore)),
+        Signal::Buffer(buffer) => put_name(sheet, buffer_name(table, *buffer)),
+        Signal::Blackboard(blackboard) => put_name(sheet, blackboard_name(table, *blackboard)),
+        Signal::EventFlag(event) => put_name(sheet, event_flag_name(table, *event)),
+        Signal::Mutex(mutex) => put_name(sheet, mutex_name(table, *mutex)),
     }
 }
 
-/// Puts the name of a signal.
-#[tactic(auto, using(std::proofs::Common::append_assoc))]
-pub(crate) fn put_signal_name(sheet: &mut Sheet, table: &Table, kind: Kind, place: u8)
-    requires { length sheet.old + NAME_ROOM ≤ SHEET_ROOM }
-    ensures text { sheet.new ≡ sheet.old ++ signal_name table.now kind place }
-    ensures short { length sheet.new ≤ length sheet.old + NAME_ROOM }
+/// The letter with which the code of a signal begins.
+fn letter(signal: &Signal) -> &'static str
+    ensures value { result.now ≡ letter signal.now }
+    ensures short { length result.now ≤ 1 }
 {
-    match kind {
-        Kind::Core => {
-            sheet.put("core");
-            put_number(sheet, u64::from(place));
-        }
-        Kind::Process
-        | Kind::Semaphore
-        | Kind::Buffer
-        | Kind::Blackboard
-        | Kind::EventFlag
-        | Kind::Mutex => put_name(sheet, given_name(table, kind, place)),
+    match signal {
+        Signal::Core(_) => "c",
+        Signal::Process(_) => "p",
+        Signal::Semaphore(_) => "s",
+        Signal::Buffer(_) => "b",
+        Signal::Blackboard(_) => "k",
+        Signal::EventFlag(_) => "e",
+        Signal::Mutex(_) => "m",
     }
 }
 
 /// The number of a signal as users see it.
-fn number_of(kind: Kind, place: u8) -> u64
-    ensures { decimal result ≡ number_text kind place }
+fn number(signal: &Signal) -> u32
+    ensures { decimal result ≡ number_text signal.now }
 {
-    match kind {
-        Kind::Core => u64::from(place),
-        Kind::Process
-        | Kind::Semaphore
-        | Kind::Buffer
-        | Kind::Blackboard
-        | Kind::EventFlag
-        | Kind::Mutex => u64::from(place) + 1,
+    match signal {
+        Signal::Core(core) => u32::from(core.number()),
+        Signal::Process(process) => process.number(),
+        Signal::Semaphore(semaphore) => semaphore.number(),
+        Signal::Buffer(buffer) => buffer.number(),
+        Signal::Blackboard(blackboard) => blackboard.number(),
+        Signal::EventFlag(event) => event.number(),
+        Signal::Mutex(mutex) => mutex.number(),
     }
 }
 
 /// Puts the code of a signal.
 #[tactic(auto, using(std::proofs::Common::append_assoc))]
-pub(crate) fn put_code(sheet: &mut Sheet, kind: Kind, place: u8)
+pub(crate) fn put_code(sheet: &mut Sheet, signal: &Signal)
     requires { length sheet.old + CODE_ROOM ≤ SHEET_ROOM }
-    ensures text { sheet.new ≡ sheet.old ++ code_text kind place }
+    ensures text { sheet.new ≡ sheet.old ++ code_text signal.now }
     ensures short { length sheet.new ≤ length sheet.old + CODE_ROOM }
 {
-    sheet.put(kind.letter());
-    put_number(sheet, number_of(kind, place));
+    sheet.put(letter(signal));
+    put_number(sheet, u64::from(number(signal)));
 }

@@ -7,14 +7,16 @@ ghost use Rattle.apex_types.specs.Limits.{latest};
 ghost use Rattle.apex_dispatch.specs.Kernel.{kernel_in};
 ghost use Rattle.apex_history.specs.Counted.{inner_of, failures_of, CountsFailure, AppendsBeginning, IsOfWrite};
 ghost use Rattle.apex_waves.specs.Instants.{units, instant_after, next_instant};
-ghost use Rattle.apex_waves.specs.Dumps.{dump_text, end_text, moment_in, time_line};
+ghost use Rattle.apex_waves.specs.Dumps.{dump_text, end_text, time_line};
 ghost use Rattle.apex_waves.specs.Heads.{head_text};
+ghost use Rattle.apex_waves.specs.Moments.{moment_in};
 ghost use Rattle.apex_waves.specs.Printing.{Grows, IsAt};
 ghost use Rattle.apex_waves.specs.Signals.{signals_of};
 ghost use Rattle.apex_waves.specs.declared.sheets.TheConstants.{SHEET_ROOM};
-ghost use Rattle.apex_waves.specs.declared.values.TheConstants.{STEP_ROOM};
+ghost use Rattle.apex_waves.specs.declared.signals.TheConstants.{MOST_SIGNALS};
+ghost use Rattle.apex_waves.specs.declared.values.TheConstants.{STEP_ROOM, TIME_ROOM};
 
-use crate::heads::{put_opening, put_scopes};
+use crate::heads::{put_first, put_opening, put_scopes};
 use crate::instants::Instant;
 use crate::levels::Levels;
 use crate::names::put_number;
@@ -37,9 +39,9 @@ struct Course {
 /// Puts the line of a time.
 #[tactic(auto, using(std::proofs::Common::append_assoc))]
 fn put_time(sheet: &mut Sheet, time: u64)
-    requires { length sheet.old + 22 ≤ SHEET_ROOM }
+    requires { length sheet.old + TIME_ROOM ≤ SHEET_ROOM }
     ensures text { sheet.new ≡ sheet.old ++ time_line time }
-    ensures short { length sheet.new ≤ length sheet.old + 22 }
+    ensures short { length sheet.new ≤ length sheet.old + TIME_ROOM }
 {
     sheet.put("#");
     put_number(sheet, time);
@@ -50,6 +52,7 @@ fn put_time(sheet: &mut Sheet, time: u64)
 fn put_head<S: Store>(sheet: &mut Sheet, kernel: &Kernel<S>, signals: &[Signal]) -> Course
     requires opened { kernel.now.machine ≡ opening kernel.now.table }
     requires signals { signals.now ≡ signals_of kernel.now.table }
+    requires few { length signals.now ≤ MOST_SIGNALS }
     requires empty { sheet.old ≡ [] }
     ensures text { sheet.new ≡ head_text kernel.now.table (moment_in kernel.now.table kernel.now.machine) }
     ensures course { IsAt kernel.now.table kernel.now.machine result }
@@ -57,7 +60,7 @@ fn put_head<S: Store>(sheet: &mut Sheet, kernel: &Kernel<S>, signals: &[Signal])
     kernel.holds();
     put_opening(sheet);
     put_scopes(sheet, kernel.table());
-    sheet.put("$enddefinitions $end\n#0\n$dumpvars\n");
+    put_first(sheet);
     let levels = put_values(sheet, kernel, signals);
     sheet.put("$end\n");
     Course {
@@ -77,6 +80,7 @@ fn put_event<S: Store>(
 )
     requires within { IsWithin kernel.old.table.cores event }
     requires signals { signals.now ≡ signals_of kernel.old.table }
+    requires few { length signals.now ≤ MOST_SIGNALS }
     requires course { IsAt kernel.old.table kernel.old.machine course.old }
     requires room { length sheet.old + STEP_ROOM ≤ SHEET_ROOM }
     ensures done { kernel.new ≡ kernel_in kernel.old.table

@@ -55,7 +55,8 @@ impl Sheet {
     /// Puts these bytes behind the text.
     pub(crate) fn put_bytes(&mut self, more: &[u8])
         requires { length self.old + length more.now ≤ SHEET_ROOM }
-        ensures { self.new ≡ self.old ++ more.now }
+        ensures text { self.new ≡ self.old ++ more.now }
+        ensures len { length self.new ≡ length self.old + length more.now }
     {
         let taken = self.text.extend_from_slice(more);
         let fits = taken.is_ok();
@@ -65,7 +66,8 @@ impl Sheet {
     /// Puts this text behind the text.
     pub(crate) fn put(&mut self, more: &str)
         requires { length self.old + length more.now ≤ SHEET_ROOM }
-        ensures { self.new ≡ self.old ++ more.now }
+        ensures text { self.new ≡ self.old ++ more.now }
+        ensures len { length self.new ≡ length self.old + length more.now }
     {
         self.put_bytes(more.as_bytes());
     }

@@ -1,7 +1,8 @@
 //! The values of signals, and their changes.
 ghost use Rattle.std.specs.Prelude.{◌≡◌, ◌+◌, ◌*◌, ◌<◌, ◌≤◌, ◌++◌, flat_map, length, map};
 ghost use Rattle.apex_machine.specs.text.Status.{state_text};
-ghost use Rattle.apex_waves.specs.Levels.{Moment, level_of, moment_of};
+ghost use Rattle.apex_waves.specs.Levels.{level_of};
+ghost use Rattle.apex_waves.specs.Moments.{Moment, moment_in};
 ghost use Rattle.apex_waves.specs.Values.{change_in, change_text, level_text, value_in, value_text};
 ghost use Rattle.apex_waves.specs.declared.sheets.TheConstants.{SHEET_ROOM};
 ghost use Rattle.apex_waves.specs.declared.signals.TheConstants.{MOST_SIGNALS};
@@ -24,8 +25,11 @@ const LEVEL_ROOM: usize = 1 + NAME_ROOM;
 /// The most bytes of the line of a value: the level, a space, the code and a line feed.
 pub(crate) const VALUE_ROOM: usize = LEVEL_ROOM + CODE_ROOM + 2;
 
+/// The most bytes of the line of a time.
+pub(crate) const TIME_ROOM: usize = NUMBER_ROOM + 2;
+
 /// The most bytes of an entry: the line of its time, and a line for each signal.
-pub(crate) const STEP_ROOM: usize = NUMBER_ROOM + 2 + MOST_SIGNALS * VALUE_ROOM;
+pub(crate) const STEP_ROOM: usize = TIME_ROOM + MOST_SIGNALS * VALUE_ROOM;
 
 fn state_word(state: State) -> &'static str
     ensures value { result.now ≡ state_text state }
@@ -72,7 +76,7 @@ fn put_value(sheet: &mut Sheet, table: &Table, signal: &Signal, level: &Level)
 {
     put_level(sheet, table, level);
     sheet.put(" ");
-    put_code(sheet, signal.kind, signal.place);
+    put_code(sheet, signal);
     sheet.put("\n");
 }
 
@@ -97,9 +101,9 @@ pub(crate) fn put_values<S: Store>(
     requires few { length signals.now ≤ MOST_SIGNALS }
     requires room { length sheet.old + VALUE_ROOM * length signals.now ≤ SHEET_ROOM }
     ensures text { sheet.new ≡ sheet.old ++ flat_map (value_in kernel.now.table
-        (moment_of kernel.now.machine.roster kernel.now.objects)) signals.now }
-    ensures levels { result.items ≡ map (level_of
-        (moment_of kernel.now.machine.roster kernel.now.objects)) signals.now }
+        (moment_in kernel.now.table kernel.now.machine)) signals.now }
+    ensures levels { result.items
+        ≡ map (level_of (moment_in kernel.now.table kernel.now.machine)) signals.now }
     ensures short { length sheet.new ≤ length sheet.old + VALUE_ROOM * length signals.now }
 {
     let mut levels = Levels::new();
@@ -123,21 +127,16 @@ pub(crate) fn put_changes<S: Store>(
     requires room { length sheet.old + VALUE_ROOM * length signals.now ≤ SHEET_ROOM }
     ensures text { (old : Moment) → before.now ≡ map (level_of old) signals.now
         → sheet.new ≡ sheet.old ++ flat_map (change_in kernel.now.table old
-        (moment_of kernel.now.machine.roster kernel.now.objects)) signals.now }
-    ensures levels { result.items ≡ map (level_of
-        (moment_of kernel.now.machine.roster kernel.now.objects)) signals.now }
+        (moment_in kernel.now.table kernel.now.machine)) signals.now }
+    ensures levels { result.items
+        ≡ map (level_of (moment_in kernel.now.table kernel.now.machine)) signals.now }
     ensures short { length sheet.new ≤ length sheet.old + VALUE_ROOM * length signals.now }
 {
     let mut after = Levels::new();
     for place in 0..signals.len() {
-        let level = level_of(kernel, &signals[place]);
-        put_change(
-            sheet,
-            kernel.table(),
-            &signals[place],
-            &before[place],
-            &level,
-        );
+        let signal = &signals[place];
+        let level = level_of(kernel, signal);
+        put_change(sheet, kernel.table(), signal, &before[place], &level);
         after.push(level);
     }
     after

@@ -56,3 +56,43 @@ loop-event-preserved g c =
       text = printed_more _ _ table machine next c.make_room.new.sheet c.put_event.new.sheet passes grows;
       failures = c.in_ok-make_room.ensures.counted ∙ at.failures;
     }
+
+pub put_event-requires-clause-course : goal.put_event-requires-clause-course
+put_event-requires-clause-course g c = rw c.loop-event.invariant.table c.loop-event.invariant.course
+
+pub put_end-requires-clause-course : goal.put_end-requires-clause-course
+put_end-requires-clause-course g c = rw c.loop-event.invariant.table c.loop-event.invariant.course
+
+pub returns-in_err-make_room-2-clause-err : goal.returns-in_err-make_room-2-clause-err
+returns-in_err-make_room-2-clause-err g c =
+    let at = c.loop-event.invariant in
+    let table = c.args.kernel.now.table in
+    OnErr-always c.from_residual-2.result
+    (beginning_of_dump _ _ table c.loop-event.kernel.machine _ (drop c.loop-event.event-index c.args.events.now) at.followed at.rest
+    (beginning_after _ _ _ _ _ at.text c.in_err-make_room-2.ensures.err))
+
+pub returns-clause-ok : goal.returns-clause-ok
+returns-clause-ok g c =
+    let at = c.loop-event.invariant in
+    let table = c.args.kernel.now.table in
+    let machine = c.loop-event.kernel.machine in
+    let end = run table (opening table) c.args.events.now in
+    let ended : machine ≡ end = run_ended table machine c.args.events.now c.loop-event.event-index end c.loop-event-test.false at.rest in
+    let passes = passes_then _ _ _ _ _ _ at.text c.in_ok-make_room-2.ensures.ok in
+    let whole = passes_end _ _ table machine _ _ passes c.put_end.ensures in
+    on_ok_weaker c.hand_on.result
+    (λ done. rw (← ended) (passes_all _ _ _ (dump_text table machine) _ whole done))
+    c.hand_on.ensures.ok
+
+pub returns-clause-err : goal.returns-clause-err
+returns-clause-err g c =
+    let at = c.loop-event.invariant in
+    let table = c.args.kernel.now.table in
+    let machine = c.loop-event.kernel.machine in
+    let end = run table (opening table) c.args.events.now in
+    let ended : machine ≡ end = run_ended table machine c.args.events.now c.loop-event.event-index end c.loop-event-test.false at.rest in
+    let passes = passes_then _ _ _ _ _ _ at.text c.in_ok-make_room-2.ensures.ok in
+    let whole = passes_end _ _ table machine _ _ passes c.put_end.ensures in
+    on_err_weaker c.hand_on.result
+    (λ begun. rw (← ended) (beginning_after _ _ _ (dump_text table machine) _ whole begun))
+    c.hand_on.ensures.err

@@ -1,4 +1,4 @@
--- The next instant is in range.
+-- The line of the end has the time that the next moment would have.
 use Rattle.std.proofs.Common.{◌∙◌, ap, arith}
 use Rattle.apex_waves.specs.declared.instants.Instant.{Instant}
 use Rattle.apex_waves.proofs.NextInstants.{next_now, place_within}
@@ -12,3 +12,7 @@ next-end-requires g c =
 pub units-requires : goal.units-requires
 units-requires g c =
     omega (arith, ap (λ (i : Instant). i.now) c.next-end.ensures ∙ next_now c.args.course.now.instant c.now.result, c.now.ensures, c.holds.ensures.time)
+
+pub returns : goal.returns
+returns g c =
+    rw (c.units.ensures, c.next-end.ensures, c.now.ensures, c.requires.course.instant) at c.put_time.ensures.text
