@@ -1,12 +1,13 @@
 -- The instants of a history, one entry more each time.
-use Rattle.std.proofs.Common.{◌≡◌, ◌∙◌, ℕ, ◌+◌, ◌<◌, ◌≤◌, Bool, false, true, List, [], ◌∷◌, ◌++◌, ap, arith, length, refl, sym}
+use Rattle.std.proofs.Common.{◌≡◌, ◌∙◌, ℕ, ◌+◌, ◌<◌, ◌≤◌, Bool, false, true, List, [], ◌∷◌, ◌++◌, ap, arith, length, refl, subst, sym, inl, inr}
+use Rattle.std.proofs.lemmas.Bool.{cases_lt}
 use Rattle.std.specs.Prelude.{◌==◌, if◌then◌else◌}
 use Rattle.apex_types.specs.declared.entries.Entry.{Entry}
 use Rattle.apex_types.specs.declared.entries.Event.{Event}
 use Rattle.apex_types.specs.declared.entries.Event.TheVariants.{Turn, Tick}
-use Rattle.apex_machine.specs.Machine.{Machine, accept, happen, tick, turn}
+use Rattle.apex_machine.specs.Machine.{Machine, accept, events_of, happen, opening, replay, run, tick, turn}
 use Rattle.apex_machine.specs.table.Table.{Table}
-use Rattle.apex_laws.proofs.Runs.{accept-room}
+use Rattle.apex_laws.proofs.Runs.{accept-full, accept-room}
 use Rattle.apex_waves.specs.Instants.{instant_after, instant_from, next_instant, opening_instant}
 use Rattle.apex_waves.specs.declared.instants.Instant.{Instant}
 
@@ -67,3 +68,25 @@ instant_more table machine new event room is =
     ap (λ (m : Machine). instant_after m.history) whole ∙ ap instant_after history
     ∙ instant_next machine.history entry
     ∙ ap (next_instant (instant_after machine.history)) (sym (ap (λ (m : Machine). m.roster.now) whole ∙ now))
+
+-- the time of the instant after a history is that of the roster
+abbrev IsTimed : Machine → Type 0
+IsTimed machine = (instant_after machine.history).now ≡ machine.roster.now
+
+timed_accept : (table : Table) (machine : Machine) (event : Event) → IsTimed machine → IsTimed (accept table machine event)
+timed_accept table machine event timed = elim (cases_lt (length machine.history) table.limit) [
+  | inl room ↦
+      ap (λ (i : Instant). i.now) (instant_more table machine (accept table machine event) event room refl)
+      ∙ next_now (instant_after machine.history) (accept table machine event).roster.now
+  | inr full ↦ subst IsTimed (sym (accept-full table machine event full)) timed
+]
+
+timed_run : (table : Table) (events : List Event) (machine : Machine) → IsTimed machine → IsTimed (run table machine events)
+timed_run table [] machine timed = timed
+timed_run table (event ∷ events) machine timed =
+    timed_run table events (accept table machine event) (timed_accept table machine event timed)
+
+pub timed_machine : (table : Table) (machine : Machine) → replay table machine.history ≡ machine
+    → (instant_after machine.history).now ≡ machine.roster.now
+timed_machine table machine again =
+    subst IsTimed again (timed_run table (events_of machine.history) (opening table) refl)

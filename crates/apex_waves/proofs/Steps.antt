@@ -24,14 +24,14 @@ texts_same f g (suc n) same =
     ∙ ap (λ (l : List ℕ). texts_of g n ++ l) (same n (omega arith))
 
 -- the machine with one entry more and the roster after it
-abbrev longer : Machine → Entry → Roster → Machine
+abbrev pub longer : Machine → Entry → Roster → Machine
 longer machine entry roster = record {
   roster = roster;
   past = machine.past ++ roster ∷ [];
   history = machine.history ++ entry ∷ [];
 }
 
-event_adds : (table : Table) (machine : Machine) (event : Event)
+pub event_adds : (table : Table) (machine : Machine) (event : Event)
     → (entry : Entry) × (roster : Roster) × (happen table machine event ≡ longer machine entry roster)
 unfolding turn tick
 event_adds table machine (Turn core) = (_, _, refl)

@@ -32,10 +32,13 @@ entry_text table machine k =
 abbrev pub steps_text : Table → Machine → List ℕ
 steps_text table machine = texts_of (entry_text table machine) (length machine.history)
 
--- the end of a dump: the time that the next moment would have now, so that the last values last until then
+-- the time at the end of a dump: that which the next moment would have now, so that the last values last until then
+abbrev pub end_time : Machine → ℕ
+end_time machine = units (next_instant (instant_after machine.history) machine.roster.now)
+
+-- the end of a dump
 abbrev pub end_text : Machine → List ℕ
-end_text machine =
-    time_line (units (next_instant (instant_after machine.history) machine.roster.now))
+end_text machine = time_line (end_time machine)
 
 -- the dump of a machine
 abbrev pub dump_text : Table → Machine → List ℕ

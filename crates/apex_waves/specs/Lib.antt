@@ -9,3 +9,4 @@ pub mod Values
 pub mod Heads
 pub mod Dumps
 pub mod Printing
+pub mod Laws

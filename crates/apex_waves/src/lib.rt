@@ -5,6 +5,7 @@
 mod heads;
 mod instants;
 mod kinds;
+mod laws;
 mod levels;
 mod names;
 mod printing;
@@ -12,5 +13,6 @@ mod sheets;
 mod signals;
 mod values;
 
+pub use laws::times_rise;
 pub use printing::print_waves;
 pub use sheets::Sheet;
