@@ -1,5 +1,5 @@
 -- What the signals of a dump show.
-use Rattle.std.specs.Prelude.{ℕ, Bool, true, false, List, length, Option, None, Some, ◌==◌, if◌then◌else◌, is_some}
+use Rattle.std.specs.Prelude.{ℕ, Bool, true, false, length, Option, None, Some, ◌==◌, if◌then◌else◌, is_some}
 use Rattle.apex_machine.specs.Deeds.{Objects}
 use Rattle.apex_machine.specs.processes.Owners.{owner}
 use Rattle.apex_machine.specs.processes.Running.{chosen, process_state}

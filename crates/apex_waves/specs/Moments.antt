@@ -1,5 +1,5 @@
 -- The moments of a run: before any entry, and after each entry.
-use Rattle.std.specs.Prelude.{ℕ, List, ◌∷◌, slice_index_or, take}
+use Rattle.std.specs.Prelude.{ℕ, ◌∷◌, slice_index_or, take}
 use Rattle.apex_machine.specs.Deeds.{Objects}
 use Rattle.apex_machine.specs.Machine.{Machine, objects_after}
 use Rattle.apex_machine.specs.processes.Roster.{Roster, opening_roster}

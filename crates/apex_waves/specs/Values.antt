@@ -1,5 +1,5 @@
 -- The values of signals in a dump.
-use Rattle.std.specs.Prelude.{ℕ, List, [], ◌∷◌, ◌++◌, Option, None, Some, codes, decimal, flat_map, if◌then◌else◌}
+use Rattle.std.specs.Prelude.{ℕ, List, [], ◌++◌, None, Some, codes, decimal, if◌then◌else◌}
 use Rattle.apex_machine.specs.table.Table.{Table}
 use Rattle.apex_machine.specs.text.Status.{state_text}
 use Rattle.apex_machine.specs.text.Texts.{process_name}

@@ -42,10 +42,8 @@ fn type_word(signal: &Signal) -> &'static str
 {
     match signal {
         Signal::Core(_) | Signal::Process(_) | Signal::Mutex(_) => "string 1",
-        Signal::Semaphore(_)
-        | Signal::Buffer(_)
-        | Signal::Blackboard(_)
-        | Signal::EventFlag(_) => "real 64",
+        Signal::Semaphore(_) | Signal::Buffer(_) | Signal::Blackboard(_) | Signal::EventFlag(_) =>
+            "real 64",
     }
 }
 

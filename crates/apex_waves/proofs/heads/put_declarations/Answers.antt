@@ -1,5 +1,5 @@
 -- The next declaration follows those so far.
-use Rattle.std.proofs.Common.{◌∙◌, ap, arith}
+use Rattle.std.proofs.Common.{arith}
 use Rattle.apex_waves.specs.Heads.{declaration_text}
 use Rattle.apex_waves.specs.Kinds.{signal_at}
 use Rattle.apex_waves.proofs.Nexts.{text_next}

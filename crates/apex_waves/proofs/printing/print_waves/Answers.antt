@@ -1,12 +1,12 @@
 -- The writer has a prefix of the dump at any time.
-use Rattle.std.proofs.Common.{◌≡◌, ◌∙◌, ◌+◌, ap, arith, drop, refl, subst, sym}
+use Rattle.std.proofs.Common.{◌≡◌, ◌∙◌, ap, arith, drop, refl, subst, sym}
 use Rattle.std.proofs.lemmas.Result.{on_err_weaker, on_ok_weaker}
 use Rattle.apex_machine.specs.Machine.{Machine, accept, opening, run}
 use Rattle.apex_dispatch.specs.Kernel.{KernelState, kernel_in}
 use Rattle.apex_history.proofs.Outcomes.{OnErr-always}
 use Rattle.apex_history.proofs.Passing.{beginning_after, passes_all, passes_then}
 use Rattle.apex_waves.specs.Dumps.{dump_text}
-use Rattle.apex_waves.specs.Printing.{Grows, IsAt, IsFollowed}
+use Rattle.apex_waves.specs.Printing.{Grows, IsFollowed}
 use Rattle.apex_waves.proofs.Printed.{begun, beginning_of_dump, passes_end, printed_more, run_ended, run_next}
 use Rattle.apex_waves.proofs.Steps.{followed_accept, followed_opening}
 use Rattle.apex_waves.proofs.printing.print_waves.Goals as goal
@@ -43,7 +43,7 @@ loop-event-preserved g c =
     let done : c.put_event.new.kernel ≡ kernel_in table (accept table machine c.event-item.result) store =
     rw (← at.table) c.put_event.ensures.done in
     let new : next ≡ accept table machine c.event-item.result = ap (λ (k : KernelState _). k.machine) done in
-    let grows : Grows table machine next c.make_room.new.sheet c.put_event.new.sheet = rw (← at.table) c.put_event.ensures.grows in
+    let grows : Grows table machine next c.make_room.new.self c.put_event.new.sheet = rw (← at.table) c.put_event.ensures.grows in
     let passes = passes_then _ _ _ _ _ _ at.text c.in_ok-make_room.ensures.ok in
     record {
       table = ap (λ (k : KernelState _). k.table) done;
@@ -53,7 +53,7 @@ loop-event-preserved g c =
       followed = subst (IsFollowed table) (sym new) (followed_accept table machine at.followed c.event-item.result);
       course = rw (← at.table) c.put_event.ensures.course;
       signals = at.signals;
-      text = printed_more _ _ table machine next c.make_room.new.sheet c.put_event.new.sheet passes grows;
+      text = printed_more _ _ table machine next c.make_room.new.self c.put_event.new.sheet passes grows;
       failures = c.in_ok-make_room.ensures.counted ∙ at.failures;
     }
 
@@ -67,7 +67,7 @@ pub returns-in_err-make_room-2-clause-err : goal.returns-in_err-make_room-2-clau
 returns-in_err-make_room-2-clause-err g c =
     let at = c.loop-event.invariant in
     let table = c.args.kernel.now.table in
-    OnErr-always c.from_residual-2.result
+    OnErr-always c.from_residual-in_err-make_room-2.result
     (beginning_of_dump _ _ table c.loop-event.kernel.machine _ (drop c.loop-event.event-index c.args.events.now) at.followed at.rest
     (beginning_after _ _ _ _ _ at.text c.in_err-make_room-2.ensures.err))
 

@@ -1,5 +1,5 @@
 -- The parts of the head are those of its text.
-use Rattle.std.proofs.Common.{◌≡◌, ◌∙◌, ℕ, List, ◌++◌, ap, codes, sym}
+use Rattle.std.proofs.Common.{◌∙◌, ℕ, List, ◌++◌, ap, codes, sym}
 use Rattle.std.specs.Prelude.{flat_map, map}
 use Rattle.apex_machine.specs.Machine.{Machine}
 use Rattle.apex_waves.specs.Heads.{first_text, opening_text, scope_text}

@@ -1,5 +1,5 @@
 -- The next signal follows those so far.
-use Rattle.std.proofs.Common.{◌∙◌, ◌+◌, ap, arith, refl}
+use Rattle.std.proofs.Common.{arith}
 use Rattle.apex_waves.specs.Kinds.{signal_at}
 use Rattle.apex_waves.proofs.Nexts.{place_more}
 use Rattle.apex_waves.proofs.signals.add_signals.Goals as goal

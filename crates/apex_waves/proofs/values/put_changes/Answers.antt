@@ -1,5 +1,7 @@
 -- The next change follows those so far.
-use Rattle.std.proofs.Common.{◌≡◌, ◌∙◌, ◌+◌, ◌<◌, ◌++◌, ap, arith, get_or, length}
+use Rattle.std.proofs.Common.{◌≡◌, ◌∙◌, ◌+◌, ◌<◌, ◌≤◌, List, ◌++◌, ap, arith, get_or, length}
+use Rattle.std.proofs.lemmas.List.{take_all}
+use Rattle.std.specs.Prelude.{flat_map}
 use Rattle.apex_waves.specs.Levels.{level_of}
 use Rattle.apex_waves.specs.Moments.{moment_in}
 use Rattle.apex_waves.specs.Values.{change_in}
@@ -31,3 +33,13 @@ loop-place-preserved g c =
           (c.level_of-level.ensures ∙ ap (level_of moment) here);
       short = omega (arith, c.put_change.ensures.short, at.short);
     }
+
+pub returns-clause-text : goal.returns-clause-text
+returns-clause-text g c = λ old are.
+    let signals = c.args.signals.now in
+    let table = c.args.kernel.now.table in
+    let moment = moment_in table c.args.kernel.now.machine in
+    let past : length signals ≤ c.loop-place.place = omega arith in
+    c.loop-place.invariant.text old are
+    ∙ ap (λ (l : List Signal). c.args.sheet.now ++ flat_map (change_in table old moment) l)
+    (take_all c.loop-place.place signals past)
