@@ -1,0 +1,5 @@
+pub mod Nexts
+pub mod NextInstants
+pub mod Steps
+pub mod Printed
+pub mod Rising

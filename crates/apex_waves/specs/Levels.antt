@@ -1,0 +1,71 @@
+-- What the signals of a dump show.
+use Rattle.std.specs.Prelude.{ℕ, Bool, true, false, length, Option, None, Some, ◌==◌, if◌then◌else◌, is_some}
+use Rattle.apex_machine.specs.Deeds.{Objects}
+use Rattle.apex_machine.specs.processes.Owners.{owner}
+use Rattle.apex_machine.specs.processes.Running.{chosen, process_state}
+use Rattle.apex_machine.specs.services.BlackboardServices.{blackboard_kind}
+use Rattle.apex_machine.specs.services.BufferServices.{buffer_kind}
+use Rattle.apex_machine.specs.services.EventFlagServices.{event_flag_kind}
+use Rattle.apex_machine.specs.services.SemaphoreServices.{semaphore_kind}
+use Rattle.apex_machine.specs.text.Listing.{object_in}
+use Rattle.apex_types.specs.declared.modes.State.{State}
+use Rattle.apex_types.specs.declared.modes.State.TheVariants.{Dormant, Ready, Running, Waiting}
+use Rattle.apex_waves.specs.Moments.{Moment}
+use Rattle.apex_waves.specs.declared.levels.Level.{Level}
+use Rattle.apex_waves.specs.declared.levels.Level.TheVariants as levels
+use Rattle.apex_waves.specs.declared.signals.Signal.{Signal}
+use Rattle.apex_waves.specs.declared.signals.Signal.TheVariants.{Core, Process, Semaphore, Buffer, Blackboard, EventFlag, Mutex}
+
+-- 1 for yes, 0 for no
+abbrev pub one_if : Bool → ℕ
+one_if holds = if holds then 1 else 0
+
+-- the value of semaphore s
+abbrev pub value_of : Objects → ℕ → ℕ
+value_of objects s = (object_in semaphore_kind objects.semaphores s).value
+
+-- the number of messages in buffer b
+abbrev pub content_of : Objects → ℕ → ℕ
+content_of objects b = length (object_in buffer_kind objects.buffers b).messages
+
+-- the number of messages on blackboard b
+abbrev pub shown_on : Objects → ℕ → ℕ
+shown_on objects b = one_if (is_some (object_in blackboard_kind objects.blackboards b).message)
+
+-- 1 if event flag e is up
+abbrev pub raised_of : Objects → ℕ → ℕ
+raised_of objects e = one_if (object_in event_flag_kind objects.event_flags e).up
+
+-- What a signal shows: that of a core the process that it runs, of a process its state, of a semaphore its
+-- value, of a buffer and of a blackboard the number of messages, of an event flag whether it is up, and of a
+-- mutex its owner.
+abbrev pub level_of : Moment → Signal → Level
+level_of moment (Core core) = levels.Process (chosen moment.roster core)
+level_of moment (Process p) = levels.State (process_state moment.roster p)
+level_of moment (Semaphore s) = levels.Count (value_of moment.objects s)
+level_of moment (Buffer b) = levels.Count (content_of moment.objects b)
+level_of moment (Blackboard b) = levels.Count (shown_on moment.objects b)
+level_of moment (EventFlag e) = levels.Count (raised_of moment.objects e)
+level_of moment (Mutex m) = levels.Process (owner moment.roster m)
+
+-- two states are the same
+abbrev pub same_state : State → State → Bool
+same_state Dormant Dormant = true
+same_state Ready Ready = true
+same_state Running Running = true
+same_state Waiting Waiting = true
+same_state state other = false
+
+-- two processes are the same, or both are none
+abbrev pub same_process : Option ℕ → Option ℕ → Bool
+same_process None None = true
+same_process None (Some q) = false
+same_process (Some p) None = false
+same_process (Some p) (Some q) = p == q
+
+-- two levels are the same
+abbrev pub same_level : Level → Level → Bool
+same_level (levels.State s) (levels.State t) = same_state s t
+same_level (levels.Process p) (levels.Process q) = same_process p q
+same_level (levels.Count m) (levels.Count n) = m == n
+same_level level other = false

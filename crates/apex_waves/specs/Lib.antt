@@ -1,0 +1,12 @@
+pub mod Places
+pub mod Instants
+pub mod Kinds
+pub mod Signals
+pub mod Names
+pub mod Moments
+pub mod Levels
+pub mod Values
+pub mod Heads
+pub mod Dumps
+pub mod Printing
+pub mod Laws

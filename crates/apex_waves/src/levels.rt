@@ -1,0 +1,142 @@
+//! The levels of the signals: what each shows at a moment.
+ghost use Rattle.std.specs.Prelude.{◌≡◌};
+ghost use Rattle.apex_machine.specs.processes.Running.{process_state};
+ghost use Rattle.apex_waves.specs.Levels.{content_of, level_of, raised_of, same_level, same_process, same_state, shown_on, value_of};
+ghost use Rattle.apex_waves.specs.Moments.{moment_in, moment_of};
+
+use crate::signals::{MOST_SIGNALS, Signal};
+use apex_dispatch::{Kernel, Objects};
+use apex_store::Store;
+use apex_types::{BlackboardId, BufferId, EventId, ProcessId, SemaphoreId, State};
+use arrayvec::ArrayVec;
+
+/// What a signal shows.
+#[derive(Clone, Copy)]
+pub(crate) enum Level {
+    /// The state of a process.
+    State(State),
+    /// The process that a core runs, or that owns a mutex.
+    Process(Option<ProcessId>),
+    /// How much an object holds.
+    Count(u32),
+}
+
+impl Default for Level {
+    fn default() -> Level {
+        Level::Count(0)
+    }
+}
+
+/// A level for each signal.
+pub(crate) type Levels = ArrayVec<Level, MOST_SIGNALS>;
+
+/// The state of a process; DORMANT if there is no such process.
+fn state_of<S: Store>(store: &S, process: ProcessId) -> State
+    ensures { result ≡ process_state (S.roster store.now) process }
+{
+    if process.place() < store.process_count() {
+        store.state(process)
+    } else {
+        State::Dormant
+    }
+}
+
+/// The value of a semaphore; 0 if there is no such semaphore.
+fn value_of(objects: &Objects, semaphore: SemaphoreId) -> u32
+    ensures { result ≡ value_of objects.now semaphore }
+{
+    match objects.semaphores.get(semaphore.place()) {
+        Some(semaphore) => u32::from(semaphore.value()),
+        None => 0,
+    }
+}
+
+/// The number of messages in a buffer; 0 if there is no such buffer.
+fn content_of(objects: &Objects, buffer: BufferId) -> u32
+    ensures { result ≡ content_of objects.now buffer }
+{
+    match objects.buffers.get(buffer.place()) {
+        Some(buffer) => buffer.messages().len() as u32,
+        None => 0,
+    }
+}
+
+/// 1 if a blackboard has a message, and else 0.
+fn shown_on(objects: &Objects, blackboard: BlackboardId) -> u32
+    ensures { result ≡ shown_on objects.now blackboard }
+{
+    match objects.blackboards.get(blackboard.place()) {
+        Some(blackboard) => u32::from(blackboard.message().is_some()),
+        None => 0,
+    }
+}
+
+/// 1 if an event flag is up, and else 0.
+fn raised_of(objects: &Objects, event: EventId) -> u32
+    ensures { result ≡ raised_of objects.now event }
+{
+    match objects.event_flags.get(event.place()) {
+        Some(event) => u32::from(event.is_up()),
+        None => 0,
+    }
+}
+
+/// What a signal shows of these processes and these objects.
+fn level_in<S: Store>(store: &S, objects: &Objects, signal: &Signal) -> Level
+    ensures { result ≡ level_of (moment_of (S.roster store.now) objects.now) signal.now }
+{
+    match signal {
+        Signal::Core(core) => Level::Process(store.chosen(*core)),
+        Signal::Process(process) => Level::State(state_of(store, *process)),
+        Signal::Semaphore(semaphore) => Level::Count(value_of(objects, *semaphore)),
+        Signal::Buffer(buffer) => Level::Count(content_of(objects, *buffer)),
+        Signal::Blackboard(blackboard) => Level::Count(shown_on(objects, *blackboard)),
+        Signal::EventFlag(event) => Level::Count(raised_of(objects, *event)),
+        Signal::Mutex(mutex) => Level::Process(store.owner(*mutex)),
+    }
+}
+
+/// What a signal shows of a kernel.
+pub(crate) fn level_of<S: Store>(kernel: &Kernel<S>, signal: &Signal) -> Level
+    ensures { result ≡ level_of (moment_in kernel.now.table kernel.now.machine) signal.now }
+{
+    level_in(kernel.store(), kernel.situation().objects(), signal)
+}
+
+fn is_same_process(before: &Option<ProcessId>, after: &Option<ProcessId>) -> bool
+    ensures { result ≡ same_process before.now after.now }
+{
+    match before {
+        Some(before) => match after {
+            Some(after) => before == after,
+            None => false,
+        },
+        None => after.is_none(),
+    }
+}
+
+fn is_same_state(before: State, after: State) -> bool
+    ensures { result ≡ same_state before after }
+{
+    before == after
+}
+
+/// Two levels are the same.
+pub(crate) fn is_same_level(before: &Level, after: &Level) -> bool
+    ensures { result ≡ same_level before.now after.now }
+{
+    match before {
+        Level::State(before) => match after {
+            Level::State(after) => is_same_state(*before, *after),
+            Level::Process(_) | Level::Count(_) => false,
+        },
+        Level::Process(before) => match after {
+            Level::Process(after) => is_same_process(before, after),
+            Level::State(_) | Level::Count(_) => false,
+        },
+        Level::Count(before) => match after {
+            Level::Count(after) => before == after,
+            Level::State(_) | Level::Process(_) => false,
+        },
+    }
+}

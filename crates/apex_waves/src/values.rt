@@ -1,0 +1,143 @@
+//! The values of signals, and their changes.
+ghost use Rattle.std.specs.Prelude.{◌≡◌, ◌+◌, ◌*◌, ◌<◌, ◌≤◌, ◌++◌, flat_map, length, map};
+ghost use Rattle.apex_machine.specs.text.Status.{state_text};
+ghost use Rattle.apex_waves.specs.Levels.{level_of};
+ghost use Rattle.apex_waves.specs.Moments.{Moment, moment_in};
+ghost use Rattle.apex_waves.specs.Values.{change_in, change_text, level_text, value_in, value_text};
+ghost use Rattle.apex_waves.specs.declared.sheets.TheConstants.{SHEET_ROOM};
+ghost use Rattle.apex_waves.specs.declared.signals.TheConstants.{MOST_SIGNALS};
+ghost use Rattle.apex_waves.specs.declared.values.TheConstants.{LEVEL_ROOM, VALUE_ROOM};
+
+use crate::levels::{Level, Levels, is_same_level, level_of};
+use crate::names::{
+    CODE_ROOM, NAME_ROOM, NUMBER_ROOM, process_name, put_code, put_name, put_number,
+};
+use crate::sheets::Sheet;
+use crate::signals::{MOST_SIGNALS, Signal};
+use apex_dispatch::Kernel;
+use apex_store::Store;
+use apex_table::Table;
+use apex_types::{ProcessId, State};
+
+/// The most bytes of a level.
+const LEVEL_ROOM: usize = 1 + NAME_ROOM;
+
+/// The most bytes of the line of a value: the level, a space, the code and a line feed.
+pub(crate) const VALUE_ROOM: usize = LEVEL_ROOM + CODE_ROOM + 2;
+
+/// The most bytes of the line of a time.
+pub(crate) const TIME_ROOM: usize = NUMBER_ROOM + 2;
+
+/// The most bytes of an entry: the line of its time, and a line for each signal.
+pub(crate) const STEP_ROOM: usize = TIME_ROOM + MOST_SIGNALS * VALUE_ROOM;
+
+fn state_word(state: State) -> &'static str
+    ensures value { result.now ≡ state_text state }
+    ensures short { length result.now ≤ 7 }
+{
+    match state {
+        State::Dormant => "DORMANT",
+        State::Ready => "READY",
+        State::Running => "RUNNING",
+        State::Waiting => "WAITING",
+    }
+}
+
+/// Puts the text of a level.
+#[tactic(auto, using(std::proofs::Common::append_assoc))]
+fn put_level(sheet: &mut Sheet, table: &Table, level: &Level)
+    requires { length sheet.old + LEVEL_ROOM ≤ SHEET_ROOM }
+    ensures text { sheet.new ≡ sheet.old ++ level_text table.now level.now }
+    ensures short { length sheet.new ≤ length sheet.old + LEVEL_ROOM }
+{
+    match level {
+        Level::State(state) => {
+            sheet.put("s");
+            sheet.put(state_word(*state));
+        }
+        Level::Process(None) => sheet.put("s(none)"),
+        Level::Process(Some(process)) => {
+            sheet.put("s");
+            put_name(sheet, process_name(table, *process));
+        }
+        Level::Count(count) => {
+            sheet.put("r");
+            put_number(sheet, u64::from(*count));
+        }
+    }
+}
+
+/// Puts the line of a signal's value.
+#[tactic(auto, using(std::proofs::Common::append_assoc))]
+fn put_value(sheet: &mut Sheet, table: &Table, signal: &Signal, level: &Level)
+    requires { length sheet.old + VALUE_ROOM ≤ SHEET_ROOM }
+    ensures text { sheet.new ≡ sheet.old ++ value_text table.now signal.now level.now }
+    ensures short { length sheet.new ≤ length sheet.old + VALUE_ROOM }
+{
+    put_level(sheet, table, level);
+    sheet.put(" ");
+    put_code(sheet, signal);
+    sheet.put("\n");
+}
+
+/// Puts the line of a signal if its level is not the one before.
+fn put_change(sheet: &mut Sheet, table: &Table, signal: &Signal, before: &Level, after: &Level)
+    requires { length sheet.old + VALUE_ROOM ≤ SHEET_ROOM }
+    ensures text { sheet.new ≡ sheet.old ++ change_text table.now signal.now before.now after.now }
+    ensures short { length sheet.new ≤ length sheet.old + VALUE_ROOM }
+{
+    if is_same_level(before, after) {
+        return;
+    }
+    put_value(sheet, table, signal, after);
+}
+
+/// Puts the values of the signals, and gives their levels.
+pub(crate) fn put_values<S: Store>(
+    sheet: &mut Sheet,
+    kernel: &Kernel<S>,
+    signals: &[Signal],
+) -> Levels
+    requires few { length signals.now ≤ MOST_SIGNALS }
+    requires room { length sheet.old + VALUE_ROOM * length signals.now ≤ SHEET_ROOM }
+    ensures text { sheet.new ≡ sheet.old ++ flat_map (value_in kernel.now.table
+        (moment_in kernel.now.table kernel.now.machine)) signals.now }
+    ensures levels { result.items
+        ≡ map (level_of (moment_in kernel.now.table kernel.now.machine)) signals.now }
+    ensures short { length sheet.new ≤ length sheet.old + VALUE_ROOM * length signals.now }
+{
+    let mut levels = Levels::new();
+    for signal in signals {
+        let level = level_of(kernel, signal);
+        put_value(sheet, kernel.table(), signal, &level);
+        levels.push(level);
+    }
+    levels
+}
+
+/// Puts the values that are not those before, and gives the levels of all signals.
+pub(crate) fn put_changes<S: Store>(
+    sheet: &mut Sheet,
+    kernel: &Kernel<S>,
+    signals: &[Signal],
+    before: &[Level],
+) -> Levels
+    requires few { length signals.now ≤ MOST_SIGNALS }
+    requires many { length before.now ≡ length signals.now }
+    requires room { length sheet.old + VALUE_ROOM * length signals.now ≤ SHEET_ROOM }
+    ensures text { (old : Moment) → before.now ≡ map (level_of old) signals.now
+        → sheet.new ≡ sheet.old ++ flat_map (change_in kernel.now.table old
+        (moment_in kernel.now.table kernel.now.machine)) signals.now }
+    ensures levels { result.items
+        ≡ map (level_of (moment_in kernel.now.table kernel.now.machine)) signals.now }
+    ensures short { length sheet.new ≤ length sheet.old + VALUE_ROOM * length signals.now }
+{
+    let mut after = Levels::new();
+    for place in 0..signals.len() {
+        let signal = &signals[place];
+        let level = level_of(kernel, signal);
+        put_change(sheet, kernel.table(), signal, &before[place], &level);
+        after.push(level);
+    }
+    after
+}
