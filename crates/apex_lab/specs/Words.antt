@@ -39,8 +39,10 @@ json_view_command name = with_rule (view_command name) (flag_rule (codes "json")
 -- the program's command line, with its commands for pictures
 abbrev pub lab_of_pictures : App
 lab_of_pictures =
-    with_subcommand (with_subcommand (program_alone (codes "apex_lab")) svg.top)
-    (view_command (codes "trace")).top
+    with_subcommand
+    (with_subcommand (with_subcommand (program_alone (codes "apex_lab")) svg.top)
+    (view_command (codes "trace")).top)
+    (view_command (codes "vcd")).top
 
 -- with those for listings too
 abbrev pub lab_of_views : App
@@ -155,6 +157,8 @@ pub data Request : Type 0 where
   check_of : Form → Bool → Request
   -- for the reason of the entry of this number, of a run that is given in this way
   why_of : Given → Text → Request
+  -- to write the value changes of a run that is given in this way
+  dump_of : Given → Request
 
 -- how a run is given, of a value of the program
 abbrev pub given_said : SourceWords → Given
@@ -198,6 +202,7 @@ request_said (request.Lint words) = lint_of (lint_words_said words)
 request_said (request.Step form) = step_of form
 request_said (request.Check form comments) = check_of form comments
 request_said (request.Why source entry) = why_of (given_said source) entry.now
+request_said (request.Dump source) = dump_of (given_said source)
 
 -- how a run is given, by the text of a schedule: `-` stands for one that is read
 abbrev pub given_by_schedule : Text → Given
@@ -281,6 +286,10 @@ why_in rows =
     option_and_then (λ given. option_map (why_of given) (first_of (codes "entry") rows))
     (given_in rows)
 
+-- the run whose value changes the rows of a command ask for
+abbrev pub dump_in : List Row → Option Request
+dump_in rows = option_map dump_of (given_in rows)
+
 -- what the command of this name asks for, with its rows
 abbrev pub request_in : Text × List Row → Option Request
 request_in found =
@@ -290,6 +299,7 @@ request_in found =
     else if bytes_eq found.0 (codes "check")
     then Some (check_of (form_in found.1) (comments_in found.1))
     else if bytes_eq found.0 (codes "why") then why_in found.1
+    else if bytes_eq found.0 (codes "vcd") then dump_in found.1
     else showing_in found.0 found.1
 
 -- what the words ask for; none if they ask for nothing that the program does
