@@ -39,10 +39,8 @@ json_view_command name = with_rule (view_command name) (flag_rule (codes "json")
 -- the program's command line, with its commands for pictures
 abbrev pub lab_of_pictures : App
 lab_of_pictures =
-    with_subcommand
-    (with_subcommand (with_subcommand (program_alone (codes "apex_lab")) svg.top)
-    (view_command (codes "trace")).top)
-    (view_command (codes "vcd")).top
+    with_subcommand (with_subcommand (program_alone (codes "apex_lab")) svg.top)
+    (view_command (codes "trace")).top
 
 -- with those for listings too
 abbrev pub lab_of_views : App
@@ -102,8 +100,10 @@ lab_of_searches =
 abbrev pub lab : App
 lab =
     with_subcommand
+    (with_subcommand
     (with_subcommand (with_subcommand lab_of_searches step_command.top) check_command.top)
-    why_command.top
+    why_command.top)
+    (view_command (codes "vcd")).top
 
 -- how a run is given
 pub data Given : Type 0 where

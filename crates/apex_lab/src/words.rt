@@ -124,8 +124,7 @@ fn picture_commands<'a>(alloc: Global) -> Result<Command<'a>, AllocError>
     let with_svg = Command::new(alloc, "apex_lab")
         .subcommand_required(true)
         .subcommand(svg_command(alloc)?)?;
-    let with_trace = with_svg.subcommand(view_command(alloc, "trace")?)?;
-    with_trace.subcommand(view_command(alloc, "vcd")?)
+    with_svg.subcommand(view_command(alloc, "trace")?)
 }
 
 /// The program's command line, with its commands that show a run.
@@ -209,7 +208,8 @@ fn command<'a>(alloc: Global) -> Result<Command<'a>, AllocError>
     let searches = search_commands(alloc)?;
     let with_step = searches.subcommand(step_command(alloc)?)?;
     let with_check = with_step.subcommand(check_command(alloc)?)?;
-    with_check.subcommand(why_command(alloc)?)
+    let with_why = with_check.subcommand(why_command(alloc)?)?;
+    with_why.subcommand(view_command(alloc, "vcd")?)
 }
 
 /// What the words ask for: `svg`, `trace`, `lines`, `status`, `report` or `schedule`, with
