@@ -10,4 +10,5 @@ pub mod Searches
 pub mod Steps
 pub mod Checks
 pub mod Whys
+pub mod Dumps
 pub mod Exits

@@ -33,6 +33,8 @@ pub enum Task<'a> {
     Check { form: Form, comments: bool },
     /// For the reason of an entry.
     Why(Why),
+    /// To write the value changes of a run that is given in this way.
+    Dump(RunSource),
 }
 
 /// The run of a pace, by the texts of its time, its turns and its percentage. None if one is
@@ -146,6 +148,10 @@ fn task_of<'a>(alloc: Global, request: Request<'a>) -> Result<Task<'a>, LabFault
         Request::Why(source, entry) => {
             let why = read_why(alloc, source, entry)?;
             Ok(Task::Why(why))
+        }
+        Request::Dump(source) => {
+            let source = read_source(alloc, source)?;
+            Ok(Task::Dump(source))
         }
     }
 }
