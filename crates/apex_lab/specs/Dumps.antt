@@ -25,9 +25,9 @@ end_with (Some fault) = fails (Common fault)
 -- machine
 pub record IsDumpOf (table : Table) (machine : Machine) (dump : Dump) : Type 0 where
   pub table_is : dump.kernel.table ≡ table
-  pub opened : dump.kernel.machine ≡ opening table
-  pub same : run table (opening table) dump.events.items ≡ machine
-  pub within : All (IsWithin table.cores) dump.events.items
+  pub opened : dump.kernel.machine ≡ opening dump.kernel.table
+  pub within : All (IsWithin dump.kernel.table.cores) dump.events.items
+  pub same : run dump.kernel.table (opening dump.kernel.table) dump.events.items ≡ machine
 
 -- How the dump of a machine ends: by the fault that is reported besides, the writer before and how
 -- many of its calls failed, the end, and the writer afterwards and how many failed.

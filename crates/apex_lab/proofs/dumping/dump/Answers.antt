@@ -1,0 +1,18 @@
+-- The dump that was written is that of the run.
+use Rattle.std.proofs.KnownBytes.{Keeps-refl}
+use Rattle.apex_lab.specs.Dumps.{dumped, no_memory, unwritten}
+use Rattle.apex_lab.proofs.dumping.dump.Goals as goal
+
+pub returns-in-Ok-print_waves : goal.returns-in-Ok-print_waves
+returns-in-Ok-print_waves g c =
+    let is = c.in-Ok.ensures in
+    rw (c.ending_with.ensures, c.in-Ok-print_waves.ensures.counted)
+    (dumped (rw is.table_is at (rw is.same at c.in-Ok-print_waves.ensures.ok)))
+
+pub returns-in-Err : goal.returns-in-Err
+returns-in-Err g c =
+    let is = c.in-Ok.ensures in
+    rw c.in-Err.ensures.counted (unwritten (rw is.table_is at (rw is.same at c.in-Err.ensures.err)))
+
+pub returns : goal.returns
+returns g c = no_memory (Keeps-refl _)
