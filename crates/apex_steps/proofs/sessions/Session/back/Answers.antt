@@ -1,4 +1,4 @@
-use Rattle.std.proofs.Common.{◌≡◌, ◌∙◌, None, Some, List, ap, arith, length, refl, sym, take}
+use Rattle.std.proofs.Common.{◌≡◌, ◌≤◌, ◌∙◌, None, Some, List, ap, arith, length, length-take-le, refl, sym, take}
 use Rattle.std.specs.List.{position}
 use Rattle.std.proofs.lemmas.List.{length-map}
 use Rattle.std.proofs.lemmas.List.Elements.{All-take}
@@ -40,7 +40,8 @@ slice_bounds-first-end c =
     c.holds.ensures.replays c.holds.ensures.within c.self.invariant found c.from_place-marks.ensures c.index.result.now c.index.ensures in
     let many : length c.as_slice-all.result.now ≡ length kernel.machine.history =
     ap length (c.as_slice-all.ensures.value ∙ c.in_ok-events.ensures) ∙ length-map kernel.machine.history event_of in
-    omega (arith, few, many)
+    let fits : c.index.result.now.entries ≤ length c.as_slice-all.result.now = omega (arith, few, many) in
+    omega (arith, fits, length-take-le c.index.result.now.entries c.as_slice-all.result.now fits)
 
 pub kernel_after-requires : goal.kernel_after-requires
 kernel_after-requires c =
