@@ -51,7 +51,7 @@ fn ending_with(fault: Option<CliFault>) -> Result<Ending, LabFault>
 }
 
 /// Writes the value changes of a run. It takes all its memory before it writes.
-fn dump<W: Sink>(alloc: Global, run: Run, writer: &mut Counted<W>) -> Result<Ending, LabFault>
+fn write_dump<W: Sink>(alloc: Global, run: Run, writer: &mut Counted<W>) -> Result<Ending, LabFault>
     ensures { RunDumpEnds run.kernel.table run.kernel.machine run.fault
         (W.contents (inner_of writer.old)) (failures_of writer.old) (end_in result)
         (W.contents (inner_of writer.new)) (failures_of writer.new) }
@@ -83,7 +83,7 @@ pub fn run_dump<R: Source, W: Sink>(
         view: View::Listing(Listing::Schedule),
     };
     match given_by(alloc, &showing, reader) {
-        Ok(Given::Listing(_, run)) => dump(alloc, run, writer),
+        Ok(Given::Listing(_, run)) => write_dump(alloc, run, writer),
         Ok(Given::Departed(verdict)) => Ok(Ending::Departed(verdict)),
         // No picture is asked for.
         Ok(Given::Picture(_)) => Err(LabFault::Common(CliFault::Memory)),

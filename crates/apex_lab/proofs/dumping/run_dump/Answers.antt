@@ -6,7 +6,7 @@ use Rattle.apex_lab.specs.Dumps.{ran, stopped}
 use Rattle.apex_lab.proofs.dumping.run_dump.Goals as goal
 
 pub returns-in-Ok-Listing : goal.returns-in-Ok-Listing
-returns-in-Ok-Listing g c = ran _ _ _ (rw c.in-Ok-Listing.field-0-is at c.in-Ok-Listing.ensures.gives) c.dump.ensures
+returns-in-Ok-Listing g c = ran _ _ _ (rw c.in-Ok-Listing.field-0-is at c.in-Ok-Listing.ensures.gives) c.write_dump.ensures
 
 pub returns-in-Ok-Departed : goal.returns-in-Ok-Departed
 returns-in-Ok-Departed g c =

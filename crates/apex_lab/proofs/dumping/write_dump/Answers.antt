@@ -1,7 +1,7 @@
 -- The dump that was written is that of the run.
 use Rattle.std.proofs.KnownBytes.{Keeps-refl}
 use Rattle.apex_lab.specs.Dumps.{dumped, no_memory, unwritten}
-use Rattle.apex_lab.proofs.dumping.dump.Goals as goal
+use Rattle.apex_lab.proofs.dumping.write_dump.Goals as goal
 
 pub returns-in-Ok-print_waves : goal.returns-in-Ok-print_waves
 returns-in-Ok-print_waves g c =
