@@ -4,6 +4,7 @@ ghost use Rattle.apex_history.specs.Counted.{inner_of, failures_of};
 ghost use Rattle.apex_console.specs.Streams.{Told};
 ghost use Rattle.apex_lab.specs.Ends.{end_in, report_of, status_of};
 ghost use Rattle.apex_lab.specs.Faults.{line_of_fault};
+ghost use Rattle.apex_views.specs.Faults.{excerpt_line};
 
 use crate::faults::{LabFault, USAGE, entry_line, process_line, states_line};
 use apex_console::{CliFault, fault_line, write_error};
@@ -73,6 +74,15 @@ fn tell_fault<E: Sink>(fault: &LabFault, error_writer: &mut Counted<E>)
     }
 }
 
+/// Reports the part that was shown on the error writer.
+fn tell_part<E: Sink>(excerpt: Excerpt, error_writer: &mut Counted<E>)
+    ensures { Told (excerpt_line excerpt)
+        (E.contents (inner_of error_writer.old)) (E.contents (inner_of error_writer.new))
+        (failures_of error_writer.old) (failures_of error_writer.new) }
+{
+    write_error(excerpt_line(excerpt).as_str().as_bytes(), error_writer);
+}
+
 /// Reports the part that was shown, the departure or the fault, if there is one, on the error writer.
 pub fn tell<E: Sink>(outcome: &Result<Ending, LabFault>, error_writer: &mut Counted<E>)
     ensures { Told (report_of (end_in outcome.now))
@@ -83,9 +93,7 @@ pub fn tell<E: Sink>(outcome: &Result<Ending, LabFault>, error_writer: &mut Coun
         Ok(
             Ending::Complete | Ending::Found | Ending::Explained | Ending::Warned | Ending::Refused,
         ) => {}
-        Ok(Ending::InPart(excerpt)) => {
-            write_error(excerpt_line(*excerpt).as_str().as_bytes(), error_writer);
-        }
+        Ok(Ending::InPart(excerpt)) => tell_part(*excerpt, error_writer),
         Ok(Ending::Departed(verdict)) => write_error(verdict.as_slice(), error_writer),
         Err(fault) => tell_fault(fault, error_writer),
     }
