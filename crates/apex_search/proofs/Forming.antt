@@ -8,6 +8,7 @@ use Rattle.apex_alike.specs.Canonical.{IsFit, age, canonical_record, canonical_r
 use Rattle.apex_machine.specs.processes.Roster.{Roster, nobody, record_at}
 use Rattle.apex_machine.specs.processes.Running.{is_older}
 use Rattle.apex_search.specs.Forms.{AreRanks, form_of, with_form, with_forms}
+use Rattle.apex_search.specs.Records.{FitsRecord}
 use Rattle.apex_search.specs.Terms.{Mode, Record}
 use Rattle.apex_types.specs.declared.limits.TheConstants.{MOST_PROCESSES}
 use Rattle.apex_alike.proofs.Canonical.{oldest_less}
@@ -149,3 +150,23 @@ canonical_made old made mode now count young is oldest same many next =
     let all : count ≡ length old.records =
     many ∙ ap (λ (x : Roster). length x.records) is ∙ length-map_places (canonical_record old now) 0 old.records in
     rw (next, all, same, is, oldest) refl
+
+-- The canonical records, read one by one.
+
+pub length-canonical : (roster : Roster) → length (canonical_roster roster).records ≡ length roster.records
+length-canonical roster = length-map_places (canonical_record roster (oldest_age roster.now roster.records)) 0 roster.records
+
+pub canonical_at : (roster : Roster) (now place : ℕ) (r : Record) → place < length roster.records
+    → now ≡ oldest_age roster.now roster.records → r ≡ canonical_record roster now place (record_at roster place)
+    → r ≡ get_or (canonical_roster roster).records place nobody
+canonical_at roster now place r within is form =
+    let z : 0 + place ≡ place = omega arith in
+    let oldest = oldest_age roster.now roster.records in
+    form ∙ ap (λ (n : ℕ). canonical_record roster n place (record_at roster place)) is
+    ∙ ap (λ (k : ℕ). canonical_record roster oldest k (record_at roster place)) (sym z)
+    ∙ sym (get_or-map_places (canonical_record roster oldest) 0 roster.records place nobody nobody within)
+
+pub canonical_stamp : (roster : Roster) (now place : ℕ) (r : Record) → r ≡ canonical_record roster now place (record_at roster place)
+    → FitsRecord r
+canonical_stamp roster now place r form =
+    record { stamp = 1 + (rank roster (record_at roster place) * length roster.records + place); since = ap (λ (x : Record). x.since) form }

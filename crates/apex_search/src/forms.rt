@@ -5,8 +5,8 @@ ghost use Rattle.apex_types.specs.declared.limits.TheConstants.{MOST_PROCESSES};
 ghost use Rattle.apex_machine.specs.processes.Periods.{HasNoFutureRelease, awaits_first};
 ghost use Rattle.apex_machine.specs.processes.Roster.{record_at};
 ghost use Rattle.apex_machine.specs.processes.Running.{is_older};
-ghost use Rattle.apex_alike.specs.Canonical.{IsFit, age, canonical_roster, earlier, oldest_age, rank, recent, shares, vies};
-ghost use Rattle.apex_search.specs.Forms.{AreRanks, with_form, with_forms};
+ghost use Rattle.apex_alike.specs.Canonical.{IsFit, age, canonical_record, canonical_roster, earlier, oldest_age, rank, recent, shares, vies};
+ghost use Rattle.apex_search.specs.Forms.{AreRanks, form_of, with_form, with_forms};
 ghost use Rattle.apex_search.specs.Terms.{Record};
 
 use apex_machine::{Queue, Record, Wait};
@@ -69,7 +69,7 @@ fn rank(store: &PlainStore, process: ProcessId) -> u64
 }
 
 /// The ranks of all processes.
-fn ranks(store: &PlainStore) -> [u64; MOST_PROCESSES]
+pub(crate) fn ranks(store: &PlainStore) -> [u64; MOST_PROCESSES]
     ensures { AreRanks store.now result }
 {
     let mut ranks = [0; MOST_PROCESSES];
@@ -116,7 +116,7 @@ fn age(now: u64, fields: &Record) -> u64
 }
 
 /// The greatest age of a release.
-fn oldest_age(store: &PlainStore) -> u64
+pub(crate) fn oldest_age(store: &PlainStore) -> u64
     requires { HasNoFutureRelease store.now }
     ensures value { result ≡ oldest_age store.now.now store.now.records }
     ensures range { result ≤ store.now.now }
@@ -157,6 +157,25 @@ fn next_stamp(count: usize) -> i64
     (1 + (count as u64 + 1) * count as u64) as i64
 }
 
+/// The canonical record of a process that has this one, at this stamp and time in ticks.
+#[inline(always)]
+fn form_of(store: &PlainStore, fields: &Record, since: i64, now: u64) -> Record
+    requires release { fields.now.release ≤ store.now.now }
+    requires age { age store.now.now fields.now ≤ now }
+    requires now { now ≤ store.now.now }
+    ensures { result ≡ form_of store.now since now fields.now }
+{
+    let ticks = store.now() - now;
+    Record {
+        since,
+        due: earlier(ticks, fields.due),
+        deadline: earlier(ticks, fields.deadline),
+        release: now - age(store.now(), fields),
+        inbox: None,
+        ..*fields
+    }
+}
+
 /// The process has its canonical record from now on, at this stamp and time in ticks.
 fn put_form(store: &mut PlainStore, process: ProcessId, since: i64, now: u64)
     requires known { process < length store.old.records }
@@ -165,16 +184,7 @@ fn put_form(store: &mut PlainStore, process: ProcessId, since: i64, now: u64)
     requires now { now ≤ store.old.now }
     ensures { store.new ≡ with_form store.old process since now }
 {
-    let fields = *store.record(process);
-    let ticks = store.now() - now;
-    let form = Record {
-        since,
-        due: earlier(ticks, fields.due),
-        deadline: earlier(ticks, fields.deadline),
-        release: now - age(store.now(), &fields),
-        inbox: None,
-        ..fields
-    };
+    let form = form_of(store, store.record(process), since, now);
     store.put(process, form);
 }
 
@@ -190,6 +200,25 @@ fn put_forms(store: &mut PlainStore, ranks: &[u64; MOST_PROCESSES], now: u64)
         let since = stamp(ranks[place], count, place);
         put_form(store, ProcessId::at(place as u8), since, now);
     }
+}
+
+/// The canonical record of the process at this place, at this time in ticks.
+#[inline(always)]
+pub(crate) fn canonical_record(
+    store: &PlainStore,
+    ranks: &[u64; MOST_PROCESSES],
+    now: u64,
+    place: usize,
+) -> Record
+    requires known { place < length store.now.records }
+    requires fit { IsFit store.now }
+    requires ranks { AreRanks store.now ranks.now }
+    requires now { now ≡ oldest_age store.now.now store.now.records }
+    ensures { result ≡ canonical_record store.now now place (record_at store.now place) }
+{
+    let count = store.process_count();
+    let since = stamp(ranks[place], count, place);
+    form_of(store, store.record(ProcessId::at(place as u8)), since, now)
 }
 
 /// The processes have their canonical form from now on.
