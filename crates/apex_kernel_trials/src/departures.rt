@@ -147,7 +147,7 @@ const FAULTS: [(&str, bool, CheckFault); 5] = [
     (" #\n", true, CheckFault::BadLine(1)),
 ];
 
-/// The text of the table, of so many lines of the history, and of these lines.
+/// The text of the table, of `count` lines of the history, and of these lines.
 fn text_of<R: Abort>(rt: &R, alloc: Global, count: usize, lines: &[u8]) -> Vec<u8> {
     let mut text = Vec::new(alloc);
     text.extend_from_slice(TABLE.as_bytes())

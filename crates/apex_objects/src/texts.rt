@@ -68,7 +68,7 @@ fn call_length(table: &Table, call: Option<Call>, reply: Reply) -> usize
     words.len() - FRONT - rest
 }
 
-/// The texts of the call, which has so many bytes, and of the reply in such a line.
+/// The texts of the call, which has `many` bytes, and of the reply in such a line.
 fn texts_in(words: &[u8], many: usize) -> (&[u8], &[u8])
     requires { FRONT + many + ARROW + 1 ≤ length words.now }
     ensures call { result.0.now ≡ take many (drop FRONT words.now) }
