@@ -13,7 +13,7 @@ use apex_dispatch::Kernel;
 use apex_process::QueueStore;
 use apex_schedules::{Item, are_cores_below};
 use apex_table::{Table, read_table};
-use std::alloc::Global;
+use std::alloc::{AllocError, Global};
 
 /// The table of this text, for items of its cores.
 ///
@@ -32,6 +32,14 @@ pub fn table_for(alloc: Global, items: &[Item], text: &[u8]) -> Result<Table, Cl
     }
 }
 
+/// The kernel of a table before any event. It fails only for want of memory.
+pub fn booted(alloc: Global, table: Table) -> Result<Kernel<QueueStore>, AllocError>
+    ensures { IfOk result (λ kernel. kernel ≡ kernel_in table (opening table) kernel.store) }
+{
+    let store = QueueStore::new(alloc, &table)?;
+    Kernel::boot(alloc, table, store)
+}
+
 /// The kernel of the table of this text before any event, for items of its cores. Its errors are
 /// those of [`table_for`].
 pub fn kernel_for(
@@ -46,8 +54,7 @@ pub fn kernel_for(
     ensures err { IfErr result (λ fault. Refuses fault (answer_of items.now text.now)) }
 {
     let table = table_for(alloc, items, text)?;
-    let store = QueueStore::new(alloc, &table)?;
-    let kernel = Kernel::boot(alloc, table, store)?;
+    let kernel = booted(alloc, table)?;
     Ok(kernel)
 }
 

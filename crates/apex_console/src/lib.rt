@@ -10,10 +10,10 @@ mod reports;
 mod streams;
 mod words;
 
-pub use events::repeated;
+pub use events::{repeated, run_items};
 pub use faults::{CliFault, fault_line};
 pub use given::given_words;
-pub use kernels::{kernel_for, ran, table_for};
+pub use kernels::{booted, kernel_for, ran, table_for};
 pub use reports::{Report, Run, run_of, write_report};
 pub use streams::write_error;
 pub use words::{flag, has_flag, matches_of, option, required, scheduled_items};

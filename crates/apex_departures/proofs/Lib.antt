@@ -1,6 +1,6 @@
 pub mod OnParts
 pub mod Columns
 pub mod Following
-pub mod Gathered
 pub mod Numbered
 pub mod Endings
+pub mod ThreeParts

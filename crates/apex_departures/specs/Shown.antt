@@ -2,10 +2,11 @@
 use Rattle.std.specs.Prelude.{ℕ, ◌+◌, Bool, ◌==◌, ◌&&◌, nat_le, if◌then◌else◌, List, [], ◌∷◌, ◌++◌, codes}
 use Rattle.std.specs.List.{common_prefix_len, list_all}
 use Rattle.apex_machine.specs.text.Texts.{byte_text}
+use Rattle.apex_departures.specs.declared.putting.TheConstants.{FIRST_PLAIN, LAST_PLAIN}
 
--- a byte that is seen as it is: 0x20 to 0x7E
+-- a byte that is seen as it is
 abbrev pub is_plain : ℕ → Bool
-is_plain byte = nat_le 32 byte && nat_le byte 126
+is_plain byte = nat_le FIRST_PLAIN byte && nat_le byte LAST_PLAIN
 
 -- `\x` and the two digits of a byte
 abbrev pub escaped : ℕ → List ℕ

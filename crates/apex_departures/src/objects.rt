@@ -2,12 +2,12 @@
 ghost use Rattle.std.specs.Prelude.{◌≡◌, ◌++◌, OnOk, IfSome, None, Some};
 ghost use Rattle.apex_calls.specs.Lines.{IsPrintable};
 ghost use Rattle.apex_objects.specs.Parts.{string_text};
-ghost use Rattle.apex_departures.specs.Objects.{compared_object, departure_object, head_object, legal_object, reason_end};
+ghost use Rattle.apex_departures.specs.Objects.{compared_object, departure_object, expected_object, head_object, legal_object, nothing_object, reason_end};
 ghost use Rattle.apex_departures.specs.Shown.{shown};
 
 use crate::lines::GivenLine;
 use crate::pages::unended;
-use crate::putting::{column, put, put_number, put_shown};
+use crate::putting::{column, put, put_number_between, put_shown};
 use apex_history::{Lines, NextSteps, put_line};
 use apex_json::put_json;
 use apex_table::Table;
@@ -36,23 +36,33 @@ fn put_line_string(alloc: Global, page: &mut Vec<u8>, line: &[u8]) -> Result<(),
 pub(crate) fn put_legal_object(page: &mut Vec<u8>, count: u32) -> Result<(), AllocError>
     ensures { OnOk result (page.new.items ≡ page.old.items ++ legal_object count) }
 {
-    put(page, b"{\"legal\":")?;
-    put_number(page, count as usize)?;
-    put(page, b"}\n")
+    put_number_between(page, b"{\"legal\":", count as usize, b"}\n")
 }
 
 /// Puts the number of the line that departs.
 fn put_head(page: &mut Vec<u8>, number: u32) -> Result<(), AllocError>
     ensures { OnOk result (page.new.items ≡ page.old.items ++ head_object number) }
 {
-    put(page, b"{\"departs\":")?;
-    put_number(page, number as usize)?;
-    put(page, b",\"given\":")
+    put_number_between(page, b"{\"departs\":", number as usize, b",\"given\":")
+}
+
+/// Puts the line that the machine expects, and the column.
+fn put_expected(
+    alloc: Global,
+    page: &mut Vec<u8>,
+    given: &[u8],
+    line: &[u8],
+) -> Result<(), AllocError>
+    ensures { OnOk result (page.new.items
+        ≡ page.old.items ++ expected_object given.now line.now) }
+{
+    put(page, b",\"expected\":")?;
+    put_line_string(alloc, page, line)?;
+    put_number_between(page, b",\"column\":", column(given, line), b",\"reason\":")
 }
 
 /// Puts the line of the entry that the machine expects, and the column.
-#[tactic(auto, unfolding(crate::specs::Objects::compared_object))]
-fn put_expected(
+fn put_entry(
     alloc: Global,
     page: &mut Vec<u8>,
     table: &Table,
@@ -65,23 +75,19 @@ fn put_expected(
 {
     let mut lines = Lines::new();
     put_line(&mut lines, table, &mut NextSteps::new(), &entry.lent());
-    let line = unended(lines.as_slice());
-    put(page, b",\"expected\":")?;
-    put_line_string(alloc, page, line)?;
-    put(page, b",\"column\":")?;
-    put_number(page, column(given, line))?;
-    put(page, b",\"reason\":")
+    put_expected(alloc, page, given, unended(lines.as_slice()))
 }
 
 /// Puts that the machine expects no line.
-#[tactic(auto, unfolding(crate::specs::Objects::compared_object))]
-fn put_nothing(page: &mut Vec<u8>, table: &Table, given: &[u8]) -> Result<(), AllocError>
-    ensures { OnOk result (page.new.items
-        ≡ page.old.items ++ compared_object table.now given.now None) }
+fn put_nothing(page: &mut Vec<u8>, given: &[u8]) -> Result<(), AllocError>
+    ensures { OnOk result (page.new.items ≡ page.old.items ++ nothing_object given.now) }
 {
-    put(page, b",\"expected\":null,\"column\":")?;
-    put_number(page, column(given, &[]))?;
-    put(page, b",\"reason\":null}\n")
+    put_number_between(
+        page,
+        b",\"expected\":null,\"column\":",
+        column(given, &[]),
+        b",\"reason\":null}\n",
+    )
 }
 
 /// Puts the line that the machine expects, and the column.
@@ -97,8 +103,8 @@ fn put_compared(
         ≡ page.old.items ++ compared_object table.now given.now expected.now) }
 {
     match expected {
-        Some(entry) => put_expected(alloc, page, table, given, entry),
-        None => put_nothing(page, table, given),
+        Some(entry) => put_entry(alloc, page, table, given, entry),
+        None => put_nothing(page, given),
     }
 }
 

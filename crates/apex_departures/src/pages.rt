@@ -6,7 +6,7 @@ ghost use Rattle.apex_check.specs.Verdicts.{verdict_text};
 ghost use Rattle.apex_departures.specs.Pages.{column_text, compared_text, departure_text, head_text, reason_line, unended};
 
 use crate::lines::GivenLine;
-use crate::putting::{column, put, put_number, put_shown};
+use crate::putting::{column, put, put_between, put_number_between, put_shown};
 use apex_history::{Lines, NextSteps, put_line};
 use apex_table::Table;
 use apex_types::Entry;
@@ -17,9 +17,7 @@ pub(crate) fn put_legal(page: &mut Vec<u8>, table: &Table, count: u32) -> Result
     ensures { OnOk result (page.new.items
         ≡ page.old.items ++ verdict_text table.now (Legal count)) }
 {
-    put(page, b"legal ")?;
-    put_number(page, count as usize)?;
-    put(page, b"\n")
+    put_number_between(page, b"legal ", count as usize, b"\n")
 }
 
 /// Puts the number of the line that departs, and the line.
@@ -27,9 +25,7 @@ fn put_head(page: &mut Vec<u8>, line: &GivenLine<'_>) -> Result<(), AllocError>
     ensures { OnOk result (page.new.items
         ≡ page.old.items ++ head_text line.now.number line.now.bytes.now) }
 {
-    put(page, b"departs at ")?;
-    put_number(page, line.number as usize)?;
-    put(page, b"\ngiven: ")?;
+    put_number_between(page, b"departs at ", line.number as usize, b"\ngiven: ")?;
     put_shown(page, line.bytes)
 }
 
@@ -38,9 +34,7 @@ fn put_column(page: &mut Vec<u8>, given: &[u8], line: &[u8]) -> Result<(), Alloc
     ensures { OnOk result (page.new.items
         ≡ page.old.items ++ column_text given.now line.now) }
 {
-    put(page, b"\ncolumn: ")?;
-    put_number(page, column(given, line))?;
-    put(page, b"\n")
+    put_number_between(page, b"\ncolumn: ", column(given, line), b"\n")
 }
 
 /// A line without its line feed.
@@ -114,7 +108,5 @@ pub(crate) fn put_departure(
 pub(crate) fn put_reason(page: &mut Vec<u8>, reason: &[u8]) -> Result<(), AllocError>
     ensures { OnOk result (page.new.items ≡ page.old.items ++ reason_line reason.now) }
 {
-    put(page, b"reason: ")?;
-    put(page, reason)?;
-    put(page, b"\n")
+    put_between(page, b"reason: ", reason, b"\n")
 }

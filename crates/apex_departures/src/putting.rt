@@ -14,12 +14,34 @@ pub(crate) fn put(text: &mut Vec<u8>, bytes: &[u8]) -> Result<(), AllocError>
     text.extend_from_slice(bytes)
 }
 
-/// Puts a number by its digits.
-pub(crate) fn put_number(text: &mut Vec<u8>, number: usize) -> Result<(), AllocError>
-    ensures { OnOk result (text.new.items ≡ text.old.items ++ decimal number) }
+/// Puts bytes between two others.
+#[tactic(auto, using(std::proofs::Common::append_assoc))]
+pub(crate) fn put_between(
+    text: &mut Vec<u8>,
+    before: &[u8],
+    bytes: &[u8],
+    behind: &[u8],
+) -> Result<(), AllocError>
+    ensures { OnOk result (text.new.items
+        ≡ text.old.items ++ (before.now ++ (bytes.now ++ behind.now))) }
+{
+    put(text, before)?;
+    put(text, bytes)?;
+    put(text, behind)
+}
+
+/// Puts a number, by its digits, between bytes.
+pub(crate) fn put_number_between(
+    text: &mut Vec<u8>,
+    before: &[u8],
+    number: usize,
+    behind: &[u8],
+) -> Result<(), AllocError>
+    ensures { OnOk result (text.new.items
+        ≡ text.old.items ++ (before.now ++ (decimal number ++ behind.now))) }
 {
     let mut buffer = Buffer::new();
-    text.extend_from_slice(buffer.format(number).as_bytes())
+    put_between(text, before, buffer.format(number).as_bytes(), behind)
 }
 
 /// A hexadecimal digit.
@@ -41,11 +63,17 @@ fn put_escaped(text: &mut Vec<u8>, byte: u8) -> Result<(), AllocError>
     text.extend_from_slice(&[b'\\', b'x', digit(byte / 16), digit(byte % 16)])
 }
 
-/// Whether the byte is seen as it is: 0x20 to 0x7E.
+/// The first byte, in their order, that is seen as it is.
+const FIRST_PLAIN: u8 = 0x20;
+
+/// The last byte, in their order, that is seen as it is.
+const LAST_PLAIN: u8 = 0x7E;
+
+/// Whether the byte is seen as it is.
 fn is_plain(byte: u8) -> bool
     ensures { result ≡ is_plain byte }
 {
-    32 <= byte && byte <= 126
+    FIRST_PLAIN <= byte && byte <= LAST_PLAIN
 }
 
 /// Whether all bytes are spaces.

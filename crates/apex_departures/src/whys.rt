@@ -1,56 +1,17 @@
 //! The reason of an entry of a history.
 ghost use Rattle.std.specs.Prelude.{◌≡◌, All, IfOk, IfSome, None, slice_get};
-ghost use Rattle.apex_machine.specs.Machine.{asked_ticks, event_of, events_of, opening};
+ghost use Rattle.apex_machine.specs.Machine.{events_of, opening};
 ghost use Rattle.apex_machine.specs.Events.{IsWithin};
 ghost use Rattle.apex_departures.specs.Why.{IsNumbered, IsReasonAt, IsReasonBehind, LacksEvent};
 
-use apex_dispatch::Kernel;
+use apex_console::booted;
+use apex_dispatch::{Kernel, events_in};
 use apex_process::QueueStore;
 use apex_reasons::{ReasonText, reason_of};
 use apex_store::Store;
 use apex_table::Table;
-use apex_types::{Event, LentEntry, Reply, Who};
+use apex_types::Event;
 use std::alloc::{AllocError, Global};
-
-/// How many ticks a tick asked for.
-fn asked_ticks(reply: &Reply) -> u32
-    ensures { result ≡ asked_ticks reply.now }
-{
-    match reply {
-        Reply::Advanced(asked, _) => *asked,
-        _ => 0,
-    }
-}
-
-/// The event of an entry.
-fn event_of(entry: &LentEntry<'_>) -> Event
-    ensures { result ≡ event_of entry.entry.now }
-{
-    match entry.who {
-        Who::Core(core) => Event::Turn(core),
-        Who::Ticker => Event::Tick(asked_ticks(&entry.reply)),
-    }
-}
-
-/// The events of a kernel's history.
-fn events_in<S: Store>(alloc: Global, kernel: &Kernel<S>) -> Result<Vec<Event>, AllocError>
-    ensures { IfOk result (λ events. events.items ≡ events_of kernel.now.machine.history) }
-{
-    let mut events = Vec::new(alloc);
-    for entry in kernel.entries() {
-        events.push(event_of(&entry))?;
-    }
-    Ok(events)
-}
-
-/// The kernel of a table before any event.
-fn booted(alloc: Global, table: Table) -> Result<Kernel<QueueStore>, AllocError>
-    ensures table { IfOk result (λ kernel. kernel.table ≡ table) }
-    ensures opening { IfOk result (λ kernel. kernel.machine ≡ opening table) }
-{
-    let store = QueueStore::new(alloc, &table)?;
-    Kernel::boot(alloc, table, store)
-}
 
 /// The text of the reason of an event behind these events, which a kernel makes that has made none.
 fn reason_behind<S: Store>(kernel: &mut Kernel<S>, before: &[Event], event: Event) -> ReasonText
@@ -65,7 +26,6 @@ fn reason_behind<S: Store>(kernel: &mut Kernel<S>, before: &[Event], event: Even
 }
 
 /// The text of the reason of an event behind these events, on this table.
-#[tactic(auto, using(crate::proofs::Numbered::within_same, crate::proofs::Numbered::event_same))]
 fn reason_after(
     alloc: Global,
     table: Table,

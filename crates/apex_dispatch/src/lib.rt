@@ -2,6 +2,7 @@
 #![tactic(auto)]
 
 mod deeds;
+mod events;
 mod kernels;
 mod laws;
 mod listing;
@@ -13,6 +14,7 @@ mod waiters;
 mod works;
 
 pub use deeds::Deed;
+pub use events::{event_of, events_in};
 pub use kernels::Kernel;
 pub use laws::{
     first_waiter_is_first, most_urgent_runs, mutexes_are_owned_in_order, nobody_waits_in_vain,
@@ -21,4 +23,5 @@ pub use laws::{
 pub use objects::Objects;
 pub use services::ProcessObject;
 pub use situations::Situation;
+pub use waiters::{Waiters, waiters_in};
 pub use works::Works;

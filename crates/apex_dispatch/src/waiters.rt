@@ -10,7 +10,7 @@ use std::marker::Model;
 
 /// Processes one behind the other, [`MOST_PROCESSES`] at the most.
 #[derive(Drop)]
-pub(crate) struct Waiters {
+pub struct Waiters {
     processes: [ProcessId; MOST_PROCESSES],
     count: usize,
 }
@@ -45,7 +45,8 @@ impl Waiters {
         self.count += 1;
     }
 
-    pub(crate) fn as_slice(&self) -> &[ProcessId]
+    /// The processes, in their order.
+    pub fn as_slice(&self) -> &[ProcessId]
         ensures value { result.now ≡ self.now }
         ensures few_waiters { length result.now ≤ MOST_PROCESSES }
     {
@@ -55,7 +56,7 @@ impl Waiters {
 
 /// The waiters of the queue, from the first one on.
 #[tactic(auto, unfolding(apex_machine::specs::text::Listing::waiters))]
-pub(crate) fn waiters_in<S: Store>(store: &S, queue: &Queue) -> Waiters
+pub fn waiters_in<S: Store>(store: &S, queue: &Queue) -> Waiters
     requires { length (S.roster store.now).records ≤ MOST_PROCESSES }
     ensures { result ≡ waiters (S.roster store.now) queue.now }
 {

@@ -17,13 +17,12 @@ cells_of index = map place_in index.slots.items
 
 -- the hash so far and one more word
 abbrev pub mixed : ℕ → ℕ → ℕ
-mixed hash word =
-    let product = (bit_xor hash word * FACTOR) % 2 ^ 64 in
-    bit_xor product (product / 2 ^ 32)
+mixed hash word = (bit_xor hash word * FACTOR) % 2 ^ 64
 
--- the slot at which the search for a state begins
+-- the slot at which the search for a state begins: the hash is a part of 2 ^ 64, and the slot the same
+-- part of all slots
 unfoldable pub home_of : ℕ → List ℕ → ℕ
-home_of size words = fold mixed 0 words % size
+home_of size words = fold mixed 0 words * size / 2 ^ 64
 
 -- the slot a number of steps after this one; after the last slot comes the first
 abbrev pub after : ℕ → ℕ → ℕ → ℕ

@@ -26,6 +26,7 @@ fn ends_in_hit<S: System>(
         if choice >= system.choices() {
             return false;
         }
+        system.enter(workspace, state);
         match system.next(workspace, state, choice, next) {
             Taken::Refused => return false,
             Taken::Hit => return place + 1 == path.len(),

@@ -50,18 +50,18 @@ impl Slot {
 fn mix(hash: u64, word: u64) -> u64
     ensures { result ≡ mixed hash word }
 {
-    let product = (hash ^ word).wrapping_mul(FACTOR);
-    product ^ (product >> 32)
+    (hash ^ word).wrapping_mul(FACTOR)
 }
 
-/// The slot at which the search for a row begins.
+/// The slot at which the search for a row begins. It is as far among the slots as the hash is among
+/// the words, so that the highest bits decide, on which all others have an effect.
 #[tactic(auto, unfolding(crate::specs::Index::home_of))]
 fn home(row: &[u64], size: usize) -> usize
     requires { 0 < size }
     ensures { result ≡ home_of size row.now }
 {
     let hash = row.iter().fold(0, |hash, word| mix(hash, *word));
-    (hash % size as u64) as usize
+    (u128::from(hash) * size as u128 / 0x1_0000_0000_0000_0000) as usize
 }
 
 /// The slot a number of steps after this one; after the last slot comes the first.

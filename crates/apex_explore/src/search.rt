@@ -58,6 +58,7 @@ fn expand<S: System>(
     ensures states { IfOk result (λ _. AllAre (S.is_state system.now) states.new.states) }
 {
     states.restore(place, state);
+    system.enter(workspace, state);
     for choice in 0..system.choices() {
         match system.next(workspace, state, choice, next) {
             Taken::Refused => {}

@@ -37,6 +37,8 @@ pub trait System {
 
     ghost is_workspace: { Self → Self.Workspace → Type 0 } = { λ _ _. Unit {0} };
 
+    ghost is_in: { Self → Self.Workspace → List ℕ → Type 0 } = { λ _ _ _. Unit {0} };
+
     /// The number of words of a state.
     fn width(&self) -> usize
         ensures { result ≡ word_count self.now };
@@ -55,7 +57,16 @@ pub trait System {
         ensures start { state.new ≡ start self.now }
         ensures state { is_state self.now state.new };
 
-    /// Makes the choice in the state, and puts the state that it goes on to into `next`.
+    /// Enters the state: the next choices are made in it.
+    fn enter(&self, workspace: &mut Self::Workspace, state: &[u64])
+        requires state { is_state self.now state.now }
+        requires words { length state.now ≡ word_count self.now }
+        requires workspace { is_workspace self.now workspace.old }
+        ensures workspace { is_workspace self.now workspace.new }
+        ensures inside { is_in self.now workspace.new state.now };
+
+    /// Makes the choice in the state, which was entered, and puts the state that it goes on to into
+    /// `next`.
     fn next(
         &self,
         workspace: &mut Self::Workspace,
@@ -68,7 +79,9 @@ pub trait System {
         requires words { length state.now ≡ word_count self.now }
         requires room { length next.old ≡ word_count self.now }
         requires workspace { is_workspace self.now workspace.old }
+        requires inside { is_in self.now workspace.old state.now }
         ensures step { step_of result next.new ≡ step self.now state.now choice }
         ensures state { GoesTo (is_state self.now) (step_of result next.new) }
-        ensures workspace { is_workspace self.now workspace.new };
+        ensures workspace { is_workspace self.now workspace.new }
+        ensures inside { is_in self.now workspace.new state.now };
 }

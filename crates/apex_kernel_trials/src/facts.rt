@@ -159,7 +159,7 @@ fn entry_with<R: Abort>(
 }
 
 /// The process of this number ends a job after at least this many ticks.
-fn responds<R: Abort>(rt: &R, alloc: Global, number: u8, ticks: u32) -> bool {
+fn responds<R: Abort>(rt: &R, alloc: Global, number: u8, ticks: u64) -> bool {
     entry_with(rt, alloc, JOBS, Fact::Response(ticks), of(number), None) > 0
 }
 

@@ -67,6 +67,8 @@ impl System for Puzzle {
         state.copy_from_slice(&[0, 0]);
     }
 
+    fn enter(&self, _workspace: &mut (), _state: &[u64]) {}
+
     fn next(&self, _workspace: &mut (), state: &[u64], choice: u32, next: &mut [u64]) -> Taken {
         let (small, large) = self.poured(state[0], state[1], choice);
         if small == state[0] && large == state[1] {

@@ -11,7 +11,7 @@ use Rattle.apex_lab.specs.Exits.{Ends, unasked, unscheduled, usage}
 use Rattle.apex_lab.specs.Faults.{common_line}
 use Rattle.apex_lab.specs.Tasks.{Asked, IsUnasked, Unasked}
 use Rattle.apex_lab.specs.declared.faults.LabFault.{LabFault}
-use Rattle.apex_lab.specs.declared.faults.LabFault.TheVariants.{Common, NoEntry, NoProcess, Schedule, StatesFull}
+use Rattle.apex_lab.specs.declared.faults.LabFault.TheVariants.{Common, Empty, NoEntry, NoProcess, Schedule, StatesFull}
 
 module _ {asked : Result Asked Unasked} {before after : Ports} where
   -- words or a schedule that ask for nothing, or no memory
@@ -24,6 +24,7 @@ module _ {asked : Result Asked Unasked} {before after : Ports} where
   ends_unasked (NoProcess name) other left held none_fails = absurd other
   ends_unasked (NoEntry number) other left held none_fails = absurd other
   ends_unasked (StatesFull room) other left held none_fails = absurd other
+  ends_unasked (Empty window) other left held none_fails = absurd other
 
 -- the line that was told, by its other form
 pub told_line : {line other : List ℕ} (old new : Option (List ℕ)) (failed failures : ℕ) → other ≡ line → Told other old new failed failures

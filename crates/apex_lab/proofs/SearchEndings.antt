@@ -15,7 +15,7 @@ use Rattle.apex_answers.specs.Answers.{Says, answer_end, answer_text}
 use Rattle.apex_answers.specs.declared.SearchAnswer.{SearchAnswer}
 use Rattle.apex_lab.specs.Searches.{IsAnswerFor, IsRefusalOf, SearchEnds, answered, end_of_search, no_memory, no_process, refused, unread, unwritten}
 use Rattle.apex_lab.specs.declared.faults.LabFault.{LabFault}
-use Rattle.apex_lab.specs.declared.faults.LabFault.TheVariants.{Common, NoEntry, NoProcess, Schedule, StatesFull}
+use Rattle.apex_lab.specs.declared.faults.LabFault.TheVariants.{Common, Empty, NoEntry, NoProcess, Schedule, StatesFull}
 use Rattle.apex_lab.specs.declared.questions.Search.{Search}
 
 -- what an answer says, at the pace that is asked for
@@ -43,6 +43,7 @@ module _ {search : Search} {before after : Ports} where
     search_refused (Schedule bad) (table, is, missing) held none = absurd missing
     search_refused (NoEntry number) (table, is, missing) held none = absurd missing
     search_refused (StatesFull room) (table, is, missing) held none = absurd missing
+    search_refused (Empty window) (table, is, missing) held none = absurd missing
 
     module _ (answer : SearchAnswer) (answers : IsAnswerFor search text answer) where
       -- an answer that was written whole, or not to its end

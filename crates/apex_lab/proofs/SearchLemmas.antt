@@ -12,7 +12,7 @@ use Rattle.apex_table.specs.Reading.{table_of}
 use Rattle.apex_table.specs.declared.TableFault.{TableFault}
 use Rattle.apex_lab.specs.Searches.{IsMissing, IsRefusalOf, IsSystemOf, IsTextFault, asked_process, question_about, question_of}
 use Rattle.apex_lab.specs.declared.faults.LabFault.{LabFault}
-use Rattle.apex_lab.specs.declared.faults.LabFault.TheVariants.{Common, NoEntry, NoProcess, Schedule, StatesFull}
+use Rattle.apex_lab.specs.declared.faults.LabFault.TheVariants.{Common, Empty, NoEntry, NoProcess, Schedule, StatesFull}
 use Rattle.apex_lab.specs.declared.questions.Search.{Search}
 
 -- memory was refused, or the text is no table, by the result of reading it
@@ -35,6 +35,7 @@ missing_process search text table (NoProcess name) is missing = (table, is, miss
 missing_process search text table (Schedule bad) is missing = absurd missing
 missing_process search text table (NoEntry number) is missing = absurd missing
 missing_process search text table (StatesFull room) is missing = absurd missing
+missing_process search text table (Empty window) is missing = absurd missing
 
 -- a question of these facts, about this process or about any
 abbrev asking : Search → List Fact → Option ℕ → Question

@@ -9,11 +9,12 @@ use Rattle.apex_views.specs.Showings.{Showing, Source}
 use Rattle.apex_views.specs.Shows.{ShowEnd, ShowEnds}
 use Rattle.apex_views.specs.declared.BadSchedule.{BadSchedule}
 use Rattle.apex_lab.specs.Checks.{CheckEnds}
+use Rattle.apex_lab.specs.Dumps.{DumpEnds}
 use Rattle.apex_lab.specs.Ends.{End, end_of_showing, fails}
 use Rattle.apex_lab.specs.Lints.{Lint, LintEnds}
 use Rattle.apex_lab.specs.Searches.{SearchEnds}
 use Rattle.apex_lab.specs.Steps.{StepEnds}
-use Rattle.apex_lab.specs.Tasks.{Asked, Unasked, ill_formed, no_schedule, to_check, to_lint, to_search, to_show, to_step, to_why}
+use Rattle.apex_lab.specs.Tasks.{Asked, Unasked, ill_formed, no_schedule, to_check, to_dump, to_lint, to_search, to_show, to_step, to_why}
 use Rattle.apex_lab.specs.Whys.{WhyEnds}
 use Rattle.apex_lab.specs.declared.faults.LabFault.TheVariants.{Common, Schedule as BadText}
 use Rattle.apex_lab.specs.declared.questions.Search.{Search}
@@ -52,3 +53,6 @@ pub data Ends (asked : Result Asked Unasked) (before : Ports) : End → Ports �
   of_why : {source : Source} {entry : ℕ} {ends : End} {after : Ports}
       → asked ≡ Ok (to_why source entry) → WhyEnds source entry before ends after
       → Ends asked before ends after
+  -- the value changes of a run are written
+  of_dump : {source : Source} {ends : End} {after : Ports} → asked ≡ Ok (to_dump source)
+      → DumpEnds source before ends after → Ends asked before ends after

@@ -3,16 +3,17 @@ use Rattle.std.specs.Prelude.{codes, decimal, ℕ, List, ◌++◌, Some}
 use Rattle.apex_console.specs.Faults.{fault_line, status_of_fault as common_status}
 use Rattle.apex_console.specs.declared.CliFault.{CliFault}
 use Rattle.apex_console.specs.declared.CliFault.TheVariants.{Usage}
-use Rattle.apex_views.specs.Faults.{schedule_line}
+use Rattle.apex_views.specs.Faults.{schedule_line, window_line}
 use Rattle.apex_views.specs.declared.ShowFault.{ShowFault}
 use Rattle.apex_views.specs.declared.ShowFault.TheVariants as showing
 use Rattle.apex_lab.specs.declared.faults.LabFault.{LabFault}
-use Rattle.apex_lab.specs.declared.faults.LabFault.TheVariants.{Common, NoEntry, NoProcess, Schedule, StatesFull}
+use Rattle.apex_lab.specs.declared.faults.LabFault.TheVariants.{Common, Empty, NoEntry, NoProcess, Schedule, StatesFull}
 
 -- a fault of a showing
 abbrev pub fault_of_showing : ShowFault → LabFault
 fault_of_showing (showing.Common fault) = Common fault
 fault_of_showing (showing.Schedule bad) = Schedule bad
+fault_of_showing (showing.Empty window) = Empty window
 
 -- the line that reports ill-formed words
 abbrev pub usage_line : List ℕ
@@ -43,12 +44,14 @@ line_of_fault (Schedule bad) = schedule_line bad
 line_of_fault (NoProcess name) = process_line name
 line_of_fault (NoEntry number) = entry_line number
 line_of_fault (StatesFull room) = states_line room
+line_of_fault (Empty window) = window_line window
 
--- the exit status of a fault: 2 for a schedule's text and for a process or an entry that is not
--- there, 4 if a search has no room for more states, else that of `apex`
+-- the exit status of a fault: 2 for a schedule's text and for a process, an entry or a window that is
+-- not there, 4 if a search has no room for more states, else that of `apex`
 abbrev pub status_of_fault : LabFault → ℕ
 status_of_fault (Common fault) = common_status fault
 status_of_fault (Schedule bad) = 2
 status_of_fault (NoProcess name) = 2
 status_of_fault (NoEntry number) = 2
 status_of_fault (StatesFull room) = 4
+status_of_fault (Empty window) = 2

@@ -1,6 +1,7 @@
 pub mod Words
 pub mod Faults
 pub mod Numbers
+pub mod Windows
 pub mod Questions
 pub mod Tasks
 pub mod Ends
@@ -9,4 +10,5 @@ pub mod Searches
 pub mod Steps
 pub mod Checks
 pub mod Whys
+pub mod Dumps
 pub mod Exits

@@ -8,7 +8,7 @@ use Rattle.apex_pace.specs.declared.paces.TheConstants.{USUAL_TURNS}
 use Rattle.apex_schedules.specs.Schedule.{positive_of}
 use Rattle.apex_lab.specs.declared.numbers.TheConstants.{MOST_STATES, USUAL_STATES}
 
--- the number of an entry, or of turns, that a text says, and this one if there is no text
+-- the number of turns that a text says, and this one if there is no text
 abbrev pub number_in : ℕ → Option Text → Option ℕ
 number_in otherwise None = Some otherwise
 number_in otherwise (Some text) = positive_of text

@@ -9,13 +9,14 @@ use Rattle.apex_schedules.specs.Groups.{grouped_items_of}
 use Rattle.apex_schedules.specs.Schedule.{positive_of}
 use Rattle.apex_objects.specs.declared.Form.{Form}
 use Rattle.apex_views.specs.Faults.{IsBadIn}
-use Rattle.apex_views.specs.Showings.{IsOfEntries, Picture, Showing, Source, View, drawn, history, listed, paced, schedule, schedule_read, showing_said, showing_with, source_said, svg, trace}
+use Rattle.apex_views.specs.Showings.{Showing, Source, View, drawn, history, listed, paced, schedule, schedule_read, showing_said, showing_with, source_said, svg, trace}
 use Rattle.apex_lab.specs.Lints.{Lint, lint_asked, lint_said}
-use Rattle.apex_lab.specs.Numbers.{number_in, pace_in, time_of}
+use Rattle.apex_lab.specs.Numbers.{pace_in, time_of}
 use Rattle.apex_lab.specs.Questions.{search_asked}
-use Rattle.apex_lab.specs.Words.{Given, Request, Shown, as_listing, as_svg, as_trace, by_history, by_pace, by_schedule, by_schedule_read, check_of, lint_of, request_of, search_of, show_of, step_of, why_of}
+use Rattle.apex_lab.specs.Windows.{window_between}
+use Rattle.apex_lab.specs.Words.{Given, Request, Shown, as_listing, as_svg, as_trace, by_history, by_pace, by_schedule, by_schedule_read, check_of, dump_of, lint_of, request_of, search_of, show_of, step_of, why_of}
 use Rattle.apex_lab.specs.declared.faults.LabFault.{LabFault}
-use Rattle.apex_lab.specs.declared.faults.LabFault.TheVariants.{Common, NoEntry, NoProcess, Schedule as BadText, StatesFull}
+use Rattle.apex_lab.specs.declared.faults.LabFault.TheVariants.{Common, Empty, NoEntry, NoProcess, Schedule as BadText, StatesFull}
 use Rattle.apex_lab.specs.declared.questions.Search.{Search}
 use Rattle.apex_lab.specs.declared.tasks.Task.{Task}
 use Rattle.apex_lab.specs.declared.tasks.Task.TheVariants as task
@@ -34,6 +35,8 @@ pub data Asked : Type 0 where
   to_check : Form → Bool → Asked
   -- for the reason of the entry of this number, of a run that is given in this way
   to_why : Source → ℕ → Asked
+  -- to write the value changes of a run that is given in this way
+  to_dump : Source → Asked
 
 -- why words ask for nothing
 pub data Unasked : Type 0 where
@@ -69,14 +72,9 @@ source_in by_schedule_read = Ok schedule_read
 source_in (by_pace until turns early) = or_unasked ill_formed (paced_source until turns early)
 source_in by_history = Ok history
 
--- the SVG from the first number to the last, by their texts; none if one is ill-formed
-abbrev pub svg_between : Option Text → Option Text → Option Picture
-svg_between first last =
-    option_and_then (λ n. option_map (svg n) (number_in MOST_ENTRIES last)) (number_in 1 first)
-
--- how a run is shown; none if a number is ill-formed
+-- how a run is shown; none if a bound is ill-formed
 abbrev pub view_in : Shown → Option View
-view_in (as_svg first last) = option_map drawn (svg_between first last)
+view_in (as_svg first last) = option_map (λ window. drawn (svg window)) (window_between first last)
 view_in as_trace = Some (drawn trace)
 view_in (as_listing listing) = Some (listed listing)
 
@@ -97,6 +95,11 @@ why_asked source None = Err ill_formed
 why_asked (Err unasked) (Some entry) = Err unasked
 why_asked (Ok source) (Some entry) = Ok (to_why source entry)
 
+-- the value changes of a run, if it is there
+abbrev pub dump_asked : Result Source Unasked → Result Asked Unasked
+dump_asked (Err unasked) = Err unasked
+dump_asked (Ok source) = Ok (to_dump source)
+
 -- what a request asks for
 abbrev pub asked_in_request : Request → Result Asked Unasked
 asked_in_request (show_of given shown) =
@@ -107,6 +110,7 @@ asked_in_request (lint_of said) = or_unasked ill_formed (option_map to_lint (lin
 asked_in_request (step_of form) = Ok (to_step form)
 asked_in_request (check_of form comments) = Ok (to_check form comments)
 asked_in_request (why_of given entry) = why_asked (source_in given) (positive_of entry)
+asked_in_request (dump_of given) = dump_asked (source_in given)
 
 -- the same, if there is a request
 abbrev pub asked_in : Option Request → Result Asked Unasked
@@ -125,15 +129,17 @@ task_said (task.Lint lint) = to_lint (lint_said lint)
 task_said (task.Step form) = to_step form
 task_said (task.Check form comments) = to_check form comments
 task_said (task.Why why) = to_why (source_said why.source) why.entry
+task_said (task.Dump source) = to_dump (source_said source)
 
--- the same of a view that is asked for, and the pace of a search is one
+-- the pace of a search is one
 abbrev pub IsInRange : Task → Type 0
-IsInRange (task.Show showing) = IsOfEntries showing.view
+IsInRange (task.Show showing) = Unit {0}
 IsInRange (task.Search search) = IsPace search.pace
 IsInRange (task.Lint lint) = Unit {0}
 IsInRange (task.Step form) = Unit {0}
 IsInRange (task.Check form comments) = Unit {0}
 IsInRange (task.Why why) = Unit {0}
+IsInRange (task.Dump source) = Unit {0}
 
 -- the fault, memory aside, with which the program ends if words ask for nothing
 abbrev pub IsUnasked : {X : Type 0} → Result X Unasked → LabFault → Type 0
@@ -142,5 +148,6 @@ IsUnasked asked (Common fault) =
 IsUnasked asked (StatesFull states) = ⊥
 IsUnasked asked (NoProcess name) = ⊥
 IsUnasked asked (NoEntry number) = ⊥
+IsUnasked asked (Empty window) = ⊥
 IsUnasked asked (BadText bad) =
     (text : Text) × (asked ≡ Err (no_schedule text)) × IsBadIn text bad

@@ -100,8 +100,10 @@ lab_of_searches =
 abbrev pub lab : App
 lab =
     with_subcommand
+    (with_subcommand
     (with_subcommand (with_subcommand lab_of_searches step_command.top) check_command.top)
-    why_command.top
+    why_command.top)
+    (view_command (codes "vcd")).top
 
 -- how a run is given
 pub data Given : Type 0 where
@@ -117,7 +119,7 @@ pub data Given : Type 0 where
 
 -- how a run is shown
 pub data Shown : Type 0 where
-  -- as SVG, with the texts of the numbers of the first entry and of the last, if they are given
+  -- as SVG, with the texts of the first bound and of the last one, if they are given
   as_svg : Option Text → Option Text → Shown
   -- as a trace
   as_trace : Shown
@@ -155,6 +157,8 @@ pub data Request : Type 0 where
   check_of : Form → Bool → Request
   -- for the reason of the entry of this number, of a run that is given in this way
   why_of : Given → Text → Request
+  -- to write the value changes of a run that is given in this way
+  dump_of : Given → Request
 
 -- how a run is given, of a value of the program
 abbrev pub given_said : SourceWords → Given
@@ -198,6 +202,7 @@ request_said (request.Lint words) = lint_of (lint_words_said words)
 request_said (request.Step form) = step_of form
 request_said (request.Check form comments) = check_of form comments
 request_said (request.Why source entry) = why_of (given_said source) entry.now
+request_said (request.Dump source) = dump_of (given_said source)
 
 -- how a run is given, by the text of a schedule: `-` stands for one that is read
 abbrev pub given_by_schedule : Text → Given
@@ -281,6 +286,10 @@ why_in rows =
     option_and_then (λ given. option_map (why_of given) (first_of (codes "entry") rows))
     (given_in rows)
 
+-- the run whose value changes the rows of a command ask for
+abbrev pub dump_in : List Row → Option Request
+dump_in rows = option_map dump_of (given_in rows)
+
 -- what the command of this name asks for, with its rows
 abbrev pub request_in : Text × List Row → Option Request
 request_in found =
@@ -290,6 +299,7 @@ request_in found =
     else if bytes_eq found.0 (codes "check")
     then Some (check_of (form_in found.1) (comments_in found.1))
     else if bytes_eq found.0 (codes "why") then why_in found.1
+    else if bytes_eq found.0 (codes "vcd") then dump_in found.1
     else showing_in found.0 found.1
 
 -- what the words ask for; none if they ask for nothing that the program does

@@ -10,7 +10,7 @@ ghost use Rattle.apex_lab.specs.declared.faults.TheConstants.{PROCESS_ROOM};
 use apex_console::CliFault;
 use apex_history::ReadFault;
 use apex_types::Name;
-use apex_views::{BadSchedule, ShowFault};
+use apex_views::{BadSchedule, EmptyWindow, ShowFault};
 use arrayvec::{ArrayString, ArrayVec};
 use itoa::Buffer;
 use std::alloc::AllocError;
@@ -44,6 +44,8 @@ pub enum LabFault {
     NoEntry(u32),
     /// A search has room for this many states, and reached more.
     StatesFull(u32),
+    /// The run has no entry in the window of a picture.
+    Empty(EmptyWindow),
 }
 
 impl LabFault {
@@ -54,6 +56,7 @@ impl LabFault {
         match self {
             LabFault::Common(fault) => fault.status(),
             LabFault::Schedule(_) | LabFault::NoProcess(_) | LabFault::NoEntry(_) => 2,
+            LabFault::Empty(_) => 2,
             LabFault::StatesFull(_) => 4,
         }
     }
@@ -74,6 +77,7 @@ impl From<ShowFault> for LabFault {
         match error {
             ShowFault::Common(fault) => LabFault::Common(fault),
             ShowFault::Schedule(bad) => LabFault::Schedule(bad),
+            ShowFault::Empty(empty) => LabFault::Empty(empty),
         }
     }
 }

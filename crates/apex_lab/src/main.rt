@@ -1,9 +1,11 @@
 //! The program `apex_lab`: shows the run of a schedule or of a pace, or a history that is legal, as
 //! a picture or as a listing, searches the schedules of a pace, lints a table, answers commands,
-//! explains a history that departs, and gives the reason of an entry.
+//! explains a history that departs, gives the reason of an entry, and writes the value changes of a
+//! run.
 #![tactic(auto)]
 
 mod checking;
+mod dumping;
 mod ends;
 mod faults;
 mod linting;
@@ -14,6 +16,7 @@ mod searching;
 mod stepping;
 mod tasks;
 mod whys;
+mod windows;
 mod words;
 
 use crate::program::serve;

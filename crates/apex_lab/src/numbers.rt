@@ -63,9 +63,9 @@ fn read_percent(word: &[u8]) -> Option<u8>
     }
 }
 
-/// The number of an entry, or of turns, 1 to [`MOST_ENTRIES`], that a text says, and `otherwise` if
-/// there is no text. None if the text is ill-formed.
-pub fn number_given(text: Option<&str>, otherwise: u32) -> Option<u32>
+/// The number of turns, 1 to [`MOST_ENTRIES`], that a text says, and `otherwise` if there is no text.
+/// None if the text is ill-formed.
+fn number_given(text: Option<&str>, otherwise: u32) -> Option<u32>
     requires { (1 ≤ otherwise) × (otherwise ≤ MOST_ENTRIES) }
     ensures value { result ≡ number_in otherwise (option_map (λ given. given.now) text.entry) }
     ensures range { IfSome result (λ number. (1 ≤ number) × (number ≤ MOST_ENTRIES)) }

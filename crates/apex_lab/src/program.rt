@@ -9,6 +9,7 @@ ghost use Rattle.apex_lab.specs.Tasks.{asked_by};
 ghost use Rattle.apex_lab.specs.declared.faults.LabFault.TheVariants.{Common};
 
 use crate::checking::run_check;
+use crate::dumping::run_dump;
 use crate::ends::{Ending, status_of, tell};
 use crate::faults::LabFault;
 use crate::linting::run_lint;
@@ -27,6 +28,7 @@ fn ending_of(outcome: Result<Shown, ShowFault>) -> Result<Ending, LabFault>
 {
     match outcome {
         Ok(Shown::Complete) => Ok(Ending::Complete),
+        Ok(Shown::InPart(excerpt)) => Ok(Ending::InPart(excerpt)),
         Ok(Shown::Departed(verdict)) => Ok(Ending::Departed(verdict)),
         Err(fault) => Err(LabFault::from(fault)),
     }
@@ -51,6 +53,7 @@ fn carry_out<R: Source, W: Sink>(
         Task::Step(form) => run_steps(alloc, form, reader, writer),
         Task::Check { form, comments } => run_check(alloc, form, comments, reader, writer),
         Task::Why(why) => run_why(alloc, why, reader, writer),
+        Task::Dump(source) => run_dump(alloc, source, reader, writer),
     }
 }
 

@@ -1,20 +1,20 @@
 //! What the program is asked to do.
-ghost use Rattle.std.specs.Prelude.{◌≡◌, IfOk, IfErr, IfSome, Ok, Some, option_map, map, string_bytes};
+ghost use Rattle.std.specs.Prelude.{◌≡◌, IfOk, IfErr, Ok, Some, option_map, map, string_bytes};
 ghost use Rattle.apex_schedules.specs.Schedule.{positive_of};
-ghost use Rattle.apex_views.specs.Showings.{IsOfEntries, showing_said, source_said, view_said};
+ghost use Rattle.apex_views.specs.Showings.{showing_said, source_said, view_said};
 ghost use Rattle.apex_lab.specs.Tasks.{IsInRange, IsUnasked, asked_by, asked_in_request, paced_source, showing_of, source_in, task_said, to_why, view_in, why_asked};
 ghost use Rattle.apex_lab.specs.Words.{given_said, request_said, shown_said};
 
 use crate::faults::LabFault;
 use crate::linting::{Lint, lint_asked};
-use crate::numbers::{number_given, pace_given, read_time};
+use crate::numbers::{pace_given, read_time};
 use crate::questions::{Search, search_asked};
 use crate::whys::Why;
+use crate::windows::window_given;
 use crate::words::{Request, SourceWords, ViewWords, request_in};
 use apex_console::CliFault;
 use apex_objects::Form;
 use apex_schedules::read_positive;
-use apex_types::MOST_ENTRIES;
 use apex_views::{Picture, RunSource, Showing, View, read_items};
 use std::alloc::Global;
 
@@ -33,6 +33,8 @@ pub enum Task<'a> {
     Check { form: Form, comments: bool },
     /// For the reason of an entry.
     Why(Why),
+    /// To write the value changes of a run that is given in this way.
+    Dump(RunSource),
 }
 
 /// The run of a pace, by the texts of its time, its turns and its percentage. None if one is
@@ -72,16 +74,14 @@ fn read_source(alloc: Global, source: SourceWords<'_>) -> Result<RunSource, LabF
     }
 }
 
-/// How a run is shown. None if a number is ill-formed.
+/// How a run is shown. None if a bound is ill-formed.
 fn read_view(view: ViewWords<'_>) -> Option<View>
-    ensures value { option_map view_said result ≡ view_in (shown_said view.entry) }
-    ensures range { IfSome result IsOfEntries }
+    ensures { option_map view_said result ≡ view_in (shown_said view.entry) }
 {
     match view {
         ViewWords::Svg { first, last } => {
-            let first = number_given(first, 1)?;
-            let last = number_given(last, MOST_ENTRIES)?;
-            Some(View::Picture(Picture::Svg { first, last }))
+            let window = window_given(first, last)?;
+            Some(View::Picture(Picture::Svg(window)))
         }
         ViewWords::Trace => Some(View::Picture(Picture::Trace)),
         ViewWords::Listing(listing) => Some(View::Listing(listing)),
@@ -97,7 +97,6 @@ fn read_showing(
 ) -> Result<Showing, LabFault>
     ensures ok { IfOk result (λ showing. showing_of (source_in (given_said source.entry))
         (view_in (shown_said view.entry)) ≡ Ok (showing_said showing)) }
-    ensures range { IfOk result (λ showing. IsOfEntries showing.view) }
     ensures err { IfErr result (IsUnasked (showing_of (source_in (given_said source.entry))
         (view_in (shown_said view.entry)))) }
 {
@@ -149,6 +148,10 @@ fn task_of<'a>(alloc: Global, request: Request<'a>) -> Result<Task<'a>, LabFault
         Request::Why(source, entry) => {
             let why = read_why(alloc, source, entry)?;
             Ok(Task::Why(why))
+        }
+        Request::Dump(source) => {
+            let source = read_source(alloc, source)?;
+            Ok(Task::Dump(source))
         }
     }
 }

@@ -80,6 +80,7 @@ pub fn run_why<R: Source, W: Sink>(
         Ok(Given::Departed(verdict)) => Ok(Ending::Departed(verdict)),
         // No picture is asked for.
         Ok(Given::Picture(_)) => Err(LabFault::Common(CliFault::Memory)),
+        Ok(Given::Empty(..)) => Err(LabFault::Common(CliFault::Memory)),
         Err(fault) => Err(LabFault::from(fault)),
     }
 }

@@ -3,7 +3,7 @@ ghost use Rattle.std.specs.Prelude.{◌≡◌, false, IfOk, IfErr, IsErrOf, Some
 ghost use Rattle.clap.specs.declared.builder.command.Command.TheViews.{out-Command as fields_of};
 ghost use Rattle.clap.specs.Words.{app_of, found_of, rows_of, subcommand_rows_of};
 ghost use Rattle.apex_console.specs.Faults.{IsUsageOrMemory};
-ghost use Rattle.apex_lab.specs.Words.{check_command, comments_in, form_in, given_by, given_in, given_said, json_view_command, lab, lab_of_pictures, lab_of_searches, lab_of_views, lint_command, lint_in, lint_words_said, question_command, request_in, request_of, request_said, search_command, search_in, search_said, shown_said, showing_in, step_command, svg, svg_in, view_command, view_of, why_command, why_in};
+ghost use Rattle.apex_lab.specs.Words.{check_command, comments_in, dump_in, form_in, given_by, given_in, given_said, json_view_command, lab, lab_of_pictures, lab_of_searches, lab_of_views, lint_command, lint_in, lint_words_said, question_command, request_in, request_of, request_said, search_command, search_in, search_said, shown_said, showing_in, step_command, svg, svg_in, view_command, view_of, why_command, why_in};
 
 use apex_console::{CliFault, flag, has_flag, matches_of, option};
 use apex_objects::Form;
@@ -32,7 +32,7 @@ pub enum SourceWords<'a> {
 /// How a run is shown, by the words.
 #[derive(Clone, Copy)]
 pub enum ViewWords<'a> {
-    /// As SVG, with the texts of the numbers of the first entry and of the last, if they are given.
+    /// As SVG, with the texts of the first bound and of the last one, if they are given.
     Svg {
         first: Option<&'a str>,
         last: Option<&'a str>,
@@ -86,6 +86,8 @@ pub enum Request<'a> {
     Check { form: Form, comments: bool },
     /// For the reason of the entry of this number, of a run that is given in this way.
     Why(SourceWords<'a>, &'a str),
+    /// To write the value changes of a run that is given in this way.
+    Dump(SourceWords<'a>),
 }
 
 /// The command of this name, with the options that say how a run is given.
@@ -206,7 +208,8 @@ fn command<'a>(alloc: Global) -> Result<Command<'a>, AllocError>
     let searches = search_commands(alloc)?;
     let with_step = searches.subcommand(step_command(alloc)?)?;
     let with_check = with_step.subcommand(check_command(alloc)?)?;
-    with_check.subcommand(why_command(alloc)?)
+    let with_why = with_check.subcommand(why_command(alloc)?)?;
+    with_why.subcommand(view_command(alloc, "vcd")?)
 }
 
 /// What the words ask for: `svg`, `trace`, `lines`, `status`, `report` or `schedule`, with
@@ -214,8 +217,8 @@ fn command<'a>(alloc: Global) -> Result<Command<'a>, AllocError>
 /// `[--from N] [--to M]`, and `lines`, `status` and `report` with `[--json]`; or `search` with
 /// `--for WORD [--process P] [--service WORD] [--turns K] [--early E] [--states N]`; or `lint` with
 /// `[--json] [--name FILE] [--allow WORD,WORD]`; or `step` with `[--json]`;
-/// or `check` with `[--json] [--comments]`; or `why` with `--entry N` and a run as for `lines`. Other words
-/// are `Usage`.
+/// or `check` with `[--json] [--comments]`; or `why` with `--entry N` and a run as for `lines`; or
+/// `vcd` with a run as for `lines`. Other words are `Usage`.
 pub fn request_in<'a>(alloc: Global, words: &'a [String]) -> Result<Request<'a>, CliFault>
     ensures ok { IfOk result (λ r. request_of (map string_bytes words.entry.now)
         ≡ Some (request_said r)) }
@@ -358,6 +361,14 @@ fn why_given<'a>(matches: &ArgMatches<'a>) -> Option<Request<'a>>
     Some(Request::Why(source, entry))
 }
 
+/// The run whose value changes a command's matches ask for.
+fn dump_given<'a>(matches: &ArgMatches<'a>) -> Option<Request<'a>>
+    ensures { option_map request_said result ≡ dump_in (rows_of (found_of matches.now)) }
+{
+    let source = source_given(matches)?;
+    Some(Request::Dump(source))
+}
+
 /// What the command of this name asks for, by its matches.
 fn asked_by<'a>(name: &str, matches: &ArgMatches<'a>) -> Option<Request<'a>>
     ensures { option_map request_said result
@@ -372,6 +383,7 @@ fn asked_by<'a>(name: &str, matches: &ArgMatches<'a>) -> Option<Request<'a>>
             comments: comments_given(matches),
         }),
         "why" => why_given(matches),
+        "vcd" => dump_given(matches),
         _ => showing_given(name, matches),
     }
 }

@@ -5,6 +5,7 @@ ghost use Rattle.apex_json.specs.declared.strings.TheConstants.{MOST_ESCAPE};
 ghost use Rattle.apex_types.specs.declared.limits.TheConstants.{MOST_CORES};
 ghost use Rattle.apex_objects.specs.Answers.{count_object, fault_object, front_object, next_object};
 ghost use Rattle.apex_objects.specs.Parts.{or_null, process_object};
+ghost use Rattle.apex_objects.specs.declared.answers.TheConstants.{MOST_FAULT};
 ghost use Rattle.apex_objects.specs.declared.lines.TheConstants.{MOST_OBJECT, OBJECTS_ROOM};
 
 use crate::elements::{Element, put_array};
@@ -47,10 +48,13 @@ pub fn put_count(line: &mut ObjectLines, key: &str, count: u64)
     put(line, "}\n");
 }
 
-/// Puts the reason, of at most 64 bytes, why a command is not carried out.
+/// The most bytes of the reason why a command is not carried out.
+pub const MOST_FAULT: usize = 64;
+
+/// Puts the reason, of at most [`MOST_FAULT`] bytes, why a command is not carried out.
 #[tactic(auto, using(std::proofs::Common::append_assoc))]
 pub fn put_fault(line: &mut ObjectLines, reason: &str)
-    requires short { length reason.now ≤ 64 }
+    requires short { length reason.now ≤ MOST_FAULT }
     requires room { array_vec_len line.old + MOST_OBJECT ≤ OBJECTS_ROOM }
     ensures { line.new.items ≡ line.old.items ++ fault_object reason.now }
 {

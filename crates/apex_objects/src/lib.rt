@@ -14,11 +14,10 @@ mod messages;
 mod names;
 mod rows;
 mod texts;
-mod waiters;
 mod waits;
 mod writing;
 
-pub use answers::{put_count, put_fault, put_front, put_next};
+pub use answers::{MOST_FAULT, put_count, put_fault, put_front, put_next};
 pub use entries::put_entry_object;
 pub use forms::Form;
 pub use histories::print_history_objects;

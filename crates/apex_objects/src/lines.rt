@@ -17,8 +17,11 @@ use itoa::Buffer;
 /// The most bytes of a thing's id and of its name as a string.
 pub(crate) const THING_ROOM: usize = 20 + MOST_ESCAPE * MOST_NAME + 2;
 
+/// The most bytes of the keys of an element of an array, and of the comma before it.
+const KEYS_ROOM: usize = 64;
+
 /// The most bytes of an element of an array, with the comma before it.
-pub(crate) const ELEMENT_ROOM: usize = THING_ROOM + 64;
+pub(crate) const ELEMENT_ROOM: usize = THING_ROOM + KEYS_ROOM;
 
 /// The most bytes of the object of an entry or of a row, with its line feed: those of the two texts
 /// of a line, each byte escaped, those of the notices, and 512 more.

@@ -15,9 +15,8 @@ use crate::rows::{
     put_blackboard, put_buffer, put_core, put_event_flag, put_history, put_mode, put_mutex,
     put_process_row, put_semaphore, put_time,
 };
-use crate::waiters::waiters_in;
 use crate::writing::{hand_on, make_room};
-use apex_dispatch::{Kernel, Objects};
+use apex_dispatch::{Kernel, Objects, waiters_in};
 use apex_history::{Counted, Sink};
 use apex_machine::Queue;
 use apex_store::{Object, Store};

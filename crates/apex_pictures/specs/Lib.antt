@@ -1,3 +1,4 @@
+pub mod Excerpts
 pub mod Terms
 pub mod Texts
 pub mod Places

@@ -11,7 +11,7 @@ use Rattle.apex_pictures.specs.declared.styles.Style.TheVariants.{Svg, Trace}
 
 -- what comes before the columns
 abbrev pub head_text : Style → Table → List ℕ
-head_text (Svg frame) table = svg.head_text table frame
+head_text (Svg frame) table = svg.head_text frame
 head_text Trace table = trace.head_text table (moment_in table (opening table))
 
 -- a column
@@ -27,7 +27,7 @@ end_time machine =
 
 -- what comes after the columns
 abbrev pub foot_text : Style → Table → Machine → List ℕ
-foot_text (Svg frame) table machine = svg.key_text frame
+foot_text (Svg frame) table machine = svg.foot_text table frame
 foot_text Trace table machine =
     trace.foot_text table (end_time machine) machine.roster.now (moment_in table machine)
 

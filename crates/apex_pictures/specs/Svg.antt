@@ -14,6 +14,7 @@ use Rattle.apex_types.specs.declared.entries.Reply.TheVariants.{Advanced}
 use Rattle.apex_pictures.specs.Moments.{Shown, no_cell}
 use Rattle.apex_pictures.specs.Terms.{Caller, Cell, Entry, Notice, Reply, Wait}
 use Rattle.apex_pictures.specs.Texts.{xml_text}
+use Rattle.apex_pictures.specs.declared.excerpts.Excerpt.{Excerpt}
 use Rattle.apex_pictures.specs.declared.frames.Frame.{Frame}
 
 -- texts one behind the other
@@ -32,6 +33,13 @@ heading_of frame core = slice_index_or frame.headings.items core 0
 abbrev pub shows : Frame → ℕ → Bool
 shows frame number = nat_le frame.first number && nat_le number frame.last
 
+-- what comes before the columns
+unfoldable pub head_text : Frame → List ℕ
+head_text frame = texts (
+    codes "<svg xmlns='http://www.w3.org/2000/svg' width='" ∷ decimal frame.width
+    ∷ codes "' height='" ∷ decimal (frame.foot + 24)
+    ∷ codes "' font-family='DejaVu Sans, sans-serif' font-size='11'>\n" ∷ frame.style.now ∷ [])
+
 -- the heading of a core
 unfoldable pub heading_text : Frame → ℕ → List ℕ
 heading_text frame core = texts (
@@ -43,19 +51,6 @@ unfoldable pub label_text : Table → Frame → ℕ → List ℕ
 label_text table frame p = texts (
     codes "<text x='20' y='" ∷ decimal (row_of frame p + 13) ∷ codes "'>"
     ∷ id_text p ∷ codes " " ∷ xml_text (process_name table p) ∷ codes "</text>\n" ∷ [])
-
--- the head of the file
-unfoldable pub opening_text : Frame → List ℕ
-opening_text frame = texts (
-    codes "<svg xmlns='http://www.w3.org/2000/svg' width='" ∷ decimal frame.width
-    ∷ codes "' height='" ∷ decimal (frame.foot + 24)
-    ∷ codes "' font-family='DejaVu Sans, sans-serif' font-size='11'>\n" ∷ frame.style.now ∷ [])
-
--- what comes before the columns
-abbrev pub head_text : Table → Frame → List ℕ
-head_text table frame =
-    opening_text frame ++ texts_of (heading_text frame) table.cores
-    ++ texts_of (label_text table frame) (length table.processes)
 
 -- time goes on with a reply
 abbrev pub goes_on : Reply → Bool
@@ -236,7 +231,32 @@ column_text table frame entry shown =
     start_text frame entry.number ++ marks_text table frame entry shown ++ column_end
     else []
 
--- what comes after the columns: the key
+-- the head of the group of the labels: the white behind them, up to the first column
+unfoldable pub white_text : Frame → List ℕ
+white_text frame = texts (
+    codes "<g id='labels'>\n<rect width='" ∷ decimal frame.left
+    ∷ codes "' height='100%' fill='#fff'/>\n" ∷ [])
+
+-- the key
 unfoldable pub key_text : Frame → List ℕ
 key_text frame = texts (
     codes "<g transform='translate(0," ∷ decimal frame.foot ∷ codes ")'>" ∷ frame.key.now ∷ [])
+
+-- what a picture shows, of which more was asked for
+unfoldable pub excerpt_text : Excerpt → List ℕ
+excerpt_text excerpt = texts (
+    codes "<text x='700' y='9'>entries " ∷ decimal excerpt.first ∷ codes " to "
+    ∷ decimal excerpt.last ∷ codes " of " ∷ decimal excerpt.entries ∷ codes "</text>" ∷ [])
+
+-- the note of what a picture shows, if more was asked for
+abbrev pub note_text : Option Excerpt → List ℕ
+note_text None = []
+note_text (Some excerpt) = excerpt_text excerpt
+
+-- what comes after the columns: the group of the labels, which a script keeps in sight. It has a
+-- heading for each core, a label for each process, and the key, with the note behind it.
+abbrev pub foot_text : Table → Frame → List ℕ
+foot_text table frame =
+    white_text frame ++ texts_of (heading_text frame) table.cores
+    ++ texts_of (label_text table frame) (length table.processes)
+    ++ key_text frame ++ note_text frame.excerpt ++ frame.end.now

@@ -63,7 +63,7 @@ fn put_head(
     ensures { OnOk result (text.new.items ≡ text.old.items ++ head_text style.now table.now) }
 {
     match style {
-        Style::Svg(frame) => svg::put_head(text, table, frame),
+        Style::Svg(frame) => svg::put_head(text, frame),
         Style::Trace => trace::put_head(text, table, first),
     }
 }
@@ -83,7 +83,7 @@ fn put_foot<S: Store>(
         ++ foot_text style.now kernel.now.table kernel.now.machine) }
 {
     match style {
-        Style::Svg(frame) => svg::put_key(text, frame),
+        Style::Svg(frame) => svg::put_foot(text, kernel.table(), frame),
         Style::Trace => {
             kernel.holds();
             let end = instant.next(kernel.now());

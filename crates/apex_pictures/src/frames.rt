@@ -1,9 +1,11 @@
 //! The places of the columns and of the rows of a picture.
-ghost use Rattle.std.specs.Prelude.{◌≡◌, ◌+◌, ◌<◌, ◌≤◌, ◌^◌, length, min};
-ghost use Rattle.apex_types.specs.declared.limits.TheConstants.{MOST_CORES, MOST_ENTRIES, MOST_PROCESSES};
+ghost use Rattle.std.specs.Prelude.{◌≡◌, ◌<◌, ◌≤◌, ◌^◌, length};
+ghost use Rattle.apex_types.specs.declared.limits.TheConstants.{MOST_CORES, MOST_PROCESSES};
 ghost use Rattle.arrayvec.specs.ArrayVec.{array_vec_len};
+ghost use Rattle.apex_pictures.specs.Excerpts.{excerpt_of, last_drawn};
 ghost use Rattle.apex_pictures.specs.Svg.{heading_of, row_of, shows};
 
+use crate::excerpts::{Excerpt, excerpt_of, last_drawn};
 use crate::moments::CORES;
 use crate::svg::bare_line;
 use crate::words::name_of;
@@ -33,7 +35,11 @@ const STYLE: &str =
 
 /// The meaning of each mark.
 const KEY: &str =
-    "<rect class='RUNNING' x='20' y='0' width='16' height='10'/><text x='40' y='9'>running</text><rect class='READY' x='110' y='0' width='16' height='10'/><text x='130' y='9'>ready</text><rect class='WAITING' x='185' y='0' width='16' height='10'/><text x='205' y='9'>waiting</text><rect class='owns' x='270' y='4' width='16' height='3'/><text x='290' y='9'>owns a mutex</text><circle class='ring' cx='395' cy='5' r='4'/><text x='405' y='9'>caller</text><path class='woken' d='M460,0 h10 l-5,9 z'/><text x='474' y='9'>woken</text><path class='released' d='M530,0 h10 l-5,9 z'/><text x='544' y='9'>released</text><path class='missed' d='M610,0 h10 l-5,9 z'/><text x='624' y='9'>missed</text></g>\n</svg>\n";
+    "<rect class='RUNNING' x='20' y='0' width='16' height='10'/><text x='40' y='9'>running</text><rect class='READY' x='110' y='0' width='16' height='10'/><text x='130' y='9'>ready</text><rect class='WAITING' x='185' y='0' width='16' height='10'/><text x='205' y='9'>waiting</text><rect class='owns' x='270' y='4' width='16' height='3'/><text x='290' y='9'>owns a mutex</text><circle class='ring' cx='395' cy='5' r='4'/><text x='405' y='9'>caller</text><path class='woken' d='M460,0 h10 l-5,9 z'/><text x='474' y='9'>woken</text><path class='released' d='M530,0 h10 l-5,9 z'/><text x='544' y='9'>released</text><path class='missed' d='M610,0 h10 l-5,9 z'/><text x='624' y='9'>missed</text>";
+
+/// The end of the file, behind the key: a script that keeps the labels in sight.
+const END: &str =
+    "</g>\n</g>\n<script>\naddEventListener('scroll',()=>document.getElementById('labels').setAttribute('transform','translate('+scrollX+',0)'))\n</script>\n</svg>\n";
 
 /// The entries of a history that are drawn as SVG, and the places of their columns and of the rows.
 #[derive(Drop)]
@@ -42,6 +48,8 @@ pub struct Frame {
     pub first: u32,
     /// The number of the last one.
     pub last: u32,
+    /// What is drawn, if more was asked for.
+    pub excerpt: Option<Excerpt>,
     pub(crate) width: u32,
     /// The height at which the calls end and the rows begin.
     pub(crate) top: u32,
@@ -59,6 +67,8 @@ pub struct Frame {
     pub(crate) style: &'static str,
     /// The meaning of each mark.
     pub(crate) key: &'static str,
+    /// The end of the file.
+    pub(crate) end: &'static str,
 }
 
 /// The core to which a call binds this process.
@@ -180,17 +190,23 @@ fn instant_letters(now: u64) -> u32
 }
 
 impl Frame {
-    /// The frame for the entries of a kernel's history with these numbers, 2,000 at the most.
+    /// The frame for the entries of a kernel's history with these numbers, [`MOST_COLUMNS`] at the
+    /// most.
+    ///
+    /// [`MOST_COLUMNS`]: crate::MOST_COLUMNS
     pub fn new<S: Store>(kernel: &Kernel<S>, first: u32, last: u32) -> Frame
-        requires { (1 ≤ first) × (first ≤ MOST_ENTRIES) }
         ensures first { result.first ≡ first }
-        ensures last { result.last ≡ min last (first + 1999) }
+        ensures last { result.last ≡ last_drawn first last }
+        ensures excerpt { result.excerpt
+            ≡ excerpt_of first last (length kernel.now.machine.history) }
     {
         let table = kernel.table();
-        let last = last.min(first + 1999);
-        let end = kernel.entries().len().min(last as usize);
+        let entries = kernel.entries().len();
+        let excerpt = excerpt_of(first, last, entries);
+        let last = last_drawn(first, last);
+        let end = entries.min(last as usize);
         let columns = (end as u32).saturating_sub(first) + 1;
-        let longest = longest_call(kernel, first as usize - 1, end);
+        let longest = longest_call(kernel, first.saturating_sub(1) as usize, end);
         let top = 20 + RISE * longest;
         let left = 50 + LETTER * longest_name(table);
         let cores = cores_of(table);
@@ -199,6 +215,7 @@ impl Frame {
         Frame {
             first,
             last,
+            excerpt,
             width: (left + STEP * columns + ADVANCE * longest + 30).max(700),
             top,
             bottom,
@@ -208,6 +225,7 @@ impl Frame {
             headings: headings_of(cores.as_slice(), table.cores(), top),
             style: STYLE,
             key: KEY,
+            end: END,
         }
     }
 

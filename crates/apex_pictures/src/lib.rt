@@ -6,6 +6,7 @@
 mod counters;
 mod counts;
 mod drawing;
+mod excerpts;
 mod frames;
 mod instants;
 mod laws;
@@ -21,6 +22,7 @@ mod words;
 
 pub use counts::Counts;
 pub use drawing::{DrawFault, draw};
+pub use excerpts::{Excerpt, MOST_COLUMNS};
 pub use frames::Frame;
 pub use laws::{columns_say_entries, moments_are_in_order, texts_are_read_back};
 pub use moments::{Cell, Moment};

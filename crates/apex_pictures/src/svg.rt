@@ -1,9 +1,10 @@
-//! A picture as SVG: its head, its columns and its key.
+//! A picture as SVG: its head, its columns, and its labels and key.
 ghost use Rattle.std.specs.Prelude.{◌≡◌, ◌≤◌, ◌++◌, drop, flat_map, length, OnOk};
 ghost use Rattle.apex_calls.specs.Lines.{IsPrintable, line_of};
 ghost use Rattle.apex_machine.specs.text.Listing.{texts_of};
-ghost use Rattle.apex_pictures.specs.Svg.{bare, bar_text, call_end, call_text, cell_at, cell_end, cell_part, cell_text, circle_text, column_end, column_text, dash_text, dash_to, heading_text, head_text, instant_text, is_timed, key_text, label_text, marks_text, mutex_text, notice_process, opening_text, owns_part, ring_text, said_text, start_text, time_text, title_text, waits_part, wedge_text};
+ghost use Rattle.apex_pictures.specs.Svg.{bare, bar_text, call_end, call_text, cell_at, cell_end, cell_part, cell_text, circle_text, column_end, column_text, dash_text, dash_to, excerpt_text, foot_text, heading_text, head_text, instant_text, is_timed, key_text, label_text, marks_text, mutex_text, note_text, notice_process, owns_part, ring_text, said_text, start_text, time_text, title_text, waits_part, wedge_text, white_text};
 
+use crate::excerpts::Excerpt;
 use crate::frames::Frame;
 use crate::moments::{Cell, Moment};
 use crate::texts::{Part, put, put_all, put_xml};
@@ -54,9 +55,9 @@ fn put_label(
     )
 }
 
-/// Puts the head of the file.
-fn put_opening(text: &mut Vec<u8>, frame: &Frame) -> Result<(), AllocError>
-    ensures { OnOk result (text.new.items ≡ text.old.items ++ opening_text frame.now) }
+/// Puts what comes before the columns.
+pub(crate) fn put_head(text: &mut Vec<u8>, frame: &Frame) -> Result<(), AllocError>
+    ensures { OnOk result (text.new.items ≡ text.old.items ++ head_text frame.now) }
 {
     put_all(
         text,
@@ -69,16 +70,6 @@ fn put_opening(text: &mut Vec<u8>, frame: &Frame) -> Result<(), AllocError>
             Part::Plain(frame.style),
         ],
     )
-}
-
-/// Puts what comes before the columns: the headings of the cores and the labels of the rows.
-#[tactic(auto, using(std::proofs::Common::append_assoc))]
-pub(crate) fn put_head(text: &mut Vec<u8>, table: &Table, frame: &Frame) -> Result<(), AllocError>
-    ensures { OnOk result (text.new.items ≡ text.old.items ++ head_text table.now frame.now) }
-{
-    put_opening(text, frame)?;
-    put_headings(text, table, frame)?;
-    put_labels(text, table, frame)
 }
 
 fn put_headings(text: &mut Vec<u8>, table: &Table, frame: &Frame) -> Result<(), AllocError>
@@ -563,8 +554,22 @@ pub(crate) fn put_column(
     put_column_end(text)
 }
 
-/// Puts what comes after the columns: the key.
-pub(crate) fn put_key(text: &mut Vec<u8>, frame: &Frame) -> Result<(), AllocError>
+/// Puts the head of the group of the labels.
+fn put_white(text: &mut Vec<u8>, frame: &Frame) -> Result<(), AllocError>
+    ensures { OnOk result (text.new.items ≡ text.old.items ++ white_text frame.now) }
+{
+    put_all(
+        text,
+        &[
+            Part::Plain("<g id='labels'>\n<rect width='"),
+            Part::Number(u64::from(frame.left)),
+            Part::Plain("' height='100%' fill='#fff'/>\n"),
+        ],
+    )
+}
+
+/// Puts the key.
+fn put_key(text: &mut Vec<u8>, frame: &Frame) -> Result<(), AllocError>
     ensures { OnOk result (text.new.items ≡ text.old.items ++ key_text frame.now) }
 {
     put_all(
@@ -576,4 +581,46 @@ pub(crate) fn put_key(text: &mut Vec<u8>, frame: &Frame) -> Result<(), AllocErro
             Part::Plain(frame.key),
         ],
     )
+}
+
+/// Puts what a picture shows, of which more was asked for.
+fn put_excerpt(text: &mut Vec<u8>, excerpt: &Excerpt) -> Result<(), AllocError>
+    ensures { OnOk result (text.new.items ≡ text.old.items ++ excerpt_text excerpt.now) }
+{
+    put_all(
+        text,
+        &[
+            Part::Plain("<text x='700' y='9'>entries "),
+            Part::Number(u64::from(excerpt.first)),
+            Part::Plain(" to "),
+            Part::Number(u64::from(excerpt.last)),
+            Part::Plain(" of "),
+            Part::Number(excerpt.entries as u64),
+            Part::Plain("</text>"),
+        ],
+    )
+}
+
+/// Puts the note of what a picture shows, if more was asked for.
+fn put_note(text: &mut Vec<u8>, excerpt: &Option<Excerpt>) -> Result<(), AllocError>
+    ensures { OnOk result (text.new.items ≡ text.old.items ++ note_text excerpt.now) }
+{
+    match excerpt {
+        Some(excerpt) => put_excerpt(text, excerpt),
+        None => Ok(()),
+    }
+}
+
+/// Puts what comes after the columns: the headings of the cores, the labels of the rows, and the key,
+/// with the note behind it.
+#[tactic(auto, using(std::proofs::Common::append_assoc))]
+pub(crate) fn put_foot(text: &mut Vec<u8>, table: &Table, frame: &Frame) -> Result<(), AllocError>
+    ensures { OnOk result (text.new.items ≡ text.old.items ++ foot_text table.now frame.now) }
+{
+    put_white(text, frame)?;
+    put_headings(text, table, frame)?;
+    put_labels(text, table, frame)?;
+    put_key(text, frame)?;
+    put_note(text, &frame.excerpt)?;
+    put(text, frame.end)
 }

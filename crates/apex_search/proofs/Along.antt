@@ -13,12 +13,13 @@ use Rattle.apex_machine.specs.table.Table.{IsLawful, Table}
 use Rattle.apex_alike.proofs.Canonical.{canonical_situation}
 use Rattle.apex_alike.specs.Canonical.{canonical_roster}
 use Rattle.apex_pace.specs.Laws.{IsPace}
-use Rattle.apex_pace.specs.Pace.{Paced, paced_opening, paced_step}
+use Rattle.apex_pace.specs.Pace.{Paced, paced_opening, paced_run, paced_step}
 use Rattle.apex_search.specs.Answers.{SaysOfSchedules, events_along, event_and_later, schedule_of}
 use Rattle.apex_search.specs.Counts.{IsSameOnCores, IsSamePaced}
 use Rattle.apex_search.specs.Forms.{canonical_paced}
 use Rattle.apex_search.specs.Laws.{FormsHaveWords, FormsReach, FormsStandFor, StandsFor, StepsFor, WordsAreExact}
 use Rattle.apex_search.specs.Reached.{IsReached}
+use Rattle.apex_search.specs.Worst.{IsFormAfter}
 use Rattle.apex_search.specs.Steps.{FormsAreReady, IsFormed, Searched, choices_of, event_of, search_start, search_step}
 use Rattle.apex_search.specs.Terms.{Event, Pace}
 use Rattle.apex_search.proofs.Schedules.{Stand, event_allowed, says_of_schedules}
@@ -32,8 +33,23 @@ pub record IsAlong (system : Searched) (path : List ℕ) (here : Paced) (events 
   pub s : Paced
   pub later : ℕ
   pub stands : StandsFor system.pace later (canonical_paced system.pace formed.paced) s
+  pub run : s ≡ paced_run system.table (paced_opening system.table) events
   pub whole : schedule_of system path ≡ events ++ events_along system s (drop taken path)
   pub within : All (IsWithin system.table.cores) events
+
+pub run_push : (table : Table) (s : Paced) (events : List Event) (event : Event)
+    → paced_run table s (events ++ event ∷ []) ≡ paced_step table (paced_run table s events) event
+run_push table s [] event = refl
+run_push table s (e ∷ events) event = run_push table (paced_step table s e) events event
+
+-- the form is that of the situation to which the events lead
+pub form_after : (system : Searched) (path : List ℕ) (here : Paced) (events : List Event) (taken : ℕ)
+    → IsAlong system path here events taken → IsFormAfter system here events
+form_after system path here events taken along = record {
+  formed = along.formed;
+  later = along.later;
+  stands = subst (λ (s : Paced). StandsFor system.pace along.later (canonical_paced system.pace along.formed.paced) s) along.run along.stands;
+}
 
 same_itself : (s : Paced) → IsSamePaced s s
 same_itself s = record {
@@ -91,6 +107,7 @@ module _ (system : Searched) (is_pace : IsPace system.pace) (lawful : IsLawful s
       s = paced_opening table;
       later = shift;
       stands = opening_stands;
+      run = refl;
       whole = refl;
       within = λ k d h. absurd (omega (arith, h));
     }
@@ -152,6 +169,7 @@ module _ (system : Searched) (is_pace : IsPace system.pace) (lawful : IsLawful s
             s = paced_step table along.s event;
             later = steps.later;
             stands = steps.stands allowed;
+            run = ap (λ (p : Paced). paced_step table p event) along.run ∙ sym (run_push table opening events event);
             whole = along.whole
                 ∙ ap (λ (others : List Event). events ++ others) (left below ∙ ap rest (sym found))
                 ∙ sym (append_assoc events (event ∷ []) (events_along system (paced_step table along.s event) (drop (taken + 1) path)));

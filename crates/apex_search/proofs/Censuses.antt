@@ -8,7 +8,7 @@ use Rattle.apex_explore.specs.Paths.{IsHit}
 use Rattle.apex_explore.specs.Searches.{Weakens}
 use Rattle.apex_explore.specs.Systems.{Step, refuses, hits}
 use Rattle.apex_explore.specs.declared.searches.Search.{Search}
-use Rattle.apex_explore.proofs.Weaker.{IsSearched-weaker, Leads-weaker}
+use Rattle.apex_explore.proofs.Weaker.{Leads-weaker}
 use Rattle.apex_machine.specs.Deeds.{Deed}
 use Rattle.apex_machine.specs.Situations.{deed}
 use Rattle.apex_pace.specs.Pace.{Paced, paced_opening, paced_run}
@@ -18,6 +18,7 @@ use Rattle.apex_search.specs.Facts.{Shown, has_fact, has_one, is_code, is_fact, 
 use Rattle.apex_search.specs.Restored.{paced_from}
 use Rattle.apex_search.specs.Steps.{Searched, choices_of, event_of, search_start, search_step, step_by}
 use Rattle.apex_search.specs.Terms.{Event, Fact, Question, ReturnCode}
+use Rattle.apex_search.proofs.Narrower.{narrower_weakens, search_narrower, wider}
 use Rattle.apex_search.specs.declared.census.Census.{Census}
 use Rattle.apex_search.specs.declared.census.End.{End}
 use Rattle.apex_search.specs.declared.census.End.TheVariants.{Closed, Full}
@@ -186,40 +187,12 @@ module _ (system : Searched) where
       passes_one (has_one question (shown_of d)) question.facts found.0 (within found.0 found.1) found.2
 
   module _ (facts : List Fact) (within : (fact : Fact) → IsOneOf fact facts → IsOneOf fact question.facts) where
-    not_asked : (d : Deed) → has_fact question d ≡ false → has_fact (with_facts question facts) d ≡ false
-    not_asked d fails = elim (cases_Bool (has_fact (with_facts question facts) d)) [
-      | inl holds ↦ let both : true ≡ false = sym (asked_too facts within d holds) ∙ fails in cc
-      | inr none ↦ none
-    ]
-
-    weaker_by : (s : Paced) (found : Option Event)
-        → (step_by (asking system facts) s found ≡ step_by system s found) ⊎ (step_by system s found ≡ hits)
-    weaker_by s None = inl refl
-    weaker_by s (Some event) = elim (cases_Bool (has_fact question (deed system.table s.situation event))) [
-      | inl holds ↦ inr (rw holds refl)
-      | inr fails ↦ inl (rw (fails, not_asked (deed system.table s.situation event) fails) refl)
-    ]
-
-    within_own : (own : Bool) (new old : Step (List ℕ)) → (new ≡ old) ⊎ (old ≡ hits)
-        → ((if own then new else refuses) ≡ (if own then old else refuses)) ⊎ ((if own then old else refuses) ≡ hits)
-    within_own true new old same = same
-    within_own false new old same = inl refl
-
     -- a search for fewer facts has a weaker step
     pub fewer_facts : Weakens (makes system) (makes (asking system facts))
-    fewer_facts words choice =
-        let s = paced_from system.table words in
-        within_own (nat_lt choice (choices_of system)) (search_step (asking system facts) words choice) (search_step system words choice)
-        (weaker_by s (event_of system.pace system.table s choice))
+    fewer_facts = narrower_weakens system (with_facts question facts) (asked_too facts within)
 
-    wider : (events : List Event) → LeadsToFact (asking system facts) events → LeadsToFact system events
-    wider events leads = record {
-      earlier = leads.earlier;
-      last = leads.last;
-      is = leads.is;
-      keeps = leads.keeps;
-      has = asked_too facts within (deed system.table (paced_run system.table (paced_opening system.table) leads.earlier).situation leads.last) leads.has;
-    }
+    wider_facts : (events : List Event) → LeadsToFact (asking system facts) events → LeadsToFact system events
+    wider_facts = wider system (with_facts question facts) (asked_too facts within)
 
   only : (fact : Fact) → IsOneOf fact question.facts → (other : Fact) → IsOneOf other (fact ∷ []) → IsOneOf other question.facts
   only fact asked other (inl same) = subst (λ (f : Fact). IsOneOf f question.facts) (sym same) asked
@@ -227,8 +200,8 @@ module _ (system : Searched) where
 
   -- what an end says of all facts it says of each
   pub end_says : (end : End) → EndSays system end → (fact : Fact) → IsOneOf fact question.facts → EndSays (alone system fact) end
-  end_says (Closed states) says fact asked = λ events leads. says events (wider (fact ∷ []) (only fact asked) events leads)
-  end_says (Full depth) says fact asked = λ events short leads. says events short (wider (fact ∷ []) (only fact asked) events leads)
+  end_says (Closed states) says fact asked = λ events leads. says events (wider_facts (fact ∷ []) (only fact asked) events leads)
+  end_says (Full depth) says fact asked = λ events short leads. says events short (wider_facts (fact ∷ []) (only fact asked) events leads)
 
   -- a shortest path to one of the facts that leads to this one is a shortest one to it
   pub shortest_alone : (fact : Fact) → IsOneOf fact question.facts → (path : List ℕ)
@@ -239,7 +212,7 @@ module _ (system : Searched) where
   shortest_alone fact asked path shortest leads many = record {
     leads = leads;
     many = many;
-    shortest = λ other there. shortest.shortest other (wider (fact ∷ []) (only fact asked) other there);
+    shortest = λ other there. shortest.shortest other (wider_facts (fact ∷ []) (only fact asked) other there);
   }
 
   -- a path that hits does so for one of the facts
@@ -273,10 +246,7 @@ module _ (system : Searched) where
   -- a search for all of them is one for some
   search_fewer : (facts : List Fact) → ((fact : Fact) → IsOneOf fact facts → IsOneOf fact question.facts)
       → (search : Search Workplace) → IsSearchOf system search → IsSearchOf (asking system facts) search
-  search_fewer facts within search of = record {
-    over = of.over;
-    searched = IsSearched-weaker (makes (asking system facts)) (search_start system) search (makes system, fewer_facts facts within, of.searched);
-  }
+  search_fewer facts within = search_narrower system (with_facts question facts) (asked_too facts within)
 
 -- The findings so far.
 

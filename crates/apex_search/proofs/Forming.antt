@@ -1,12 +1,14 @@
 -- The canonical records, made one after the other.
-use Rattle.std.proofs.Common.{◌≡◌, ◌≢◌, ◌∙◌, ℕ, zero, suc, ◌+◌, ◌*◌, ◌<◌, ◌≤◌, List, [], ◌∷◌, length, get_or, set, drop, max, pos, ℤ, slice_index, subst, refl, sym, ap, arith, add-one, inl, inr}
+use Rattle.std.proofs.Common.{◌≡◌, ◌≢◌, ◌&&◌, Bool, false, count_by, ◌∙◌, ℕ, zero, suc, ◌+◌, ◌*◌, ◌<◌, ◌≤◌, List, [], ◌∷◌, length, get_or, set, drop, max, pos, ℤ, slice_index, subst, refl, sym, ap, arith, add-one, inl, inr}
 use Rattle.std.proofs.Math.Seq.{drop-cons}
 use Rattle.std.proofs.lemmas.Bool.{cases_eq}
 use Rattle.std.proofs.lemmas.List.{ext_get_or, get_or-set_other, get_or-set_same, length-set}
 use Rattle.apex_types.proofs.Places.{get_or-map_places, length-map_places}
-use Rattle.apex_alike.specs.Canonical.{IsFit, age, canonical_record, canonical_roster, oldest_age, rank}
+use Rattle.apex_alike.specs.Canonical.{IsFit, age, canonical_record, canonical_roster, oldest_age, rank, vies}
 use Rattle.apex_machine.specs.processes.Roster.{Roster, nobody, record_at}
+use Rattle.apex_machine.specs.processes.Running.{is_older}
 use Rattle.apex_search.specs.Forms.{AreRanks, form_of, with_form, with_forms}
+use Rattle.apex_search.specs.Records.{FitsRecord}
 use Rattle.apex_search.specs.Terms.{Mode, Record}
 use Rattle.apex_types.specs.declared.limits.TheConstants.{MOST_PROCESSES}
 use Rattle.apex_alike.proofs.Canonical.{oldest_less}
@@ -22,6 +24,15 @@ pub oldest_least : (now : ℕ) (rs : List Record) (p : ℕ) → p < length rs
 oldest_least now [] p within = absurd (omega (arith, within))
 oldest_least now (r ∷ rs) zero within = omega arith
 oldest_least now (r ∷ rs) (suc p) within = omega (arith, oldest_least now rs p (omega (arith, within)))
+
+-- a process without rivals has none that are older
+none_counted : (is : Record → Bool) (rs : List Record) → ((s : Record) → is s ≡ false) → count_by is rs ≡ 0
+none_counted is [] none = refl
+none_counted is (r ∷ rs) none = rw (none r) (none_counted is rs none)
+
+pub no_rank : (roster : Roster) (r : Record) → ((s : Record) → vies roster.mode r s ≡ false) → 0 ≡ rank roster r
+no_rank roster r none =
+    sym (none_counted (λ s. vies roster.mode r s && is_older s r) roster.records (λ s. rw (none s) refl))
 
 -- the ranks of the processes before a place are counted
 pub record AreRanked (roster : Roster) (ranks : List ℕ) (place : ℕ) : Type 0 where
@@ -139,3 +150,23 @@ canonical_made old made mode now count young is oldest same many next =
     let all : count ≡ length old.records =
     many ∙ ap (λ (x : Roster). length x.records) is ∙ length-map_places (canonical_record old now) 0 old.records in
     rw (next, all, same, is, oldest) refl
+
+-- The canonical records, read one by one.
+
+pub length-canonical : (roster : Roster) → length (canonical_roster roster).records ≡ length roster.records
+length-canonical roster = length-map_places (canonical_record roster (oldest_age roster.now roster.records)) 0 roster.records
+
+pub canonical_at : (roster : Roster) (now place : ℕ) (r : Record) → place < length roster.records
+    → now ≡ oldest_age roster.now roster.records → r ≡ canonical_record roster now place (record_at roster place)
+    → r ≡ get_or (canonical_roster roster).records place nobody
+canonical_at roster now place r within is form =
+    let z : 0 + place ≡ place = omega arith in
+    let oldest = oldest_age roster.now roster.records in
+    form ∙ ap (λ (n : ℕ). canonical_record roster n place (record_at roster place)) is
+    ∙ ap (λ (k : ℕ). canonical_record roster oldest k (record_at roster place)) (sym z)
+    ∙ sym (get_or-map_places (canonical_record roster oldest) 0 roster.records place nobody nobody within)
+
+pub canonical_stamp : (roster : Roster) (now place : ℕ) (r : Record) → r ≡ canonical_record roster now place (record_at roster place)
+    → FitsRecord r
+canonical_stamp roster now place r form =
+    record { stamp = 1 + (rank roster (record_at roster place) * length roster.records + place); since = ap (λ (x : Record). x.since) form }

@@ -34,5 +34,7 @@ pub mod Stepping
 pub mod Storable
 pub mod Within
 pub mod WordsBack
+pub mod Narrower
 pub mod Censuses
 pub mod Striking
+pub mod Responses

@@ -1,5 +1,6 @@
 -- The first state of a search.
 use Rattle.std.proofs.Common.{◌≡◌, ◌≤◌, ◌<◌, ◌^◌, false, List, [], ◌∷◌, length, get_or, sym, ap, subst, arith}
+use Rattle.apex_alike.specs.Canonical.{IsFit}
 use Rattle.apex_laws.specs.Laws.{OfEachTable}
 use Rattle.apex_machine.specs.Deeds.{Objects}
 use Rattle.apex_machine.specs.Machine.{objects_after}
@@ -13,7 +14,7 @@ use Rattle.apex_search.specs.Forms.{canonical_paced}
 use Rattle.apex_search.specs.Laws.{FormsReach}
 use Rattle.apex_search.specs.Restored.{IsOfTable}
 use Rattle.apex_search.specs.Steps.{FormIsReady, FormsAreReady, PartsAreKept, form_words}
-use Rattle.apex_search.specs.Stored.{FitsWords, words_of}
+use Rattle.apex_search.specs.Stored.{FitsWords}
 use Rattle.apex_search.specs.Terms.{Pace}
 use Rattle.apex_search.proofs.Stepping.{paced_is}
 
@@ -39,9 +40,12 @@ module _ (pace : Pace) (is_pace : IsPace pace) (few : pace.turns < 2 ^ 32) (tabl
   pub start_ready : FormIsReady pace table (paced_opening table)
   start_ready = ready table lawful pace is_pace few (paced_opening table) bounds.opens
 
-  module _ (form : Paced) (same : IsSamePaced form (canonical_paced pace (paced_opening table))) where
-    pub start_fits : FitsWords table form
-    start_fits = subst (FitsWords table) (sym (paced_is same)) start_ready.fits
+  module _ (opened : Paced) (same : IsSamePaced opened (paced_opening table)) where
+    pub start_fit : IsFit opened.situation.roster
+    start_fit = subst (λ (p : Paced). IsFit p.situation.roster) (sym (paced_is same)) bounds.opens.fit
 
-    pub start_words_are : words_of table form ≡ form_words pace table (paced_opening table)
-    start_words_are = ap (words_of table) (paced_is same)
+    pub start_fits : FitsWords table (canonical_paced pace opened)
+    start_fits = subst (λ (p : Paced). FitsWords table (canonical_paced pace p)) (sym (paced_is same)) start_ready.fits
+
+    pub start_words_are : form_words pace table opened ≡ form_words pace table (paced_opening table)
+    start_words_are = ap (form_words pace table) (paced_is same)

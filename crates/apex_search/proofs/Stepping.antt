@@ -26,7 +26,7 @@ use Rattle.apex_alike.specs.Canonical.{IsFit, canonical, canonical_record, oldes
 use Rattle.apex_alike.specs.Closed.{IsSameSituation}
 use Rattle.apex_dispatch.specs.Deeds.{Does}
 use Rattle.apex_explore.specs.Systems.{step_of}
-use Rattle.apex_explore.specs.declared.systems.Taken.TheVariants.{Refused, Next, Hit}
+use Rattle.apex_explore.specs.declared.systems.Taken.TheVariants.{Next, Hit}
 use Rattle.apex_pace.specs.Laws.{IsPace}
 use Rattle.apex_pace.specs.Pace.{Paced, is_allowed, paced_step}
 use Rattle.apex_search.specs.Counts.{IsSameOnCores, IsSamePaced}
@@ -80,6 +80,14 @@ shown_is d who asked answer left objects after does =
     ∙ ap (λ (r : Reply). shown d.caller d.call r after left) does.outcome.reply
     ∙ ap (λ (ns : List Notice). shown d.caller d.call d.outcome.reply ns left) does.outcome.notices
     ∙ ap (shown d.caller d.call d.outcome.reply d.outcome.notices) does.outcome.roster
+
+-- each is the same as itself
+pub paced_refl : (s : Paced) → IsSamePaced s s
+paced_refl s = record {
+  situation = record { roster = refl; objects = refl; works = λ core. refl; made = refl };
+  turns = λ core. refl;
+  worked = λ core. refl;
+}
 
 -- the forms of situations that are the same on the cores
 same_forms : (pace : Pace) (one other : Paced) → IsSameOnCores one other
@@ -163,32 +171,19 @@ module _ (pace : Pace) (is_pace : IsPace pace) (few : pace.turns < 2 ^ 32) (tabl
         pub form_fits : FitsWords table form
         form_fits = subst (FitsWords table) (sym form_is) next_ready.fits
 
-        pub form_parts : OfEachTable PartsAreKept → IsOfTable table form.situation
-        form_parts kept =
-            subst (λ (p : Paced). IsOfTable table p.situation) (sym form_is)
-            (canonical_parts pace table (paced_step table here event) (kept table lawful (paced_step table here event) next_reached))
-
         pub form_words_are : (words : List ℕ) → words ≡ words_of table form → words ≡ form_words pace table (paced_step table here event)
         form_words_are words is = is ∙ ap (words_of table) form_is
 
         pub is_form : (words : List ℕ) → words ≡ words_of table form → IsForm pace table words
         is_form words is = record { paced = paced_step table here event; form = form_words_are words is; reached = next_reached }
 
-  -- what came of the choice
-  pub step_refused : (question : Question) (choice : ℕ) (next : List ℕ) → None ≡ event_of pace table here choice
-      → step_of Refused next ≡ step_by (searched table pace question) here (event_of pace table here choice)
-  step_refused question choice next none = ap (step_by (searched table pace question) here) none
-
-  pub step_hit : (question : Question) (choice : ℕ) (next : List ℕ) (event : Event) → Some event ≡ event_of pace table here choice
+  -- what came of the event
+  pub step_hit : (question : Question) (next : List ℕ) (event : Event)
       → true ≡ has_fact question (deed table here.situation event)
-      → step_of Hit next ≡ step_by (searched table pace question) here (event_of pace table here choice)
-  step_hit question choice next event found has =
-      let struck : step_of Hit next ≡ step_by (searched table pace question) here (Some event) = rw (← has) refl in
-      struck ∙ ap (step_by (searched table pace question) here) found
+      → step_of Hit next ≡ step_by (searched table pace question) here (Some event)
+  step_hit question next event has = rw (← has) refl
 
-  pub step_next : (question : Question) (choice : ℕ) (next : List ℕ) (event : Event) → Some event ≡ event_of pace table here choice
+  pub step_next : (question : Question) (next : List ℕ) (event : Event)
       → false ≡ has_fact question (deed table here.situation event) → next ≡ form_words pace table (paced_step table here event)
-      → step_of Next next ≡ step_by (searched table pace question) here (event_of pace table here choice)
-  step_next question choice next event found has words =
-      let gone : step_of Next next ≡ step_by (searched table pace question) here (Some event) = rw (← has, words) refl in
-      gone ∙ ap (step_by (searched table pace question) here) found
+      → step_of Next next ≡ step_by (searched table pace question) here (Some event)
+  step_next question next event has words = rw (← has, words) refl

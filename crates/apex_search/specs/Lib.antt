@@ -14,3 +14,4 @@ pub mod Steps
 pub mod Answers
 pub mod Laws
 pub mod Census
+pub mod Worst

@@ -1,6 +1,6 @@
 -- The transition system of a table under a pace: its states are words, and its choices are a turn of
 -- each core and the tick that may come.
-use Rattle.std.specs.Prelude.{◌≡◌, ℕ, ◌+◌, ◌^◌, ◌<◌, false, List, nat_lt, Option, None, Some, option_map, if◌then◌else◌}
+use Rattle.std.specs.Prelude.{◌≡◌, ℕ, ◌+◌, ◌^◌, ◌<◌, ◌≤◌, false, List, nat_lt, Option, None, Some, option_map, if◌then◌else◌}
 use Rattle.apex_explore.specs.Systems.{Step, refuses, goes, hits}
 use Rattle.apex_laws.specs.GoesOn.{CanGoOn}
 use Rattle.apex_machine.specs.Events.{IsWithin}
@@ -16,6 +16,7 @@ use Rattle.apex_search.specs.Restored.{IsOfTable, IsStored, paced_from}
 use Rattle.apex_search.specs.Stored.{FitsWords, words_of}
 use Rattle.apex_search.specs.Terms.{Event, Pace, Question}
 use Rattle.apex_search.specs.declared.systems.Workplace.{Workplace}
+use Rattle.apex_types.specs.Limits.{latest}
 use Rattle.apex_types.specs.declared.entries.Event.TheVariants.{Turn, Tick}
 
 -- a table under a pace, and what is looked for
@@ -73,12 +74,33 @@ pub record IsFormed (pace : Pace) (table : Table) (here : Paced) : Type 0 where
   pub reached : IsReached table paced
   pub same : IsSamePaced here (canonical_paced pace paced)
 
--- the workplace has a situation of the table, and a process that isn't created
+-- the workplace has two situations of the table, and a process that isn't created
 pub record IsWorkplace (table : Table) (workplace : Workplace) : Type 0 where
-  pub stored : StoredPaced
-  pub here : workplace.paced ≡ Some stored
-  pub of : IsOfTable table (paced_in stored).situation
+  pub here : StoredPaced
+  pub made : StoredPaced
+  pub is_here : workplace.here ≡ Some here
+  pub is_made : workplace.made ≡ Some made
+  pub here_of : IsOfTable table (paced_in here).situation
+  pub made_of : IsOfTable table (paced_in made).situation
   pub blank : workplace.blank.created ≡ false
+
+-- the choices in the workplace are made in the situation of these words
+pub record IsIn (table : Table) (workplace : Workplace) (words : List ℕ) : Type 0 where
+  pub here : StoredPaced
+  pub is_here : workplace.here ≡ Some here
+  pub same : IsSamePaced (paced_in here) (paced_from table words)
+
+-- the choices in the workplace are made in a situation that is not too late
+pub record IsHereInTime (workplace : Workplace) : Type 0 where
+  pub here : StoredPaced
+  pub is_here : workplace.here ≡ Some here
+  pub time : (paced_in here).situation.roster.now ≤ latest
+
+-- a choice leads to this event
+pub record IsChosen (pace : Pace) (table : Table) (s : Paced) (event : Event) : Type 0 where
+  pub choice : ℕ
+  pub found : event_of pace table s choice ≡ Some event
+  pub within : IsWithin table.cores event
 
 -- the counts still fit in words after the event
 abbrev pub AreWordsAfter : Event → Paced → Type 0

@@ -13,14 +13,14 @@ use apex_pace::Pace;
 use apex_types::CoreId;
 
 /// The turns count up to those of the pace.
-fn kept_turns(pace: Pace, turns: u64) -> u64
+pub(crate) fn kept_turns(pace: Pace, turns: u64) -> u64
     ensures { result ≡ kept_turns pace turns }
 {
     turns.min(u64::from(pace.turns))
 }
 
 /// The ticks since open work began count up to its amount, and only for unbroken work.
-fn kept_worked(begun: Option<OpenWork>, worked: u64) -> u64
+pub(crate) fn kept_worked(begun: Option<OpenWork>, worked: u64) -> u64
     ensures { result ≡ kept_worked begun worked }
 {
     match begun {

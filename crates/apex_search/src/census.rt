@@ -41,7 +41,11 @@ pub struct Census {
 impl TableSystem {
     /// Searches on for one of the facts. Fails only for want of memory: nothing is known of the
     /// search then.
-    fn go_on(&self, alloc: Global, search: &mut Search<Workplace>) -> Result<Answer, AllocError>
+    pub(crate) fn go_on(
+        &self,
+        alloc: Global,
+        search: &mut Search<Workplace>,
+    ) -> Result<Answer, AllocError>
         requires { IsSearchOf self.now search.old }
         ensures says { IfOk result (SaysOfSchedules self.now) }
         ensures hits { IfOk result (FoundHits self.now) }

@@ -29,7 +29,7 @@ pub enum Fact {
     Refused(ReturnCode),
     /// A job ended with PERIODIC_WAIT this many ticks after the process's last release or later, or
     /// more than a period after it.
-    Response(u32),
+    Response(u64),
     /// The entry leaves a standstill: in NORMAL a process is started, but no core has a process to
     /// run, and no wait ends by itself and no deadline passes ever more.
     Standstill,

@@ -1,12 +1,13 @@
 //! The canonical form of the processes: stamps by ranks, instants from the oldest release that
 //! matters on, and nothing that does not matter.
-ghost use Rattle.std.specs.Prelude.{◌≡◌, ◌+◌, ◌*◌, ◌<◌, ◌≤◌, ◌&&◌, length, pos};
+ghost use Rattle.std.specs.Prelude.{◌≡◌, true, false, ◌+◌, ◌*◌, ◌<◌, ◌≤◌, ◌&&◌, length, pos};
 ghost use Rattle.apex_types.specs.declared.limits.TheConstants.{MOST_PROCESSES};
 ghost use Rattle.apex_machine.specs.processes.Periods.{HasNoFutureRelease, awaits_first};
 ghost use Rattle.apex_machine.specs.processes.Roster.{record_at};
 ghost use Rattle.apex_machine.specs.processes.Running.{is_older};
-ghost use Rattle.apex_alike.specs.Canonical.{IsFit, age, canonical_roster, earlier, oldest_age, rank, recent, shares, vies};
-ghost use Rattle.apex_search.specs.Forms.{AreRanks, with_form, with_forms};
+ghost use Rattle.apex_alike.specs.Canonical.{IsFit, age, canonical_record, canonical_roster, earlier, oldest_age, rank, recent, shares, vies};
+ghost use Rattle.apex_search.specs.Forms.{AreRanks, form_of, with_form, with_forms};
+ghost use Rattle.apex_search.specs.Terms.{Record};
 
 use apex_machine::{Queue, Record, Wait};
 use apex_store::{PlainStore, Store};
@@ -37,7 +38,14 @@ fn vies(mode: Mode, one: &Record, other: &Record) -> bool
 fn is_older_rival(mode: Mode, one: &Record, other: &Record) -> bool
     ensures { result ≡ (vies mode one.now other.now && is_older other.now one.now) }
 {
-    vies(mode, one, other) && other.since < one.since
+    other.since < one.since && vies(mode, one, other)
+}
+
+/// The process vies for no core, and is in no queue: so it has no rivals.
+fn is_alone(mode: Mode, fields: &Record) -> bool
+    ensures { result ≡ true → (other : Record) → vies mode fields.now other ≡ false }
+{
+    !fields.is_eligible(mode) && fields.queue().is_none()
 }
 
 /// The number of rivals with older stamps.
@@ -46,10 +54,14 @@ fn rank(store: &PlainStore, process: ProcessId) -> u64
     ensures value { result ≡ rank store.now (record_at store.now process) }
     ensures range { result ≤ MOST_PROCESSES }
 {
-    let (mode, fields) = (store.mode(), store.record(process));
+    // A copy, so that the loop need not read it again.
+    let (mode, fields) = (store.mode(), *store.record(process));
+    if is_alone(mode, &fields) {
+        return 0;
+    }
     let mut older = 0;
     for place in 0..store.process_count() {
-        if is_older_rival(mode, fields, store.record(ProcessId::at(place as u8))) {
+        if is_older_rival(mode, &fields, store.record(ProcessId::at(place as u8))) {
             older += 1;
         }
     }
@@ -57,7 +69,7 @@ fn rank(store: &PlainStore, process: ProcessId) -> u64
 }
 
 /// The ranks of all processes.
-fn ranks(store: &PlainStore) -> [u64; MOST_PROCESSES]
+pub(crate) fn ranks(store: &PlainStore) -> [u64; MOST_PROCESSES]
     ensures { AreRanks store.now result }
 {
     let mut ranks = [0; MOST_PROCESSES];
@@ -104,7 +116,7 @@ fn age(now: u64, fields: &Record) -> u64
 }
 
 /// The greatest age of a release.
-fn oldest_age(store: &PlainStore) -> u64
+pub(crate) fn oldest_age(store: &PlainStore) -> u64
     requires { HasNoFutureRelease store.now }
     ensures value { result ≡ oldest_age store.now.now store.now.records }
     ensures range { result ≤ store.now.now }
@@ -145,6 +157,25 @@ fn next_stamp(count: usize) -> i64
     (1 + (count as u64 + 1) * count as u64) as i64
 }
 
+/// The canonical record of a process that has this one, at this stamp and time in ticks.
+#[inline(always)]
+fn form_of(store: &PlainStore, fields: &Record, since: i64, now: u64) -> Record
+    requires release { fields.now.release ≤ store.now.now }
+    requires age { age store.now.now fields.now ≤ now }
+    requires now { now ≤ store.now.now }
+    ensures { result ≡ form_of store.now since now fields.now }
+{
+    let ticks = store.now() - now;
+    Record {
+        since,
+        due: earlier(ticks, fields.due),
+        deadline: earlier(ticks, fields.deadline),
+        release: now - age(store.now(), fields),
+        inbox: None,
+        ..*fields
+    }
+}
+
 /// The process has its canonical record from now on, at this stamp and time in ticks.
 fn put_form(store: &mut PlainStore, process: ProcessId, since: i64, now: u64)
     requires known { process < length store.old.records }
@@ -153,16 +184,7 @@ fn put_form(store: &mut PlainStore, process: ProcessId, since: i64, now: u64)
     requires now { now ≤ store.old.now }
     ensures { store.new ≡ with_form store.old process since now }
 {
-    let fields = *store.record(process);
-    let ticks = store.now() - now;
-    let form = Record {
-        since,
-        due: earlier(ticks, fields.due),
-        deadline: earlier(ticks, fields.deadline),
-        release: now - age(store.now(), &fields),
-        inbox: None,
-        ..fields
-    };
+    let form = form_of(store, store.record(process), since, now);
     store.put(process, form);
 }
 
@@ -178,6 +200,25 @@ fn put_forms(store: &mut PlainStore, ranks: &[u64; MOST_PROCESSES], now: u64)
         let since = stamp(ranks[place], count, place);
         put_form(store, ProcessId::at(place as u8), since, now);
     }
+}
+
+/// The canonical record of the process at this place, at this time in ticks.
+#[inline(always)]
+pub(crate) fn canonical_record(
+    store: &PlainStore,
+    ranks: &[u64; MOST_PROCESSES],
+    now: u64,
+    place: usize,
+) -> Record
+    requires known { place < length store.now.records }
+    requires fit { IsFit store.now }
+    requires ranks { AreRanks store.now ranks.now }
+    requires now { now ≡ oldest_age store.now.now store.now.records }
+    ensures { result ≡ canonical_record store.now now place (record_at store.now place) }
+{
+    let count = store.process_count();
+    let since = stamp(ranks[place], count, place);
+    form_of(store, store.record(ProcessId::at(place as u8)), since, now)
 }
 
 /// The processes have their canonical form from now on.

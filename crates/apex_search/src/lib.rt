@@ -21,6 +21,7 @@ mod stored;
 mod systems;
 mod ticks;
 mod usual;
+mod worst;
 
 pub use census::{Census, End, Finding};
 pub use facts::{Fact, Facts, MOST_FACTS};
@@ -30,3 +31,4 @@ pub use laws::{
 };
 pub use questions::Question;
 pub use systems::{TableSystem, Workplace};
+pub use worst::{Slowest, Worst};

@@ -69,18 +69,18 @@ fn is_job_end(deed: &Deed) -> bool
 }
 
 /// The age is this many ticks or more, or more than the period.
-fn is_age(ticks: u32, period: Option<Span>, age: u64) -> bool
+fn is_age(ticks: u64, period: Option<Span>, age: u64) -> bool
     ensures { result ≡ is_age ticks period age }
 {
     match period {
-        Some(period) => u64::from(ticks).min(u64::from(period.ticks()) + 1) <= age,
+        Some(period) => ticks.min(u64::from(period.ticks()) + 1) <= age,
         None => false,
     }
 }
 
 /// The process has been released, and its last release is this many ticks ago or more, or more than
 /// a period ago.
-fn is_released_for(ticks: u32, now: u64, fields: &Record) -> bool
+fn is_released_for(ticks: u64, now: u64, fields: &Record) -> bool
     ensures { result ≡ is_released_for ticks now fields.now }
 {
     if !fields.started || matches!(&fields.wait, Some(Wait::Normal(_)) | Some(Wait::Start)) {
@@ -94,7 +94,7 @@ fn is_released_for(ticks: u32, now: u64, fields: &Record) -> bool
 }
 
 /// The caller's last release is so.
-fn is_caller_aged<S: Store>(ticks: u32, store: &S, caller: &Caller) -> bool
+fn is_caller_aged<S: Store>(ticks: u64, store: &S, caller: &Caller) -> bool
     ensures { result ≡ is_caller_aged ticks (S.roster store.now) caller.now }
 {
     match caller {

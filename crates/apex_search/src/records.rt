@@ -18,6 +18,8 @@ const BEFORE_OWNED: usize = 7;
 
 /// The words of a process: a word of bytes and one of marks, then those of its wait, its stamp, its
 /// due, its deadline, its release, and the mutexes that it owns.
+// Inlined, so that a record is not put together before its words are.
+#[inline(always)]
 pub(crate) fn record_words(created: bool, fields: &Record) -> [u64; RECORD_WORDS]
     requires { FitsRecord fields.now }
     ensures { result ≡ record_words created fields.now }

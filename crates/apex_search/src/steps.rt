@@ -1,5 +1,5 @@
 //! The events of a paced situation, and one choice of a search.
-ghost use Rattle.std.specs.Prelude.{◌≡◌, ◌+◌, ◌<◌, ◌≤◌, ◌^◌, length, IfOk, IfSome};
+ghost use Rattle.std.specs.Prelude.{◌≡◌, Some, ◌+◌, ◌<◌, ◌≤◌, ◌^◌, length, IfOk, IfSome};
 ghost use Rattle.apex_types.specs.Limits.{latest};
 ghost use Rattle.apex_types.specs.declared.entries.Event.TheVariants.{Turn, Tick};
 ghost use Rattle.apex_types.specs.declared.limits.TheConstants.{MOST_TICKS};
@@ -13,7 +13,7 @@ ghost use Rattle.apex_search.specs.Counts.{IsSameOnCores, IsSamePaced, count_at,
 ghost use Rattle.apex_search.specs.Facts.{has_fact, has_some, shown, shown_of};
 ghost use Rattle.apex_search.specs.Laws.{FormsReach};
 ghost use Rattle.apex_search.specs.Restored.{IsOfTable};
-ghost use Rattle.apex_search.specs.Steps.{AreWordsAfter, IsForm, IsFormed, event_of, searched, step_by};
+ghost use Rattle.apex_search.specs.Steps.{AreWordsAfter, IsChosen, IsForm, IsFormed, event_of, searched, step_by};
 ghost use Rattle.apex_search.specs.Stored.{word_count};
 
 use crate::counts::Counts;
@@ -131,14 +131,14 @@ impl PacedSituation {
         }
     }
 
-    /// Makes the choice in this situation, which is in canonical form, and puts the words of the
+    /// Makes the event in this situation, which is in canonical form, and puts the words of the
     /// form that it goes on to into `next`. Answers what came of it, and the situation then.
     pub(crate) fn step(
         mut self,
         pace: Pace,
         table: &Table,
         question: &Question,
-        choice: u32,
+        event: Event,
         notices: &mut Notices,
         next: &mut [u64],
     ) -> (Taken, PacedSituation)
@@ -146,8 +146,9 @@ impl PacedSituation {
         requires reach { FormsReach table.now }
         requires form { IsFormed pace table.now (paced_in self) }
         requires room { length next.old ≡ word_count table.now }
+        requires event { IsChosen pace table.now (paced_in self) event }
         ensures step { step_of result.0 next.new ≡ step_by (searched table.now pace question.now)
-            (paced_in self) (event_of pace table.now (paced_in self) choice) }
+            (paced_in self) (Some event) }
         ensures state { GoesTo (IsForm pace table.now) (step_of result.0 next.new) }
         ensures parts { IsOfTable table.now (paced_in result.1).situation }
     {
@@ -155,14 +156,10 @@ impl PacedSituation {
         turns_are_few(pace);
         forms_are_ready();
         parts_are_kept();
-        let Some(event) = self.event(pace, table, choice) else {
-            return (Taken::Refused, self);
-        };
         if self.make(table, question, event, notices) {
             return (Taken::Hit, self);
         }
-        let form = self.canonical(pace);
-        form.put_words(table, next);
-        (Taken::Next, form)
+        self.put_words(pace, table, next);
+        (Taken::Next, self)
     }
 }

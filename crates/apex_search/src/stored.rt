@@ -1,10 +1,14 @@
 //! The words of a situation and of what a pace counts.
 ghost use Rattle.std.specs.Prelude.{◌≡◌, ◌+◌, ◌≤◌, length};
+ghost use Rattle.apex_alike.specs.Canonical.{IsFit, canonical_roster, oldest_age};
 ghost use Rattle.apex_search.specs.Counts.{paced_in};
+ghost use Rattle.apex_search.specs.Forms.{AreRanks, canonical_paced};
 ghost use Rattle.apex_search.specs.Parts.{ArePut, IsPut};
-ghost use Rattle.apex_search.specs.Stored.{AreFit, FitsWords, core_words, cores_words, counted_words, head_words, locks_words, records_words, word_count, words_of};
+ghost use Rattle.apex_search.specs.Stored.{FitsWords, core_words, cores_words, counted_words, head_words, locks_words, records_words, word_count, words_of};
 
+use crate::canonical::{kept_turns, kept_worked};
 use crate::codes::mode_word;
+use crate::forms::{canonical_record, oldest_age, ranks};
 use crate::objects::{
     BLACKBOARD_WORDS, BUFFER_WORDS, EVENT_FLAG_WORDS, MUTEX_WORDS, SEMAPHORE_WORDS,
 };
@@ -13,9 +17,10 @@ use crate::parts::{put, put_all};
 use crate::records::{RECORD_WORDS, record_words};
 use apex_dispatch::{Objects, ProcessObject};
 use apex_machine::OpenWork;
+use apex_pace::Pace;
 use apex_store::{Object, PlainStore, Store};
 use apex_table::Table;
-use apex_types::{CoreId, ProcessId};
+use apex_types::{CoreId, MOST_PROCESSES, ProcessId};
 
 /// The words before those of the cores: the mode, the time, and the number of init steps made.
 pub(crate) const HEAD_WORDS: usize = 3;
@@ -71,66 +76,79 @@ fn put_locks(objects: &Objects, words: &mut [u64], at: usize) -> usize
     put_all(objects.mutexes.as_slice(), words, at)
 }
 
-/// Puts the words of the processes at a place, and answers the place behind them.
+/// Puts the words of the canonical forms of the processes at a place, and answers the place behind
+/// them.
 fn put_records(
     processes: &[ProcessObject],
     store: &PlainStore,
+    ranks: &[u64; MOST_PROCESSES],
+    now: u64,
     words: &mut [u64],
     at: usize,
 ) -> usize
     requires many { length processes.now ≡ length store.now.records }
-    requires fits { AreFit store.now }
-    requires room { at + length (records_words processes.now store.now.records)
+    requires fit { IsFit store.now }
+    requires ranks { AreRanks store.now ranks.now }
+    requires now { now ≡ oldest_age store.now.now store.now.records }
+    requires room { at + length (records_words processes.now (canonical_roster store.now).records)
         ≤ length words.old }
-    ensures { IsPut (records_words processes.now store.now.records) at words.old result words.new }
+    ensures { IsPut (records_words processes.now (canonical_roster store.now).records) at words.old
+        result words.new }
 {
     let mut end = at;
     for place in 0..store.process_count() {
         let created = processes[place].is_created();
-        let fields = store.record(ProcessId::at(place as u8));
-        end = put(words, end, &record_words(created, fields));
+        let form = canonical_record(store, ranks, now, place);
+        end = put(words, end, &record_words(created, &form));
     }
     end
 }
 
 impl PacedSituation {
-    /// Puts the words of the cores at a place, and answers the place behind them.
-    fn put_cores(&self, table: &Table, words: &mut [u64], at: usize) -> usize
-        requires { at + length (cores_words table.now.cores (paced_in self.now))
+    /// The words of the head of the canonical form, at this time in ticks.
+    fn head_words(&self, now: u64) -> [u64; HEAD_WORDS]
+        requires { now ≡ oldest_age self.now.situation.roster.now self.now.situation.roster.records }
+        ensures { (pace : Pace) → result ≡ head_words (canonical_paced pace (paced_in self.now)) }
+    {
+        let mode = mode_word(self.situation.store().mode());
+        let made = self.situation.init_steps_made() as u64;
+        [mode, now, made]
+    }
+
+    /// Puts the words of the canonical form of the cores at a place, and answers the place behind
+    /// them.
+    fn put_cores(&self, pace: Pace, table: &Table, words: &mut [u64], at: usize) -> usize
+        requires { at + length (cores_words table.now.cores (canonical_paced pace (paced_in self.now)))
             ≤ length words.old }
-        ensures { IsPut (cores_words table.now.cores (paced_in self.now)) at words.old
-            result words.new }
+        ensures { IsPut (cores_words table.now.cores (canonical_paced pace (paced_in self.now))) at
+            words.old result words.new }
     {
         let mut end = at;
         for number in 0..table.cores() {
             let core = CoreId::new(number);
-            let (turns, worked) = (self.counts.turns(core), self.counts.worked(core));
+            let turns = kept_turns(pace, self.counts.turns(core));
+            let worked = kept_worked(self.work(core), self.counts.worked(core));
             end = put(words, end, &core_words(self.work(core), turns, worked));
         }
         end
     }
 
-    /// The words of the head.
-    fn head_words(&self) -> [u64; HEAD_WORDS]
-        ensures { result ≡ head_words (paced_in self.now) }
-    {
-        let mode = mode_word(self.situation.store().mode());
-        let made = self.situation.init_steps_made() as u64;
-        [mode, self.situation.now(), made]
-    }
-
-    /// Puts the words of the processes at a place, and answers the place behind them.
-    fn put_processes(&self, words: &mut [u64], at: usize) -> usize
+    /// Puts the words of the canonical forms of the processes, at this time in ticks, at a place, and
+    /// answers the place behind them.
+    fn put_processes(&self, now: u64, words: &mut [u64], at: usize) -> usize
         requires many { length self.now.situation.objects.processes
             ≡ length self.now.situation.roster.records }
-        requires fits { AreFit self.now.situation.roster }
+        requires fit { IsFit self.now.situation.roster }
+        requires now { now ≡ oldest_age self.now.situation.roster.now
+            self.now.situation.roster.records }
         requires room { at + length (records_words self.now.situation.objects.processes
-            self.now.situation.roster.records) ≤ length words.old }
+            (canonical_roster self.now.situation.roster).records) ≤ length words.old }
         ensures { IsPut (records_words self.now.situation.objects.processes
-            self.now.situation.roster.records) at words.old result words.new }
+            (canonical_roster self.now.situation.roster).records) at words.old result words.new }
     {
         let processes = self.situation.objects().processes.as_slice();
-        put_records(processes, self.situation.store(), words, at)
+        let store = self.situation.store();
+        put_records(processes, store, &ranks(store), now, words, at)
     }
 
     /// Puts the words of the other objects at a place.
@@ -145,16 +163,18 @@ impl PacedSituation {
         put_locks(objects, words, at);
     }
 
-    /// Puts the words of the situation, whose processes are in canonical form, and of what the pace
-    /// counts into these.
-    pub(crate) fn put_words(&self, table: &Table, words: &mut [u64])
-        requires fits { FitsWords table.now (paced_in self.now) }
+    /// Puts the words of the canonical form of the situation, and of what the pace counts, into
+    /// these.
+    pub(crate) fn put_words(&self, pace: Pace, table: &Table, words: &mut [u64])
+        requires fit { IsFit self.now.situation.roster }
+        requires fits { FitsWords table.now (canonical_paced pace (paced_in self.now)) }
         requires room { length words.old ≡ word_count table.now }
-        ensures { words.new ≡ words_of table.now (paced_in self.now) }
+        ensures { words.new ≡ words_of table.now (canonical_paced pace (paced_in self.now)) }
     {
-        let at = put(words, 0, &self.head_words());
-        let at = self.put_cores(table, words, at);
-        let at = self.put_processes(words, at);
+        let now = oldest_age(self.situation.store());
+        let at = put(words, 0, &self.head_words(now));
+        let at = self.put_cores(pace, table, words, at);
+        let at = self.put_processes(now, words, at);
         self.put_objects(words, at);
     }
 }

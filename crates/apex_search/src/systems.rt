@@ -1,5 +1,5 @@
 //! A table under a pace, and a question, as a system to search.
-ghost use Rattle.std.specs.Prelude.{◌≡◌, All, IfOk, length};
+ghost use Rattle.std.specs.Prelude.{◌≡◌, All, IfOk, IfSome, length};
 ghost use Rattle.apex_machine.specs.Events.{IsWithin};
 ghost use Rattle.apex_machine.specs.table.Table.{IsLawful};
 ghost use Rattle.apex_pace.specs.Laws.{IsPace};
@@ -7,13 +7,13 @@ ghost use Rattle.apex_pace.specs.Pace.{paced_opening};
 ghost use Rattle.apex_search.specs.Answers.{SaysOfSchedules, schedule_of};
 ghost use Rattle.apex_search.specs.Census.{asking};
 ghost use Rattle.apex_search.specs.Counts.{IsSamePaced, paced_in};
-ghost use Rattle.apex_search.specs.Forms.{canonical_paced};
 ghost use Rattle.apex_search.specs.Laws.{FormsReach};
 ghost use Rattle.apex_search.specs.Restored.{IsStored, paced_from};
-ghost use Rattle.apex_search.specs.Steps.{IsWorkplace, form_words};
+ghost use Rattle.apex_search.specs.Steps.{IsHereInTime, IsIn, IsWorkplace, event_of, form_words};
 ghost use Rattle.apex_search.specs.Stored.{word_count};
+ghost use Rattle.apex_search.specs.Worst.{IsFormAfter, responding};
 
-use crate::facts::Facts;
+use crate::facts::{Fact, Facts};
 use crate::laws::{forms_stand_for_situations, same_forms_have_the_same_words, words_are_exact};
 use crate::paced::PacedSituation;
 use crate::premises::{forms_are_ready, forms_reach, parts_are_kept, turns_are_few};
@@ -24,7 +24,7 @@ use apex_dispatch::{Objects, ProcessObject};
 use apex_explore::{Answer, System, Taken, explore};
 use apex_pace::Pace;
 use apex_table::Table;
-use apex_types::{Event, Notices};
+use apex_types::{Event, Notices, ProcessId};
 use std::alloc::{AllocError, Global};
 use std::marker::Model;
 
@@ -44,7 +44,10 @@ pub struct TableSystem {
 /// What an event of a search is made in.
 #[derive(Drop)]
 pub struct Workplace {
-    paced: Option<PacedSituation>,
+    /// The situation in which the choices are made.
+    here: Option<PacedSituation>,
+    /// The one that the last choice made of it.
+    made: Option<PacedSituation>,
     /// A process that isn't created.
     blank: ProcessObject,
     notices: Notices,
@@ -74,40 +77,75 @@ impl Workplace {
         parts_are_kept();
         let objects = Objects::new(alloc, table)?;
         let blank = objects.processes[0];
+        let here = PacedSituation::opening(alloc, table)?;
+        let made = PacedSituation::opening(alloc, table)?;
         Ok(Workplace {
-            paced: Some(PacedSituation::opening(alloc, table)?),
+            here: Some(here),
+            made: Some(made),
             blank,
             notices: Notices::new(),
         })
     }
 
-    /// The situation of these words, in the memory of the last one.
-    fn restored(&mut self, table: &Table, words: &[u64]) -> PacedSituation
+    /// From now on the choices are made in the situation of these words.
+    fn enter(&mut self, table: &Table, words: &[u64])
         requires workplace { IsWorkplace table.now self.old }
         requires words { IsStored table.now words.now }
-        ensures paced { IsSamePaced (paced_in result) (paced_from table.now words.now) }
+        ensures inside { IsIn table.now self.new words.now }
+        ensures made { self.new.made ≡ self.old.made }
         ensures blank { self.new.blank ≡ self.old.blank }
     {
-        match self.paced.take() {
-            Some(paced) => paced.restored(table, self.blank, words),
+        match self.here.take() {
+            Some(here) => self.here = Some(here.restored(table, self.blank, words)),
+            None => unreachable!(),
+        }
+    }
+
+    /// The event of a choice, if it is allowed.
+    fn event(&self, pace: Pace, table: &Table, choice: u32) -> Option<Event>
+        requires { IsHereInTime self.now }
+        ensures event { IfSome self.now.here
+            (λ here. result ≡ event_of pace table.now (paced_in here) choice) }
+        ensures range { IfSome result (IsWithin table.now.cores) }
+    {
+        match &self.here {
+            Some(here) => here.event(pace, table, choice),
+            None => unreachable!(),
+        }
+    }
+
+    /// The situation of these words, in which the choices are made, in the memory of what the last
+    /// choice made of it.
+    fn copied(&mut self, table: &Table, words: &[u64]) -> PacedSituation
+        requires workplace { IsWorkplace table.now self.old }
+        requires words { IsStored table.now words.now }
+        requires inside { IsIn table.now self.old words.now }
+        ensures copied { IsSamePaced (paced_in result) (paced_from table.now words.now) }
+        ensures here { self.new.here ≡ self.old.here }
+        ensures blank { self.new.blank ≡ self.old.blank }
+    {
+        let Some(made) = self.made.take() else {
+            unreachable!()
+        };
+        match &self.here {
+            Some(here) => made.copied(table, here, self.blank, words),
             None => unreachable!(),
         }
     }
 }
 
-/// Puts the words of this situation, which is the canonical form of that before any event.
+/// Puts the words of the canonical form of this situation, which is that before any event.
 fn put_start(paced: &PacedSituation, table: &Table, pace: Pace, words: &mut [u64])
     requires pace { IsPace pace }
     requires reach { FormsReach table.now }
-    requires start { IsSamePaced (paced_in paced.now)
-        (canonical_paced pace (paced_opening table.now)) }
+    requires start { IsSamePaced (paced_in paced.now) (paced_opening table.now) }
     requires room { length words.old ≡ word_count table.now }
     ensures { words.new ≡ form_words pace table.now (paced_opening table.now) }
 {
     table.lawful();
     turns_are_few(pace);
     forms_are_ready();
-    paced.put_words(table, words);
+    paced.put_words(pace, table, words);
 }
 
 /// The words of the canonical form of the situation before any event. Fails only for want of
@@ -118,7 +156,7 @@ fn start_words(alloc: Global, table: &Table, pace: Pace) -> Result<Vec<u64>, All
     ensures { IfOk result (λ words. words.items
         ≡ form_words pace table.now (paced_opening table.now)) }
 {
-    let paced = PacedSituation::opening(alloc, table)?.canonical(pace);
+    let paced = PacedSituation::opening(alloc, table)?;
     let mut words = vec![in alloc; 0; word_count(table)]?;
     put_start(&paced, table, pace, words.as_mut_slice());
     Ok(words)
@@ -169,6 +207,21 @@ impl TableSystem {
         ensures events { IfOk result (λ events. events.items ≡ schedule_of self.now path.now) }
         ensures within { IfOk result (λ events. All (IsWithin self.now.table.cores) events.items) }
     {
+        let (events, _) = self.follow(alloc, path)?;
+        Ok(events)
+    }
+
+    /// The events of the choices of a path, up to one that is not allowed, and the canonical form of
+    /// the situation to which they lead. Fails only for want of memory.
+    pub(crate) fn follow(
+        &self,
+        alloc: Global,
+        path: &[u32],
+    ) -> Result<(Vec<Event>, PacedSituation), AllocError>
+        ensures events { IfOk result (λ led. led.0.items ≡ schedule_of self.now path.now) }
+        ensures within { IfOk result (λ led. All (IsWithin self.now.table.cores) led.0.items) }
+        ensures form { IfOk result (λ led. IsFormAfter self.now (paced_in led.1) led.0.items) }
+    {
         self.table.lawful();
         turns_are_few(self.pace);
         forms_are_ready();
@@ -178,13 +231,13 @@ impl TableSystem {
         let mut notices = Notices::new();
         for choice in path {
             let Some(event) = paced.event(self.pace, &self.table, *choice) else {
-                return Ok(events);
+                return Ok((events, paced));
             };
             events.push(event)?;
             let _ = paced.make(&self.table, &self.question, event, &mut notices);
             paced = paced.canonical(self.pace);
         }
-        Ok(events)
+        Ok((events, paced))
     }
 
     /// What the answers of a search rest on.
@@ -210,6 +263,17 @@ impl TableSystem {
         self.question.facts = facts;
     }
 
+    /// From now on the question is for a response of this process of at least this many ticks.
+    pub(crate) fn ask_for_response(&mut self, process: ProcessId, ticks: u64)
+        ensures { self.new ≡ responding self.old process ticks }
+    {
+        self.question = Question {
+            facts: Facts::one(Fact::Response(ticks)),
+            process: Some(process),
+            service: None,
+        };
+    }
+
     /// The table.
     pub fn table(&self) -> &Table
         ensures { result.now ≡ self.now.table }
@@ -219,7 +283,7 @@ impl TableSystem {
 }
 
 impl System for TableSystem {
-    ghost use Rattle.apex_search.specs.Steps.{IsForm, IsWorkplace, choices_of, search_start, search_step};
+    ghost use Rattle.apex_search.specs.Steps.{IsForm, IsIn, IsWorkplace, choices_of, search_start, search_step};
     ghost use Rattle.apex_search.specs.Stored.{word_count};
 
     type Workspace = Workplace;
@@ -235,6 +299,8 @@ impl System for TableSystem {
     ghost is_state = { λ s. IsForm s.pace s.table };
 
     ghost is_workspace = { λ s. IsWorkplace s.table };
+
+    ghost is_in = { λ s. IsIn s.table };
 
     fn width(&self) -> usize {
         word_count(&self.table)
@@ -255,6 +321,15 @@ impl System for TableSystem {
         state.copy_from_slice(self.start.as_slice());
     }
 
+    fn enter(&self, workplace: &mut Workplace, state: &[u64]) {
+        self.table.lawful();
+        turns_are_few(self.pace);
+        words_are_exact();
+        forms_are_ready();
+        parts_are_kept();
+        workplace.enter(&self.table, state);
+    }
+
     fn next(
         &self,
         workplace: &mut Workplace,
@@ -266,17 +341,20 @@ impl System for TableSystem {
         turns_are_few(self.pace);
         words_are_exact();
         forms_are_ready();
-        let paced = workplace.restored(&self.table, state);
+        let Some(event) = workplace.event(self.pace, &self.table, choice) else {
+            return Taken::Refused;
+        };
+        let paced = workplace.copied(&self.table, state);
         let notices = &mut workplace.notices;
-        let (taken, paced) = paced.step(
+        let (taken, made) = paced.step(
             self.pace,
             &self.table,
             &self.question,
-            choice,
+            event,
             notices,
             next,
         );
-        workplace.paced = Some(paced);
+        workplace.made = Some(made);
         taken
     }
 }

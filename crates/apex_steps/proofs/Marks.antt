@@ -8,7 +8,7 @@ use Rattle.apex_types.specs.declared.entries.Event.TheVariants.{Turn, Tick}
 use Rattle.apex_machine.specs.table.Table.{Table}
 use Rattle.apex_machine.specs.Machine.{Machine, accept, event_of, events_of, happen, opening, replay, run, tick, turn}
 use Rattle.apex_laws.proofs.Runs.{accept-full, accept-room, run-append}
-use Rattle.apex_steps.proofs.Runs.{length-run}
+use Rattle.apex_console.proofs.ItemRuns.{length-run}
 use Rattle.apex_dispatch.specs.Kernel.{KernelState, kernel_in}
 use Rattle.apex_steps.specs.Kept.{AreKept, is_kept_as, mark_kept, session_kept}
 use Rattle.apex_steps.specs.Sessions.{Mark, Session, after_events, gone_back, in_state_of, is_named, marked, marks_from}

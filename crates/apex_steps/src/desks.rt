@@ -17,10 +17,19 @@ use std::io::Result;
 use std::result::Result as Fallible;
 
 /// A desk, at which an answer is put together before it is written, in either form.
-#[derive(Drop)]
 pub(crate) struct Desk {
     lines: LineDesk,
     objects: ObjectDesk,
+}
+
+// Whoever owns a desk lets it go in one step, and not in one for each field.
+impl Drop for Desk {
+    fn drop(self) {
+        let Desk {
+            lines: _lines,
+            objects: _objects,
+        } = self;
+    }
 }
 
 impl Desk {

@@ -6,7 +6,6 @@ mod busy;
 mod commands;
 mod conversations;
 mod desks;
-mod events;
 mod faults;
 mod line_desks;
 mod object_desks;

@@ -163,10 +163,11 @@ impl LineDesk {
     pub(crate) fn new(alloc: Global) -> Fallible<LineDesk, AllocError>
         ensures { IfOk result (λ desk. desk.lines.items ≡ []) }
     {
+        let page = Page::new(alloc)?;
         Ok(LineDesk {
             lines: Lines::new(),
             steps: NextSteps::new(),
-            page: Page::new(alloc)?,
+            page,
         })
     }
 

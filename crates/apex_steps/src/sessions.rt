@@ -1,5 +1,5 @@
 //! A session: the kernel of a table, and the states of it that are marked.
-ghost use Rattle.std.specs.Prelude.{◌≡◌, ◌<◌, ◌≤◌, true, length, drop, take, All, IfOk, vec_len};
+ghost use Rattle.std.specs.Prelude.{◌≡◌, ◌<◌, ◌≤◌, ◌∷◌, true, length, drop, take, All, IfOk, OnErr, OnOk, vec_len};
 ghost use Rattle.std.specs.List.{position};
 ghost use Rattle.apex_machine.specs.Events.{IsWithin};
 ghost use Rattle.apex_machine.specs.Machine.{events_of, opening, run};
@@ -9,12 +9,12 @@ ghost use Rattle.apex_steps.specs.Sessions.{after_events, marked, opening_sessio
 ghost use Rattle.apex_steps.specs.Kept.{HasGoneBack, is_kept_as};
 ghost use Rattle.apex_steps.specs.Answers.{has_room_for};
 
-use crate::events::{event_of, run_items};
-use apex_dispatch::Kernel;
-use apex_history::Log;
+use apex_console::{booted, run_items};
+use apex_dispatch::{Kernel, events_in};
 use apex_process::QueueStore;
 use apex_schedules::{Item, are_cores_below};
 use apex_table::Table;
+use apex_types::Event;
 use std::alloc::{AllocError, Global};
 use std::marker::Model;
 
@@ -26,12 +26,46 @@ struct Mark {
     entries: u32,
 }
 
+impl Mark {
+    fn new(alloc: Global, name: &[u8], entries: u32) -> Result<Mark, AllocError>
+        ensures name { IfOk result (λ mark. mark.name.items ≡ name.now) }
+        ensures entries { IfOk result (λ mark. mark.entries ≡ entries) }
+    {
+        let mut kept = Vec::with_capacity(alloc, name.len())?;
+        kept.extend_from_slice(name)?;
+        Ok(Mark {
+            name: kept,
+            entries,
+        })
+    }
+}
+
+/// Puts a mark before the others.
+fn put_mark(marks: &mut Vec<Mark>, mark: Mark) -> Result<(), AllocError>
+    ensures ok { OnOk result (marks.new.items ≡ mark ∷ marks.old.items) }
+    ensures err { OnErr result (marks.new.items ≡ marks.old.items) }
+{
+    match marks.insert(0, mark) {
+        Ok(()) => Ok(()),
+        Err(_) => Err(AllocError),
+    }
+}
+
 /// A session: the kernel of a table, and the states of it that are marked.
-#[derive(Drop)]
 pub struct Session {
     kernel: Kernel<QueueStore>,
     /// The latest mark first.
     marks: Vec<Mark>,
+}
+
+// Whoever owns a session lets it go in one step, and not in one for each field of its kernel.
+impl Drop for Session {
+    fn drop(self) {
+        let Session {
+            kernel: _kernel,
+            marks: _marks,
+        } = self;
+    }
 }
 
 impl Model for Session {
@@ -46,28 +80,21 @@ impl Model for Session {
     ghost invariant = { λ s. AreKept (length s.kernel.machine.history) s.marks.items };
 }
 
-/// The kernel of the table before any event.
-fn booted(alloc: Global, table: Table) -> Result<Kernel<QueueStore>, AllocError>
-    ensures { IfOk result (λ kernel. kernel ≡ kernel_in table (opening table) kernel.store) }
+/// A kernel of the table that has made these events.
+fn kernel_after(
+    alloc: Global,
+    table: Table,
+    events: &[Event],
+) -> Result<Kernel<QueueStore>, AllocError>
+    requires { All (IsWithin table.cores) events.now }
+    ensures table { IfOk result (λ kernel. kernel.table ≡ table) }
+    ensures machine { IfOk result
+        (λ kernel. kernel.machine ≡ run table (opening table) events.now) }
 {
-    let store = QueueStore::new(alloc, &table)?;
-    Kernel::boot(alloc, table, store)
-}
-
-/// Makes the events of the first entries of the log on a kernel before any event.
-fn replay(kernel: &mut Kernel<QueueStore>, log: &Log, entries: u32)
-    requires opened { kernel.old.machine ≡ opening kernel.old.table }
-    requires few { entries ≤ length log.now.entries }
-    requires within { All (IsWithin kernel.old.table.cores) (events_of log.now.entries) }
-    ensures table { kernel.new.table ≡ kernel.old.table }
-    ensures machine { kernel.new.machine ≡ run kernel.old.table (opening kernel.old.table)
-        (take entries (events_of log.now.entries)) }
-{
-    for place in 0..entries as usize {
-        let event = event_of(&log.entry(place));
-        // The log had room for it.
-        let _ = kernel.accept(event);
-    }
+    let mut kernel = booted(alloc, table)?;
+    // Events for which the history has no room change nothing.
+    let _ran = kernel.run(events);
+    Ok(kernel)
 }
 
 /// The place of the latest mark with this name.
@@ -119,19 +146,11 @@ impl Session {
     pub(crate) fn mark(&mut self, alloc: Global, name: &[u8]) -> Result<(), AllocError>
         ensures { IfOk result (λ done. self.new ≡ marked name.now self.old) }
     {
-        let mut kept = Vec::with_capacity(alloc, name.len())?;
-        kept.extend_from_slice(name)?;
         self.kernel.holds();
         self.kernel.table().lawful();
         let entries = self.kernel.entries().len() as u32;
-        let mark = Mark {
-            name: kept,
-            entries,
-        };
-        if self.marks.insert(0, mark).is_err() {
-            return Err(AllocError);
-        }
-        Ok(())
+        let mark = Mark::new(alloc, name, entries)?;
+        put_mark(&mut self.marks, mark)
     }
 
     /// Goes back to the latest mark with this name, whose events are made anew. Without such a mark
@@ -143,12 +162,13 @@ impl Session {
             return Ok((self, false));
         };
         self.kernel.holds();
+        let events = events_in(alloc, &self.kernel)?;
         let Session { kernel, marks } = self;
         let marks = from_place(marks, place);
-        let entries = marks[0].entries;
-        let (table, log) = kernel.into_parts();
-        let mut kernel = booted(alloc, table)?;
-        replay(&mut kernel, &log, entries);
+        let entries = marks[0].entries as usize;
+        let all = events.as_slice();
+        let first = &all[..entries];
+        let kernel = kernel_after(alloc, kernel.into_table(), first)?;
         Ok((Session { kernel, marks }, true))
     }
 }

@@ -1,5 +1,5 @@
 -- What a source gives, and the ways in which a showing ends, by what was at fault.
-use Rattle.std.proofs.Common.{◌≡◌, inl, inr, List, ℕ, Option, None, Some, Ok, ap, refl, subst, sym}
+use Rattle.std.proofs.Common.{◌≡◌, ◌∙◌, inl, inr, List, ℕ, Option, None, Some, Ok, ap, length, refl, subst, sym}
 use Rattle.apex_machine.specs.Machine.{Machine}
 use Rattle.apex_machine.specs.table.Table as tables
 use Rattle.apex_types.specs.declared.entries.Entry.{Entry}
@@ -22,9 +22,11 @@ use Rattle.apex_console.specs.declared.CliFault.TheVariants.{Memory, Read, Write
 use Rattle.apex_pictures.specs.Drawing.{CountsDrawFault}
 use Rattle.apex_pictures.specs.declared.DrawFault.{DrawFault}
 use Rattle.apex_pictures.specs.declared.DrawFault.TheVariants as draw
-use Rattle.apex_views.specs.Shows.{Answers, Gives, Outcome, ShowEnds, Shows, at_fault, cut_off, departed, departs, end_of, fails, first_fault, IsRunTo, legal, no_memory, outcome_in, ran, refused, shown, shows, stops, unread, unwritten, whole}
-use Rattle.apex_views.specs.Plans.{AppendsPrefixOfView, AppendsView, fault_of_drawing}
-use Rattle.apex_views.specs.Showings.{Picture, Showing, Source, View, drawn, history}
+use Rattle.apex_pictures.specs.declared.Style.{Style}
+use Rattle.apex_pictures.specs.declared.Style.TheVariants as styles
+use Rattle.apex_views.specs.Shows.{Answers, Gives, Outcome, ShowEnd, ShowEnds, Shows, at_fault, cut_off, departed, departs, end_of, fails, first_fault, IsRunTo, legal, no_memory, outcome_in, ran, refused, shown, shows, stops, unread, unwritten, whole}
+use Rattle.apex_views.specs.Plans.{AppendsPrefixOfView, AppendsView, IsStyleOf, excerpt_at, excerpt_in, excerpt_with, fault_of_drawing}
+use Rattle.apex_views.specs.Showings.{Picture, Showing, Source, View, drawn, history, svg, trace}
 use Rattle.apex_views.specs.declared.sources.Given.{Given}
 use Rattle.apex_views.specs.declared.sources.Given.TheVariants as given
 use Rattle.apex_views.specs.declared.faults.ShowFault.TheVariants.{Common}
@@ -40,6 +42,7 @@ outcome_of (runs_to table machine fault) = shows table machine fault
 pub outcome_is : (answer : Answer) (run : Given) → IsRunTo answer run → outcome_in (Ok run) ≡ outcome_of answer
 outcome_is answer (given.Picture plan) is = sym (ap outcome_of is)
 outcome_is answer (given.Listing listing run) is = sym (ap outcome_of is)
+outcome_is answer (given.Empty window run) is = sym (ap outcome_of is)
 outcome_is answer (given.Departed verdict) is = absurd is
 
 module _ {left : Option (List ℕ)} {failed : ℕ} where
@@ -70,6 +73,7 @@ module _ {left : Option (List ℕ)} {failed : ℕ} where
     pub gives_given : (run : Given) → IsRunTo answer run → Gives left failed source (outcome_in (Ok run)) after
     gives_given (given.Picture plan) is = gives_run _ _ _ is
     gives_given (given.Listing listing run) is = gives_run _ _ _ is
+    gives_given (given.Empty window run) is = gives_run _ _ _ is
     gives_given (given.Departed verdict) is = absurd is
 
   -- a text with a fault
@@ -121,10 +125,24 @@ pictures_failed draw.Write begun counts = rw counts (unwritten begun)
 
 -- a run that is shown in the view that is asked for
 pub ends_shown : {before after : Ports} (showing : Showing) (view : View) (table : tables.Table) (machine : Machine)
-    (fault reported ended : Option CliFault) → showing.view ≡ view
+    (fault reported : Option CliFault) → showing.view ≡ view
     → Gives before.left before.failed_reads showing.source (shows table machine reported) after.failed_reads
     → Shows view table machine before.held before.failed_writes fault after.held after.failed_writes
-    → ended ≡ first_fault fault reported → ShowEnds showing before (end_of ended) after
-ends_shown {before} {after} showing view table machine fault reported ended seen gives shows_view same =
-    rw same (shown table machine fault reported gives
+    → ShowEnds showing before (end_of (excerpt_in view machine.history) (first_fault fault reported)) after
+ends_shown {before} {after} showing view table machine fault reported seen gives shows_view =
+    subst (λ (v : View). ShowEnds showing before (end_of (excerpt_in v machine.history) (first_fault fault reported)) after) seen
+    (shown table machine fault reported gives
     (subst (λ (v : View). Shows v table machine before.held before.failed_writes fault after.held after.failed_writes) (sym seen) shows_view))
+
+-- the same, with the end that it has
+pub ends_as : {before after : Ports} (showing : Showing) (ends other : ShowEnd) → other ≡ ends → ShowEnds showing before ends after
+    → ShowEnds showing before other after
+ends_as showing ends other same shown_so = rw same shown_so
+
+-- what is drawn is what the style says
+pub excerpt_is : (picture : Picture) (entries : List Entry) (style : Style) → IsStyleOf picture entries style
+    → excerpt_in (drawn picture) entries ≡ excerpt_with style
+excerpt_is (svg window) entries (styles.Svg frame) is = ap (λ s. excerpt_at s (length entries)) is.is ∙ sym is.shows.excerpt
+excerpt_is (svg window) entries styles.Trace is = absurd is
+excerpt_is trace entries (styles.Svg frame) is = absurd is
+excerpt_is trace entries styles.Trace is = refl

@@ -5,3 +5,4 @@ pub mod Listed
 pub mod ListingEndings
 pub mod Parting
 pub mod Reporting
+pub mod Spans

@@ -7,11 +7,16 @@ use Rattle.apex_schedules.specs.declared.Place.{Place}
 use Rattle.apex_schedules.specs.declared.ScheduleFault.{ScheduleFault}
 use Rattle.apex_schedules.specs.declared.ScheduleFault.TheVariants as schedules
 use Rattle.apex_types.specs.declared.limits.TheConstants.{MOST_ENTRIES}
+use Rattle.apex_pictures.specs.declared.Excerpt.{Excerpt}
+use Rattle.apex_views.specs.Windows.{has_time}
 use Rattle.apex_views.specs.declared.faults.BadSchedule.{BadSchedule}
 use Rattle.apex_views.specs.declared.faults.Reason.{Reason}
 use Rattle.apex_views.specs.declared.faults.Reason.TheVariants.{IllFormed, TooMany}
 use Rattle.apex_views.specs.declared.faults.ShowFault.{ShowFault}
-use Rattle.apex_views.specs.declared.faults.ShowFault.TheVariants.{Common, Schedule}
+use Rattle.apex_views.specs.declared.faults.ShowFault.TheVariants.{Common, Empty, Schedule}
+use Rattle.apex_views.specs.declared.windows.Bound.{Bound}
+use Rattle.apex_views.specs.declared.windows.Bound.TheVariants as bound
+use Rattle.apex_views.specs.declared.windows.EmptyWindow.{EmptyWindow}
 
 -- the fault of a schedule's text for this reason, at a place
 abbrev pub fault_at : Reason → Place → ScheduleFault
@@ -30,6 +35,7 @@ pub record IsBadIn (text : List ℕ) (bad : BadSchedule) : Type 0 where
 abbrev pub IsFaultIn : List ℕ → ShowFault → Type 0
 IsFaultIn text (Common fault) = fault ≡ Memory
 IsFaultIn text (Schedule bad) = IsBadIn text bad
+IsFaultIn text (Empty window) = ⊥
 
 abbrev pub too_many_text : List ℕ
 too_many_text = codes "more than " ++ decimal MOST_ENTRIES ++ codes " items"
@@ -50,3 +56,34 @@ schedule_line bad =
     codes "apex_lab: schedule: item " ++ decimal bad.item ++ line_part bad.line
     ++ codes ", column " ++ decimal bad.column ++ codes ": " ++ reason_text bad.reason
     ++ codes "\n"
+
+-- a time in ticks
+abbrev pub time_text : ℕ → List ℕ
+time_text time = codes "t=" ++ decimal time
+
+-- a bound of a window
+abbrev pub bound_text : Bound → List ℕ
+bound_text (bound.Entry number) = decimal number
+bound_text (bound.Time time) = time_text time
+
+-- a number of entries
+abbrev pub entries_text : ℕ → List ℕ
+entries_text entries =
+    if entries == 1 then codes "1 entry" else decimal entries ++ codes " entries"
+
+-- the time at the end of a run, if a bound of the window is a time
+abbrev pub end_part : EmptyWindow → List ℕ
+end_part empty = if has_time empty.window then codes " up to " ++ time_text empty.now else []
+
+-- the line that reports that a run has no entry in a window
+abbrev pub window_line : EmptyWindow → List ℕ
+window_line empty =
+    codes "apex_lab: the run has no entry from " ++ bound_text empty.window.first
+    ++ codes " to " ++ bound_text empty.window.last ++ codes ", it has "
+    ++ entries_text empty.entries ++ end_part empty ++ codes "\n"
+
+-- the line that reports what a picture shows, of which more was asked for
+abbrev pub excerpt_line : Excerpt → List ℕ
+excerpt_line excerpt =
+    codes "apex_lab: entries " ++ decimal excerpt.first ++ codes " to " ++ decimal excerpt.last
+    ++ codes " of " ++ decimal excerpt.entries ++ codes "\n"

@@ -1,5 +1,5 @@
 -- The text that shows a run.
-use Rattle.std.specs.Prelude.{◌≡◌, ℕ, ◌+◌, ◌<◌, ◌≤◌, ◌++◌, [], Bool, true, false, codes, length, min, List, Option, All}
+use Rattle.std.specs.Prelude.{◌≡◌, ℕ, ◌<◌, ◌≤◌, ◌++◌, [], Bool, true, false, codes, length, List, Option, Some, None, All}
 use Rattle.std.specs.Io.KnownBytes.{Appends}
 use Rattle.apex_machine.specs.Machine.{Machine, events_of, opening, run}
 use Rattle.apex_machine.specs.Events.{IsWithin}
@@ -23,13 +23,19 @@ use Rattle.apex_console.specs.declared.CliFault.TheVariants.{Memory, Write}
 use Rattle.apex_schedules.specs.declared.Item.{Item}
 use Rattle.apex_pictures.specs.declared.DrawFault.{DrawFault}
 use Rattle.apex_pictures.specs.declared.DrawFault.TheVariants as draw
+use Rattle.apex_pictures.specs.Excerpts.{excerpt_of, last_drawn}
 use Rattle.apex_pictures.specs.Pictures.{picture_text}
+use Rattle.apex_pictures.specs.declared.Excerpt.{Excerpt}
+use Rattle.apex_pictures.specs.declared.Frame.{Frame}
 use Rattle.apex_pictures.specs.declared.Style.{Style}
 use Rattle.apex_pictures.specs.declared.Style.TheVariants as style
 use Rattle.apex_views.specs.Showings.{Picture, View, drawn, listed, svg, trace}
+use Rattle.apex_views.specs.Windows.{span_in}
 use Rattle.apex_views.specs.declared.plans.Plan.{Plan}
 use Rattle.apex_views.specs.declared.showings.Listing.{Listing}
 use Rattle.apex_views.specs.declared.showings.Listing.TheVariants as lists
+use Rattle.apex_views.specs.declared.windows.Span.{Span}
+use Rattle.apex_views.specs.declared.windows.Window.{Window}
 
 -- the events run like those of the items, and this fault is reported with the picture
 pub record IsRunOf (items : List Item) (table : tables.Table) (events : List Event)
@@ -46,13 +52,42 @@ pub record IsListOf (limit : ℕ) (all events : List Event) (is_cut : Bool) : Ty
   pub whole : is_cut ≡ false → (rest ≡ []) × (length events ≤ limit)
   pub cut : is_cut ≡ true → (length events ≡ limit) × (0 < length rest)
 
--- a style is that of a picture; an SVG has 2,000 entries at the most
-abbrev pub IsStyleOf : Picture → Style → Type 0
-IsStyleOf (svg first last) (style.Svg frame) =
-    (frame.first ≡ first) × (frame.last ≡ min last (first + 1999))
-IsStyleOf (svg first last) style.Trace = ⊥
-IsStyleOf trace (style.Svg frame) = ⊥
-IsStyleOf trace style.Trace = Unit {0}
+-- a frame is for a span of a history: it shows the entries of the span, `MOST_COLUMNS` of them at the
+-- most, and says so if these are not all
+pub record IsFrameFor (span : Span) (history : List Entry) (frame : Frame) : Type 0 where
+  pub first : frame.first ≡ span.first
+  pub last : frame.last ≡ last_drawn span.first span.last
+  pub excerpt : frame.excerpt ≡ excerpt_of span.first span.last (length history)
+
+-- a frame is for a window of a history: it shows the entries from the first one of the window to the
+-- last
+pub record IsFrameOf (window : Window) (history : List Entry) (frame : Frame) : Type 0 where
+  pub span : Span
+  pub is : span_in window history ≡ Some span
+  pub shows : IsFrameFor span history frame
+
+-- a style is that of a picture of a history
+abbrev pub IsStyleOf : Picture → List Entry → Style → Type 0
+IsStyleOf (svg window) history (style.Svg frame) = IsFrameOf window history frame
+IsStyleOf (svg window) history style.Trace = ⊥
+IsStyleOf trace history (style.Svg frame) = ⊥
+IsStyleOf trace history style.Trace = Unit {0}
+
+-- what is drawn of a span, in a run of so many entries; none if it is all of it
+abbrev pub excerpt_at : Option Span → ℕ → Option Excerpt
+excerpt_at None entries = None
+excerpt_at (Some span) entries = excerpt_of span.first span.last entries
+
+-- what a view shows of a history, if more was asked for
+abbrev pub excerpt_in : View → List Entry → Option Excerpt
+excerpt_in (drawn (svg window)) history = excerpt_at (span_in window history) (length history)
+excerpt_in (drawn trace) history = None
+excerpt_in (listed listing) history = None
+
+-- what is drawn in a style, if more was asked for
+abbrev pub excerpt_with : Style → Option Excerpt
+excerpt_with (style.Svg frame) = frame.excerpt
+excerpt_with style.Trace = None
 
 -- the machine of which a plan's picture is
 abbrev pub machine_of : Plan → Machine
@@ -61,7 +96,7 @@ machine_of plan = run plan.table (opening plan.table) plan.events.items
 -- the plan is for this picture, and its events are of the table's cores
 pub record IsPlanFor (picture : Picture) (plan : Plan) : Type 0 where
   pub within : All (IsWithin plan.table.cores) plan.events.items
-  pub style : IsStyleOf picture plan.style
+  pub style : IsStyleOf picture (machine_of plan).history plan.style
 
 -- the entries of a history, in this form
 abbrev pub history_in : Form → tables.Table → List Entry → List ℕ
@@ -90,7 +125,8 @@ listing_text lists.Schedule table machine =
 -- the text shows a machine in this view
 abbrev pub IsTextOf : View → tables.Table → Machine → List ℕ → Type 0
 IsTextOf (drawn picture) table machine text =
-    (style : Style) × IsStyleOf picture style × (text ≡ picture_text style table machine)
+    (style : Style) × IsStyleOf picture machine.history style
+    × (text ≡ picture_text style table machine)
 IsTextOf (listed asked) table machine text = text ≡ listing_text asked table machine
 
 -- known bytes grow by a text that shows a machine

@@ -1,6 +1,5 @@
 -- How a run is given, and how it is shown.
-use Rattle.std.specs.Prelude.{ℕ, ◌≤◌, List}
-use Rattle.apex_types.specs.declared.limits.TheConstants.{MOST_ENTRIES}
+use Rattle.std.specs.Prelude.{ℕ, List}
 use Rattle.apex_pace.specs.declared.paces.Pace.{Pace}
 use Rattle.apex_schedules.specs.declared.Item.{Item}
 use Rattle.apex_views.specs.declared.showings.Listing.{Listing}
@@ -11,6 +10,7 @@ use Rattle.apex_views.specs.declared.showings.RunSource.TheVariants as run
 use Rattle.apex_views.specs.declared.showings.Showing.{Showing as ShowingIn}
 use Rattle.apex_views.specs.declared.showings.View.{View as ViewIn}
 use Rattle.apex_views.specs.declared.showings.View.TheVariants as shown
+use Rattle.apex_views.specs.declared.windows.Window.{Window}
 
 -- how a run is given
 pub data Source : Type 0 where
@@ -25,8 +25,8 @@ pub data Source : Type 0 where
 
 -- how a picture shows a run
 pub data Picture : Type 0 where
-  -- as SVG, the entries from the first number to the last
-  svg : ℕ → ℕ → Picture
+  -- as SVG, the entries of a window
+  svg : Window → Picture
   -- as a trace
   trace : Picture
 
@@ -55,7 +55,7 @@ source_said run.History = history
 
 -- how a picture shows a run, of a value of the program
 abbrev pub picture_said : PictureIn → Picture
-picture_said (pictures.Svg first last) = svg first last
+picture_said (pictures.Svg window) = svg window
 picture_said pictures.Trace = trace
 
 -- how a run is shown, of a value of the program
@@ -66,13 +66,3 @@ view_said (shown.Listing listing) = listed listing
 -- a run that is to be shown, of a value of the program
 abbrev pub showing_said : ShowingIn → Showing
 showing_said showing = showing_with (source_said showing.source) (view_said showing.view)
-
--- the first number of an SVG is one that an entry may have
-abbrev pub IsPictureOfEntries : PictureIn → Type 0
-IsPictureOfEntries (pictures.Svg first last) = (1 ≤ first) × (first ≤ MOST_ENTRIES)
-IsPictureOfEntries pictures.Trace = Unit {0}
-
--- the same of any view
-abbrev pub IsOfEntries : ViewIn → Type 0
-IsOfEntries (shown.Picture picture) = IsPictureOfEntries picture
-IsOfEntries (shown.Listing listing) = Unit {0}

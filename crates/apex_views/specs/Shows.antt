@@ -20,34 +20,45 @@ use Rattle.apex_schedules.specs.Readings.{AreItemsOf}
 use Rattle.apex_schedules.specs.declared.Item.{Item}
 use Rattle.apex_views.specs.Faults.{IsBadIn}
 use Rattle.apex_views.specs.Paced.{paced_answer}
-use Rattle.apex_views.specs.Plans.{AppendsPrefixOfView, AppendsView, IsPlanFor, machine_of}
-use Rattle.apex_views.specs.Showings.{Picture, Showing, Source, View, drawn, history, listed, paced, schedule, schedule_read}
+use Rattle.apex_pictures.specs.declared.Excerpt.{Excerpt}
+use Rattle.apex_views.specs.Plans.{AppendsPrefixOfView, AppendsView, IsPlanFor, excerpt_in, machine_of}
+use Rattle.apex_views.specs.Showings.{Picture, Showing, Source, View, drawn, history, listed, paced, schedule, schedule_read, svg}
+use Rattle.apex_views.specs.Windows.{empty_in, span_in}
 use Rattle.apex_views.specs.declared.faults.BadSchedule.{BadSchedule}
 use Rattle.apex_views.specs.declared.faults.ShowFault.{ShowFault}
-use Rattle.apex_views.specs.declared.faults.ShowFault.TheVariants.{Common, Schedule as BadText}
+use Rattle.apex_views.specs.declared.faults.ShowFault.TheVariants.{Common, Empty, Schedule as BadText}
 use Rattle.apex_views.specs.declared.plans.Plan.{Plan}
 use Rattle.apex_views.specs.declared.showing.Shown.{Shown}
 use Rattle.apex_views.specs.declared.showing.Shown.TheVariants as ending
 use Rattle.apex_views.specs.declared.sources.Given.{Given}
 use Rattle.apex_views.specs.declared.sources.Given.TheVariants as given
+use Rattle.apex_views.specs.declared.windows.Window.{Window}
 
 -- the end of a showing
 pub data ShowEnd : Type 0 where
   -- the run was shown
   complete : ShowEnd
+  -- this part of the run was shown, of which more was asked for
+  in_part : Excerpt → ShowEnd
   -- the history departs from what the partition does, by the verdict of this text
   departs : List ℕ → ShowEnd
   -- with this fault
   fails : ShowFault → ShowEnd
 
+-- the end if a part was shown, or all
+abbrev pub end_of_part : Option Excerpt → ShowEnd
+end_of_part None = complete
+end_of_part (Some excerpt) = in_part excerpt
+
 -- the end with the fault, if there is one
-abbrev pub end_of : Option CliFault → ShowEnd
-end_of None = complete
-end_of (Some fault) = fails (Common fault)
+abbrev pub end_of : Option Excerpt → Option CliFault → ShowEnd
+end_of part None = end_of_part part
+end_of part (Some fault) = fails (Common fault)
 
 -- the end of an outcome
 abbrev pub end_in : Result Shown ShowFault → ShowEnd
 end_in (Ok ending.Complete) = complete
+end_in (Ok (ending.InPart excerpt)) = in_part excerpt
 end_in (Ok (ending.Departed verdict)) = departs verdict.items
 end_in (Err fault) = fails fault
 
@@ -138,6 +149,7 @@ first_fault (Some fault) reported = Some fault
 abbrev pub outcome_in : Result Given ShowFault → Outcome
 outcome_in (Ok (given.Picture plan)) = shows plan.table (machine_of plan) plan.fault
 outcome_in (Ok (given.Listing listing run)) = shows run.kernel.table run.kernel.machine run.fault
+outcome_in (Ok (given.Empty window run)) = shows run.kernel.table run.kernel.machine run.fault
 outcome_in (Ok (given.Departed verdict)) = stops (departs verdict.items)
 outcome_in (Err fault) = stops (fails fault)
 
@@ -147,17 +159,25 @@ pub record IsPlanIn (view : View) (plan : Plan) : Type 0 where
   pub is : view ≡ drawn picture
   pub planned : IsPlanFor picture plan
 
--- a run that a source gave is to be shown in this view: its picture is planned for the view, or the
--- view is its listing
+-- the view is a picture of this window, in which a history has no entry
+pub record IsEmptyIn (view : View) (window : Window) (history : List Entry) : Type 0 where
+  pub is : view ≡ drawn (svg window)
+  pub none : span_in window history ≡ None
+
+-- a run that a source gave is to be shown in this view: its picture is planned for the view, the view
+-- is its listing, or the run has no entry in the window of the view
 abbrev pub IsGivenFor : View → Given → Type 0
 IsGivenFor view (given.Picture plan) = IsPlanIn view plan
 IsGivenFor view (given.Listing listing run) = view ≡ listed listing
+IsGivenFor view (given.Empty window run) = IsEmptyIn view window run.kernel.machine.history
 IsGivenFor view (given.Departed verdict) = Unit {0}
 
 -- the run that was given is that of an answer
 abbrev pub IsRunTo : Answer → Given → Type 0
 IsRunTo answer (given.Picture plan) = answer ≡ runs_to plan.table (machine_of plan) plan.fault
 IsRunTo answer (given.Listing listing run) =
+    answer ≡ runs_to run.kernel.table run.kernel.machine run.fault
+IsRunTo answer (given.Empty window run) =
     answer ≡ runs_to run.kernel.table run.kernel.machine run.fault
 IsRunTo answer (given.Departed verdict) = ⊥
 
@@ -176,4 +196,13 @@ pub data ShowEnds (showing : Showing) (before : Ports) : ShowEnd → Ports → T
       after.failed_reads
       → Shows showing.view table machine before.held before.failed_writes fault
       after.held after.failed_writes
-      → ShowEnds showing before (end_of (first_fault fault reported)) after
+      → ShowEnds showing before
+      (end_of (excerpt_in showing.view machine.history) (first_fault fault reported)) after
+  -- the machine that the source gives has no entry in the window of the picture: nothing was written
+  empty : (table : tables.Table) (machine : Machine) (reported : Option CliFault) (window : Window)
+      → {after : Ports}
+      → Gives before.left before.failed_reads showing.source (shows table machine reported)
+      after.failed_reads
+      → IsEmptyIn showing.view window machine.history
+      → Keeps before.held after.held → after.failed_writes ≡ before.failed_writes
+      → ShowEnds showing before (fails (Empty (empty_in window machine))) after

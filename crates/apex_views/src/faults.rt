@@ -1,15 +1,18 @@
-//! The faults with which a showing ends, and the line of a text that is no schedule.
+//! The faults with which a showing ends, and their lines.
 ghost use Rattle.std.specs.Prelude.{◌≡◌, ◌+◌, ◌≤◌, ◌++◌, IfErr, IfOk, decimal};
 ghost use Rattle.arrayvec.specs.ArrayString.{array_string_len};
-ghost use Rattle.apex_console.specs.Faults.{fault_of_read};
+ghost use Rattle.apex_console.specs.Faults.{fault_in, fault_of_read};
 ghost use Rattle.apex_console.specs.declared.CliFault.TheVariants.{Memory};
 ghost use Rattle.apex_schedules.specs.Readings.{AreItemsOf, IsFaultOf};
-ghost use Rattle.apex_views.specs.Faults.{IsBadIn, IsFaultIn, fault_at, line_part, reason_text, schedule_line, too_many_text};
+ghost use Rattle.apex_views.specs.Faults.{IsBadIn, IsFaultIn, bound_text, end_part, entries_text, excerpt_line, fault_at, line_part, reason_text, schedule_line, time_text, too_many_text, window_line};
+ghost use Rattle.apex_views.specs.Shows.{first_fault};
 ghost use Rattle.apex_views.specs.declared.faults.ShowFault.TheVariants.{Common};
 ghost use Rattle.apex_views.specs.declared.faults.TheConstants.{LINE_ROOM};
 
+use crate::windows::{Bound, EmptyWindow};
 use apex_console::CliFault;
 use apex_history::ReadFault;
+use apex_pictures::Excerpt;
 use apex_schedules::{Item, Place, ScheduleFault, read_grouped};
 use apex_types::MOST_ENTRIES;
 use arrayvec::ArrayString;
@@ -51,6 +54,8 @@ pub enum ShowFault {
     Common(CliFault),
     /// The text is no schedule.
     Schedule(BadSchedule),
+    /// The run has no entry in the window of a picture.
+    Empty(EmptyWindow),
 }
 
 impl From<CliFault> for ShowFault {
@@ -74,6 +79,19 @@ impl From<ReadFault> for ShowFault {
 
     fn from(error: ReadFault) -> ShowFault {
         ShowFault::Common(CliFault::from(error))
+    }
+}
+
+/// The fault of a showing, or else the one that is reported besides.
+pub(crate) fn first_fault(
+    shown: Result<(), CliFault>,
+    reported: Option<CliFault>,
+) -> Result<(), CliFault>
+    ensures { fault_in result ≡ first_fault (fault_in shown) reported }
+{
+    match (shown, reported) {
+        (Ok(()), Some(fault)) => Err(fault),
+        (shown, _) => shown,
     }
 }
 
@@ -173,6 +191,90 @@ pub fn schedule_line(bad: BadSchedule) -> Line
     put_number(&mut line, bad.column);
     line.push_str(": ");
     put_reason(&mut line, bad.reason);
+    line.push_str("\n");
+    line
+}
+
+/// Puts a bound of a window.
+fn put_bound(line: &mut Line, bound: Bound)
+    requires { array_string_len line.old + 22 ≤ LINE_ROOM }
+    ensures text { line.new.bytes ≡ line.old.bytes ++ bound_text bound }
+    ensures short { array_string_len line.new ≤ array_string_len line.old + 22 }
+{
+    match bound {
+        Bound::Entry(number) => put_number(line, number as usize),
+        Bound::Time(time) => put_time(line, time),
+    }
+}
+
+/// Puts a time in ticks.
+#[tactic(auto, using(std::proofs::Common::append_assoc))]
+fn put_time(line: &mut Line, time: u64)
+    requires { array_string_len line.old + 22 ≤ LINE_ROOM }
+    ensures text { line.new.bytes ≡ line.old.bytes ++ time_text time }
+    ensures short { array_string_len line.new ≤ array_string_len line.old + 22 }
+{
+    line.push_str("t=");
+    put_number(line, time as usize);
+}
+
+/// Puts a number of entries.
+#[tactic(auto, using(std::proofs::Common::append_assoc))]
+fn put_entries(line: &mut Line, entries: usize)
+    requires { array_string_len line.old + 28 ≤ LINE_ROOM }
+    ensures text { line.new.bytes ≡ line.old.bytes ++ entries_text entries }
+    ensures short { array_string_len line.new ≤ array_string_len line.old + 28 }
+{
+    if entries == 1 {
+        line.push_str("1 entry");
+        return;
+    }
+    put_number(line, entries);
+    line.push_str(" entries");
+}
+
+/// Puts the time at the end of a run, if a bound of the window is a time.
+#[tactic(auto, using(std::proofs::Common::append_assoc))]
+fn put_end(line: &mut Line, empty: EmptyWindow)
+    requires { array_string_len line.old + 29 ≤ LINE_ROOM }
+    ensures text { line.new.bytes ≡ line.old.bytes ++ end_part empty }
+    ensures short { array_string_len line.new ≤ array_string_len line.old + 29 }
+{
+    if empty.window.has_time() {
+        line.push_str(" up to ");
+        put_time(line, empty.now);
+    }
+}
+
+/// The line that reports that a run has no entry in a window, with its line feed.
+#[tactic(auto, using(std::proofs::Common::append_assoc))]
+pub fn window_line(empty: EmptyWindow) -> Line
+    ensures { result.bytes ≡ window_line empty }
+{
+    let mut line = Line::new();
+    line.push_str("apex_lab: the run has no entry from ");
+    put_bound(&mut line, empty.window.first);
+    line.push_str(" to ");
+    put_bound(&mut line, empty.window.last);
+    line.push_str(", it has ");
+    put_entries(&mut line, empty.entries);
+    put_end(&mut line, empty);
+    line.push_str("\n");
+    line
+}
+
+/// The line that reports what a picture shows, of which more was asked for, with its line feed.
+#[tactic(auto, using(std::proofs::Common::append_assoc))]
+pub fn excerpt_line(excerpt: Excerpt) -> Line
+    ensures { result.bytes ≡ excerpt_line excerpt }
+{
+    let mut line = Line::new();
+    line.push_str("apex_lab: entries ");
+    put_number(&mut line, excerpt.first as usize);
+    line.push_str(" to ");
+    put_number(&mut line, excerpt.last as usize);
+    line.push_str(" of ");
+    put_number(&mut line, excerpt.entries);
     line.push_str("\n");
     line
 }

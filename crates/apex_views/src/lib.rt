@@ -9,8 +9,12 @@ mod runs;
 mod showing;
 mod showings;
 mod sources;
+mod windows;
 
-pub use faults::{BadSchedule, Reason, ShowFault, read_items, schedule_line};
+pub use faults::{
+    BadSchedule, Reason, ShowFault, excerpt_line, read_items, schedule_line, window_line,
+};
 pub use showing::{Shown, show_run};
 pub use showings::{Listing, Picture, RunSource, Showing, View};
 pub use sources::{Given, given_by};
+pub use windows::{Bound, EmptyWindow, Span, Window};

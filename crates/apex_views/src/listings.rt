@@ -13,10 +13,10 @@ ghost use Rattle.apex_views.specs.Plans.{report_in};
 ghost use Rattle.apex_views.specs.Showings.{listed};
 ghost use Rattle.apex_views.specs.declared.showings.Listing.TheVariants.{Lines, Status, Report as ReportIn, Schedule};
 
-use crate::plans::events_in;
+use crate::faults::first_fault;
 use crate::showings::Listing;
 use apex_console::{CliFault, Run};
-use apex_dispatch::Kernel;
+use apex_dispatch::{Kernel, events_in};
 use apex_history::{Counted, Page, Sink, print_history};
 use apex_objects::{Form, ObjectLines, print_history_objects, print_listing_objects};
 use apex_process::QueueStore;
@@ -27,6 +27,23 @@ use apex_types::Event;
 use std::alloc::Global;
 use std::io;
 use std::io::Write;
+
+/// Writes the lines of a kernel's history, which are gathered in the page.
+fn print_lines<W: Sink>(
+    kernel: &Kernel<QueueStore>,
+    page: &mut Page,
+    writer: &mut Counted<W>,
+) -> Result<(), CliFault>
+    ensures { Shows (listed (Lines Text)) kernel.now.table kernel.now.machine
+        (W.contents (inner_of writer.old)) (failures_of writer.old) (fault_in result)
+        (W.contents (inner_of writer.new)) (failures_of writer.new) }
+{
+    kernel.holds();
+    match print_history(kernel.table(), kernel.entries(), page, writer) {
+        Ok(()) => Ok(()),
+        Err(_) => Err(CliFault::Write),
+    }
+}
 
 /// Writes the lines of a kernel's history.
 fn write_lines<W: Sink>(
@@ -39,11 +56,7 @@ fn write_lines<W: Sink>(
         (W.contents (inner_of writer.new)) (failures_of writer.new) }
 {
     let mut page = Page::new(alloc)?;
-    kernel.holds();
-    match print_history(kernel.table(), kernel.entries(), &mut page, writer) {
-        Ok(()) => Ok(()),
-        Err(_) => Err(CliFault::Write),
-    }
+    print_lines(kernel, &mut page, writer)
 }
 
 /// Writes the entries of a kernel's history as objects.
@@ -198,9 +211,6 @@ pub fn list<W: Sink>(
         fault (W.contents (inner_of writer.new)) (failures_of writer.new)
         × (fault_in result ≡ first_fault fault run.fault) }
 {
-    write_listing(alloc, listing, &run.kernel, writer)?;
-    match run.fault {
-        None => Ok(()),
-        Some(fault) => Err(fault),
-    }
+    let shown = write_listing(alloc, listing, &run.kernel, writer);
+    first_fault(shown, run.fault)
 }

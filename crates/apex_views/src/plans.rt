@@ -1,26 +1,28 @@
 //! The pictures that are drawn of a run.
-ghost use Rattle.std.specs.Prelude.{◌≡◌, true, All, IfOk, Option};
-ghost use Rattle.apex_machine.specs.Machine.{asked_ticks, event_of, events_of, opening};
+ghost use Rattle.std.specs.Prelude.{◌≡◌, true, All, IfOk, MatchOption, Option};
+ghost use Rattle.apex_machine.specs.Machine.{opening, run};
 ghost use Rattle.apex_machine.specs.Events.{IsWithin};
-ghost use Rattle.apex_dispatch.specs.Kernel.{kernel_in};
 ghost use Rattle.apex_history.specs.Counted.{inner_of, failures_of};
 ghost use Rattle.apex_console.specs.Faults.{fault_in};
 ghost use Rattle.apex_schedules.specs.Schedule.{are_cores_below, events_of_items};
 ghost use Rattle.apex_console.specs.declared.CliFault.{CliFault as CliFaultOf};
 ghost use Rattle.apex_views.specs.Shows.{Shows, first_fault};
-ghost use Rattle.apex_views.specs.Plans.{IsListOf, IsPlanFor, IsRunOf, IsStyleOf, fault_of_drawing, machine_of};
-ghost use Rattle.apex_views.specs.Showings.{IsPictureOfEntries, Picture as PictureAsked, drawn, picture_said, trace};
+ghost use Rattle.apex_pictures.specs.declared.Style.TheVariants.{Trace};
+ghost use Rattle.apex_views.specs.Plans.{IsFrameOf, IsListOf, IsRunOf, IsStyleOf, excerpt_with, fault_of_drawing, machine_of};
+ghost use Rattle.apex_views.specs.Showings.{Picture as PictureAsked, drawn};
+ghost use Rattle.apex_views.specs.Windows.{span_in};
 
-use crate::showings::Picture;
-use apex_console::{CliFault, repeated};
-use apex_dispatch::Kernel;
+use crate::faults::first_fault;
+use crate::windows::Window;
+use apex_console::{CliFault, booted, repeated};
+use apex_dispatch::{Kernel, events_in};
 use apex_history::{Counted, Sink};
-use apex_pictures::{DrawFault, Frame, Style, draw};
+use apex_pictures::{DrawFault, Excerpt, Frame, Style, draw};
 use apex_process::QueueStore;
 use apex_schedules::Item;
 use apex_store::Store;
 use apex_table::Table;
-use apex_types::{Event, LentEntry, Reply, Who};
+use apex_types::Event;
 use std::alloc::{AllocError, Global};
 
 /// A picture that is to be drawn: its style, and the events of which it is.
@@ -33,63 +35,41 @@ pub struct Plan {
     pub fault: Option<CliFault>,
 }
 
-/// How many ticks a tick asked for.
-fn asked_ticks(reply: &Reply) -> u32
-    ensures { result ≡ asked_ticks reply.now }
-{
-    match reply {
-        Reply::Advanced(asked, _) => *asked,
-        _ => 0,
+impl Plan {
+    /// What is drawn, if more was asked for.
+    pub fn part(&self) -> Option<Excerpt>
+        ensures { result ≡ excerpt_with self.now.style }
+    {
+        match &self.style {
+            Style::Svg(frame) => frame.excerpt,
+            Style::Trace => None,
+        }
     }
 }
 
-/// The event of an entry.
-fn event_of(entry: &LentEntry<'_>) -> Event
-    ensures { result ≡ event_of entry.entry.now }
+/// The frame for a window of a kernel's history. None if the history has no entry in it.
+pub fn frame_for<S: Store>(window: Window, kernel: &Kernel<S>) -> Option<Frame>
+    ensures { MatchOption result (span_in window kernel.now.machine.history ≡ None)
+        (IsFrameOf window kernel.now.machine.history) }
 {
-    match entry.who {
-        Who::Core(core) => Event::Turn(core),
-        Who::Ticker => Event::Tick(asked_ticks(&entry.reply)),
-    }
+    let span = window.span_in(kernel)?;
+    Some(Frame::new(kernel, span.first, span.last))
 }
 
-/// The events of a kernel's history.
-pub fn events_in<S: Store>(alloc: Global, kernel: &Kernel<S>) -> Result<Vec<Event>, AllocError>
-    ensures { IfOk result (λ events. events.items ≡ events_of kernel.now.machine.history) }
-{
-    let mut events = Vec::new(alloc);
-    for entry in kernel.entries() {
-        events.push(event_of(&entry))?;
-    }
-    Ok(events)
-}
-
-/// The style in which a picture shows a kernel's history.
-fn style_for<S: Store>(picture: Picture, kernel: &Kernel<S>) -> Style
-    requires { IsPictureOfEntries picture }
-    ensures { IsStyleOf (picture_said picture) result }
-{
-    match picture {
-        Picture::Svg { first, last } => Style::Svg(Frame::new(kernel, first, last)),
-        Picture::Trace => Style::Trace,
-    }
-}
-
-/// The plan of a picture of a kernel's history, with this fault.
+/// The plan of a picture of a kernel's history in this style, with this fault.
 pub fn plan_in<S: Store>(
     alloc: Global,
-    picture: Picture,
+    style: Style,
     kernel: Kernel<S>,
     fault: Option<CliFault>,
 ) -> Result<Plan, AllocError>
-    requires { IsPictureOfEntries picture }
     ensures table { IfOk result (λ plan. plan.table ≡ kernel.table) }
     ensures machine { IfOk result (λ plan. machine_of plan ≡ kernel.machine) }
     ensures fault { IfOk result (λ plan. plan.fault ≡ fault) }
-    ensures plan { IfOk result (IsPlanFor (picture_said picture)) }
+    ensures style { IfOk result (λ plan. plan.style ≡ style) }
+    ensures within { IfOk result (λ plan. All (IsWithin plan.table.cores) plan.events.items) }
 {
     kernel.holds();
-    let style = style_for(picture, &kernel);
     let events = events_in(alloc, &kernel)?;
     Ok(Plan {
         style,
@@ -139,7 +119,7 @@ pub fn trace_plan(alloc: Global, items: &[Item], table: Table) -> Result<Plan, A
     requires { are_cores_below table.cores items.now ≡ true }
     ensures table { IfOk result (λ plan. plan.table ≡ table) }
     ensures run { IfOk result (λ plan. IsRunOf items.now table plan.events.items plan.fault) }
-    ensures style { IfOk result (λ plan. IsStyleOf trace plan.style) }
+    ensures style { IfOk result (λ plan. plan.style ≡ Trace) }
 {
     let found = listed(alloc, items, &table)?;
     let fault = if found.is_cut {
@@ -165,19 +145,52 @@ fn fault_of(fault: DrawFault) -> CliFault
     }
 }
 
-/// The kernel of a table before any event.
-fn booted(alloc: Global, table: Table) -> Result<Kernel<QueueStore>, AllocError>
-    ensures { IfOk result (λ kernel. kernel ≡ kernel_in table (opening table) kernel.store) }
+/// Draws the picture of the events in this style, on a kernel before any event.
+fn draw_on<W: Sink>(
+    alloc: Global,
+    style: &Style,
+    kernel: &mut Kernel<QueueStore>,
+    events: &[Event],
+    writer: &mut Counted<W>,
+) -> Result<(), CliFault>
+    requires opened { kernel.old.machine ≡ opening kernel.old.table }
+    requires within { All (IsWithin kernel.old.table.cores) events.now }
+    ensures { let machine = run kernel.old.table (opening kernel.old.table) events.now in
+        (picture : PictureAsked) → IsStyleOf picture machine.history style.now
+        → Shows (drawn picture) kernel.old.table machine
+        (W.contents (inner_of writer.old)) (failures_of writer.old) (fault_in result)
+        (W.contents (inner_of writer.new)) (failures_of writer.new) }
 {
-    let store = QueueStore::new(alloc, &table)?;
-    Kernel::boot(alloc, table, store)
+    match draw(alloc, style, kernel, events, writer) {
+        Ok(()) => Ok(()),
+        Err(fault) => Err(fault_of(fault)),
+    }
+}
+
+/// Draws the picture of the run of the events on a table in this style.
+fn draw_run<W: Sink>(
+    alloc: Global,
+    style: &Style,
+    table: Table,
+    events: &[Event],
+    writer: &mut Counted<W>,
+) -> Result<(), CliFault>
+    requires { All (IsWithin table.cores) events.now }
+    ensures { let machine = run table (opening table) events.now in
+        (picture : PictureAsked) → IsStyleOf picture machine.history style.now
+        → Shows (drawn picture) table machine
+        (W.contents (inner_of writer.old)) (failures_of writer.old) (fault_in result)
+        (W.contents (inner_of writer.new)) (failures_of writer.new) }
+{
+    let mut kernel = booted(alloc, table)?;
+    draw_on(alloc, style, &mut kernel, events, writer)
 }
 
 /// Draws the picture of a plan, and answers its fault once it is drawn.
 pub fn show<W: Sink>(alloc: Global, plan: Plan, writer: &mut Counted<W>) -> Result<(), CliFault>
     requires { All (IsWithin plan.table.cores) plan.events.items }
-    ensures { (picture : PictureAsked) → IsStyleOf picture plan.style → (fault : Option CliFaultOf)
-        × Shows (drawn picture) plan.table (machine_of plan) (W.contents (inner_of writer.old))
+    ensures { (picture : PictureAsked) → IsStyleOf picture (machine_of plan).history plan.style
+        → (fault : Option CliFaultOf) × Shows (drawn picture) plan.table (machine_of plan) (W.contents (inner_of writer.old))
         (failures_of writer.old) fault (W.contents (inner_of writer.new)) (failures_of writer.new)
         × (fault_in result ≡ first_fault fault plan.fault) }
 {
@@ -187,12 +200,6 @@ pub fn show<W: Sink>(alloc: Global, plan: Plan, writer: &mut Counted<W>) -> Resu
         events,
         fault,
     } = plan;
-    let mut kernel = booted(alloc, table)?;
-    match draw(alloc, &style, &mut kernel, events.as_slice(), writer) {
-        Ok(()) => match fault {
-            None => Ok(()),
-            Some(fault) => Err(fault),
-        },
-        Err(fault) => Err(fault_of(fault)),
-    }
+    let shown = draw_run(alloc, &style, table, events.as_slice(), writer);
+    first_fault(shown, fault)
 }

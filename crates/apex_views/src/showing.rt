@@ -1,14 +1,20 @@
 //! A run that is shown.
+ghost use Rattle.std.specs.Prelude.{◌≡◌, All, Ok, Option};
+ghost use Rattle.apex_history.specs.Counted.{inner_of, failures_of};
+ghost use Rattle.apex_machine.specs.Events.{IsWithin};
 ghost use Rattle.apex_console.specs.Streams.{ports_of};
-ghost use Rattle.apex_views.specs.Showings.{IsOfEntries, showing_said};
-ghost use Rattle.apex_views.specs.Shows.{ShowEnds, end_in};
+ghost use Rattle.apex_console.specs.declared.CliFault.{CliFault as CliFaultOf};
+ghost use Rattle.apex_views.specs.Plans.{IsStyleOf, excerpt_in, machine_of};
+ghost use Rattle.apex_views.specs.Showings.{Picture as PictureAsked, drawn, showing_said};
+ghost use Rattle.apex_views.specs.Shows.{ShowEnds, Shows, end_in, end_of, end_of_part, first_fault};
 
 use crate::faults::ShowFault;
 use crate::listings::list;
-use crate::plans::show;
+use crate::plans::{Plan, show};
 use crate::showings::Showing;
 use crate::sources::{Given, given_by};
 use apex_history::{Counted, Lines, Sink, Source};
+use apex_pictures::Excerpt;
 use std::alloc::Global;
 
 /// The end of a showing that meets no fault.
@@ -16,32 +22,61 @@ use std::alloc::Global;
 pub enum Shown {
     /// The run was shown.
     Complete,
+    /// This part of the run was shown, of which more was asked for.
+    InPart(Excerpt),
     /// The history departs from what the partition does: the text of the verdict.
     Departed(Lines),
 }
 
+/// The end of a showing of a part, or of all if there is none.
+fn shown_in(part: Option<Excerpt>) -> Shown
+    ensures { end_in (Ok result) ≡ end_of_part part }
+{
+    match part {
+        Some(excerpt) => Shown::InPart(excerpt),
+        None => Shown::Complete,
+    }
+}
+
+/// Draws the picture of a plan.
+fn show_plan<W: Sink>(
+    alloc: Global,
+    plan: Plan,
+    writer: &mut Counted<W>,
+) -> Result<Shown, ShowFault>
+    requires { All (IsWithin plan.table.cores) plan.events.items }
+    ensures { (picture : PictureAsked) → IsStyleOf picture (machine_of plan).history plan.style
+        → (fault : Option CliFaultOf) × Shows (drawn picture) plan.table (machine_of plan)
+        (W.contents (inner_of writer.old)) (failures_of writer.old) fault
+        (W.contents (inner_of writer.new)) (failures_of writer.new)
+        × (end_in result ≡ end_of (excerpt_in (drawn picture) (machine_of plan).history)
+        (first_fault fault plan.fault)) }
+{
+    let part = plan.part();
+    show(alloc, plan, writer)?;
+    Ok(shown_in(part))
+}
+
 /// Shows a run of the table that the reader has, and writes its text. Nothing is written if the
-/// source of the run is at fault, or if its history departs.
+/// source of the run is at fault, if its history departs, or if it has no entry in the window of a
+/// picture.
 pub fn show_run<R: Source, W: Sink>(
     alloc: Global,
     showing: &Showing,
     reader: &mut Counted<R>,
     writer: &mut Counted<W>,
 ) -> Result<Shown, ShowFault>
-    requires { IsOfEntries showing.now.view }
     ensures { ShowEnds (showing_said showing.now)
         (ports_of R.remaining W.contents reader.old writer.old) (end_in result)
         (ports_of R.remaining W.contents reader.new writer.new) }
 {
     match given_by(alloc, showing, reader)? {
-        Given::Picture(plan) => {
-            show(alloc, plan, writer)?;
-            Ok(Shown::Complete)
-        }
+        Given::Picture(plan) => show_plan(alloc, plan, writer),
         Given::Listing(listing, run) => {
             list(alloc, listing, run, writer)?;
             Ok(Shown::Complete)
         }
+        Given::Empty(window, run) => Err(ShowFault::Empty(window.empty_in(&run.kernel))),
         Given::Departed(verdict) => Ok(Shown::Departed(verdict)),
     }
 }

@@ -1,4 +1,5 @@
 //! How a run is given, and how it is shown.
+use crate::windows::Window;
 use apex_objects::Form;
 use apex_pace::Pace;
 use apex_schedules::Item;
@@ -19,8 +20,8 @@ pub enum RunSource {
 /// How a picture shows a run.
 #[derive(Clone, Copy)]
 pub enum Picture {
-    /// As SVG, the entries from the first number to the last.
-    Svg { first: u32, last: u32 },
+    /// As SVG, the entries of a window.
+    Svg(Window),
     /// As a trace.
     Trace,
 }

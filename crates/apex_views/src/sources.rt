@@ -3,17 +3,20 @@ ghost use Rattle.std.specs.Prelude.{IfOk, IfErr};
 ghost use Rattle.apex_history.specs.Counted.{inner_of, failures_of};
 ghost use Rattle.apex_console.specs.Reports.{Refuses, answer_of, runs_to};
 ghost use Rattle.apex_views.specs.Shows.{Gives, IsGivenFor, IsRunTo, outcome_in};
-ghost use Rattle.apex_views.specs.Showings.{IsOfEntries, history, paced, schedule, schedule_read, source_said, view_said};
+ghost use Rattle.apex_views.specs.Plans.{IsStyleOf};
+ghost use Rattle.apex_views.specs.Showings.{Picture as PictureAsked, drawn, history, paced, picture_said, schedule, schedule_read, source_said, svg, view_said};
 
 use crate::faults::{ShowFault, read_items};
 use crate::parts::parted;
-use crate::plans::{Plan, plan_in, trace_plan};
+use crate::plans::{Plan, frame_for, plan_in, trace_plan};
 use crate::runs::run_at_pace;
 use crate::showings::{Listing, Picture, RunSource, Showing, View};
+use crate::windows::Window;
 use apex_check::{Followed, Verdict, follow, verdict_text};
 use apex_console::{CliFault, Run, run_of, table_for};
 use apex_history::{Counted, Lines, Source, read_all};
 use apex_pace::Pace;
+use apex_pictures::Style;
 use apex_process::QueueStore;
 use apex_schedules::Item;
 use std::alloc::{AllocError, Global};
@@ -25,21 +28,51 @@ pub enum Given {
     Picture(Plan),
     /// A run of which a listing is to be written.
     Listing(Listing, Run),
+    /// A run of which this window is to be drawn, and which has no entry in it.
+    Empty(Window, Run),
     /// The text of the verdict on a history that departs from what the partition does.
     Departed(Lines),
 }
 
+/// A run of which a picture is to be drawn in this style.
+fn planned(alloc: Global, style: Style, run: Run) -> Result<Given, AllocError>
+    ensures run { IfOk result (IsRunTo (runs_to run.kernel.table run.kernel.machine run.fault)) }
+    ensures view { (picture : PictureAsked) → IsStyleOf picture run.kernel.machine.history style
+        → IfOk result (IsGivenFor (drawn picture)) }
+{
+    let plan = plan_in(alloc, style, run.kernel, run.fault)?;
+    Ok(Given::Picture(plan))
+}
+
+/// A run of which a window is to be drawn as SVG.
+fn svg_of(alloc: Global, window: Window, run: Run) -> Result<Given, AllocError>
+    ensures run { IfOk result (IsRunTo (runs_to run.kernel.table run.kernel.machine run.fault)) }
+    ensures view { IfOk result (IsGivenFor (drawn (svg window))) }
+{
+    match frame_for(window, &run.kernel) {
+        Some(frame) => planned(alloc, Style::Svg(frame), run),
+        None => Ok(Given::Empty(window, run)),
+    }
+}
+
+/// A run of which a picture is to be drawn.
+fn pictured(alloc: Global, picture: Picture, run: Run) -> Result<Given, AllocError>
+    ensures run { IfOk result (IsRunTo (runs_to run.kernel.table run.kernel.machine run.fault)) }
+    ensures view { IfOk result (IsGivenFor (drawn (picture_said picture))) }
+{
+    match picture {
+        Picture::Svg(window) => svg_of(alloc, window, run),
+        Picture::Trace => planned(alloc, Style::Trace, run),
+    }
+}
+
 /// A run, to be shown in this view.
 fn given_in(alloc: Global, view: View, run: Run) -> Result<Given, AllocError>
-    requires { IsOfEntries view }
     ensures run { IfOk result (IsRunTo (runs_to run.kernel.table run.kernel.machine run.fault)) }
     ensures view { IfOk result (IsGivenFor (view_said view)) }
 {
     match view {
-        View::Picture(picture) => {
-            let plan = plan_in(alloc, picture, run.kernel, run.fault)?;
-            Ok(Given::Picture(plan))
-        }
+        View::Picture(picture) => pictured(alloc, picture, run),
         View::Listing(listing) => Ok(Given::Listing(listing, run)),
     }
 }
@@ -49,7 +82,6 @@ fn given_in(alloc: Global, view: View, run: Run) -> Result<Given, AllocError>
 /// The errors in the order of the checks: the table's fault, `Usage` if an item is of a core that
 /// the table lacks; `Memory` whenever memory is refused.
 fn given_by_items(alloc: Global, view: View, items: &[Item], text: &[u8]) -> Result<Given, CliFault>
-    requires { IsOfEntries view }
     ensures ok { IfOk result (IsRunTo (answer_of items.now text.now)) }
     ensures view { IfOk result (IsGivenFor (view_said view)) }
     ensures err { IfErr result (λ fault. Refuses fault (answer_of items.now text.now)) }
@@ -71,7 +103,6 @@ fn given_by_schedule<R: Source>(
     items: &[Item],
     reader: &mut Counted<R>,
 ) -> Result<Given, ShowFault>
-    requires { IsOfEntries view }
     ensures gives { Gives (R.remaining (inner_of reader.old)) (failures_of reader.old)
         (schedule items.now) (outcome_in result) (failures_of reader.new) }
     ensures view { IfOk result (IsGivenFor (view_said view)) }
@@ -88,7 +119,6 @@ fn given_by_read_schedule<R: Source>(
     view: View,
     reader: &mut Counted<R>,
 ) -> Result<Given, ShowFault>
-    requires { IsOfEntries view }
     ensures gives { Gives (R.remaining (inner_of reader.old)) (failures_of reader.old)
         schedule_read (outcome_in result) (failures_of reader.new) }
     ensures view { IfOk result (IsGivenFor (view_said view)) }
@@ -110,7 +140,6 @@ fn given_by_pace<R: Source>(
     until: u64,
     reader: &mut Counted<R>,
 ) -> Result<Given, ShowFault>
-    requires { IsOfEntries view }
     ensures gives { Gives (R.remaining (inner_of reader.old)) (failures_of reader.old)
         (paced pace until) (outcome_in result) (failures_of reader.new) }
     ensures view { IfOk result (IsGivenFor (view_said view)) }
@@ -127,7 +156,6 @@ fn given_by_history<R: Source>(
     view: View,
     reader: &mut Counted<R>,
 ) -> Result<Given, ShowFault>
-    requires { IsOfEntries view }
     ensures gives { Gives (R.remaining (inner_of reader.old)) (failures_of reader.old)
         history (outcome_in result) (failures_of reader.new) }
     ensures view { IfOk result (IsGivenFor (view_said view)) }
@@ -156,7 +184,6 @@ pub fn given_by<R: Source>(
     showing: &Showing,
     reader: &mut Counted<R>,
 ) -> Result<Given, ShowFault>
-    requires { IsOfEntries showing.now.view }
     ensures gives { Gives (R.remaining (inner_of reader.old)) (failures_of reader.old)
         (source_said showing.now.source) (outcome_in result) (failures_of reader.new) }
     ensures view { IfOk result (IsGivenFor (view_said showing.now.view)) }

@@ -36,6 +36,7 @@ loop-choice-preserved g c =
             width = c.loop-choice.invariant.width;
             room = c.loop-choice.invariant.room;
             workspace = c.next.ensures.workspace;
+            inside = c.next.ensures.inside;
             all = c.loop-choice.invariant.all;
           }
       | in-Next+in_ok-kept-in-Next+else-not-kept w ↦
@@ -50,6 +51,7 @@ loop-choice-preserved g c =
             width = same.0 ∙ c.loop-choice.invariant.width;
             room = same.1 ∙ c.loop-choice.invariant.room;
             workspace = c.next.ensures.workspace;
+            inside = c.next.ensures.inside;
             all = AllAre-laid (g.S.System.is_state c.args.system.now) c.loop-choice.states.states c.loop-choice.states.origins next origin w.keep.new.self.states w.keep.new.self.origins c.loop-choice.invariant.all w.in-Next.ensures.state laid;
           }
     ]

@@ -10,5 +10,6 @@ invariant-loop-choice g l = record {
   width : l.states.width ≡ l.initial.states.width;
   room : l.states.room ≡ l.initial.states.room;
   workspace : g.S.System.is_workspace l.system l.workspace;
+  inside : g.S.System.is_in l.system l.workspace l.state;
   all : AllAre (g.S.System.is_state l.system) l.states.states;
 }

@@ -18,3 +18,7 @@ returns-in-StatesFull g c =
 pub returns-in-NoEntry : goal.returns-in-NoEntry
 returns-in-NoEntry g c =
     rw c.in-NoEntry.is (told_line _ _ _ _ (c.as_bytes-in-NoEntry.ensures.value ∙ c.as_str-in-NoEntry.ensures.value ∙ c.entry_line.ensures) c.write_error-in-NoEntry.ensures)
+
+pub returns-in-Empty : goal.returns-in-Empty
+returns-in-Empty g c =
+    rw c.in-Empty.is (told_line _ _ _ _ (c.as_bytes-in-Empty.ensures.value ∙ c.as_str-in-Empty.ensures.value ∙ c.window_line.ensures) c.write_error-in-Empty.ensures)

@@ -2,7 +2,7 @@
 use Rattle.std.proofs.Common.{refl}
 use Rattle.std.proofs.KnownBytes.{Keeps-refl}
 use Rattle.std.proofs.lemmas.Result.{err_from_is_err_and}
-use Rattle.apex_lab.specs.Exits.{of_check, of_lint, of_search, of_showing, of_steps, of_why}
+use Rattle.apex_lab.specs.Exits.{of_check, of_dump, of_lint, of_search, of_showing, of_steps, of_why}
 use Rattle.apex_lab.proofs.Endings.{ends_unasked}
 use Rattle.apex_lab.proofs.program.carry_out.Goals as goal
 
@@ -28,3 +28,6 @@ returns-in-Check g c = of_check (rw c.in-Check.is at c.in_ok-task.ensures.ok) c.
 
 pub returns-in-Why : goal.returns-in-Why
 returns-in-Why g c = of_why (rw c.in-Why.is at c.in_ok-task.ensures.ok) c.run_why.ensures
+
+pub returns-in-Dump : goal.returns-in-Dump
+returns-in-Dump g c = of_dump (rw c.in-Dump.is at c.in_ok-task.ensures.ok) c.run_dump.ensures

@@ -10,5 +10,7 @@ returns c =
     ∙ ap₂ with_subcommand c.in_ok-searches.ensures (ap top c.in_ok-step_command.ensures.app) in
     let check_is = c.in_ok-with_check.ensures.shape c.in_ok-check_command.ensures.local
     ∙ ap₂ with_subcommand step_is (ap top c.in_ok-check_command.ensures.app) in
-    IfOk-weaker c.subcommand-3.result _ _ (λ r h. h.shape c.in_ok-why_command.ensures.local
-    ∙ ap₂ with_subcommand check_is (ap top c.in_ok-why_command.ensures.app)) c.subcommand-3.ensures
+    let why_is = c.in_ok-with_why.ensures.shape c.in_ok-why_command.ensures.local
+    ∙ ap₂ with_subcommand check_is (ap top c.in_ok-why_command.ensures.app) in
+    IfOk-weaker c.subcommand-4.result _ _ (λ r h. h.shape c.in_ok-view_command.ensures.local
+    ∙ ap₂ with_subcommand why_is (ap top c.in_ok-view_command.ensures.app)) c.subcommand-4.ensures

@@ -23,7 +23,7 @@ returns-in-Trace g c =
     let table = c.args.kernel.now.table in
     let machine = c.args.kernel.now.machine in
     let is : c.args.last.now ≡ bare (moment_in table machine) = rw c.in-Trace.is at c.requires.shown in
-    rw c.in-Trace.is (on_ok_weaker c.put_foot.result
-    (λ put. (rw (c.table.ensures, c.hundredths.ensures, c.next-end.ensures, c.requires.instant, c.now.ensures, is) at put)
+    rw c.in-Trace.is (on_ok_weaker c.put_foot-in-Trace.result
+    (λ put. (rw (c.table-in-Trace.ensures, c.hundredths.ensures, c.next-end.ensures, c.requires.instant, c.now.ensures, is) at put)
     ∙ ap (λ l. c.args.text.now.items ++ l) (foot_same table (end_time machine) machine.roster.now (moment_in table machine)))
-    c.put_foot.ensures)
+    c.put_foot-in-Trace.ensures)

@@ -1,18 +1,9 @@
 use Rattle.std.proofs.KnownBytes.{Keeps-refl}
 use Rattle.std.proofs.lemmas.Result.{err_from_is_err_and}
-use Rattle.apex_objects.specs.declared.Form.TheVariants.{Text}
 use Rattle.apex_views.specs.Shows.{unbegun}
-use Rattle.apex_views.specs.declared.showings.Listing.TheVariants.{Lines}
-use Rattle.apex_views.proofs.ListingEndings.{lists_prefix, lists_whole}
 use Rattle.apex_views.proofs.listings.write_lines.Goals as goal
 
 pub returns-in_err-page : goal.returns-in_err-page
 returns-in_err-page g c =
     let p = err_from_is_err_and c.from_residual.result c.from_residual.ensures.1 in
     rw (p.1, p.2) (unbegun (Keeps-refl _))
-
-pub returns-in-Ok : goal.returns-in-Ok
-returns-in-Ok g c = lists_whole (Lines Text) c.args.kernel.now.table c.args.kernel.now.machine (rw (c.table.ensures, c.entries.ensures) at c.in-Ok.ensures.ok) c.in-Ok.ensures.counted
-
-pub returns : goal.returns
-returns g c = lists_prefix (Lines Text) c.args.kernel.now.table c.args.kernel.now.machine (rw (c.table.ensures, c.entries.ensures) at c.in-Err.ensures.err) c.in-Err.ensures.counted

@@ -4,8 +4,5 @@ use Rattle.apex_views.proofs.plans.plan_in.Goals as goal
 pub returns-clause-machine : goal.returns-clause-machine
 returns-clause-machine g c = rw (c.into_table.ensures, c.in_ok-events.ensures) c.holds.ensures.replays
 
-pub returns-clause-plan : goal.returns-clause-plan
-returns-clause-plan g c = record {
-  within = rw (c.into_table.ensures, c.in_ok-events.ensures) c.holds.ensures.events;
-  style = c.style_for-style.ensures;
-}
+pub returns-clause-within : goal.returns-clause-within
+returns-clause-within g c = rw (c.into_table.ensures, c.in_ok-events.ensures) c.holds.ensures.events

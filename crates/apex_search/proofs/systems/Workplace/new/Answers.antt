@@ -5,8 +5,11 @@ use Rattle.apex_search.proofs.systems.Workplace.new.Goals as goal
 
 pub returns : goal.returns
 returns c = record {
-  stored = c.in_ok-opening.field-0;
-  here = refl;
-  of = opened_parts c.args.table.now c.lawful.ensures c.requires c.parts_are_kept.ensures (paced_in c.in_ok-opening.field-0) c.in_ok-opening.ensures;
+  here = c.in_ok-here.here;
+  made = c.in_ok-made.made;
+  is_here = refl;
+  is_made = refl;
+  here_of = opened_parts c.args.table.now c.lawful.ensures c.requires c.parts_are_kept.ensures (paced_in c.in_ok-here.here) c.in_ok-here.ensures;
+  made_of = opened_parts c.args.table.now c.lawful.ensures c.requires c.parts_are_kept.ensures (paced_in c.in_ok-made.made) c.in_ok-made.ensures;
   blank = blank_is c.args.table.now c.lawful.ensures _ c.index-blank.result.now (c.objects.view_is ∙ c.in_ok-objects.ensures) c.index-blank.ensures;
 }

@@ -1,8 +1,10 @@
-use Rattle.std.proofs.Common.{◌≡◌, ◌∙◌, None, Some, Option, ℕ, List, ap, arith, refl, sym, take}
+use Rattle.std.proofs.Common.{◌≡◌, ◌≤◌, ◌∙◌, None, Some, List, ap, arith, length, length-take-le, refl, sym, take}
 use Rattle.std.specs.List.{position}
-use Rattle.apex_machine.specs.Machine.{events_of, opening, run}
+use Rattle.std.proofs.lemmas.List.{length-map}
+use Rattle.std.proofs.lemmas.List.Elements.{All-take}
+use Rattle.apex_machine.specs.Events.{IsWithin}
+use Rattle.apex_machine.specs.Machine.{event_of, events_of, opening, run}
 use Rattle.apex_machine.specs.table.Table.{Table}
-use Rattle.apex_dispatch.specs.Kernel.{KernelState}
 use Rattle.apex_steps.specs.Kept.{is_kept_as, session_kept}
 use Rattle.apex_steps.specs.Sessions.{Session, gone_back}
 use Rattle.apex_steps.specs.declared.sessions.Mark.{Mark as MarkKept}
@@ -29,32 +31,34 @@ index-requires c =
     c.holds.ensures.replays c.holds.ensures.within c.self.invariant found c.from_place-marks.ensures in
     omega (arith, some, c.from_place-marks.result.ok.0)
 
-pub replay-requires-clause-few : goal.replay-requires-clause-few
-replay-requires-clause-few c =
+pub slice_bounds-first-end : goal.slice_bounds-first-end
+slice_bounds-first-end c =
     let kernel = c.self.inside.kernel in
     let found : position (is_kept_as c.args.name.now) c.self.inside.marks.items ≡ Some c.in-Some.place =
     ap (λ (l : List MarkKept). position (is_kept_as c.args.name.now) l) (sym c.as_slice.ensures.value) ∙ sym c.place_of.ensures ∙ c.in-Some.is in
-    rw c.into_parts-table.ensures.history
-    (few_entries c.args.name.now kernel.table kernel.machine c.self.inside.marks.items c.from_place-marks.result.items c.in-Some.place
-    c.holds.ensures.replays c.holds.ensures.within c.self.invariant found c.from_place-marks.ensures c.index.result.now c.index.ensures)
+    let few = few_entries c.args.name.now kernel.table kernel.machine c.self.inside.marks.items c.from_place-marks.result.items c.in-Some.place
+    c.holds.ensures.replays c.holds.ensures.within c.self.invariant found c.from_place-marks.ensures c.index.result.now c.index.ensures in
+    let many : length c.as_slice-all.result.now ≡ length kernel.machine.history =
+    ap length (c.as_slice-all.ensures.value ∙ c.in_ok-events.ensures) ∙ length-map kernel.machine.history event_of in
+    let fits : c.index.result.now.entries ≤ length c.as_slice-all.result.now = omega (arith, few, many) in
+    omega (arith, fits, length-take-le c.index.result.now.entries c.as_slice-all.result.now fits)
 
-pub replay-requires-clause-within : goal.replay-requires-clause-within
-replay-requires-clause-within c =
-    let same : c.in_ok-kernel.kernel.table ≡ c.self.inside.kernel.table =
-    ap (λ (k : KernelState _). k.table) c.in_ok-kernel.ensures ∙ c.into_parts-table.ensures.table in
-    rw (same, c.into_parts-table.ensures.history) c.holds.ensures.events
+pub kernel_after-requires : goal.kernel_after-requires
+kernel_after-requires c =
+    let kernel = c.self.inside.kernel in
+    rw (c.into_table.ensures, c.as_slice-all.ensures.value, c.in_ok-events.ensures)
+    (All-take (IsWithin kernel.table.cores) c.index.result.now.entries (events_of kernel.machine.history) c.holds.ensures.events)
 
 pub invariant_of-result : goal.invariant_of-result
 invariant_of-result c =
     let kernel = c.self.inside.kernel in
     let found : position (is_kept_as c.args.name.now) c.self.inside.marks.items ≡ Some c.in-Some.place =
     ap (λ (l : List MarkKept). position (is_kept_as c.args.name.now) l) (sym c.as_slice.ensures.value) ∙ sym c.place_of.ensures ∙ c.in-Some.is in
-    let same : c.in_ok-kernel.kernel.table ≡ kernel.table = ap (λ (k : KernelState _). k.table) c.in_ok-kernel.ensures ∙ c.into_parts-table.ensures.table in
-    let made : c.replay.new.kernel.machine ≡ run kernel.table (opening kernel.table) (take c.index.result.now.entries (events_of kernel.machine.history)) =
-    rw (same, c.into_parts-table.ensures.history) at c.replay.ensures.machine in
+    let made : c.in_ok-kernel.kernel.machine ≡ run kernel.table (opening kernel.table) (take c.index.result.now.entries (events_of kernel.machine.history)) =
+    rw (c.into_table.ensures, c.as_slice-all.ensures.value, c.in_ok-events.ensures) at c.in_ok-kernel.ensures.machine in
     kept_left c.args.name.now kernel.table kernel.machine c.self.inside.marks.items c.from_place-marks.result.items c.in-Some.place
     c.holds.ensures.replays c.holds.ensures.within c.self.invariant found c.from_place-marks.ensures c.index.result.now c.index.ensures
-    c.replay.new.kernel.machine made
+    c.in_ok-kernel.kernel.machine made
 
 pub returns : goal.returns
 returns c =
@@ -62,11 +66,10 @@ returns c =
     let left = c.from_place-marks.result.items in
     let found : position (is_kept_as c.args.name.now) c.self.inside.marks.items ≡ Some c.in-Some.place =
     ap (λ (l : List MarkKept). position (is_kept_as c.args.name.now) l) (sym c.as_slice.ensures.value) ∙ sym c.place_of.ensures ∙ c.in-Some.is in
-    let same : c.in_ok-kernel.kernel.table ≡ kernel.table = ap (λ (k : KernelState _). k.table) c.in_ok-kernel.ensures ∙ c.into_parts-table.ensures.table in
-    let made : c.replay.new.kernel.machine ≡ run kernel.table (opening kernel.table) (take c.index.result.now.entries (events_of kernel.machine.history)) =
-    rw (same, c.into_parts-table.ensures.history) at c.replay.ensures.machine in
+    let made : c.in_ok-kernel.kernel.machine ≡ run kernel.table (opening kernel.table) (take c.index.result.now.entries (events_of kernel.machine.history)) =
+    rw (c.into_table.ensures, c.as_slice-all.ensures.value, c.in_ok-events.ensures) at c.in_ok-kernel.ensures.machine in
     ap (λ (s : Session). gone_back c.args.name.now s) (sym c.self.view_is)
     ∙ goes_back c.args.name.now kernel.table kernel.machine c.self.inside.marks.items left c.in-Some.place
     c.holds.ensures.replays c.holds.ensures.within c.self.invariant found c.from_place-marks.ensures c.index.result.now c.index.ensures
-    c.replay.new.kernel.machine made
-    ∙ ap (λ (t : Table). Some (session_kept t c.replay.new.kernel.machine left)) (sym (c.replay.ensures.table ∙ same))
+    c.in_ok-kernel.kernel.machine made
+    ∙ ap (λ (t : Table). Some (session_kept t c.in_ok-kernel.kernel.machine left)) (sym (c.in_ok-kernel.ensures.table ∙ c.into_table.ensures))

@@ -1,0 +1,5 @@
+use Rattle.std.proofs.Common.{refl}
+use Rattle.apex_search.proofs.systems.Workplace.enter.Goals as goal
+
+pub returns-clause-inside : goal.returns-clause-inside
+returns-clause-inside c = record { here = c.restored.result; is_here = refl; same = c.restored.ensures }

@@ -1,0 +1,6 @@
+-- A trace is of any history.
+use Rattle.apex_views.specs.Showings.{trace}
+use Rattle.apex_views.proofs.sources.pictured.Goals as goal
+
+pub returns-in-Trace-clause-view : goal.returns-in-Trace-clause-view
+returns-in-Trace-clause-view c = rw c.in-Trace.is (c.planned.ensures.view trace tt)
