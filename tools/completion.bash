@@ -6,7 +6,7 @@ _apex() {
         lab:2:* | picture:2:*) words='svg trace lines status report schedule search lint step check why' ;;
         replay:* | status:*) words='--schedule' ;;
         run:*) words='--turns --ticks --front' ;;
-        lab:*:search | picture:*:search) words='--for --process --service --turns --early --states' ;;
+        lab:*:search | picture:*:search) words='--for --worst --process --service --turns --early --states' ;;
         lab:*:lint | picture:*:lint) words='--json --name --allow' ;;
         lab:*:step | picture:*:step) words='--json' ;;
         lab:*:check | picture:*:check) words='--json --comments' ;;
@@ -15,7 +15,7 @@ _apex() {
     esac
     case $before in
         --for) words='missed hard TIMED_OUT LOST end standstill NO_ACTION NOT_AVAILABLE INVALID_PARAM INVALID_CONFIG INVALID_MODE' ;;
-        --schedule | --turns | --ticks | --until | --early | --from | --to | --process | --service | --states | --allow | --entry) return ;;
+        --schedule | --turns | --ticks | --until | --early | --from | --to | --process | --service | --worst | --states | --allow | --entry) return ;;
         --schedule-file) words='' ;;
     esac
     mapfile -t COMPREPLY < <(compgen -W "${words:-}" -- "$word"; compgen -f -- "$word")

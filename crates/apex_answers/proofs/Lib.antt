@@ -3,3 +3,4 @@ pub mod Places
 pub mod Lasts
 pub mod LastEntries
 pub mod Shortest
+pub mod Slowest

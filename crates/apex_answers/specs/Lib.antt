@@ -3,3 +3,4 @@ pub mod Words
 pub mod Texts
 pub mod Answers
 pub mod Censuses
+pub mod Worst

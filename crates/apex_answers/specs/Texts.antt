@@ -11,14 +11,21 @@ abbrev pub line_in : Table → Option Entry → List ℕ
 line_in table None = []
 line_in table (Some entry) = line_of table entry
 
--- the number of the events, and the beginning of the line of their schedule
+-- the number of the events of a schedule that was found
 abbrev pub found_head : List Event → List ℕ
-found_head events = codes "found at " ++ decimal (length events) ++ codes "\nschedule: "
+found_head events = codes "found at " ++ decimal (length events) ++ codes "\n"
+
+-- a schedule without its line's first word, and the line of an entry
+abbrev pub made_text : List Event → List ℕ → List ℕ
+made_text events line = schedule_text events ++ (codes "\nentry: " ++ line)
+
+-- a schedule, and the line of an entry
+abbrev pub run_text : List Event → List ℕ → List ℕ
+run_text events line = codes "schedule: " ++ made_text events line
 
 -- a schedule that was found, and the line of an entry
 abbrev pub found_text : List Event → List ℕ → List ℕ
-found_text events line =
-    (found_head events ++ schedule_text events) ++ (codes "\nentry: " ++ line)
+found_text events line = found_head events ++ run_text events line
 
 -- the line of a number of states
 abbrev pub states_text : ℕ → List ℕ

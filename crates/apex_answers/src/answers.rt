@@ -40,7 +40,7 @@ fn table_in(alloc: Global, text: &[u8]) -> Result<Table, AllocError>
 }
 
 /// The kernel of the table of this text before any event. Fails only for want of memory.
-fn kernel_of(alloc: Global, text: &[u8]) -> Result<Kernel<QueueStore>, AllocError>
+pub(crate) fn kernel_of(alloc: Global, text: &[u8]) -> Result<Kernel<QueueStore>, AllocError>
     requires { IsOk (table_of text.now) }
     ensures table { IfOk result (λ kernel. table_of text.now ≡ Ok kernel.table) }
     ensures opened { IfOk result (λ kernel. kernel

@@ -3,9 +3,8 @@ ghost use Rattle.std.specs.Prelude.{◌++◌, None, codes, OnErr, OnOk};
 ghost use Rattle.std.specs.Io.KnownBytes.{Appends};
 ghost use Rattle.std.specs.List.{last_or};
 ghost use Rattle.apex_history.specs.Counted.{inner_of, failures_of, CountsFailure, AppendsBeginning};
-ghost use Rattle.apex_schedules.specs.Printing.{schedule_text};
 ghost use Rattle.apex_answers.specs.Answers.{answer_text};
-ghost use Rattle.apex_answers.specs.Texts.{found_head, found_text, line_in};
+ghost use Rattle.apex_answers.specs.Texts.{found_text, line_in, made_text, run_text};
 
 use crate::answers::SearchAnswer;
 use crate::texts::{found_head, never, none_within, none_within_states};
@@ -15,20 +14,6 @@ use apex_process::QueueStore;
 use apex_schedules::print_schedule;
 use apex_types::Event;
 use std::io::{Result, Write};
-
-/// Writes how many events a schedule has, and the schedule, without a line feed.
-fn write_events<W: Sink>(events: &[Event], writer: &mut Counted<W>) -> Result<()>
-    ensures ok { OnOk result
-        (Appends (W.contents (inner_of writer.old)) (W.contents (inner_of writer.new))
-        (found_head events.now ++ schedule_text events.now)) }
-    ensures err { OnErr result
-        (AppendsBeginning (W.contents (inner_of writer.old)) (W.contents (inner_of writer.new))
-        (found_head events.now ++ schedule_text events.now)) }
-    ensures counted { CountsFailure result (failures_of writer.old) (failures_of writer.new) }
-{
-    writer.write_all(found_head(events).as_str().as_bytes())?;
-    print_schedule(events, writer)
-}
 
 /// Writes the line of a kernel's last entry, if it has one.
 fn write_last<W: Sink>(kernel: &Kernel<QueueStore>, writer: &mut Counted<W>) -> Result<()>
@@ -61,6 +46,46 @@ fn write_entry<W: Sink>(kernel: &Kernel<QueueStore>, writer: &mut Counted<W>) ->
     write_last(kernel, writer)
 }
 
+/// Writes a schedule, a line feed, and the line of the last entry of its kernel.
+fn write_made<W: Sink>(
+    events: &[Event],
+    kernel: &Kernel<QueueStore>,
+    writer: &mut Counted<W>,
+) -> Result<()>
+    ensures ok { OnOk result
+        (Appends (W.contents (inner_of writer.old)) (W.contents (inner_of writer.new))
+        (made_text events.now
+        (line_in kernel.now.table (last_or None kernel.now.machine.history)))) }
+    ensures err { OnErr result
+        (AppendsBeginning (W.contents (inner_of writer.old)) (W.contents (inner_of writer.new))
+        (made_text events.now
+        (line_in kernel.now.table (last_or None kernel.now.machine.history)))) }
+    ensures counted { CountsFailure result (failures_of writer.old) (failures_of writer.new) }
+{
+    print_schedule(events, writer)?;
+    write_entry(kernel, writer)
+}
+
+/// Writes the line of a schedule, and that of the last entry of its kernel.
+pub(crate) fn write_run<W: Sink>(
+    events: &[Event],
+    kernel: &Kernel<QueueStore>,
+    writer: &mut Counted<W>,
+) -> Result<()>
+    ensures ok { OnOk result
+        (Appends (W.contents (inner_of writer.old)) (W.contents (inner_of writer.new))
+        (run_text events.now
+        (line_in kernel.now.table (last_or None kernel.now.machine.history)))) }
+    ensures err { OnErr result
+        (AppendsBeginning (W.contents (inner_of writer.old)) (W.contents (inner_of writer.new))
+        (run_text events.now
+        (line_in kernel.now.table (last_or None kernel.now.machine.history)))) }
+    ensures counted { CountsFailure result (failures_of writer.old) (failures_of writer.new) }
+{
+    writer.write_all(b"schedule: ")?;
+    write_made(events, kernel, writer)
+}
+
 /// Writes a schedule that was found, and the line of the last entry of its kernel.
 fn write_found<W: Sink>(
     events: &[Event],
@@ -77,8 +102,8 @@ fn write_found<W: Sink>(
         (line_in kernel.now.table (last_or None kernel.now.machine.history)))) }
     ensures counted { CountsFailure result (failures_of writer.old) (failures_of writer.new) }
 {
-    write_events(events, writer)?;
-    write_entry(kernel, writer)
+    writer.write_all(found_head(events).as_str().as_bytes())?;
+    write_run(events, kernel, writer)
 }
 
 impl SearchAnswer {

@@ -25,7 +25,7 @@ pub(crate) fn put_number(text: &mut Text, number: usize)
 
 /// Puts the line of a number of states.
 #[tactic(auto, using(std::proofs::Common::append_assoc))]
-fn put_states(text: &mut Text, states: usize)
+pub(crate) fn put_states(text: &mut Text, states: usize)
     requires { array_string_len text.old + 30 ≤ TEXT_ROOM }
     ensures { text.new.bytes ≡ text.old.bytes ++ states_text states }
 {
@@ -34,14 +34,14 @@ fn put_states(text: &mut Text, states: usize)
     text.push_str("\n");
 }
 
-/// The text in front of the schedule of these events.
+/// The line of the number of events of a schedule that was found.
 pub(crate) fn found_head(events: &[Event]) -> Text
     ensures { result.bytes ≡ found_head events.now }
 {
     let mut text = Text::new();
     text.push_str("found at ");
     put_number(&mut text, events.len());
-    text.push_str("\nschedule: ");
+    text.push_str("\n");
     text
 }
 

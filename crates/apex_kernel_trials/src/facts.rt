@@ -77,7 +77,7 @@ discipline = "FIFO"
 
 /// Both processes are released at 0: `high` ends its job at 1, and `low`, which then has the core, at
 /// 3. `slow` has another core, and works for 6 of each 4 ticks.
-const JOBS: &str = r#"
+pub(crate) const JOBS: &str = r#"
 cores = 2
 
 [[process]]

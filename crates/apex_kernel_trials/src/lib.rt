@@ -41,6 +41,8 @@ mod reasons;
 #[cfg(test)]
 mod reports;
 #[cfg(test)]
+mod responses;
+#[cfg(test)]
 mod scans;
 #[cfg(test)]
 mod searches;

@@ -11,9 +11,10 @@ pub same_given : {s t u v k l e f : Option Text} → s ≡ t → u ≡ v → k �
 same_given a b c d = rw (a, b, c, d) refl
 
 -- a search, by the texts of its options
-abbrev search_for_texts : Text → Option Text → Option Text → Option Text → Option Text → Option Text → SearchSaid
-search_for_texts fact process service turns early states = record {
+abbrev search_for_texts : (fact worst process service turns early states : Option Text) → SearchSaid
+search_for_texts fact worst process service turns early states = record {
   fact = fact;
+  worst = worst;
   process = process;
   service = service;
   turns = turns;
@@ -22,12 +23,12 @@ search_for_texts fact process service turns early states = record {
 }
 
 -- it is the one that the options ask for
-pub same_search : {fact : Text} {process service turns early states : Option Text} (rows : List Row)
-    → Some fact ≡ first_of (codes "for") rows → process ≡ first_of (codes "process") rows
+pub same_search : {fact worst process service turns early states : Option Text} (rows : List Row)
+    → fact ≡ first_of (codes "for") rows → worst ≡ first_of (codes "worst") rows → process ≡ first_of (codes "process") rows
     → service ≡ first_of (codes "service") rows → turns ≡ first_of (codes "turns") rows
     → early ≡ first_of (codes "early") rows → states ≡ first_of (codes "states") rows
-    → Some (search_for_texts fact process service turns early states) ≡ search_in rows
-same_search rows is a b c d e = rw (sym is, a, b, c, d, e) refl
+    → search_for_texts fact worst process service turns early states ≡ search_in rows
+same_search rows a b c d e f g = rw (a, b, c, d, e, f, g) refl
 
 -- a lint, by its options
 abbrev lint_for : Bool → Option Text → Option Text → LintSaid

@@ -1,5 +1,5 @@
 -- The ways in which a search ends, by what was at fault.
-use Rattle.std.proofs.Common.{◌≡◌, inl, inr, List, ℕ, subst}
+use Rattle.std.proofs.Common.{◌≡◌, inl, inr, List, ℕ}
 use Rattle.std.specs.Io.KnownBytes.{Appends, Keeps}
 use Rattle.apex_check.specs.Ahead.{IsAhead}
 use Rattle.apex_console.specs.Faults.{fault_of_read}
@@ -8,23 +8,12 @@ use Rattle.apex_history.specs.Counted.{AppendsBeginning, CountsFault}
 use Rattle.apex_history.specs.Ports.{AWriteFails, NoneFails, Ports}
 use Rattle.apex_history.specs.declared.ReadFault.{ReadFault}
 use Rattle.apex_history.specs.declared.ReadFault.TheVariants as read
-use Rattle.apex_pace.specs.declared.paces.Pace.{Pace}
-use Rattle.apex_search.specs.Steps.{searched}
 use Rattle.apex_lab.specs.Ends.{fails}
-use Rattle.apex_answers.specs.Answers.{Says, answer_end, answer_text}
-use Rattle.apex_answers.specs.declared.SearchAnswer.{SearchAnswer}
-use Rattle.apex_lab.specs.Searches.{IsAnswerFor, IsRefusalOf, SearchEnds, answered, end_of_search, no_memory, no_process, refused, unread, unwritten}
+use Rattle.apex_lab.specs.Searches.{IsAnswerFor, IsRefusalOf, SearchEnds, answered, asked_name, end_of_search, lab_end, lab_text, no_memory, no_process, refused, unread, unwritten}
+use Rattle.apex_lab.specs.declared.searching.LabAnswer.{LabAnswer}
 use Rattle.apex_lab.specs.declared.faults.LabFault.{LabFault}
 use Rattle.apex_lab.specs.declared.faults.LabFault.TheVariants.{Common, Empty, NoEntry, NoProcess, Schedule, StatesFull}
 use Rattle.apex_lab.specs.declared.questions.Search.{Search}
-
--- what an answer says, at the pace that is asked for
-says : (search : Search) (text : List ℕ) (answer : SearchAnswer) (answers : IsAnswerFor search text answer)
-    → Says (searched answers.system.table search.pace answers.system.question) search.room
-    (answer_text search.room answer) (answer_end search.room answer)
-says search text answer answers =
-    subst (λ (pace : Pace). Says (searched answers.system.table pace answers.system.question) search.room
-    (answer_text search.room answer) (answer_end search.room answer)) answers.of.pace answers.answers
 
 module _ {search : Search} {before after : Ports} where
   -- bytes that were not read
@@ -35,7 +24,7 @@ module _ {search : Search} {before after : Ports} where
 
   module _ (text : List ℕ) (ahead : IsAhead text before.left) where
     -- a text that is refused, or a process that is missing
-    pub search_refused : (fault : LabFault) → IsRefusalOf search text fault → Keeps before.held after.held → NoneFails before after
+    pub search_refused : (fault : LabFault) → IsRefusalOf (asked_name search.sought) text fault → Keeps before.held after.held → NoneFails before after
         → SearchEnds search before (fails fault) after
     search_refused (Common fault) (inl memory) held none = rw memory (no_memory held none)
     search_refused (Common fault) (inr (of, is, told)) held none = rw told (refused text ahead is held none)
@@ -45,16 +34,13 @@ module _ {search : Search} {before after : Ports} where
     search_refused (StatesFull room) (table, is, missing) held none = absurd missing
     search_refused (Empty window) (table, is, missing) held none = absurd missing
 
-    module _ (answer : SearchAnswer) (answers : IsAnswerFor search text answer) where
+    module _ (answer : LabAnswer) (answers : IsAnswerFor search text answer) where
       -- an answer that was written whole, or not to its end
-      pub search_answered : Appends before.held after.held (answer_text search.room answer) → NoneFails before after
-          → SearchEnds search before (end_of_search (answer_end search.room answer)) after
-      search_answered appends none =
-          answered text answers.system.table answers.system.question (answer_text search.room answer) ahead
-          answers.of.table answers.of.question (says search text answer answers) appends none
+      pub search_answered : Appends before.held after.held (lab_text search.room answer) → NoneFails before after
+          → SearchEnds search before (end_of_search (lab_end search.room answer)) after
+      search_answered appends none = answered text answers.table (lab_text search.room answer) ahead answers.of answers.says appends none
 
-      pub search_unwritten : AppendsBeginning before.held after.held (answer_text search.room answer) → AWriteFails before after
+      pub search_unwritten : AppendsBeginning before.held after.held (lab_text search.room answer) → AWriteFails before after
           → SearchEnds search before (fails (Common Write)) after
       search_unwritten begun fails_once =
-          unwritten text answers.system.table answers.system.question (answer_text search.room answer) ahead
-          answers.of.table answers.of.question (says search text answer answers) begun fails_once
+          unwritten text answers.table (lab_text search.room answer) ahead answers.of answers.says begun fails_once

@@ -5,11 +5,12 @@ use Rattle.apex_types.specs.Name.{is_name}
 use Rattle.apex_calls.specs.Catalogue.{Row, row_in, rows}
 use Rattle.apex_calls.specs.declared.Service.{Service}
 use Rattle.apex_pace.specs.declared.paces.Pace.{Pace}
-use Rattle.apex_search.specs.declared.Fact.{Fact}
 use Rattle.apex_answers.specs.Words.{fact_of}
 use Rattle.apex_lab.specs.Numbers.{pace_in, room_in}
 use Rattle.apex_lab.specs.Words.{SearchSaid}
 use Rattle.apex_lab.specs.declared.questions.Search.{Search}
+use Rattle.apex_lab.specs.declared.questions.Sought.{Sought}
+use Rattle.apex_lab.specs.declared.questions.Sought.TheVariants.{Fact, Facts, Response}
 
 -- the name that a text is
 abbrev pub name_of : Text → Option Text
@@ -29,21 +30,29 @@ abbrev pub service_said : Option Text → Option (Option Service)
 service_said None = Some None
 service_said (Some text) = option_map Some (service_of text)
 
--- a search for this fact, of this process and of this service or of any, at a pace, with room for this
--- many states
-abbrev pub search_for : Fact → Option Text → Option Service → Pace → ℕ → Search
-search_for fact process service pace room = record {
-  fact = fact;
-  process = process;
-  service = service;
-  pace = pace;
-  room = room;
-}
+-- what is looked for, with the process and the service that are asked for
+abbrev pub about : (Option Text → Option Service → Sought) → Option Text → Option Text
+    → Option Sought
+about sought process service =
+    option_and_then (λ p. option_map (sought p) (service_said service)) (process_said process)
+
+-- what is looked for, by the texts of a fact, of the process whose greatest response is asked for, of a
+-- process and of a service: one fact, or else each; a greatest response is asked for alone
+abbrev pub sought_by : Option Text → Option Text → Option Text → Option Text → Option Sought
+sought_by None (Some name) None None = option_map Response (name_of name)
+sought_by (Some word) None process service =
+    option_and_then (λ fact. about (Fact fact) process service) (fact_of word)
+sought_by None None process service = about Facts process service
+sought_by _ _ _ _ = None
+
+-- a search for this, at a pace, with room for this many states
+abbrev pub search_for : Sought → Pace → ℕ → Search
+search_for sought pace room = record { sought = sought; pace = pace; room = room }
 
 -- the search that texts ask for; none if one is ill-formed
 abbrev pub search_asked : SearchSaid → Option Search
 search_asked said =
-    option_and_then (λ fact. option_and_then (λ process. option_and_then (λ service. option_and_then
-    (λ pace. option_map (search_for fact process service pace) (room_in said.states))
-    (pace_in said.turns said.early)) (service_said said.service)) (process_said said.process))
-    (fact_of said.fact)
+    option_and_then (λ sought. option_and_then
+    (λ pace. option_map (search_for sought pace) (room_in said.states))
+    (pace_in said.turns said.early))
+    (sought_by said.fact said.worst said.process said.service)

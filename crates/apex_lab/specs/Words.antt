@@ -57,7 +57,9 @@ lab_of_views =
 abbrev pub question_command : App
 question_command =
     with_rule
+    (with_rule
     (with_rule (with_rule (new_app (codes "search")) (option_rule (codes "for")))
+    (option_rule (codes "worst")))
     (option_rule (codes "process")))
     (option_rule (codes "service"))
 
@@ -126,10 +128,12 @@ pub data Shown : Type 0 where
   -- as this listing
   as_listing : Listing → Shown
 
--- what a search is for: the word of the fact, and the texts of a process, of a service, of the turns a
--- tick, of the percentage and of the number of states, if they are given
+-- what a search is for: the texts of a fact, of the process whose greatest response is asked for, of a
+-- process, of a service, of the turns a tick, of the percentage and of the number of states, if they
+-- are given
 pub record SearchSaid : Type 0 where
-  pub fact : Text
+  pub fact : Option Text
+  pub worst : Option Text
   pub process : Option Text
   pub service : Option Text
   pub turns : Option Text
@@ -178,7 +182,8 @@ shown_said (view.Listing listing) = as_listing listing
 -- what a search is for, of a value of the program
 abbrev pub search_said : SearchWords → SearchSaid
 search_said words = record {
-  fact = words.fact.now;
+  fact = option_map (λ text. text.now) words.fact;
+  worst = option_map (λ text. text.now) words.worst;
   process = option_map (λ text. text.now) words.process;
   service = option_map (λ text. text.now) words.service;
   turns = option_map (λ text. text.now) words.turns;
@@ -253,20 +258,17 @@ view_of name rows =
 abbrev pub showing_in : Text → List Row → Option Request
 showing_in name rows = option_and_then (λ shown. shown_in shown rows) (view_of name rows)
 
--- the search for this fact, with the other options of a command's rows
-abbrev pub search_with : List Row → Text → SearchSaid
-search_with rows fact = record {
-  fact = fact;
+-- the search for the rows of a command
+abbrev pub search_in : List Row → SearchSaid
+search_in rows = record {
+  fact = first_of (codes "for") rows;
+  worst = first_of (codes "worst") rows;
   process = first_of (codes "process") rows;
   service = first_of (codes "service") rows;
   turns = first_of (codes "turns") rows;
   early = first_of (codes "early") rows;
   states = first_of (codes "states") rows;
 }
-
--- the search for the rows of a command; none if it is for no fact
-abbrev pub search_in : List Row → Option SearchSaid
-search_in rows = option_map (search_with rows) (first_of (codes "for") rows)
 
 -- how a table is linted, for the rows of a command
 abbrev pub lint_in : List Row → LintSaid
@@ -293,7 +295,7 @@ dump_in rows = option_map dump_of (given_in rows)
 -- what the command of this name asks for, with its rows
 abbrev pub request_in : Text × List Row → Option Request
 request_in found =
-    if bytes_eq found.0 (codes "search") then option_map search_of (search_in found.1)
+    if bytes_eq found.0 (codes "search") then Some (search_of (search_in found.1))
     else if bytes_eq found.0 (codes "lint") then Some (lint_of (lint_in found.1))
     else if bytes_eq found.0 (codes "step") then Some (step_of (form_in found.1))
     else if bytes_eq found.0 (codes "check")

@@ -1,7 +1,7 @@
 //! What a search is asked for.
 ghost use Rattle.std.specs.Prelude.{◌≡◌, IfSome, option_map};
 ghost use Rattle.apex_pace.specs.Laws.{IsPace};
-ghost use Rattle.apex_lab.specs.Questions.{name_of, process_said, search_asked, service_of, service_said};
+ghost use Rattle.apex_lab.specs.Questions.{name_of, process_said, search_asked, service_of, service_said, sought_by};
 ghost use Rattle.apex_lab.specs.Words.{search_said};
 
 use crate::numbers::{pace_given, room_given};
@@ -12,14 +12,21 @@ use apex_pace::Pace;
 use apex_search::Fact;
 use apex_types::Name;
 
+/// What a search looks for.
+#[derive(Clone, Copy)]
+pub enum Sought {
+    /// This fact, of the process of this name or number and of this service, or else of any.
+    Fact(Fact, Option<Name>, Option<Service>),
+    /// Each of all facts, of this process and of this service, or else of any.
+    Facts(Option<Name>, Option<Service>),
+    /// The greatest response of the process of this name or number.
+    Response(Name),
+}
+
 /// What a search is asked for.
 #[derive(Clone, Copy)]
 pub struct Search {
-    pub fact: Fact,
-    /// The name or the number of the process that the fact is about; without one it may be any.
-    pub process: Option<Name>,
-    /// The service whose replies the fact is about; without one it may be any.
-    pub service: Option<Service>,
+    pub sought: Sought,
     pub pace: Pace,
     /// The number of states for which there is room.
     pub room: u32,
@@ -62,21 +69,40 @@ fn service_said(text: Option<&str>) -> Option<Option<Service>>
     }
 }
 
+/// What is looked for, by the texts of a fact, of the process whose greatest response is asked for, of
+/// a process and of a service, if they are given. None if one is ill-formed, or if a greatest response
+/// is asked for beside any other.
+fn sought_by(
+    fact: Option<&str>,
+    worst: Option<&str>,
+    process: Option<&str>,
+    service: Option<&str>,
+) -> Option<Sought>
+    ensures { result ≡ sought_by
+        (option_map (λ given. given.now) fact.entry) (option_map (λ given. given.now) worst.entry)
+        (option_map (λ given. given.now) process.entry)
+        (option_map (λ given. given.now) service.entry) }
+{
+    match (fact, worst, process, service) {
+        (None, Some(name), None, None) => Some(Sought::Response(name_of(name)?)),
+        (_, Some(_), _, _) => None,
+        (Some(word), None, process, service) => {
+            let fact = fact_of(word)?;
+            Some(Sought::Fact(fact, process_said(process)?, service_said(service)?))
+        }
+        (None, None, process, service) => {
+            Some(Sought::Facts(process_said(process)?, service_said(service)?))
+        }
+    }
+}
+
 /// The search that words ask for. None if one of them is ill-formed.
 pub fn search_asked(words: SearchWords<'_>) -> Option<Search>
     ensures value { result ≡ search_asked (search_said words.entry) }
     ensures range { IfSome result (λ search. IsPace search.pace) }
 {
-    let fact = fact_of(words.fact)?;
-    let process = process_said(words.process)?;
-    let service = service_said(words.service)?;
+    let sought = sought_by(words.fact, words.worst, words.process, words.service)?;
     let pace = pace_given(words.turns, words.early)?;
     let room = room_given(words.states)?;
-    Some(Search {
-        fact,
-        process,
-        service,
-        pace,
-        room,
-    })
+    Some(Search { sought, pace, room })
 }

@@ -1,21 +1,51 @@
 //! A search of the schedules of a pace.
-ghost use Rattle.std.specs.Prelude.{◌≡◌, IfErr, IfOk, Some};
+ghost use Rattle.std.specs.Prelude.{◌≡◌, IfErr, IfOk, Some, OnErr, OnOk};
+ghost use Rattle.std.specs.Io.KnownBytes.{Appends};
 ghost use Rattle.apex_console.specs.Streams.{ports_of};
+ghost use Rattle.apex_history.specs.Counted.{inner_of, failures_of, CountsFailure, AppendsBeginning};
 ghost use Rattle.apex_pace.specs.Laws.{IsPace};
 ghost use Rattle.apex_answers.specs.Answers.{answer_end};
+ghost use Rattle.apex_answers.specs.Censuses.{census_end};
+ghost use Rattle.apex_answers.specs.Processes.{place_of};
+ghost use Rattle.apex_answers.specs.Worst.{worst_end};
 ghost use Rattle.apex_lab.specs.Ends.{end_in};
-ghost use Rattle.apex_lab.specs.Searches.{IsAnswerFor, IsMissing, IsRefusalOf, IsSystemOf, SearchEnds, asked_process, end_of_search};
+ghost use Rattle.apex_lab.specs.Searches.{HasFacts, HasGreatest, HasShortest, IsAnswerFor, IsMissing, IsRefusalOf, IsSystemOf, SearchEnds, asked_name, asked_process, end_of_search, lab_end, lab_text};
 
 use crate::ends::Ending;
 use crate::faults::LabFault;
-use crate::questions::Search;
-use apex_answers::{SearchAnswer, answer_of, process_of};
+use crate::questions::{Search, Sought};
+use apex_answers::{SearchAnswer, WorstAnswer, answer_of, print_census, process_of, worst_of};
+use apex_calls::Service;
 use apex_console::{CliFault, table_for};
 use apex_history::{Counted, Sink, Source, read_all};
-use apex_search::{Facts, Question, TableSystem};
+use apex_pace::Pace;
+use apex_search::{Census, End, Fact, Facts, Question, TableSystem, Worst};
 use apex_table::Table;
 use apex_types::{Name, ProcessId};
 use std::alloc::Global;
+use std::io::Result as IoResult;
+
+/// What a search says.
+#[derive(Drop)]
+pub enum LabAnswer {
+    /// Of one fact.
+    Fact(SearchAnswer),
+    /// Of each fact.
+    Facts(Census),
+    /// Of the responses of a process.
+    Response(WorstAnswer),
+}
+
+/// The process of this name or number. `NoProcess` if the table has none.
+fn named_process(table: &Table, name: Name) -> Result<ProcessId, LabFault>
+    ensures ok { IfOk result (λ process. place_of table.now name ≡ Some process) }
+    ensures err { IfErr result (IsMissing table.now (Some name)) }
+{
+    match process_of(table, &name) {
+        Some(process) => Ok(process),
+        None => Err(LabFault::NoProcess(name)),
+    }
+}
 
 /// The process that a search is about, if it is about one. `NoProcess` if the table has none of this
 /// name or number.
@@ -26,44 +56,120 @@ fn asked_process(table: &Table, asked: Option<Name>) -> Result<Option<ProcessId>
     let Some(name) = asked else {
         return Ok(None);
     };
-    match process_of(table, &name) {
-        Some(process) => Ok(Some(process)),
-        None => Err(LabFault::NoProcess(name)),
-    }
+    let process = named_process(table, name)?;
+    Ok(Some(process))
 }
 
-/// The system of the table of this text, with the question of a search.
-fn system_for(alloc: Global, search: &Search, text: &[u8]) -> Result<TableSystem, LabFault>
-    requires { IsPace search.now.pace }
-    ensures ok { IfOk result (IsSystemOf search.now text.now) }
-    ensures err { IfErr result (IsRefusalOf search.now text.now) }
+/// The system of the table of this text, with the question for these facts, of this process and this
+/// service or of any.
+fn system_for(
+    alloc: Global,
+    pace: Pace,
+    facts: Facts,
+    asked: Option<Name>,
+    service: Option<Service>,
+    text: &[u8],
+) -> Result<TableSystem, LabFault>
+    requires { IsPace pace }
+    ensures ok { IfOk result (IsSystemOf pace facts asked service text.now) }
+    ensures err { IfErr result (IsRefusalOf asked text.now) }
 {
     let table = table_for(alloc, &[], text)?;
-    let process = asked_process(&table, search.process)?;
+    let process = asked_process(&table, asked)?;
     let question = Question {
-        facts: Facts::one(search.fact),
+        facts,
         process,
-        service: search.service,
+        service,
+    };
+    let system = TableSystem::new(alloc, table, pace, question)?;
+    Ok(system)
+}
+
+/// What a search for one fact says.
+fn fact_answer(
+    alloc: Global,
+    search: &Search,
+    fact: Fact,
+    process: Option<Name>,
+    service: Option<Service>,
+    text: &[u8],
+) -> Result<SearchAnswer, LabFault>
+    requires { IsPace search.now.pace }
+    ensures ok { IfOk result (HasShortest search.now fact process service text.now) }
+    ensures err { IfErr result (IsRefusalOf process text.now) }
+{
+    let facts = Facts::one(fact);
+    let system = system_for(alloc, search.pace, facts, process, service, text)?;
+    let answer = answer_of(alloc, &system, search.room, text)?;
+    Ok(answer)
+}
+
+/// What a search for each fact says.
+fn facts_answer(
+    alloc: Global,
+    search: &Search,
+    process: Option<Name>,
+    service: Option<Service>,
+    text: &[u8],
+) -> Result<Census, LabFault>
+    requires { IsPace search.now.pace }
+    ensures ok { IfOk result (HasFacts search.now process service text.now) }
+    ensures err { IfErr result (IsRefusalOf process text.now) }
+{
+    let system = system_for(alloc, search.pace, Facts::all(), process, service, text)?;
+    let census = system.census(alloc, search.room)?;
+    Ok(census)
+}
+
+/// What a search for the greatest response of a process says.
+fn response_answer(
+    alloc: Global,
+    search: &Search,
+    name: Name,
+    text: &[u8],
+) -> Result<WorstAnswer, LabFault>
+    requires { IsPace search.now.pace }
+    ensures ok { IfOk result (HasGreatest search.now name text.now) }
+    ensures err { IfErr result (IsRefusalOf (Some name) text.now) }
+{
+    let table = table_for(alloc, &[], text)?;
+    let process = named_process(&table, name)?;
+    let question = Question {
+        facts: Facts::all(),
+        process: None,
+        service: None,
     };
     let system = TableSystem::new(alloc, table, search.pace, question)?;
-    Ok(system)
+    let answer = worst_of(alloc, system, process, search.room, text)?;
+    Ok(answer)
 }
 
 /// What a search answers for the table of this text.
 ///
 /// The errors in the order of the checks: the table's fault, `NoProcess` if the table has none of the
 /// name or number that is asked for; `Memory` whenever memory is refused.
-fn answer_for(alloc: Global, search: &Search, text: &[u8]) -> Result<SearchAnswer, LabFault>
+fn answer_for(alloc: Global, search: &Search, text: &[u8]) -> Result<LabAnswer, LabFault>
     requires { IsPace search.now.pace }
     ensures ok { IfOk result (IsAnswerFor search.now text.now) }
-    ensures err { IfErr result (IsRefusalOf search.now text.now) }
+    ensures err { IfErr result (IsRefusalOf (asked_name search.now.sought) text.now) }
 {
-    let system = system_for(alloc, search, text)?;
-    let answer = answer_of(alloc, &system, search.room, text)?;
-    Ok(answer)
+    match search.sought {
+        Sought::Fact(fact, process, service) => {
+            let shortest = fact_answer(alloc, search, fact, process, service, text)?;
+            Ok(LabAnswer::Fact(shortest))
+        }
+        Sought::Facts(process, service) => {
+            let census = facts_answer(alloc, search, process, service, text)?;
+            Ok(LabAnswer::Facts(census))
+        }
+        Sought::Response(name) => {
+            let greatest = response_answer(alloc, search, name, text)?;
+            Ok(LabAnswer::Response(greatest))
+        }
+    }
 }
 
-/// The end of the program with this answer, of a search that has room for this many states.
+/// The end of the program with this answer about one fact.
 fn ending_of(answer: &SearchAnswer, room: u32) -> Result<Ending, LabFault>
     ensures { end_in result ≡ end_of_search (answer_end room answer.now) }
 {
@@ -72,6 +178,64 @@ fn ending_of(answer: &SearchAnswer, room: u32) -> Result<Ending, LabFault>
         SearchAnswer::Never(_) => Ok(Ending::Complete),
         SearchAnswer::NoneWithin(_) => Err(LabFault::StatesFull(room)),
         SearchAnswer::Beyond(limit) => Err(LabFault::Common(CliFault::HistoryFull(*limit))),
+    }
+}
+
+/// The end of the program with this census.
+fn ending_of_census(census: &Census, room: u32) -> Result<Ending, LabFault>
+    ensures { end_in result ≡ end_of_search (census_end room census.now) }
+{
+    match census.end {
+        End::Full { .. } => Err(LabFault::StatesFull(room)),
+        End::Closed { .. } => {
+            if census.found.is_empty() {
+                Ok(Ending::Complete)
+            } else {
+                Ok(Ending::Found)
+            }
+        }
+    }
+}
+
+/// The end of the program with this answer about responses.
+fn ending_of_worst(worst: &Worst, room: u32) -> Result<Ending, LabFault>
+    ensures { end_in result ≡ end_of_search (worst_end room worst.now) }
+{
+    match worst {
+        Worst::Greatest { found: None, .. } => Ok(Ending::Complete),
+        Worst::Greatest { found: Some(_), .. } | Worst::Overrun { .. } => Ok(Ending::Found),
+        Worst::Full { .. } => Err(LabFault::StatesFull(room)),
+        Worst::Beyond { limit, .. } => Err(LabFault::Common(CliFault::HistoryFull(*limit))),
+    }
+}
+
+impl LabAnswer {
+    /// The end of the program with this answer, of a search that has room for this many states.
+    fn ending(&self, room: u32) -> Result<Ending, LabFault>
+        ensures { end_in result ≡ end_of_search (lab_end room self.now) }
+    {
+        match self {
+            LabAnswer::Fact(answer) => ending_of(answer, room),
+            LabAnswer::Facts(census) => ending_of_census(census, room),
+            LabAnswer::Response(answer) => ending_of_worst(&answer.worst, room),
+        }
+    }
+
+    /// Writes the text of the answer. If a write failed, a prefix of it was written.
+    fn print<W: Sink>(&self, room: u32, writer: &mut Counted<W>) -> IoResult<()>
+        ensures ok { OnOk result
+            (Appends (W.contents (inner_of writer.old)) (W.contents (inner_of writer.new))
+            (lab_text room self.now)) }
+        ensures err { OnErr result
+            (AppendsBeginning (W.contents (inner_of writer.old)) (W.contents (inner_of writer.new))
+            (lab_text room self.now)) }
+        ensures counted { CountsFailure result (failures_of writer.old) (failures_of writer.new) }
+    {
+        match self {
+            LabAnswer::Fact(answer) => answer.print(room, writer),
+            LabAnswer::Facts(census) => print_census(census, room, writer),
+            LabAnswer::Response(answer) => answer.print(room, writer),
+        }
     }
 }
 
@@ -90,7 +254,7 @@ pub fn run_search<R: Source, W: Sink>(
     let text = read_all(alloc, reader)?;
     let answer = answer_for(alloc, search, text.as_slice())?;
     match answer.print(search.room, writer) {
-        Ok(()) => ending_of(&answer, search.room),
+        Ok(()) => answer.ending(search.room),
         Err(_) => Err(LabFault::Common(CliFault::Write)),
     }
 }

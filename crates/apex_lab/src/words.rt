@@ -46,8 +46,10 @@ pub enum ViewWords<'a> {
 /// What a search is for, by the texts of its options.
 #[derive(Clone, Copy)]
 pub struct SearchWords<'a> {
-    /// The word of the fact.
-    pub fact: &'a str,
+    /// The word of the fact, if it is given.
+    pub fact: Option<&'a str>,
+    /// The name or the number of the process whose greatest response is asked for, if it is given.
+    pub worst: Option<&'a str>,
     /// The name or the number of a process, if it is given.
     pub process: Option<&'a str>,
     /// The word of a service, if it is given.
@@ -144,7 +146,8 @@ fn question_command<'a>(alloc: Global) -> Result<Command<'a>, AllocError>
     ensures local { IfOk result (λ c. (fields_of c).has_globals ≡ false) }
 {
     let with_fact = Command::new(alloc, "search").arg(option(alloc, "for"))?;
-    let with_process = with_fact.arg(option(alloc, "process"))?;
+    let with_worst = with_fact.arg(option(alloc, "worst"))?;
+    let with_process = with_worst.arg(option(alloc, "process"))?;
     with_process.arg(option(alloc, "service"))
 }
 
@@ -215,7 +218,8 @@ fn command<'a>(alloc: Global) -> Result<Command<'a>, AllocError>
 /// What the words ask for: `svg`, `trace`, `lines`, `status`, `report` or `schedule`, with
 /// `--schedule S`, with `--until T [--turns K] [--early E]`, or with neither; `svg` also with
 /// `[--from N] [--to M]`, and `lines`, `status` and `report` with `[--json]`; or `search` with
-/// `--for WORD [--process P] [--service WORD] [--turns K] [--early E] [--states N]`; or `lint` with
+/// `[--for WORD] [--process P] [--service WORD] [--turns K] [--early E] [--states N]`, or with `--worst P`
+/// in place of the first three; or `lint` with
 /// `[--json] [--name FILE] [--allow WORD,WORD]`; or `step` with `[--json]`;
 /// or `check` with `[--json] [--comments]`; or `why` with `--entry N` and a run as for `lines`; or
 /// `vcd` with a run as for `lines`. Other words are `Usage`.
@@ -319,19 +323,19 @@ fn showing_given<'a>(name: &str, matches: &ArgMatches<'a>) -> Option<Request<'a>
     Some(Request::Show(source, view))
 }
 
-/// The search for which a command's matches ask. None if it is for no fact.
-fn search_given<'a>(matches: &ArgMatches<'a>) -> Option<SearchWords<'a>>
-    ensures { option_map search_said result ≡ search_in (rows_of (found_of matches.now)) }
+/// The search for which a command's matches ask.
+fn search_given<'a>(matches: &ArgMatches<'a>) -> SearchWords<'a>
+    ensures { search_said result ≡ search_in (rows_of (found_of matches.now)) }
 {
-    let fact = matches.get_str("for")?;
-    Some(SearchWords {
-        fact,
+    SearchWords {
+        fact: matches.get_str("for"),
+        worst: matches.get_str("worst"),
         process: matches.get_str("process"),
         service: matches.get_str("service"),
         turns: matches.get_str("turns"),
         early: matches.get_str("early"),
         states: matches.get_str("states"),
-    })
+    }
 }
 
 /// The lint for which a command's matches ask.
@@ -375,7 +379,7 @@ fn asked_by<'a>(name: &str, matches: &ArgMatches<'a>) -> Option<Request<'a>>
         ≡ request_in (name.now, rows_of (found_of matches.now)) }
 {
     match name {
-        "search" => Some(Request::Search(search_given(matches)?)),
+        "search" => Some(Request::Search(search_given(matches))),
         "lint" => Some(Request::Lint(lint_given(matches))),
         "step" => Some(Request::Step(form_given(matches))),
         "check" => Some(Request::Check {

@@ -20,7 +20,7 @@ returns-in_err-answer g c =
 
 pub returns-in-Ok : goal.returns-in-Ok
 returns-in-Ok g c =
-    rw c.ending_of.ensures (search_answered c.in_ok-text.text.items c.in_ok-text.ensures.bytes c.in_ok-answer.answer
+    rw c.ending.ensures (search_answered c.in_ok-text.text.items c.in_ok-text.ensures.bytes c.in_ok-answer.answer
     (rw c.as_slice.ensures.value at c.in_ok-answer.ensures.ok) c.in-Ok.ensures.ok (c.in_ok-text.ensures.counted, c.in-Ok.ensures.counted))
 
 pub returns : goal.returns
