@@ -1,10 +1,9 @@
 -- A picture is planned for the view.
 use Rattle.std.proofs.Common.{refl}
-use Rattle.apex_machine.specs.Machine.{Machine}
 use Rattle.apex_views.proofs.sources.planned.Goals as goal
 
 pub returns-clause-view : goal.returns-clause-view
-returns-clause-view c = λ picture styled. record {
+returns-clause-view c = λ picture departure styled. record {
   picture = picture;
   is = refl;
   planned = record {
