@@ -9,7 +9,7 @@ use std::alloc::Global;
 use std::mem::drop;
 use std::process::Abort;
 
-/// The two init steps start the process.
+/// The init steps create the process and start it.
 const TABLE: &str = r#"
 cores = 1
 
