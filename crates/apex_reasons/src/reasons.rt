@@ -21,7 +21,7 @@ use apex_store::Store;
 use apex_table::Table;
 use apex_types::{Call, Caller, CallerCall, CoreId, Event, ProcessId};
 
-/// The reason of an event's entry: who asks for what, and what decides the reply.
+/// The reason of an event's entry: the caller, its call, and the rule of the reply.
 #[derive(Clone, Copy)]
 pub struct Reason {
     pub caller: Caller,
